@@ -18,7 +18,8 @@ each passage. A group that stands there with another identity and Q_LINK 1 is pa
 How to correct it. Correct NID_C and NID_BG of the link, or add the group to the table.
 
 Correct data that gets it. A section of a longer line, whose next group stands no farther from the end of the table than
-Q_LOCACC and `--tolerance` allow.
+Q_LOCACC and `--tolerance` allow. A route to a line that is not in the table, such as a branch line: its groups are
+linked from a signal in the middle of the table.
 
 Example. The reverse link of group B names group 5, and the table has no group 5.
 """

@@ -12,8 +12,8 @@ Usual cause. A group was moved and the links to it were not made anew. Q_SCALE i
 was counted from another balise than the first one of the group. Or the kilometre of the table is wrong: then all links
 to and from that group differ.
 
-What may happen. The train opens its window of expectation at another place. If the group lies outside, the train does
-not accept it there, and applies the linking reaction. If it lies inside, the train corrects its position by a wrong
+What may happen. The train opens its expectation window at another place. If the group lies outside, the train does not
+accept it there, and applies the linking reaction. If it lies inside, the train corrects its position by a wrong
 distance.
 
 How to correct it. Correct D_LINK, or the kilometre of the table. Where the kilometres are rounded, say by how much with

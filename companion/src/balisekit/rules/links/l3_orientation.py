@@ -2,7 +2,7 @@
 
 What it says. Q_LINKORIENTATION of a linked group does not fit the order of its balises along the track. A train that
 runs towards the group passes its balises in rising order (nominal, 1) or in falling order (reverse, 0). The rule looks
-at groups of two or more balises alone: a single balise has no order, and gets its direction by this very variable
+only at groups of two or more balises: a single balise has no order, and gets its direction by this very variable
 (SUBSET-026, 3.4.2 and 3.4.4).
 
 How urgent. At worst the train brakes or is tripped at each passage.

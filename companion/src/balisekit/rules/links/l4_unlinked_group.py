@@ -8,8 +8,8 @@ How urgent. To be looked at: linking does not protect the group.
 Usual cause. The group was added to the links later, and its telegrams were not made anew. Or a group that is left
 unlinked on purpose got into a packet 5.
 
-What may happen. A train takes a group with Q_LINK 0 at any place, also outside its window of expectation. So linking
-does not protect it against a group that is met at a wrong place, and the train does not use it to correct its position.
+What may happen. A train takes a group with Q_LINK 0 at any place, also outside its expectation window. So linking does
+not protect it against a group that is met at a wrong place, and the train does not use it to correct its position.
 
 How to correct it. Set Q_LINK to 1 in all telegrams of the group, or take it out of the packets 5.
 

@@ -1,7 +1,7 @@
 """L5: direction of a single balise not known.
 
-What it says. A group of one balise has Q_LINK 0, and one of its packets holds in one direction alone (Q_DIR 0 or 1).
-The line names the first such packet. A single balise has no direction of its own, and one with Q_LINK 0 gets none by
+What it says. A group of one balise has Q_LINK 0, and one of its packets holds in only one direction (Q_DIR 0 or 1). The
+line names the first such packet. A single balise has no direction of its own, and one with Q_LINK 0 gets none by
 linking (SUBSET-026, 3.4.2).
 
 How urgent. At worst wrong information for the other direction, or none.

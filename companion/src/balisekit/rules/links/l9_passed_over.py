@@ -14,12 +14,13 @@ Usual cause. The group was added later, and the links of its neighbours were not
 What may happen. A train that uses linking takes a group with Q_LINK 1 only if it is linked. So it passes over the
 group, and what that one says is lost without a reaction.
 
-How to correct it. Add the group to the packet 5, with its distance, and correct the distance of the one behind it. If
+How to correct it. Add the group to the packet 5, with its distance, and correct the distance of the group after it. If
 trains are to take it without linking, set Q_LINK to 0.
 
-Correct data that gets it. A packet 5 for one of several routes, which does not pass the group.
+Correct data that gets it. A packet 5 for one of several routes, which does not pass the group. A group for level 2
+only, on a line whose packets 5 are for level 1.
 
-Example. Group A links group C alone, and group B stands between them.
+Example. Group A links only group C, and group B stands between them.
 """
 from __future__ import annotations
 

@@ -14,7 +14,8 @@ What may happen. The train gets a speed that is too great, or a gradient that is
 
 How to correct it. Compare both profiles with the track, and correct the wrong one.
 
-Correct data that gets it. Aspects for different routes, which part before the last group that both name.
+Correct data that gets it. Aspects for different routes, which part before the last group that both name. Gradients that
+are merged in the aspect with the longer authority. A speed profile that includes the speed of the aspect.
 
 Example. At Signal B yellow has 120 km/h from 500 m to 1,000 m, and green 100 km/h.
 

@@ -2,7 +2,7 @@
 
 What it says. By the column km two neighbouring balises of one group are less than 2.3 m apart, or more than 12 m. With
 a `--line-speed` above 180 km/h the least spacing is 3.0 m. One unit of the last decimal of the kilometres is allowed in
-either direction. The rule passes over a group whose balises all have one kilometre. It also compares the column
+either direction. The rule passes over a group whose balises all have the same kilometre. It also compares the column
 `nominal` with the direction in which the kilometres of the balises go (SUBSET-036 and SUBSET-040, installation of
 balise groups).
 

@@ -2,24 +2,25 @@
 
 What it says. Authorities of one track and way whose packets 5 lead to one group end at different places, or an
 authority ends between groups. An end is the kilometre of the group and the sum of L_SECTION and L_ENDSECTION of a
-packet 12 with V_MAIN above 0, or of a packet 15. Ends are compared if the packets 5 that are said with them name one
-group as the nearest within 200 m, or else as the last one before the end, if they also name a group beyond it. Without
-packets 5 ends within 20 m of each other are compared. The tolerance is `--tolerance` (1 m without it), the unit of each
-packet by Q_SCALE, half a unit for each further length of a sum, and one unit of the last decimal of the kilometres.
-Besides, an end of a packet 12 between the first and the last signal of the table is at most 50 m and the tolerance from
-the first balise of some group, unless no group is within 200 m (SUBSET-026, 3.8 and 7.4.2).
+packet 12 with V_MAIN above 0, or of a packet 15. Ends are compared if their packets 5 lead to one group. This is the
+linked group nearest to the end, within 200 m. If none is so near, it is the last one before the end, if another one is
+beyond it. Without packets 5 ends within 20 m of each other are compared. The tolerance is `--tolerance` (1 m without
+it), the unit of each packet by Q_SCALE, half a unit for each further length of a sum, and one unit of the last decimal
+of the kilometres. An end of a packet 12 between the first and the last signal of the table also has to be within 50 m
+and the tolerance of the first balise of a group, unless no group is within 200 m (SUBSET-026, 3.8 and 7.4.2).
 
 How urgent. At worst wrong information: a train may pass the signal at which it has to stop.
 
 Usual cause. A length was mistyped, or has the Q_SCALE of another packet. A signal was moved, and not all groups in rear
 of it were made anew.
 
-What may happen. The train stops beyond the signal, or some metres before it.
+What may happen. The train stops beyond the signal, or some metres in rear of it.
 
 How to correct it. Compare the sum of the lengths with the distance to the signal.
 
-Correct data that gets it. Buffer stops, and marker boards without balises. A route to another track, if no `point` of
-the track plan says where trains may leave the track.
+Correct data that gets it. Buffer stops, and marker boards without balises. A signal whose group is more than 50 m from
+it. A route that ends in rear of the signal, such as a calling-on route. A route to another track, if no `point` of the
+track plan says where trains may leave the track.
 
 Example. At green the authority of signal 3 ends at km 16.050, and three others that lead to signal 5 end at km 16.000.
 

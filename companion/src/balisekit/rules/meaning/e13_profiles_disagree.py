@@ -1,9 +1,9 @@
 """E13: profiles that disagree.
 
-What it says. On a stretch of one track and way the profiles of two groups differ: no V_STATIC of the group in rear is
-that of the group ahead, or their gradients are more than 5 per mille apart. Each group is compared with the next one
-ahead that has a profile there. All aspects of both groups count, of the group in rear only those whose packet 5 names
-the group ahead, if any does. Stretches are passed over that are no longer than the tolerance: `--tolerance` (1 m
+What it says. On a stretch of one track and way the profiles of two groups differ: no V_STATIC of the group in rear
+equals that of the group ahead, or their gradients are more than 5 per mille apart. Each group is compared with the next
+one ahead that has a profile there. All aspects of both groups count, of the group in rear only those whose packet 5
+names the group ahead, if any does. Stretches are passed over that are no longer than the tolerance: `--tolerance` (1 m
 without it), the units of both packets by Q_SCALE, half a unit for each further distance, and one unit of the last
 decimal of the kilometres. If a group differs from those on both sides, the remark is on that group (SUBSET-026, 3.11.3
 and 3.11.12).
@@ -18,7 +18,8 @@ What may happen. The train goes by the profile that it got last, which may be th
 How to correct it. Compare both groups with the track plan.
 
 Correct data that gets it. Gradients that were merged in one group and not in the other. A temporary restriction that is
-written into one profile. A route to another track, if no `point` of the track plan says where trains may leave it.
+written into one profile. A route to another track, if no `point` of the track plan says where trains may leave it. A
+speed profile that includes the speed of the route or of the aspect.
 
 Example. From km 14.500 to km 15.200 signal 3 says 500 km/h, and signal 4 says 100 km/h.
 

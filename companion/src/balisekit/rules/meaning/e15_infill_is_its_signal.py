@@ -1,12 +1,12 @@
 """E15: infill that is not its signal.
 
-What it says. A packet 136 names a group that the table has not, or that is not ahead of the infill group. Or a packet
-12, 21, 27 or 80 after it differs from that of the named group, in the aspect with the same name and in the direction in
-which the train passes that group: in a distance, a speed, a time or any other field but Q_DIR and Q_SCALE. Distances
-are compared in metres; if Q_SCALE differs, the greater unit is allowed. Packets that only one of the groups has are
-passed over. If the infill group is the last one of the track that gives an authority in its direction, a group that the
-table has not is a note: it may be beyond the table. The layouts of packets 80 and 136 are balisekit's own (SUBSET-026,
-3.6.2 and 7.4.2).
+What it says. A packet 136 names a group that the table does not have, or that is not ahead of the infill group. Or a
+packet 12, 21, 27 or 80 after it differs from that of the named group, in the aspect with the same name and in the
+direction in which the train passes that group: in a distance, a speed, a time or any other field but Q_DIR and Q_SCALE.
+Distances are compared in metres; if Q_SCALE differs, the greater unit is allowed. Packets that only one of the groups
+has are passed over. If the infill group is the last one of the track that gives an authority in its direction, a group
+that the table does not have is a note: it may be beyond the table. The layouts of packets 80 and 136 are balisekit's
+own (SUBSET-026, 3.6.2 and 7.4.2).
 
 How urgent. At worst wrong information: the train gets another aspect than the signal shows.
 
@@ -15,9 +15,10 @@ aspect.
 
 What may happen. A train releases its brake for an aspect that the signal does not show.
 
-How to correct it. Copy the packets of the signal to behind packet 136, aspect by aspect.
+How to correct it. Copy the packets of the signal after packet 136, aspect by aspect.
 
-Correct data that gets it. Infill that says less than its signal on purpose, such as a lower V_MAIN.
+Correct data that gets it. Infill that says less than its signal on purpose, such as a lower V_MAIN, or that has another
+section timer.
 
 Example. At yellow the infill of signal 4 has L_ENDSECTION 1,350 m, and signal 4 has 1,500 m.
 

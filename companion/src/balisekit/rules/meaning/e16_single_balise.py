@@ -1,9 +1,9 @@
 """E16: direction of a single balise.
 
-What it says. A group of one balise with Q_LINK 1 has a packet for one direction (44, 145 and 254 apart), and no packet
-5 of the table names it. Or the packets 5 that name a single balise give it different nominal directions along the
-kilometres, or another one than the column `nominal`. The first part is silent if no packet 5 that holds in the way of
-the packet leads past the kilometre of the balise. Single balises with Q_LINK 0 are L5 (SUBSET-026, 3.4.2 and 3.4.4).
+What it says. A group of one balise with Q_LINK 1 has a packet for one direction, other than 44, 145 and 254, and no
+packet 5 of the table names it. Or the packets 5 that name a single balise give it different nominal directions along
+the kilometres, or another one than the column `nominal`. The first part is silent if no packet 5 that holds in the way
+of the packet leads past the kilometre of the balise. Single balises with Q_LINK 0 are L5 (SUBSET-026, 3.4.2 and 3.4.4).
 
 How urgent. At worst wrong information: the packet may be taken for the other direction, or not at all.
 
@@ -15,7 +15,8 @@ that is for one direction; with the wrong one, it takes what is meant for trains
 
 How to correct it. Name the balise in the packets 5 of the groups before it, and give all these links one orientation.
 
-Correct data that gets it. Level 2, if linking comes by radio, and the messages are not among the data.
+Correct data that gets it. Level 2, also as an overlay of level 1, if linking comes by radio and the messages are not
+among the data. A balise with repositioning information (packet 16), to which a link with NID_BG 16,383 leads.
 
 Example. Infill balise 5 has a packet 12 for the nominal direction. Signals 3 and 4 lead past it and do not name it.
 

@@ -1,21 +1,23 @@
 """E17: links that end before the authority.
 
-What it says. A packet 12 with V_MAIN above 0 allows a train to go on for more than 50 m behind the last group that a
-packet 5 names, neither one of the same passage nor one of a group before it on that track and way. Groups count that
-say anything in the direction of passage. The rule is silent if no such group is between that place and 50 m beyond the
-end of the authority, and if the end is beyond the last such group of the track. A table without any packet 5 gets one
-remark for all (SUBSET-026, 3.4.4).
+What it says. A packet 12 with V_MAIN above 0 allows a train to go on for more than 50 m beyond the last group that
+packets 5 name: those of the same passage, and those of groups before it on that track and way. Only groups that say
+something in the direction of passage count. The rule is silent if no such group is between that place and 50 m beyond
+the end of the authority, and if the end is beyond the last such group of the track. A table without any packet 5 gets
+one remark for all (SUBSET-026, 3.4.4).
 
 How urgent. At worst a wrong place: a train misses a group and goes on.
 
 Usual cause. A link was forgotten, or an aspect leads farther than the packet 5, which was made for another aspect.
 
-What may happen. Groups that no link names aren't expected: nothing shows that the train missed one, and it corrects its
-position by none of them.
+What may happen. A train does not expect a group that no link names: nothing shows that it missed the group, and it does
+not correct its position there.
 
 How to correct it. Name all groups to the end of the authority in the packet 5.
 
-Correct data that gets it. A line that never uses linking, or that uses it on a part only.
+Correct data that gets it. A line that never uses linking, or that uses it on a part only. Packets 5 that lead to the
+next signal, which has a packet 5 of its own. Links that end with NID_BG 16,383: the group with repositioning
+information there names the next ones.
 
 Example. The authority of signal 3 ends at km 16.000, and its packet 5 names groups to km 14.500 only.
 

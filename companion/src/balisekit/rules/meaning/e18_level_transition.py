@@ -19,7 +19,9 @@ trackside equipment has ended, or is braked.
 How to correct it. Compare D_LEVELTR of each announcement with the kilometre of the border, and put a packet 41 into the
 group at the border.
 
-Correct data that gets it. A line on which the last announcement alone makes the train change its level.
+Correct data that gets it. A line on which the last announcement alone makes the train change its level. A group that
+has D_LEVELTR 32,767 some metres from the border. A group beyond the border that repeats the order for trains that have
+missed it.
 
 Example. Signal 4 announces level 0 at km 16.750, and the group at the border, at km 16.700, has it at once.
 

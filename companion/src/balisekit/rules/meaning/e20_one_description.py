@@ -13,7 +13,7 @@ What may happen. The train waits for a group a second time, or opens another win
 How to correct it. Correct NID_BG, Q_LOCACC or Q_LINKREACTION.
 
 Correct data that gets it. Reactions or accuracies that depend on the route or on the group from which the distance
-counts.
+counts. A balloon loop, on which a train passes a group twice.
 
 Example. The packet 5 of signal 4 names signal 5 as its first and as its second link.
 

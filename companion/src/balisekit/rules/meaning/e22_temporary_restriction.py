@@ -5,7 +5,7 @@ differ in the place by more than the tolerance, in L_TSR by more than the tolera
 `--tolerance` (1 m without it), the unit of each packet by Q_SCALE, and one unit of the last decimal of the kilometres.
 The most frequent one counts as right. The layout of packet 65 is balisekit's own (SUBSET-026, 3.11.5 and 7.4.2).
 
-How urgent. At worst wrong information: the train takes the restriction that it gets last in place of the first one.
+How urgent. At worst wrong information: the train takes the restriction that it gets last instead of the first one.
 
 Usual cause. D_TSR was not made anew for the second group. A restriction was changed in one group only.
 
@@ -13,7 +13,8 @@ What may happen. The restriction begins too late, ends too early, or has another
 
 How to correct it. Compare D_TSR, L_TSR and V_TSR with the list of restrictions.
 
-Correct data that gets it. Two restrictions on one line that have the same number.
+Correct data that gets it. Two restrictions on one line that have the same number. A group within the restriction, which
+has D_TSR 0 and the rest of L_TSR.
 
 Example. Signal 3 has restriction 7 at km 14.000 with 40 km/h, and signal 4 has it at km 14.100.
 

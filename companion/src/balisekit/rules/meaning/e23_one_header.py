@@ -1,15 +1,16 @@
 """E23: one line, one header.
 
 What it says. A telegram has another M_VERSION than most telegrams of the table. Or a group has another NID_C than most
-groups of its track, and groups with that NID_C are on both sides of it, in the order of the kilometres, or else of the
-table. The rule is off unless it is asked for (SUBSET-026, 7.5.1 and 8.4.2).
+groups of its track, and groups with the usual NID_C are on both sides of it, in the order of the kilometres, or else of
+the table. The rule is off unless it is asked for (SUBSET-026, 7.5.1 and 8.4.2).
 
 How urgent. No effect on a train is known: a rule of the project is broken. A wrong NID_C makes the group another one,
 which L1 shows if links name it.
 
 Usual cause. A telegram was made with another version of a tool, or was copied from another line.
 
-What may happen. A train of an older version ignores the telegram, or the group.
+What may happen. A train that knows only the older version may ignore packets or values that the later one has added.
+With a wrong NID_C the group is another one for the train.
 
 How to correct it. Correct the header.
 

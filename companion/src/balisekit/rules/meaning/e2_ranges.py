@@ -10,12 +10,13 @@ How urgent. At worst wrong information: a train may run faster than the track al
 Usual cause. A speed was entered in km/h: it is sent in steps of 5 km/h, so that 100 means 500 km/h. Or a gradient was
 entered in tenths of a per mille.
 
-What may happen. A speed that is too great does not restrict the train. By a wrong gradient it brakes too early or too
-late.
+What may happen. A speed that is too great does not restrict the train. With a wrong gradient the train brakes too early
+or too late.
 
 How to correct it. Correct the value. If the line is faster, state its greatest speed with `--line-speed`.
 
-Correct data that gets it. A line that is steeper than 40 ‰. A V_MAIN that is meant as a ceiling above the profile.
+Correct data that gets it. A line that is steeper than 40 ‰. A V_MAIN that is meant as a ceiling above the profile. A
+V_DIFF of tilting trains, if `--line-speed` is the speed of other trains.
 
 Example. V_STATIC of the first element at Signal B is 500 km/h, sent as 100: 100 km/h are sent as 20.
 

@@ -2,9 +2,9 @@
 
 What it says. In a packet 12 or 15 a D_SECTIONTIMERSTOPLOC is greater than the length of its section. Or
 D_ENDTIMERSTARTLOC or D_STARTOL is greater than the sum of all lengths, if that sum is above 0. Or the overlap ends
-before the danger point. Or V_LOA is above V_MAIN. Or V_LOA is 0 and T_LOA is not 1,023, which means that it never runs
-out. Or V_LOA is above 0, and a danger point or an overlap is there. Or V_MAIN is above 0 and the sum of all lengths
-is 0. Or an L_SECTION is 0 (SUBSET-026, 3.8 and 7.4.2).
+before the danger point. Or V_LOA is above V_MAIN. Or V_LOA is 0 and T_LOA is not 1,023 (no time limit). Or V_LOA is
+above 0, and a danger point or an overlap is there. Or V_MAIN is above 0 and the sum of all lengths is 0. Or an
+L_SECTION is 0 (SUBSET-026, 3.8 and 7.4.2).
 
 How urgent. At worst wrong information: one of the two values of the sentence is not what was meant.
 
@@ -16,7 +16,10 @@ before its danger point. Or it may run at V_MAIN without any length.
 
 How to correct it. Compare both values of the sentence with the design of the signal, and correct the wrong one.
 
-Correct data that gets it. National rules for timers: a timer that stops, or starts, in rear of the group on purpose.
+Correct data that gets it. A section timer that stops on purpose beyond its section. A timer of the end section or of
+the overlap that starts on purpose in rear of the group. A V_LOA with a time limit: when T_LOA has run out, the limit of
+authority is an end of authority, which needs its danger point or overlap. A T_LOA that a template fills in although
+V_LOA is 0.
 
 Example. The overlap of Signal B ends 20 m after the end of authority, and the danger point is 50 m after it.
 

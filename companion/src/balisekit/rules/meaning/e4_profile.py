@@ -2,8 +2,8 @@
 
 What it says. In a packet 21 or 27 an element after the first one has D_GRADIENT or D_STATIC 0, an element follows an
 end mark, or the end mark is the first element. Or a V_STATIC is 0 km/h. Or an element repeats the gradient, or the
-speed, Q_FRONT and categories, of the one before it. Or an element has a train category twice, the V_DIFF by cant
-deficiency falls while NC_CDDIFF rises, or one of them is below V_STATIC (SUBSET-026, 3.11 and 7.4.2).
+speed, Q_FRONT and categories, of the one before it. Or an element has a train category twice, or its V_DIFF by cant
+deficiency falls while NC_CDDIFF rises, or is below V_STATIC (SUBSET-026, 3.11 and 7.4.2).
 
 How urgent. At worst wrong information: a speed or gradient holds at another place, or for other trains, than was meant.
 
@@ -15,7 +15,8 @@ element often stands for a change that was meant.
 
 How to correct it. Compare the elements with the profile of the track, and correct or remove the wrong one.
 
-Correct data that gets it. A speed of 0 km/h beyond a buffer stop.
+Correct data that gets it. A speed of 0 km/h beyond a buffer stop. A gradient or speed that is repeated because it holds
+longer than one distance can state, which is 3,276.7 m with Q_SCALE 0.
 
 Example. The third element of the gradient profile of Signal B has D_GRADIENT 0 m, as if it were at the place of the
 second one.

@@ -9,12 +9,13 @@ How urgent. At worst wrong information for trains in one of the directions.
 Usual cause. The template had Q_DIR 2. Or the packet was meant for one direction, and a single balise with Q_LINK 0 has
 no direction.
 
-What may happen. Trains in both directions take the distances: they find the end of authority, the level border or the
-restriction at as many metres in front of the group as behind it.
+What may happen. Trains of each direction count the distances in their own direction. The end of authority, the level
+border or the restriction is then on both sides of the group.
 
 How to correct it. Set Q_DIR to 1 or 0. A group of one balise gets its direction if it is linked, or by a second balise.
 
 Correct data that gets it. A gradient of 0 ‰ or a speed that is the same in both directions as far as the profile goes.
+A packet whose only distance is 0, such as a packet 68 with Q_TRACKINIT 1 and D_TRACKINIT 0.
 
 Example. The level transition order of group D has Q_DIR 2 and D_LEVELTR 500 m.
 

@@ -10,9 +10,11 @@ Usual cause. The telegram of one aspect was copied, and its packets were not cha
 
 What may happen. A train that passes the more restrictive aspect gets the authority and the speed of the other one.
 
-How to correct it. Compare both telegrams with the aspect table of the signal, and make the packets of the wrong one.
+How to correct it. Compare both telegrams with the aspect table of the signal, and correct the packets of the wrong one.
 
-Correct data that gets it. One aspect that the table has under two names.
+Correct data that gets it. One aspect that the table has under two names. Aspects that differ only beyond the end of
+authority: yellow and green of the last signal before a buffer stop or a level border. Aspects that the driver sees as
+two and that give the train one authority.
 
 Example. Signal B has the packets of green at yellow: both allow 120 km/h for 1,400 m.
 

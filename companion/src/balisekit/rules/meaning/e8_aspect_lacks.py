@@ -16,7 +16,9 @@ aspect says nothing to its train. Without packet 137 a train in staff responsibl
 
 How to correct it. Compare the telegram of the aspect with those of the others, and add the packet or correct Q_DIR.
 
-Correct data that gets it. Aspects for one route only, on which the packet is not needed.
+Correct data that gets it. Aspects for one route only, on which the packet is not needed. A stop aspect without packet
+132, at which shunting is allowed. A stop aspect without "stop" in a packet 137, which a train in staff responsible mode
+may pass, such as a substitution aspect.
 
 Example. The aspects red and yellow of Signal B have packets 12 for the nominal direction, and green for the reverse
 one.

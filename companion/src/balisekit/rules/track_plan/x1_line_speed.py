@@ -2,9 +2,8 @@
 
 What it says. A static speed profile (packet 27) has a V_STATIC that is not the line speed of the plan, on a stretch
 that is longer than the tolerance. Both speeds are in km/h. Speeds for train categories are not compared, nor what
-follows a packet 136. If the plan has a point ahead at which the train may leave the track, the stretch behind it is
-compared only up to the last group of the track that a packet 5 of the same message names (SUBSET-026, 7.4.2 and
-7.5.1).
+follows a packet 136. If the plan has a point ahead at which the train may leave the track, the stretch beyond it is
+compared only up to the last group of the track that a packet 5 of the same message names (SUBSET-026, 7.4.2 and 7.5.1).
 
 How urgent. At worst wrong information: the train may run faster than the track allows. A lower speed than that of the
 plan only slows trains.
@@ -17,7 +16,7 @@ What may happen. The train supervises another speed than that of the track.
 How to correct it. Correct V_STATIC or D_STATIC of the packet, or the row of the plan.
 
 Correct data that gets it. A profile with a lower speed for a route of its own, or one that leaves out a short stretch
-of higher speed.
+of higher speed. A temporary restriction that is written into the profile.
 
 Example. The profile of signal B has 120 km/h from km 15.900 to km 15.950, where the plan has 100 km/h.
 """

@@ -2,7 +2,7 @@
 
 What it says. A gradient profile (packet 21) has a gradient that is not that of the plan, on a stretch that is longer
 than the tolerance. Both are in per mille with their sign: uphill is positive as the train meets it, by Q_GDIR in the
-packet. The plan's sign is that of the row's way. What follows a packet 136 is not compared, nor the track behind a
+packet. The plan's sign is that of the row's way. What follows a packet 136 is not compared, nor the track beyond a
 point, as in X1 (SUBSET-026, 7.4.2 and 7.5.1).
 
 How urgent. At worst wrong information: with a gradient that is less downhill than the track the train brakes too late.

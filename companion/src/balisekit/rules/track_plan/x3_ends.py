@@ -4,19 +4,19 @@ What it says. A movement authority ends at a place at which the plan has no sign
 names the nearest signal of the plan and how far it is away. Authorities are packets 12 with V_MAIN above 0, and packets
 15; one ends where its sections and its end section end. Only rounding is allowed: one unit of Q_SCALE, half a unit for
 each further section, and one unit of the last decimal of the kilometres. `--tolerance` allows more. If the plan has a
-signal on a track for one way, it needs all signals of it at which authorities end. An end behind a point of the plan is
+signal on a track for one way, it needs all signals of it at which authorities end. An end beyond a point of the plan is
 not compared, as in X1 (SUBSET-026, 7.4.2 and 7.5.1).
 
 How urgent. At worst wrong information: the train may pass the signal before its authority ends.
 
 Usual cause. A section is missing or was counted twice. The length was taken to another signal, or from another group.
 
-What may happen. The train stops behind the signal, or too far in front of it.
+What may happen. The train stops beyond the signal, or too far in rear of it.
 
 How to correct it. Correct L_SECTION and L_ENDSECTION, or the row of the plan.
 
-Correct data that gets it. An authority that ends on purpose before a signal, such as at a marker board. Write its place
-into the plan.
+Correct data that gets it. An authority that ends on purpose in rear of a signal, such as at a marker board or on a
+calling-on route. Write its place into the plan.
 
 Example. The authority of signal A at green ends at km 15.350, and the nearest signal of the plan is at km 15.300.
 """

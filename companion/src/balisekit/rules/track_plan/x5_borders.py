@@ -1,13 +1,14 @@
 """X5: level or RBC border other than in the plan.
 
 What it says. A packet 41 (level transition) or 131 (RBC transition) has its border at another place than the plan, or
-other levels or another radio block centre (RBC) behind it. It is compared with the nearest border of its kind for
-trains of that way. A packet 46 (conditional level transition) is compared with the levels behind the last border in
-rear, a packet 42 that establishes a session with the RBC behind the next border ahead and behind the last one in rear.
-Only rounding is allowed for places: one unit of Q_SCALE and one unit of the last decimal of the kilometres;
-`--tolerance` allows more. If the plan has a border on a track for one way, it needs all borders of that kind. A border
-of the plan between the first and the last group of the table that no packet names is named at the nearest group. What
-follows a packet 136 is not compared (SUBSET-026, 7.4.2 and 7.5.1).
+other levels or another radio block centre (RBC) beyond it. It is compared with the nearest border of its kind for
+trains of that way. A packet 46 (conditional level transition) is compared with the levels beyond the last border in
+rear. A packet 42 that establishes a session has to name the RBC beyond the next border ahead or that beyond the last
+one in rear; with NID_RBC 16,383 (the last known RBC) it is not compared. Only rounding is allowed for places: one unit
+of Q_SCALE and one unit of the last decimal of the kilometres; `--tolerance` allows more. If the plan has a border on a
+track for one way, it needs all borders of that kind. A border of the plan between the first and the last group of the
+table that no packet names is named at the nearest group. What follows a packet 136 is not compared (SUBSET-026, 7.4.2
+and 7.5.1).
 
 How urgent. At worst wrong information: the train changes its level or its RBC at a wrong place.
 
@@ -18,8 +19,8 @@ What may happen. The train is in a level that the track does not support there, 
 
 How to correct it. Correct the packet, or the row of the plan.
 
-Correct data that gets it. A level transition at a place of its own, such as for trains without radio. Write its place
-into the plan.
+Correct data that gets it. A level transition at a place of its own, such as for trains without radio. A group some
+metres from the border that has D_LEVELTR 32,767. Write such places into the plan.
 
 Example. Group F announces level 2 at km 20.050, and the plan has the border at km 20.000.
 """
