@@ -4,8 +4,8 @@ What it says. A telegram has another M_VERSION than most telegrams of the table.
 groups of its track, and groups with the usual NID_C are on both sides of it, in the order of the kilometres, or else of
 the table. The rule is off unless it is asked for (SUBSET-026, 7.5.1 and 8.4.2).
 
-How urgent. No effect on a train is known: a rule of the project is broken. A wrong NID_C makes the group another one,
-which L1 shows if links name it.
+How urgent. Of another M_VERSION no effect on a train is known: a rule of the project is broken. A wrong NID_C makes the
+group another one, which L1 shows if links name it.
 
 Usual cause. A telegram was made with another version of a tool, or was copied from another line.
 
