@@ -5,13 +5,14 @@ import copy
 import json
 from decimal import Decimal
 from pathlib import Path
-from typing import Any, Callable, List
+from typing import Any, Callable, List, Union
 
 import meaning_line
 import pytest
 import rules_page
 from conftest import Run
-from meaning_line import SOUND, Line, Row, change, random_line
+from meaning_line import SOUND, Line, Row, change
+from meaning_random import RandomLine
 
 from balisekit.engine.program import Program
 from balisekit.rules import checking, meaning
@@ -20,6 +21,7 @@ from balisekit.rules.rule import CORRECT_DATA, Options, Remark
 from balisekit.tables import reader
 
 Change = Callable[[List[Row]], Any]
+WithRows = Union[Line, RandomLine]
 HEADS = (
     "What it says",
     "How urgent",
@@ -33,7 +35,7 @@ HEADS = (
 NAMES = [rule.name for rule in meaning.RULES]
 
 
-def written(program: Program, path: Path, line: Line = Line(), *changes: Change) -> Path:
+def written(program: Program, path: Path, line: WithRows = Line(), *changes: Change) -> Path:
     """The table of a line with these changes of its rows."""
     rows = copy.deepcopy(line.rows)
     for each in changes:
@@ -53,13 +55,6 @@ def test_sound_lines(run: Run, program: Program, tmp_path: Path, name: str) -> N
     status, out, _ = run("check", written(program, tmp_path / "t.csv", SOUND[name]), "--only", "E", "--rules", "all")
     assert status == 0 and out[-1] == "remarks: none found", out
     assert (meaning_line.FOLDER / f"{name}.csv").read_text("utf-8") == (tmp_path / "t.csv").read_text("utf-8")
-
-
-@pytest.mark.parametrize("part", [range(5), pytest.param(range(5, 1000), marks=pytest.mark.slow)])
-def test_random_sound_lines(program: Program, tmp_path: Path, part: range) -> None:
-    for seed in part:
-        found = remarks(program, written(program, tmp_path / "t.csv", random_line(seed)), Options())
-        assert not found, (seed, found[0].sentence)
 
 
 def test_pages() -> None:
@@ -102,7 +97,7 @@ def test_e7_of_stop_aspects_is_a_note(run: Run, program: Program, tmp_path: Path
 
     status, out, _ = run("check", written(program, tmp_path / "t.csv", Line(), stop), "--only", "E")
     assert out[-2:] == ["aspects found: 3 in 15 groups", "remarks: 2 found (E9 2)"] and status == 1
-    assert sum("V_MAIN of the aspect \"yellow\" is 0 km/h [0], and in 13 of 15 cases" in each for each in out) == 2
+    assert sum('V_MAIN of the aspect "yellow" is 0 km/h [0], and in 13 of 15 cases' in each for each in out) == 2
     note = "E7: in 2 groups aspects without a V_MAIN above 0 have the same packets, such as the aspects "
     assert f'note: {note}"red", "yellow" of Signal 4' in out
 
