@@ -1,4 +1,4 @@
-"""Makes the sections of docs/LINKS.md and docs/REMARKS.md: `python3 companion/tests/rules_page.py`.
+"""Makes the sections of docs/LINKS.md, docs/REMARKS.md and docs/PLAN.md: `python3 companion/tests/rules_page.py`.
 
 Each is made of the pages of its rules. The introduction of a document, and the outputs of the examples, are its own and
 stay as they are. A rule without a section gets one, in the order of the rules.
@@ -13,11 +13,15 @@ from typing import Dict, Sequence
 HERE = Path(__file__).resolve().parent
 sys.path.insert(0, str(HERE.parent / "src"))
 
-from balisekit.rules import links, meaning  # noqa: E402  (the path comes first)
+from balisekit.rules import links, meaning, track_plan  # noqa: E402  (the path comes first)
 from balisekit.rules.rule import Rule  # noqa: E402
 
 DOCS = HERE.parents[1] / "docs"
-DOCUMENTS: Dict[Path, Sequence[Rule]] = {DOCS / "LINKS.md": links.RULES, DOCS / "REMARKS.md": meaning.RULES}
+DOCUMENTS: Dict[Path, Sequence[Rule]] = {
+    DOCS / "LINKS.md": links.RULES,
+    DOCS / "REMARKS.md": meaning.RULES,
+    DOCS / "PLAN.md": track_plan.RULES,
+}
 
 
 def page(text: str, rules: Sequence[Rule] = links.RULES) -> str:

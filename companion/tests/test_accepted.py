@@ -20,6 +20,7 @@ from balisekit.rules.accepted import COLUMNS, FIELDS
 Write = Callable[..., Path]
 LINE = TOP / "examples" / "table" / "line.csv"
 HEADING = ",".join(COLUMNS)
+NO_RULE = "none of F1 to F16, L1 to L9, E1 to E23 and X1 to X5"
 DAY = "1780000000"
 """2026-05-28."""
 
@@ -192,8 +193,8 @@ def test_messages_are_named(run: Run, table: Write) -> None:
         (["rule,reason"], "row 1: no column nid_c"),
         ([HEADING + ",untill"], "row 1: there is no column untill"),
         ([HEADING + ",who"], "row 1: the heading who stands"),
-        ([HEADING, entry(rule="F17")], "row 2, column rule: F17 is none of F1 to F16, L1 to L9 and E1 to E23"),
-        ([HEADING, entry(rule="")], "row 2, column rule: nothing is none of F1 to F16, L1 to L9 and E1 to E23"),
+        ([HEADING, entry(rule="F17")], f"row 2, column rule: F17 is {NO_RULE}"),
+        ([HEADING, entry(rule="")], f"row 2, column rule: nothing is {NO_RULE}"),
         ([HEADING, entry(nid_bg="x")], "row 2, column nid_bg: x is no whole number"),
         ([HEADING, entry(direction="up")], "row 2, column direction: up is neither nominal nor reverse"),
         (

@@ -127,7 +127,7 @@ def test_a_fingerprint_survives_new_rows(run: Run, table: Write, tmp_path: Path)
         return sorted((one["ruleId"], one["partialFingerprints"]["balisekit/v1"]) for one in log["results"])
 
     heading, *lines = LINKS.read_text("utf-8").splitlines()
-    lines += [lines[-1].replace("D,D1,12.500", f"{name},,12.6") for name in "EF"]
+    lines += [lines[-1].replace("D,D1,12.500", f"{name},,13.6") for name in "EF"]
     known = prints(table(heading, *lines))
     assert len(known) == 3 and len(set(known)) == 3
     assert prints(table(heading, f"N,N1,9.000,rising,{ALONE}", *lines, name="new.csv")) == known

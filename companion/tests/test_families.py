@@ -215,8 +215,8 @@ ENTRY = {"nid_c": "1", "nid_bg": "1", **SIGNED, "sha256": "0" * 64}
         ({"rule": "F8", "aspect": "*", "balise": "0"}, "aspect", "F8 is not accepted by * as aspect"),
         ({"rule": "L3", "aspect": "*", "until": "2026-12-31"}, "aspect", "L3 is not accepted by * as aspect"),
         ({"rule": "F10", "nid_c": "", "nid_bg": "", "message": "m", "direction": "*"}, "until", "an entry with * that"),
-        ({"rule": "L10"}, "rule", "L10 is none of F1 to F16, L1 to L9 and E1 to E23"),
-        ({"rule": "L0"}, "rule", "L0 is none of F1 to F16, L1 to L9 and E1 to E23"),
+        ({"rule": "L10"}, "rule", "L10 is none of F1 to F16, L1 to L9, E1 to E23 and X1 to X5"),
+        ({"rule": "L0"}, "rule", "L0 is none of F1 to F16, L1 to L9, E1 to E23 and X1 to X5"),
     ],
 )
 def test_entries_that_are_too_broad(

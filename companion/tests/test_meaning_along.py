@@ -17,6 +17,7 @@ from meaning_mistakes import (
     RESTRICTED,
     added,
     all_of,
+    announcement_by_radio,
     authority,
     form_of,
     restriction,
@@ -95,6 +96,41 @@ def test_examples(program: Program, name: str) -> None:
     assert path.read_text("utf-8") == table(program, MISTAKES[name].rows)
     said = answer(name)
     assert said == path.with_suffix(".txt").read_text("utf-8") and f": {name}: " in said
+
+
+def on_track_2(rows: List[Row]) -> None:
+    """A second track beside the first one, with its own groups, speeds and gradients, whose kilometres fall."""
+    for row in rows:
+        row.track = "1"
+    for row in Line(signals=6, way=-1, seed=2).rows:
+        row.form["nid_bg"] += 100
+        for each in row.form["packets"]:
+            for link in each.get("links", ()):
+                link["nid_bg"] += 100
+        rows.append(row_on_track_2(row))
+
+
+def row_on_track_2(row: Row) -> Row:
+    name = f"{row.group} of track 2"
+    return Row(name, f"{name} {row.balise}", row.place, row.aspect, row.balise, row.form, "2")
+
+
+@pytest.mark.parametrize(
+    "line, change_",
+    [
+        (
+            LEVEL_2,
+            all_of(with_packet("Signal 1", FIXED, session()), with_packet("Signal 2", FIXED, announcement_by_radio())),
+        ),
+        (SHORT, on_track_2),
+        (SHORT, RESTRICTED),
+        (SHORT, single_balise),
+    ],
+)
+def test_sound_lines(found: Found, line: Line, change_: Change) -> None:
+    """Level 2 with its session and border of radio block centres, two tracks, and a restriction that two groups give."""
+    for rule in meaning.RULES:
+        assert not found(rule.name, line, change_), rule.name
 
 
 @pytest.mark.parametrize(

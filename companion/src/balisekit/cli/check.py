@@ -6,12 +6,13 @@ import time
 from typing import Tuple
 
 from balisekit.cli import options as shared, settings
+from balisekit.errors import TableError
 from balisekit.io import clock
 from balisekit.io.outputs import encode, write_json
 from balisekit.present import accepted_text
 from balisekit.present.outcome_text import lines
 from balisekit.rules import accepted, checking
-from balisekit.rules.families import FAMILIES, Outcome, apply
+from balisekit.rules.families import FAMILIES, PLAN, Outcome, apply
 
 ONLY = "apply only these families of rules: F, the program's findings; L, links; E, remarks; X, track plan"
 
@@ -81,6 +82,8 @@ def _outcome(options: argparse.Namespace) -> Outcome:
     letters = options.only or tuple(FAMILIES)
     settings.refuse_unused(options, letters)
     stated = settings.of_line(options)
+    if letters == (PLAN,) and stated.plan is None:
+        raise TableError("--only X needs a track plan: give --plan FILE")
     if all(FAMILIES[letter].needs_kilometres for letter in letters):
         shared.refuse_without_kilometres(table)
     checked = checking.check(program, table, messages, options.by_position, options.all)

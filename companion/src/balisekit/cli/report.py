@@ -11,10 +11,10 @@ from balisekit.present.check_text import closing_lines
 from balisekit.present.explanations import explanations
 from balisekit.present.headings import summary
 from balisekit.present.pages import pieces, premises
-from balisekit.present.report import blocks, cover, listed, remarked
+from balisekit.present.report import blocks, cover, listed, notes_of, remarked
 from balisekit.present.telegram_text import LEGEND
 from balisekit.rules import accepted
-from balisekit.rules.families import apply
+from balisekit.rules.families import PLAN, apply
 from balisekit.rules.line import Line
 from balisekit.rules.links import L2, compare
 from balisekit.tables.names import clean
@@ -39,7 +39,7 @@ def run(options: argparse.Namespace) -> int:
     explanation = explanations()
     line = Line.of(checked)
     links = compare(line, stated, [L2])
-    outcome = apply(checked, ["E"], stated, (judged.entries, now.date()) if judged else None)
+    outcome = apply(checked, ["E", PLAN], stated, (judged.entries, now.date()) if judged else None)
     page = pieces(
         "report.html",
         ["page.css", "picture.css", "track.css"],
@@ -48,7 +48,7 @@ def run(options: argparse.Namespace) -> int:
         summary=list(summary(checked, [one.entry for one in findings if not one.accepted], judged is not None)),
         judged=judged is not None,
         remarks=remarked(outcome),
-        remark_notes=[clean(note) for part in outcome.parts if part.applied for note in part.applied.notes],
+        remark_notes=notes_of(outcome),
         explained=[(rule, explanation[rule]) for rule in sorted({place.finding.rule for place in checked.findings})],
         blocks=blocks(checked, line.forms, findings),
         legend=LEGEND,

@@ -1,6 +1,7 @@
 """The answer of `links` in words and as JSON."""
 from __future__ import annotations
 
+from collections import Counter
 from typing import Any, Dict, Iterator, List, Sequence
 
 from balisekit.present import NOT_PROVED
@@ -65,11 +66,22 @@ def found(links: Links, rules: str = "") -> str:
     return f"{len(links.remarks)} found ({', '.join(counts)})" if counts else f"none found{rules}"
 
 
-def compared(links: Links) -> str:
-    """What each rule has compared, and which links lead to another track."""
+def compared(links: Links, with_reasons: bool = False) -> str:
+    """What each rule has compared, which links lead to another track, and why not the rest if that is asked for."""
     others = links.results[L2].not_looked_at.get(ANOTHER_TRACK, 0) if L2 in links.results else 0
     more = f"; not compared: {others} link{'' if others == 1 else 's'} to another track" if others else ""
-    return f"compared: {', '.join(_compared(rule, result) for rule, result in links.results.items())}{more}"
+    parts = (_compared(rule, result, with_reasons) for rule, result in links.results.items())
+    return f"compared: {', '.join(parts)}{more}"
+
+
+def how_many_compared(links: Links) -> str:
+    """How many things all rules have compared, and how many not, by the reason."""
+    looked_at = sum(result.looked_at for result in links.results.values())
+    skipped: Counter[str] = Counter()
+    for result in links.results.values():
+        skipped.update(result.not_looked_at)
+    reasons = ", ".join(f"{why}: {count}" for why, count in skipped.items() if count)
+    return f"{looked_at} compared" + (f", {sum(skipped.values())} not ({reasons})" if reasons else "")
 
 
 def empty_rules(links: Links) -> List[str]:
@@ -78,14 +90,19 @@ def empty_rules(links: Links) -> List[str]:
 
 
 def _empty(rule: Rule, result: Result) -> str:
-    reasons = [f"{why}: {count}" for why, count in result.not_looked_at.items() if count]
-    return f"{rule.name} compared none of {_things(rule, result.skipped)} ({', '.join(reasons)})"
+    return f"{rule.name} compared none of {_things(rule, result.skipped)} ({_reasons(result)})"
 
 
-def _compared(rule: Rule, result: Result) -> str:
+def _reasons(result: Result) -> str:
+    """Why things were not compared."""
+    return ", ".join(f"{why}: {count}" for why, count in result.not_looked_at.items() if count)
+
+
+def _compared(rule: Rule, result: Result, with_reasons: bool) -> str:
     """What a rule has compared, and of how many things if there are more."""
     of_how_many = f"{result.looked_at} of " if result.skipped else ""
-    return f"{rule.name} {of_how_many}{_things(rule, result.looked_at + result.skipped)}"
+    reasons = f" ({_reasons(result)})" if with_reasons and result.skipped else ""
+    return f"{rule.name} {of_how_many}{_things(rule, result.looked_at + result.skipped)}{reasons}"
 
 
 def _things(rule: Rule, count: int) -> str:

@@ -7,11 +7,12 @@ from balisekit.present import headings
 from balisekit.present.accepted_text import accepted_words, fault_lines, verdict_lines
 from balisekit.present.check_text import before_last, last_line as last_line_of_program, opening_lines
 from balisekit.present.explanations import page_lines, pages
-from balisekit.present.links_text import compared, empty_rules, found, lacking
+from balisekit.present.links_text import compared, empty_rules, found, how_many_compared, lacking
 from balisekit.rules.accepted import UNNAMED, Item, keys
+from balisekit.rules.applied import Applied
 from balisekit.rules.checking import Place
 from balisekit.rules.entries import Entry, entry_of
-from balisekit.rules.families import PROVED, Outcome, Part, entry_of_remark
+from balisekit.rules.families import PLAN, PROVED, Outcome, Part, entry_of_remark
 from balisekit.tables.names import clean
 
 LINKS = "L"
@@ -47,12 +48,14 @@ def _part(outcome: Outcome, part: Part) -> Iterator[str]:
         yield from headings.summary(outcome.checked, part.open, outcome.judged is not None)
         return
     yield from (f"note: {clean(note)}" for note in part.applied.notes)
-    yield from [compared(part.applied)] if part.family.letter == LINKS else _applied(part)
+    yield from _applied(part, part.applied)
 
 
-def _applied(part: Part) -> Iterator[str]:
-    """Which rules were applied, if a rule was asked for that is off by default."""
-    if not all(rule.is_default for rule in part.family.rules):
+def _applied(part: Part, applied: Applied) -> Iterator[str]:
+    """What was compared, and which rules were applied if a rule was asked for that is off by default."""
+    if part.family.letter in (LINKS, PLAN):
+        yield compared(applied, part.family.letter == PLAN)
+    elif not all(rule.is_default for rule in part.family.rules):
         yield f"applied: {', '.join(rule.name for rule in part.family.rules)}"
 
 
@@ -111,15 +114,22 @@ def closing_lines(outcome: Outcome) -> List[str]:
     return [*fault_lines(judged), *verdict_lines(judged, last, outcome.whole, outcome.letters)]
 
 
+def _found(part: Part, applied: Applied) -> str:
+    """What the rules of a part have found, and how much was compared with a track plan."""
+    counts = f", {how_many_compared(applied)}" if part.family.letter == PLAN else ""
+    return f"{part.family.things}: {found(applied)}{counts}"
+
+
 def verdict(outcome: Outcome) -> str:
     """The verdict of all parts: the program's, or that something was not looked at, then what other rules found.
 
-    It is the program's line and nothing else if other rules have looked at all and found nothing.
+    It is the program's line and nothing else if other rules have looked at all and found nothing, unless there is a
+    track plan: then it counts what was compared with it.
     """
     checked = outcome.checked
     empty = [text for part in outcome.parts if part.applied for text in empty_rules(part.applied)]
-    of_rules = [part for part in outcome.parts if part.items or PROVED not in outcome.letters]
-    others = [f"{part.family.things}: {found(part.applied)}" for part in of_rules if part.applied]
+    said = [part for part in outcome.parts if part.items or PROVED not in outcome.letters or part.family.letter == PLAN]
+    others = [_found(part, part.applied) for part in said if part.applied]
     if PROVED in outcome.letters:
         own = last_line_of_program(checked)
     else:

@@ -15,13 +15,14 @@ from balisekit.io import clock
 from balisekit.present import NOT_PROVED, headings
 from balisekit.present.accepted_text import accepted_words, fault_lines, with_entries
 from balisekit.present.check_text import closing_lines
+from balisekit.present.links_text import compared
 from balisekit.present.refusals import RefusedInput, not_looked_at, refused
 from balisekit.present.telegram_text import text
 from balisekit.rules.accepted import Judged
 from balisekit.rules.aspect_counts import aspects_found
 from balisekit.rules.checking import AcceptedMessage, Checked
 from balisekit.rules.entries import Entry, entries
-from balisekit.rules.families import Outcome
+from balisekit.rules.families import PLAN, Outcome
 from balisekit.rules.remarks import remarks
 from balisekit.tables.model import Group
 from balisekit.tables.names import clean, describe_balise, describe_group, describe_message, describe_rows, passed_over
@@ -128,6 +129,13 @@ def remarked(outcome: Outcome) -> List[Listed]:
         for some in (part.open, part.accepted)
         for entry, heading in zip(some, headings.first_of_each(some))
     ]
+
+
+def notes_of(outcome: Outcome) -> List[str]:
+    """The notes of rules of balisekit, and what was compared with a track plan."""
+    notes = [clean(note) for part in outcome.parts if part.applied for note in part.applied.notes]
+    plans = [part.applied for part in outcome.parts if part.applied and part.family.letter == PLAN]
+    return [*notes, *(f"track plan: {compared(applied, True)}" for applied in plans)]
 
 
 def _listed(entry: Entry, ids: Mapping[str, str], heading: str, accepted: Iterable[str]) -> Listed:

@@ -101,8 +101,7 @@ def levels(text: str) -> str:
 
 def level_word(m_leveltr: int, nid_ntc: Optional[int] = None) -> str:
     """A level as a plan writes it."""
-    word = LEVEL_WORDS[m_leveltr] if m_leveltr < len(LEVEL_WORDS) else f"M_LEVELTR {m_leveltr}"
-    return word if nid_ntc is None else f"{word}:{nid_ntc}"
+    return LEVEL_WORDS[m_leveltr] if nid_ntc is None else f"{LEVEL_WORDS[m_leveltr]}:{nid_ntc}"
 
 
 def rbc(text: str) -> str:

@@ -97,7 +97,9 @@ def _signal(passage: Passage, target: GroupData) -> Optional[Passage]:
 
 def _differences(passage: Passage, target: GroupData) -> Iterator[Remark]:
     """One remark on all packets of an aspect that differ from those of the signal."""
-    signal, words, others = _signal(passage, target), [], []
+    signal = _signal(passage, target)
+    words: List[str] = []
+    others: List[int] = []
     values: Dict[str, Decimal] = {}
     first: Optional[Packet] = None
     for number in COMPARED if signal else ():

@@ -1,10 +1,11 @@
 """What packets say of level and RBC borders: packets 41 and 46, 42 and 131."""
 from __future__ import annotations
 
-from typing import Any, NamedTuple, Optional
+from decimal import Decimal
+from typing import Any, Dict, NamedTuple, Optional
 
 from balisekit.rules.track_plan.placed import Saying
-from balisekit.tables.plan_values import level_word
+from balisekit.tables.plan_values import LEVEL_WORDS, level_word
 
 NOW = 32_767
 LAST_KNOWN = 16_383
@@ -45,3 +46,16 @@ def border_of(saying: Saying) -> Optional[Border]:
         return None
     distance = form.get("d_rbctr", NOW)
     return Border(saying, kind, 0 if distance == NOW else distance * packet.unit, f"{form['nid_c']}/{form['nid_rbc']}")
+
+
+def numbers(kind: str, text: str, prefix: str = "") -> Dict[str, Decimal]:
+    """The numbers of levels, in their order, or of an RBC, by the names of the variables."""
+    found: Dict[str, str] = {}
+    if kind == "rbc":
+        found["nid_c"], found["nid_rbc"] = text.split("/")
+    else:
+        for place, word in enumerate(text.split(" "), 1):
+            level, _, ntc = word.partition(":")
+            found[f"m_leveltr_{place}"] = str(LEVEL_WORDS.index(level))
+            found.update({f"nid_ntc_{place}": ntc} if ntc else {})
+    return {f"{prefix}{name}": Decimal(number) for name, number in found.items()}

@@ -181,8 +181,9 @@ def remark(
 ) -> Remark:
     """One remark on what several packets say, at the first of them."""
     first, packet = sayings[0]
+    rows = sorted((each.packet.row for each in sayings if each.packet.row), key=lambda row: row.number)
     own = {each.packet.row.number for each in sayings if each.packet.row and each.passage.group is first.group}
-    others = {each.packet.row.number for each in sayings if each.packet.row} - own
+    others = {row.number for row in rows} - own
     groups = {each.passage.group.group.number: each.passage.group.group for each in sayings if each.passage.group}
     named = [group for group in groups.values() if not first.group or group is not first.group.group]
     also = f"; {rows_words(others)} too" if others and not first.message else ""
@@ -195,7 +196,7 @@ def remark(
         urgency=urgency,
         rows=() if first.message else tuple(sorted(own)),
         others=tuple(sorted(others)),
-        aspects=tuple(dict.fromkeys(each.passage.aspect for each in sayings if each.passage.group is first.group)),
+        aspects=tuple(dict.fromkeys(row.aspect for row in rows if row.number in own and row.aspect not in ("", "*"))),
     )
 
 

@@ -32,7 +32,7 @@ class Compared:
     """All differences of one table and one plan, and what was compared."""
 
     differences: List[List[Difference]] = field(default_factory=list)
-    """Those of one row of the plan and one other value together."""
+    """Those of one row of the plan and one other value together, the longest one first."""
     counts: Counts = field(default_factory=Counter)
     """How many elements are compared from their beginning to their end, and how many are not."""
 
@@ -56,7 +56,7 @@ def compare(placed: Placed, number: int, options: Options) -> Compared:
                 if not parts or abs(ends[1] - ends[0]) - covered > tolerance:
                     why = SAYS_NOTHING
             compared.counts[why] += 1
-    compared.differences = list(known.values())
+    compared.differences = [sorted(found, key=lambda each: -abs(each.end - each.begin)) for found in known.values()]
     return compared
 
 

@@ -57,7 +57,7 @@ def find(line: Line, options: Options) -> Result:
         own = [] if passage.message else passage.of(AUTHORITY)
         rows = placed.plan.aspects.get(_name(passage), ()) if own else ()
         fitting = [row for row in rows if row.way in (0, passage.way)]
-        matched.update(row.number for row in fitting)
+        matched.update(row.number for row in (fitting if passage.way else rows))
         for packet in own:
             counts["" if fitting else NO_PLACE if rows and passage.way is None else SAYS_NOTHING] += 1
             found += [each for row in fitting for each in _compare(Saying(passage, packet), row, options)]

@@ -26,12 +26,11 @@ Example. Group F announces level 2 at km 20.050, and the plan has the border at 
 from __future__ import annotations
 
 from collections import Counter
-from decimal import Decimal
-from typing import Dict, Iterator, List, Sequence, Set, Tuple
+from typing import Dict, Iterator, List, Optional, Sequence, Set, Tuple
 
 from balisekit.rules.decoded import allowance
 from balisekit.rules.line import Line
-from balisekit.rules.track_plan.borders import NOT_DECODED, NUMBERS, Border, border_of
+from balisekit.rules.track_plan.borders import NOT_DECODED, NUMBERS, Border, border_of, numbers
 from balisekit.rules.track_plan.placed import (
     BEHIND_POINT,
     NO_PLACE,
@@ -44,6 +43,7 @@ from balisekit.rules.track_plan.placed import (
 )
 from balisekit.rules.rule import Options, Remark, Result, Rule
 from balisekit.rules.urgency import Urgency
+from balisekit.tables.names import kilometre
 from balisekit.tables.plan import BORDERS, PlanRow
 from balisekit.tables.plan_values import metres
 
@@ -53,7 +53,7 @@ WORDS = {"level": "level", "rbc": "RBC"}
 def find(line: Line, options: Options) -> Result:
     """Compares each packet about a border, and looks for borders of the plan without one."""
     placed, counts = Placed(line, options), Counter[str]()
-    found: Dict[Tuple[int, int, str], List[Tuple[Border, int, Spot]]] = {}
+    found: Dict[Tuple[int, Optional[int], str], List[Tuple[Border, int, Spot]]] = {}
     named: Set[int] = set()
     for saying in placed.sayings(*NUMBERS):
         border = border_of(saying)
@@ -63,8 +63,10 @@ def find(line: Line, options: Options) -> Result:
         named.update(spot.row.number for spot in spots)
         counts[why] += 1
         tolerance = line.decoded.tolerance(options.tolerance, allowance(saying.packet))
-        if not why and not any(_is_alike(border, place, spot, tolerance) for spot in spots):
-            found.setdefault((spots[0].row.number, place, border.text), []).append((border, place, spots[0]))
+        if why or any(_is_there(border, place, spot, tolerance) and spot.row.value == border.text for spot in spots):
+            continue
+        elsewhere = None if _is_there(border, place, spots[0], tolerance) else place
+        found.setdefault((spots[0].row.number, elsewhere, border.text), []).append((border, place, spots[0]))
     remarks = [_remark(placed, each) for each in found.values()]
     left = [row for kind in BORDERS for row in placed.plan.of_kind(kind) if row.number not in named]
     remarks += [] if counts[NOT_DECODED] else [each for row in left for each in _unnamed(placed, row)]
@@ -93,21 +95,21 @@ def _wanted(placed: Placed, border: Border) -> Tuple[Sequence[Spot], int, str]:
     return found, place, "" if found else SAYS_NOTHING
 
 
-def _is_alike(border: Border, place: int, spot: Spot, tolerance: int) -> bool:
-    is_there = not border.has_place or abs(spot.place - place) <= tolerance
-    return is_there and border.text == spot.row.text_value
+def _is_there(border: Border, place: int, spot: Spot, tolerance: int) -> bool:
+    """Whether a packet says no other place of a border than the plan."""
+    return not border.has_place or abs(spot.place - place) <= tolerance
 
 
 def _remark(placed: Placed, said: Sequence[Tuple[Border, int, Spot]]) -> Remark:
     border, place, spot = said[0]
     passage, word = border.saying.passage, WORDS[border.kind]
-    where, apart = f"at {placed.km(passage, place)}", abs(place - spot.place)
-    also = f", {metres(apart)} m away" if apart and border.has_place else ""
-    sentence = f"{word} {border.text} {where}, and {word} {spot.row.text_value} by {plan_words(spot.row)}{also}"
+    here, there, apart = placed.km(passage, place), kilometre(spot.row.km), abs(place - spot.place)
+    begins, at = ("begins at", f"at km {there}") if border.has_place else ("at", f"from km {there} on")
+    row = plan_words(spot.row, with_km=False)
+    sentence = f"{word} {border.text} {begins} {here}, and {word} {spot.row.text_value} {at} by {row}"
+    sentence += f": {metres(apart)} m apart" if apart and border.has_place else ""
     values = {"km": placed.km_value(passage, place), "plan_km": spot.row.km}
-    for name, text in (("", border.text), ("plan_", spot.row.text_value)):
-        numbers = [Decimal(each) for each in text.replace("NTC:", "NTC").replace("/", " ").replace("NTC", "10").split()]
-        values.update({f"{name}{border.kind}_{index}": number for index, number in enumerate(numbers, 1)})
+    values.update({**numbers(border.kind, border.text), **numbers(border.kind, spot.row.text_value, "plan_")})
     return remark("X5", [each.saying for each, _, _ in said], sentence, values)
 
 
@@ -116,8 +118,8 @@ def _unnamed(placed: Placed, row: PlanRow) -> Iterator[Remark]:
     place = placed.place(row.track, row.km)
     group = placed.decoded.nearest(row.track, place) if place is not None else None
     if place is not None and group is not None and placed.decoded.is_inside(row.track, place):
-        numbers = "41 or 46" if row.kind == "level" else "131 or 42"
-        sentence = f"no packet {numbers} names the {WORDS[row.kind]} border of {plan_words(row)}"
+        packets = "41 or 46" if row.kind == "level" else "131 or 42"
+        sentence = f"no packet {packets} names the {WORDS[row.kind]} border of {plan_words(row)}"
         yield Remark("X5", group.location(), sentence, values={"plan_km": row.km})
 
 

@@ -1,0 +1,595 @@
+"""The track plan: what the telegrams imply agrees with them, and one other cell gets exactly the remark of its rule."""
+from __future__ import annotations
+
+import copy
+import csv
+import io
+import json
+import re
+from dataclasses import replace
+from decimal import Decimal
+from pathlib import Path
+from typing import Any, Callable, Dict, Iterator, List, Optional, Sequence, Tuple
+
+import meaning_line
+import plan_example
+import pytest
+from conftest import Run
+from meaning_line import SOUND, Line, Row, change, random_line
+from plan_example import Cells, rows_of, text_of
+
+from balisekit.engine.program import Program, Text
+from balisekit.io import csv_writing
+from balisekit.rules import checking, decoded, track_plan
+from balisekit.rules.chainage import Jump
+from balisekit.rules.line import Line as LineOfTable
+from balisekit.rules.rule import CORRECT_DATA, Options, Remark, Result
+from balisekit.rules.track_plan.implied import implied
+from balisekit.tables import messages as messages_file, plan, reader
+
+Change = Callable[[List[Row]], Any]
+TOP = Path(__file__).resolve().parents[2]
+RULE_OF = {"speed": "X1", "gradient": "X2", "signal": "X3", "aspect": "X4", "level": "X5", "rbc": "X5"}
+RBC = (352, 17)
+
+
+def bits(value: int, width: int) -> str:
+    """A number in so many bits."""
+    return f"{value:0{width}b}"
+
+
+def raw(number: int, direction: int, content: str) -> Any:
+    """A packet that the program keeps as bits."""
+    filled = content + "0" * (-len(content) % 8)
+    digits = f"{int(filled, 2):0{len(filled) // 4}x}"
+    return {"nid_packet": number, "q_dir": direction, "l_packet": 23 + len(content), "body": digits}
+
+
+def rbc_order(metres: int, rbc: Tuple[int, int] = RBC, direction: int = 1) -> Any:
+    """A packet 131."""
+    content = [bits(1, 2), bits(metres, 15), bits(rbc[0], 10), bits(rbc[1], 14), "1" * 64, "0"]
+    return raw(131, direction, "".join(content))
+
+
+def session(rbc: Tuple[int, int] = RBC, establishes: int = 1) -> Any:
+    """A packet 42."""
+    return raw(42, 1, "".join([bits(establishes, 1), bits(rbc[0], 10), bits(rbc[1], 14), "1" * 64, "0"]))
+
+
+def conditional(*levels: int) -> Any:
+    """A packet 46 for levels other than NTC."""
+    first, *others = [bits(level, 3) for level in levels]
+    return raw(46, 1, f"{first}{bits(len(others), 5)}{''.join(others)}")
+
+
+def fixed(rows: List[Row], group: str) -> List[Any]:
+    """The packets of the fixed balise of a group."""
+    found: List[Any] = next(row for row in rows if row.group == group and row.balise == 0).form["packets"]
+    return found
+
+
+def with_rbc(rows: List[Row]) -> None:
+    """Two groups announce the border of an RBC at km 16.700, and the first one of them its session."""
+    fixed(rows, "Signal 4").extend([rbc_order(2200), session()])
+    fixed(rows, "Signal 5").append(rbc_order(700))
+
+
+def other_session(rows: List[Row]) -> None:
+    """A session with another RBC behind the border."""
+    fixed(rows, "Signal 8").append(session((352, 18)))
+
+
+def written(program: Program, path: Path, line: Line = Line(), *changes: Change) -> Path:
+    """The table of a line with these changes of its rows."""
+    rows = copy.deepcopy(line.rows)
+    for each in changes:
+        each(rows)
+    path.write_text(meaning_line.table(program, rows), "utf-8")
+    return path
+
+
+def read(program: Program, path: Path, jumps: Sequence[Jump] = (), radio: Optional[Path] = None) -> LineOfTable:
+    """The line of a table."""
+    sent = messages_file.read(str(radio)) if radio else None
+    return LineOfTable.of(checking.check(program, reader.read(str(path)), sent), jumps)
+
+
+def results(line: LineOfTable, rows: List[Cells], folder: Path, options: Options = Options()) -> Dict[str, Result]:
+    """What each rule finds with a plan of these rows, which is written and read."""
+    path = folder / "plan.csv"
+    path.write_text(text_of(rows), "utf-8")
+    stated = replace(options, plan=plan.read(str(path)))
+    return {rule.name: rule.find(line, stated) for rule in track_plan.RULES}
+
+
+def remarks(line: LineOfTable, rows: List[Cells], folder: Path, options: Options = Options()) -> List[Remark]:
+    """All remarks with a plan of these rows."""
+    return [remark for result in results(line, rows, folder, options).values() for remark in result.found]
+
+
+def implied_rows(line: LineOfTable, options: Options = Options()) -> List[Cells]:
+    """The plan that a line implies."""
+    return rows_of(csv_writing.text(plan.COLUMNS, map(plan.cells, implied(line, options).rows)))
+
+
+def of_kind(rows: List[Cells], kind: str, **cells: str) -> Cells:
+    """The first row of a kind with these cells."""
+    return next(row for row in rows if row["kind"] == kind and all(row[key] == cell for key, cell in cells.items()))
+
+
+@pytest.fixture
+def sound(program: Program, tmp_path: Path) -> Tuple[LineOfTable, List[Cells]]:
+    """A sound line with a level border and an RBC border, and its plan."""
+    line = read(program, written(program, tmp_path / "t.csv", SOUND["level-border"], with_rbc))
+    return line, implied_rows(line)
+
+
+@pytest.mark.parametrize("name", SOUND)
+def test_round_trip(run: Run, program: Program, tmp_path: Path, name: str) -> None:
+    """A plan that is written from a table agrees with it."""
+    table, file = written(program, tmp_path / "t.csv", SOUND[name]), tmp_path / "plan.csv"
+    status, out, err = run("plan", table, "--csv", file)
+    assert (status, err) == (0, []) and out[-1].startswith(f"written: {file}: speed ")
+    assert run("plan", table)[1] == file.read_text("utf-8").splitlines()
+    status, out, _ = run("check", table, "--plan", file, "--only", "X")
+    assert status == 0 and out[-1].startswith("track plan: none found, ") and out[-1].endswith(" compared")
+
+
+@pytest.mark.parametrize("seeds", [range(5), pytest.param(range(5, 100), marks=pytest.mark.slow)])
+def test_round_trip_of_random_lines(program: Program, tmp_path: Path, seeds: range) -> None:
+    """So does that of lines of all kinds and scales."""
+    for seed in seeds:
+        line = read(program, written(program, tmp_path / "t.csv", random_line(seed)))
+        found = results(line, implied_rows(line), tmp_path)
+        assert all(not result.found and not result.skipped for result in found.values()), seed
+
+
+def test_round_trip_of_borders(sound: Tuple[LineOfTable, List[Cells]], tmp_path: Path) -> None:
+    """Packets 42 and 131 are in the plan too."""
+    line, rows = sound
+    assert of_kind(rows, "rbc") == {**of_kind(rows, "level"), "kind": "rbc", "value": "352/17"}
+    assert not remarks(line, rows, tmp_path)
+
+
+OTHER_TERMS = {
+    "v=[0-9]+": "v=5",
+    "end=": "end=1",
+    "overlap=200": "overlap=none",
+    "overlap=none": "overlap=50",
+    "onboard": "20",
+}
+"""What the terms of an aspect may be instead."""
+
+
+def shifted(cell: str, metres: int) -> str:
+    """A kilometre farther on."""
+    return f"{Decimal(cell) + Decimal(metres) / 1000:.3f}"
+
+
+def other_cells(rows: List[Cells], index: int) -> Iterator[Tuple[str, str]]:
+    """The cells of a row that may be other ones, and what they may be."""
+    row, before = rows[index], rows[index - 1] if index else {}
+    if row["kind"] in ("speed", "gradient"):
+        yield "value", str(int(row["value"]) + 5)
+        if before and before["kind"] == row["kind"] and before["way"] == row["way"] and not before["km_to"]:
+            end = row["km_to"] or rows[index + 1]["km"]
+            yield from [("km", shifted(row["km"], 50))] if Decimal(end) - Decimal(row["km"]) > Decimal("0.06") else []
+            yield "km", shifted(row["km"], -5)
+    if row["kind"] in ("signal", "level", "rbc"):
+        yield "km", shifted(row["km"], 50)
+        yield "km", shifted(row["km"], -50)
+    if row["kind"] == "aspect":
+        for old, new in OTHER_TERMS.items():
+            text = re.sub(old, new, row["value"])
+            yield from [("value", text)] if text != row["value"] else []
+    yield from [("value", "1")] if row["kind"] == "level" else []
+    yield from [("value", "352/18")] if row["kind"] == "rbc" else []
+
+
+def assert_one(found: List[Remark], row: Cells, column: str, cell: str) -> None:
+    """One remark of the rule of the row, with the new value, and the rows that say something else."""
+    assert [remark.rule for remark in found] == [RULE_OF[row["kind"]]], (row, column, cell, found)
+    (remark,) = found
+    assert remark.location.group is not None and remark.rows and " of the plan" in remark.sentence
+    values = {f"{value.normalize():f}" for value in remark.values.values()}
+    expected = cell.split("/") if column == "km" or row["kind"] in ("speed", "gradient", "rbc") else []
+    expected += ["2"] if (row["kind"], column) == ("level", "value") else []  # M_LEVELTR of level 1
+    assert values >= {f"{value.normalize():f}" for value in map(Decimal, expected)}, (row, column, cell, remark)
+
+
+@pytest.mark.parametrize("name", ["level-border", "falling", "both-directions"])
+def test_one_other_cell_gets_one_remark(program: Program, tmp_path: Path, name: str) -> None:
+    """Each cell of the plan that rules compare: exactly the remark of its rule."""
+    changes = [with_rbc] if name == "level-border" else []
+    line = read(program, written(program, tmp_path / "t.csv", SOUND[name], *changes))
+    rows = implied_rows(line)
+    tried = 0
+    for index, row in enumerate(rows):
+        for column, cell in other_cells(rows, index):
+            changed = [*rows[:index], {**row, column: cell}, *rows[index + 1 :]]
+            assert_one(remarks(line, changed, tmp_path), row, column, cell)
+            tried += 1
+    assert tried > 150
+
+
+def test_a_row_that_is_left_out_is_counted(sound: Tuple[LineOfTable, List[Cells]], tmp_path: Path) -> None:
+    """What the plan says nothing of is no remark, and is counted."""
+    line, rows = sound
+    for kind in ("speed", "aspect"):
+        row = next(row for row in rows[1:] if row["kind"] == kind)
+        rest = [each for each in rows if each is not row]
+        if kind == "speed":
+            before = rows[rows.index(row) - 1]
+            rest = [{**each, "km_to": row["km"]} if each is before else each for each in rest]
+        result = results(line, rest, tmp_path)[RULE_OF[kind]]
+        assert not result.found and result.skipped == result.not_looked_at["the plan says nothing"] > 0
+
+
+def speeds(group: str, **values: int) -> Change:
+    """The first element of the speeds of a group at green has other values."""
+    return lambda rows: change(rows, group, "green", 27)["elements"][0].update(values)
+
+
+def test_x1(run: Run, program: Program, tmp_path: Path) -> None:
+    """A speed that is too high is graver than one that is too low, and has both values."""
+    sound = written(program, tmp_path / "sound.csv")
+    assert run("plan", sound, "--csv", tmp_path / "p.csv")[0] == 0
+    path = written(
+        program, tmp_path / "t.csv", Line(), speeds("Signal 5", v_static=120), speeds("Signal 8", v_static=1)
+    )
+    status, out, _ = run("check", path, "--plan", tmp_path / "p.csv", "--only", "X")
+    assert status == 1 and out[-1].startswith("track plan: 2 found (X1 2), ")
+    first, second = out.index("at worst wrong information:") + 1, out.index("at worst the train brakes:") + 1
+    assert out[first].startswith(
+        'row 21  Signal 5  km 16.000  aspect "green"  balise "Signal 5 2" (N_PIG 1)  nominal: X1: '
+    )
+    assert (
+        "V_STATIC is 600 km/h from km 16.000 to km 17.990, and the line speed is 160 km/h by row 4 of the p"
+        in out[first]
+    )
+    assert "V_STATIC is 5 km/h from km 20.500 to km 21.260, and the line speed is 100 km/h by row " in out[second]
+
+
+def test_x2_of_the_other_way(sound: Tuple[LineOfTable, List[Cells]], tmp_path: Path) -> None:
+    """Gradients of a falling line have the opposite sign in a row without a way."""
+    line, rows = sound
+    both = [{**row, "way": ""} if row["kind"] == "gradient" else row for row in rows]
+    assert not remarks(line, both, tmp_path)
+    other = [{**row, "value": str(-int(row["value"]))} if row["kind"] == "gradient" else row for row in rows]
+    found = remarks(line, other, tmp_path)
+    assert found and all(each.sentence.split(";")[0].endswith(": the sign is the other one") for each in found)
+    falling = [{**row, "way": "falling"} if row["kind"] == "gradient" else row for row in other]
+    result = results(line, falling, tmp_path)["X2"]
+    assert not result.found and result.looked_at == 0 and result.is_empty
+
+
+def test_x3_is_exact(sound: Tuple[LineOfTable, List[Cells]], tmp_path: Path) -> None:
+    """One metre of Q_SCALE and one of the kilometres are allowed, and more by --tolerance."""
+    line, rows = sound
+    row = of_kind(rows, "signal", km="17.500")
+
+    def found(metres: int, options: Options = Options()) -> List[str]:
+        moved = [{**each, "km": shifted(each["km"], metres)} if each is row else each for each in rows]
+        return [each.rule for each in remarks(line, moved, tmp_path, options)]
+
+    assert found(2) == [] and found(-2) == [] and found(3) == ["X3"]
+    assert found(3, Options(tolerance=Decimal(1))) == [] and found(4, Options(tolerance=Decimal(1))) == ["X3"]
+
+
+def danger_point(rows: List[Row]) -> None:
+    """The authority of signal 5 at green has a danger point instead of an overlap."""
+    authority = change(rows, "Signal 5", "green", 12)
+    del authority["overlap"]
+    authority["danger_point"] = {"d_dp": 50, "v_releasedp": 4}
+
+
+def test_x4_of_a_danger_point(program: Program, tmp_path: Path) -> None:
+    """Without an overlap the release speed is that of the danger point."""
+    line = read(program, written(program, tmp_path / "t.csv", Line(), danger_point))
+    rows = implied_rows(line)
+    row = of_kind(rows, "aspect", name="Signal 5/green")
+    assert row["value"].endswith(" overlap=none release=20") and not remarks(line, rows, tmp_path)
+    row["value"] = "v=160 overlap=100 release=national"
+    (found,) = remarks(line, rows, tmp_path)
+    assert found.sentence.startswith(
+        "the overlap is none, and 100 m by the plan; the release speed is 20 km/h, and nat"
+    )
+    assert {name: int(value) for name, value in found.values.items()} == {
+        "plan_overlap_m": 100,
+        "release_kmh": 20,
+        "plan_release_kmh": 635,
+    }
+
+
+def test_x4_of_an_aspect_without_authority(sound: Tuple[LineOfTable, List[Cells]], tmp_path: Path) -> None:
+    """An aspect that the plan has and the telegrams lack is a remark; one that the table has not is a note."""
+    line, rows = sound
+    rows.append({**of_kind(rows, "aspect", name="Signal 5/green"), "name": "Border", "way": "falling"})
+    rows.append({**of_kind(rows, "aspect", name="Signal 5/green"), "name": "Signal 5/blue"})
+    result = results(line, rows, tmp_path)["X4"]
+    (found,) = result.found
+    assert found.sentence == f"the aspect has no packet 12 for falling trains, and row {len(rows)} of the plan has one"
+    assert result.notes == [f"{tmp_path / 'plan.csv'}: row {len(rows) + 1}: the table has no such aspect"]
+
+
+def test_x5_of_packets_without_a_place(program: Program, tmp_path: Path) -> None:
+    """Packet 46 has the levels behind the last border, packet 42 an RBC that is known around it."""
+
+    def more(rows: List[Row]) -> None:
+        with_rbc(rows)
+        fixed(rows, "Signal 8").extend([conditional(0), session(establishes=0), session((1, 16_383))])
+
+    line = read(program, written(program, tmp_path / "t.csv", SOUND["level-border"], more))
+    rows = implied_rows(line)
+    result = results(line, rows, tmp_path)["X5"]
+    assert not result.found and result.looked_at == 7
+    earlier = [*rows, {**of_kind(rows, "level"), "km": "20.000", "value": "2 NTC:7"}]
+    sentences = [each.sentence for each in remarks(line, earlier, tmp_path)]
+    assert sentences == [
+        f"level 0 at km 20.500, and level 2 NTC:7 from km 20.000 on by row {len(rows) + 2} of the plan"
+    ]
+    wrong = [{**row, "value": "352/16"} if row["kind"] == "rbc" else row for row in rows]
+    (found,) = remarks(line, wrong, tmp_path)
+    row = rows.index(of_kind(rows, "rbc")) + 2
+    assert (
+        found.sentence
+        == f"RBC 352/17 begins at km 16.700, and RBC 352/16 at km 16.700 by row {row} of the plan; row 18 too"
+    )
+    line = read(program, written(program, tmp_path / "t.csv", SOUND["level-border"], with_rbc, other_session))
+    (found,) = remarks(line, rows, tmp_path)
+    assert found.sentence == f"RBC 352/18 at km 20.500, and RBC 352/17 from km 16.700 on by row {row} of the plan"
+
+
+def test_x5_of_a_border_that_no_packet_names(sound: Tuple[LineOfTable, List[Cells]], tmp_path: Path) -> None:
+    """It is a remark at the nearest group, unless it is beyond the table."""
+    line, rows = sound
+    for km, expected in (("25.020", ["Signal 11"]), ("9.000", []), ("40.000", [])):
+        more = [*rows, {**of_kind(rows, "level"), "km": km, "way": "falling"}]
+        found = remarks(line, more, tmp_path)
+        assert [each.location.group.group.name for each in found if each.location.group] == expected
+        assert all(each.sentence.startswith("no packet 41 or 46 names the level border of row ") for each in found)
+
+
+def test_x5_of_packets_that_are_not_decoded(
+    program: Program, tmp_path: Path, monkeypatch: pytest.MonkeyPatch, sound: Tuple[LineOfTable, List[Cells]]
+) -> None:
+    """They are counted, and no border is missed on account of them."""
+    monkeypatch.setattr(decoded, "FIELDS_OF", lambda packet: None)
+    line = read(program, tmp_path / "t.csv")
+    result = results(line, sound[1], tmp_path)["X5"]
+    assert not result.found and result.looked_at == 3 and result.not_looked_at == {"not decoded": 3}
+    assert implied(line, Options()).notes == ["3 packets are not in the plan: not decoded"]
+
+
+def test_points(program: Program, tmp_path: Path) -> None:
+    """Behind a point nothing is compared unless a packet 5 names a group of the track there."""
+
+    def without_links(rows: List[Row]) -> None:
+        for row in rows:
+            row.form["packets"] = [each for each in row.form["packets"] if each["nid_packet"] != 5]
+
+    point = {"kind": "point", "km": "16.500", "km_to": "", "track": "", "way": "rising", "value": "", "name": "W1"}
+    linked = read(program, written(program, tmp_path / "t.csv"))
+    rows = implied_rows(linked)
+    wrong = [{**row, "value": "5"} if row["kind"] == "speed" else row for row in rows]
+    assert not any(each.skipped for each in results(linked, [*rows, point], tmp_path).values())
+    unlinked = read(program, written(program, tmp_path / "t.csv", Line(), without_links))
+    found = results(unlinked, [*rows, point], tmp_path)
+    assert found["X3"].not_looked_at == {"behind a point of the plan": 3} and found["X1"].skipped > 0
+    falling = results(unlinked, [*rows, {**point, "way": "falling"}], tmp_path)
+    assert not any(each.skipped for each in falling.values())
+    count = len(remarks(unlinked, wrong, tmp_path))
+    assert 0 < len(remarks(unlinked, [*wrong, point], tmp_path)) <= count
+
+
+def jumped(path: Path) -> None:
+    """From km 20 on the kilometres of a table are 5 km greater."""
+    head, *rows = csv.reader(io.StringIO(path.read_text("utf-8")))
+    column = head.index("km")
+    for row in rows:
+        row[column] = shifted(row[column], 5000) if Decimal(row[column]) > 20 else row[column]
+    path.write_text("\n".join(map(",".join, [head, *rows])), "utf-8")
+
+
+def test_jumps(run: Run, program: Program, tmp_path: Path) -> None:
+    """Of the plan itself: places are compared beyond them. A row in the gap is named."""
+    path, jumps, file = written(program, tmp_path / "t.csv"), tmp_path / "jumps.csv", tmp_path / "p.csv"
+    jumped(path)
+    jumps.write_text("km,km_after\n20.000,25.000\n", "utf-8")
+    assert run("plan", path, "--jumps", jumps, "--csv", file)[0] == 0
+    rows = rows_of(file.read_text("utf-8"))
+    assert rows[0]["kind"] == "jump" and (rows[0]["km"], rows[0]["km_to"]) == ("20.000", "25.000")
+    assert run("check", path, "--plan", file, "--only", "X")[0] == 0
+    rows.append({**of_kind(rows, "signal"), "km": "22.000"})
+    file.write_text(text_of(rows), "utf-8")
+    status, out, _ = run("check", path, "--plan", file, "--only", "X")
+    why = f"row {len(rows) + 1}: not compared, as a jump leaves out or repeats the kilometre"
+    assert status == 0 and f"note: {file}: {why}" in out
+    file.write_text(text_of(rows[1:]), "utf-8")
+    assert run("check", path, "--plan", file, "--only", "X")[0] == 1
+
+
+def test_messages(program: Program, tmp_path: Path) -> None:
+    """A radio message 3 is compared as the telegrams of its group are."""
+    rows = Line().rows
+    packets = [copy.deepcopy(change(rows, "Signal 5", "green", number)) for number in (12, 21, 27)]
+    packets[0]["nid_packet"] = 15
+    del packets[0]["v_main"]
+    packets[2]["elements"][0]["v_static"] = 20
+    packets[0]["l_endsection"] -= 100
+    message = {"nid_message": 3, "t_train": 1, "m_ack": 0, "nid_c": 352, "nid_bg": 5, "packets": packets}
+    (text,) = program.encode([message], radio=True)
+    assert isinstance(text, Text)
+    (tmp_path / "m.txt").write_text(f"{text.line};M1\n", "utf-8")
+    path = written(program, tmp_path / "t.csv")
+    found = remarks(read(program, path, radio=tmp_path / "m.txt"), implied_rows(read(program, path)), tmp_path)
+    assert [each.rule for each in found] == ["X1", "X3"] and all(each.location.message for each in found)
+
+
+def test_infill_and_unknown_directions_are_not_compared(program: Program, tmp_path: Path) -> None:
+    """What follows a packet 136 counts from another group; without a direction nothing has a place."""
+
+    def single(rows: List[Row]) -> None:
+        rows[:] = [row for row in rows if row.group != "Signal 5" or row.balise == 1]
+        for row in rows:
+            row.form.update({"n_pig": 0, "n_total": 0} if row.group == "Signal 5" else {})
+            row.form["packets"] = [each for each in row.form["packets"] if each["nid_packet"] != 5]
+
+    line = read(program, written(program, tmp_path / "t.csv", SOUND["infill"]))
+    assert not any(each.skipped for each in results(line, implied_rows(line), tmp_path).values())
+    line = read(program, written(program, tmp_path / "t.csv", Line(), single))
+    (note,) = implied(line, Options()).notes
+    assert note.endswith(" packets are not in the plan: no kilometre or direction")
+    found = results(line, implied_rows(read(program, written(program, tmp_path / "t.csv"))), tmp_path)
+    assert not any(each.found for each in found.values())
+    assert found["X4"].not_looked_at == {"no kilometre or direction": 3} and found["X3"].skipped == 2
+
+
+def test_an_open_profile_reaches_as_far_as_its_authority(program: Program, tmp_path: Path) -> None:
+    """Without an authority its last element is not compared."""
+    path = written(
+        program, tmp_path / "t.csv", Line(), lambda rows: change(rows, "Signal 5", "green", 27)["elements"].pop()
+    )
+    line = read(program, path)
+    assert not any(each.skipped for each in results(line, implied_rows(line), tmp_path).values())
+
+    def lone(rows: List[Row]) -> None:
+        change(rows, "Signal 5", "green", 27)["elements"].pop()
+        row = next(row for row in rows if (row.group, row.aspect) == ("Signal 5", "green"))
+        row.form["packets"] = [each for each in row.form["packets"] if each["nid_packet"] != 12]
+
+    line = read(program, written(program, tmp_path / "t.csv", Line(), lone))
+    assert results(line, implied_rows(line), tmp_path)["X1"].not_looked_at == {"an open profile without authority": 1}
+
+
+def test_what_most_groups_say_is_in_the_plan(program: Program, tmp_path: Path) -> None:
+    """One group against several gets the remark."""
+    line = read(program, written(program, tmp_path / "t.csv", Line(), speeds("Signal 5", v_static=12)))
+    rows = implied_rows(line)
+    assert all(
+        each.location.group and each.location.group.group.name == "Signal 5" for each in remarks(line, rows, tmp_path)
+    )
+
+
+def test_a_plan_that_compares_nothing(run: Run, program: Program, tmp_path: Path) -> None:
+    """The answer is INCOMPLETE, if no row can be compared. A plan of one kind alone is none to complain about."""
+    path, file = written(program, tmp_path / "t.csv"), tmp_path / "p.csv"
+    for rows in ("jump,15,16,,,,", "signal,11.5,,other,,,"):
+        file.write_text(f"kind,km,km_to,track,way,value,name\n{rows}\n", "utf-8")
+        status, out, _ = run("check", path, "--plan", file)
+        assert (
+            status == 2 and out[-1].startswith("INCOMPLETE: ") and "X3 compared none of 30 ends of authority" in out[-1]
+        )
+    assert f"note: {file}: row 2: the table has no such track" in out
+    file.write_text("kind,value,name\naspect,end=1500,Signal 5/yellow\n", "utf-8")
+    status, out, _ = run("check", path, "--plan", file)
+    assert status == 0 and out[-1].endswith(
+        "track plan: none found, 1 compared, 218 not (the plan says nothing: 218)"
+    ), out[-1]
+
+
+def test_options(run: Run, program: Program, tmp_path: Path) -> None:
+    """The plan may be stated in balisekit.toml. Rules X need one."""
+    path, file = written(program, tmp_path / "t.csv"), tmp_path / "p.csv"
+    assert run("plan", path, "--csv", file)[0] == 0
+    assert run("check", path, "--only", "X")[2] == ["balisekit: --only X needs a track plan: give --plan FILE"]
+    assert run("check", path, "--plan", file, "--only", "F,L")[2] == ["balisekit: --plan is not used with --only F,L"]
+    assert run("check", path, "--plan", tmp_path / "none.csv")[2] == [
+        f"balisekit: {tmp_path / 'none.csv'}: No such file or directory"
+    ]
+    assert run("check", path, "--plan", file, "--json", file, "--force")[0] == 2
+    (tmp_path / "balisekit.toml").write_text('[check]\nplan = "p.csv"\n', "utf-8")
+    status, out, _ = run("check", path)
+    assert status == 0 and out[-1] == "program: yes: groups 15, messages 0; track plan: none found, 219 compared"
+
+
+def test_without_kilometres(run: Run, program: Program, tmp_path: Path) -> None:
+    """Only the route table can be compared."""
+    path, file = written(program, tmp_path / "t.csv"), tmp_path / "p.csv"
+    assert run("plan", path, "--csv", file)[0] == 0
+    head, *rows = csv.reader(io.StringIO(path.read_text("utf-8")))
+    path.write_text("\n".join(",".join([*row[:2], *row[3:]]) for row in [head, *rows]), "utf-8")
+    rows_without = [{**row, "way": ""} for row in rows_of(file.read_text("utf-8"))]
+    file.write_text(text_of(rows_without), "utf-8")
+    status, out, _ = run("check", path, "--plan", file)
+    assert status == 0 and "compared: X4 45 authorities of aspects" in out
+
+
+def test_refused_telegrams(run: Run) -> None:
+    """What the program reads is in the plan, and the status is that of an incomplete answer."""
+    status, out, err = run("plan", TOP / "examples" / "table" / "line.csv")
+    assert status == 2 and out[0] == ",".join(plan.COLUMNS)
+    assert err[-1].startswith("INCOMPLETE: 1 of 34 telegrams refused; written: standard output: speed 4, gradient 6, ")
+
+
+def test_outputs(run: Run, program: Program, tmp_path: Path) -> None:
+    """Remarks are in the JSON, and can be accepted: the entry is at fault once the plan has another value."""
+    validate = pytest.importorskip("jsonschema").validate
+    path, file = TOP / plan_example.TABLE, tmp_path / "p.csv"
+    file.write_text((TOP / plan_example.PLAN).read_text("utf-8"), "utf-8")
+    signed = tmp_path / "accepted.csv"
+    words = ("check", path, "--plan", file)
+    assert run(*words, "--json", tmp_path / "a.json", "--sarif", tmp_path / "a.sarif", "--propose", signed)[0] == 1
+    form = json.loads((tmp_path / "a.json").read_text("utf-8"))
+    for schema, answer in (("kit-check", form), ("kit-sarif", json.loads((tmp_path / "a.sarif").read_text("utf-8")))):
+        validate(answer, json.loads((TOP / "schemas" / f"{schema}.json").read_text("utf-8")))
+    (entry,) = (each for each in form["entries"] if each["rules"] == ["X1"])
+    assert entry["values"] == {"v_static_kmh": "100", "plan_kmh": "80", "km": "17.990", "km_to": "20.700"}
+    assert form["rules"]["X5"]["looked_at"] == 3
+    head, *rows = signed.read_text("utf-8").splitlines()
+    assert [row.split(",")[0] for row in rows] == ["X5", "X3", "X2", "X1", "X4"]
+    entries = list(csv.DictReader(io.StringIO("\n".join([head, *rows]))))
+    for each in entries:
+        each.update(reason="as the signalling plan has it", who="me", date="2026-01-02")
+    signed.write_text(text_of(entries), "utf-8")
+    status, out, _ = run(*words, "--accepted", signed)
+    assert status == 0 and out[-1].startswith("no open findings")
+    file.write_text(file.read_text("utf-8").replace(",,rising,80,\nspeed,21", ",,rising,70,\nspeed,21"), "utf-8")
+    status, out, _ = run(*words, "--accepted", signed)
+    assert status == 1 and any("the telegrams or values have changed" in line for line in out)
+
+
+def test_example() -> None:
+    """The plan and the answer in examples/meaning are those of the commands."""
+    assert plan_example.plan() == (TOP / plan_example.PLAN).read_text("utf-8")
+    answer = plan_example.run("check", plan_example.TABLE, "--plan", plan_example.PLAN)
+    assert answer == (TOP / plan_example.ANSWER).read_text("utf-8")
+    assert [answer.count(f": {rule.name}: ") for rule in track_plan.RULES] == [1] * 5
+
+
+def test_report(run: Run, tmp_path: Path) -> None:
+    """The page has the remarks and the counts of the last line, and its status is that of the program."""
+    pytest.importorskip("jinja2")
+    words = ("report", TOP / plan_example.TABLE, "--html", tmp_path / "a.html")
+    assert run(*words, "--plan", TOP / plan_example.PLAN)[0] == 0
+    page = (tmp_path / "a.html").read_text("utf-8")
+    assert "V_MAIN is 140 km/h, and 100 km/h by row 63 of the plan" in page
+    assert "track plan: compared: X1 67 speeds, X2 77 gradients, X3 30 ends of authority, " in page
+    assert run(*words, "--force")[0] == 0 and "track plan" not in (tmp_path / "a.html").read_text("utf-8")
+
+
+def test_the_example_of_the_page() -> None:
+    """PLAN.md shows the last lines of the example's answer."""
+    page = (TOP / "docs" / "PLAN.md").read_text("utf-8")
+    (block,) = re.findall(r"```console\n\$ \./balisekit (check [^|]*) \| tail -n 3\n(.*?)```", page, re.DOTALL)
+    answer = plan_example.run(*block[0].split())
+    assert answer.endswith(f"\n{block[1]}") and block[1].count("\n") == 3
+
+
+def test_pages(run: Run) -> None:
+    """Each rule has all paragraphs and fewer than 150 lines, and --explain shows them."""
+    heads = (
+        "What it says",
+        "How urgent",
+        "Usual cause",
+        "What may happen",
+        "How to correct it",
+        CORRECT_DATA,
+        "Example",
+    )
+    for rule in track_plan.RULES:
+        assert tuple(rule.parts) == heads, rule.name
+    for path in sorted(Path(track_plan.__file__).parent.glob("x*.py")):
+        assert len(path.read_text("utf-8").splitlines()) < 150, path
+    out = run("check", TOP / plan_example.TABLE, "--plan", TOP / plan_example.PLAN, "--explain")[1]
+    assert any(line.startswith("X3: end of authority at no signal of the plan") for line in out)
