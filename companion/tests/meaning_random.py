@@ -201,8 +201,9 @@ class Track:
         direction = self.direction(site, way)
         reference = [raw(136, f"0{signal.number:014b}", direction)] if site.signal else []
         aspects = enumerate(self.aspects)
-        own = [(each, 1, [*reference, *self._of_aspect(signal, index, direction)]) for index, each in aspects]
-        return [("*", 0, fixed), *own]
+        first = 0 if direction or not reference else 1  # (what follows a packet 136 counts from its signal)
+        own = [(each, 1 - first, [*reference, *self._of_aspect(signal, index, direction)]) for index, each in aspects]
+        return sorted([("*", first, fixed), *own], key=lambda each: each[1])
 
     def _profiles(self, site: Site, way: int) -> List[Form]:
         """Gradients and speeds over 2 km, without an authority."""

@@ -56,8 +56,10 @@ def may_differ(rising: Sequence[Profiles], falling: Sequence[Profiles]) -> bool:
 
 
 def steps(aspect: Aspect, way: int) -> Iterator[Step]:
+    """The stretches of a profile along the track. An element whose distance is 0 has none."""
     for begin, end, value in aspect.stretches:
-        yield Step(min(begin * way, end * way), max(begin * way, end * way), value, aspect)
+        if begin != end:
+            yield Step(min(begin * way, end * way), max(begin * way, end * way), value, aspect)
 
 
 def least(rising: Sequence[Step], falling: Sequence[Step], is_least: bool) -> Iterator[Both]:
