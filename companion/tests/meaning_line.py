@@ -1,7 +1,7 @@
 """Makes sound lines for the rules E: one field can then be changed, to see which rule remarks on it.
 
-`Line()` is the sound line of `examples/meaning/line.csv`: 15 signals, rising, with red, yellow and green.
-`python3 companion/tests/meaning_line.py` writes it. `meaning_random` makes random lines.
+`Line(seed=None)` is the sound line of `examples/meaning/line.csv`: 15 signals, rising, with red, yellow and green.
+`python3 companion/tests/meaning_line.py` writes it. `random_line(seed)` is a line of 5 to 200 groups, of all kinds.
 All places are whole multiples of 10 m, so that each of them can be written in each unit of Q_SCALE.
 """
 from __future__ import annotations
@@ -72,7 +72,7 @@ class Site:
 
 @dataclass
 class Line:
-    """What a line is like. Its rows are made of that. All signals are 1,500 m apart, and face their trains."""
+    """What a line is like. Its rows are made of that."""
 
     signals: int = 15
     way: int = 1
@@ -85,6 +85,8 @@ class Line:
     """Before which signals an infill group stands."""
     border: Optional[int] = None
     """M_LEVELTR of a level border behind the fifth signal, which the two signals before it announce."""
+    seed: Optional[int] = None
+    """Of a random line. Without it all signals are 1,500 m apart, and face their trains."""
     begin: int = 10_000
     sites: List[Site] = field(init=False)
     gradients: Steps = field(init=False)
@@ -93,13 +95,13 @@ class Line:
     """In km/h."""
 
     def __post_init__(self) -> None:
-        random = Random(68)
-        self.sites = sorted(self._sites(), key=lambda site: site.place)
+        random = Random(68 if self.seed is None else self.seed)
+        self.sites = sorted(self._sites(random), key=lambda site: site.place)
         low, high = self.begin - 20_000, self.sites[-1].place + 20_000
         self.gradients = _steps(random, low, high, lambda: random.randint(-20, 20))
         self.speeds = _steps(random, low, high, lambda: random.choice((80, 100, 120, 140, 160)))
 
-    def _sites(self) -> Iterator[Site]:
+    def _sites(self, random: Random) -> Iterator[Site]:
         """The groups of the line."""
         number = 0
         for way in (self.way, -self.way) if self.both else (self.way,):
@@ -108,8 +110,10 @@ class Line:
             for index in range(self.signals):
                 number += 1
                 letter = f"{'' if way == self.way else 'R'}{index + 1}"
-                own.append(Site(f"Signal {letter}", number, place, way, way))
-                place += 1500
+                nominal = way if self.seed is None else way * random.choice((1, 1, 1, -1))
+                scale = 1 if self.seed is None else random.choice((0, 1, 1, 2))
+                own.append(Site(f"Signal {letter}", number, place, way, nominal, scale))
+                place += 1500 if self.seed is None else random.randrange(900, 2200, 10)
             yield from own
             if way == self.way:
                 yield from self._others(own if way == 1 else own[::-1], number)
@@ -277,6 +281,21 @@ def _steps(random: Random, low: int, high: int, value: Callable[[], int]) -> Ste
         found.append((at, value()))
         at += random.randrange(800, 4000, 10)
     return found
+
+
+def random_line(seed: int) -> Line:
+    """A line of 5 to 200 groups, of any kind."""
+    random = Random(seed)
+    signals = random.randint(5, 66)
+    return Line(
+        signals,
+        random.choice((1, -1)),
+        random.random() < 0.5,
+        random.choice((("red", "green"), ("red", "yellow", "green"))),
+        tuple(random.sample(range(1, signals), min(random.randint(0, 2), signals - 1))),
+        random.choice((None, None, 0)),
+        seed,
+    )
 
 
 def change(rows: List[Row], group: str, aspect: str, number: int) -> Form:

@@ -299,7 +299,7 @@ class RandomLine:
         random = Random(f"line {seed}")
         groups = random.randint(5, most)
         has_137 = random.random() < 0.5
-        self.tracks = [Track(random, "", 10_000, max(groups * 7 // 10, 4), 1, has_137)]
+        self.tracks = [Track(random, "", 10_000, max(groups * 7 // 10, 5), 1, has_137)]
         if groups > 9 and random.random() < 0.3:
             begin = 10_000 + random.randrange(0, 5000)
             self.tracks.append(Track(random, "2 ", begin, random.randint(4, 6), 8000, has_137))

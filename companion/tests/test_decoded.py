@@ -7,8 +7,7 @@ from pathlib import Path
 from typing import List
 
 import pytest
-from meaning_line import Line, Row
-from meaning_random import random_line
+from meaning_line import Line, Row, random_line
 from test_meaning import written
 
 from balisekit.engine.program import Program

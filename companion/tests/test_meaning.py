@@ -5,14 +5,13 @@ import copy
 import json
 from decimal import Decimal
 from pathlib import Path
-from typing import Any, Callable, List, Union
+from typing import Any, Callable, List
 
 import meaning_line
 import pytest
 import rules_page
 from conftest import Run
 from meaning_line import SOUND, Line, Row, change
-from meaning_random import RandomLine
 
 from balisekit.engine.program import Program
 from balisekit.rules import checking, meaning
@@ -21,7 +20,6 @@ from balisekit.rules.rule import CORRECT_DATA, Options, Remark
 from balisekit.tables import reader
 
 Change = Callable[[List[Row]], Any]
-WithRows = Union[Line, RandomLine]
 HEADS = (
     "What it says",
     "How urgent",
@@ -35,7 +33,7 @@ HEADS = (
 NAMES = [rule.name for rule in meaning.RULES]
 
 
-def written(program: Program, path: Path, line: WithRows = Line(), *changes: Change) -> Path:
+def written(program: Program, path: Path, line: Line = Line(), *changes: Change) -> Path:
     """The table of a line with these changes of its rows."""
     rows = copy.deepcopy(line.rows)
     for each in changes:

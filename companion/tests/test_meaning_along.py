@@ -128,7 +128,7 @@ def row_on_track_2(row: Row) -> Row:
     ],
 )
 def test_sound_lines(found: Found, line: Line, change_: Change) -> None:
-    """Level 2 with its session and border of radio block centres, two tracks, and a restriction that two groups give."""
+    """Level 2 with its session and border of radio block centres, two tracks, and a restriction of two groups."""
     for rule in meaning.RULES:
         assert not found(rule.name, line, change_), rule.name
 

@@ -41,8 +41,9 @@ def test_sound(program: Program, tmp_path: Path, most: int, seeds: range) -> Non
 
 def test_sizes() -> None:
     """The lines have 5 to 200 groups."""
-    sizes = [len({row.group for row in random_line(seed, 200).rows}) for seed in range(40)]
-    assert 5 <= min(sizes) < 20 and 150 < max(sizes) <= 200
+    lines = [random_line(seed, most) for seed in range(60) for most in (12, 200)]
+    sizes = [sum(len(track.sites) for track in line.tracks) for line in lines]
+    assert min(sizes) == 5 and 150 < max(sizes) <= 200
 
 
 def is_named(change: Changed, entries: List[Any]) -> bool:
