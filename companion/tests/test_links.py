@@ -243,7 +243,7 @@ def test_the_page_is_made_of_the_rules() -> None:
 def test_the_table_of_correct_data_has_the_rules_that_may_get_it() -> None:
     table = PAGE.split("## Links on correct data")[1].split("\n## ")[0]
     named = re.findall(r"^\|[^|]+\| (L\d)", table, re.MULTILINE)
-    assert sorted(named) == [rule.name for rule in RULES if rule.has_correct_data] == ["L1", "L2", "L8", "L9"]
+    assert sorted(set(named)) == [rule.name for rule in RULES if rule.has_correct_data] == ["L1", "L2", "L8", "L9"]
 
 
 def test_explain_is_what_the_page_says(run: Run) -> None:

@@ -11,7 +11,7 @@ import meaning_line
 import pytest
 import rules_page
 from conftest import Run
-from meaning_line import SOUND, Line, Row, change, random_line
+from meaning_line import SOUND, Line, Row, change
 
 from balisekit.engine.program import Program
 from balisekit.rules import checking, meaning
@@ -53,13 +53,6 @@ def test_sound_lines(run: Run, program: Program, tmp_path: Path, name: str) -> N
     status, out, _ = run("check", written(program, tmp_path / "t.csv", SOUND[name]), "--only", "E", "--rules", "all")
     assert status == 0 and out[-1] == "remarks: none found", out
     assert (meaning_line.FOLDER / f"{name}.csv").read_text("utf-8") == (tmp_path / "t.csv").read_text("utf-8")
-
-
-@pytest.mark.parametrize("part", [range(5), pytest.param(range(5, 1000), marks=pytest.mark.slow)])
-def test_random_sound_lines(program: Program, tmp_path: Path, part: range) -> None:
-    for seed in part:
-        found = remarks(program, written(program, tmp_path / "t.csv", random_line(seed)), Options())
-        assert not found, (seed, found[0].sentence)
 
 
 def test_pages() -> None:

@@ -404,6 +404,18 @@ def test_e17(found: Found) -> None:
     assert one.sentence == "no group or message has a packet 5 (linking), and 12 authorities have a V_MAIN above 0"
 
 
+@pytest.mark.parametrize("metres, is_remarked", [(1600, False), (3000, True)])
+def test_e17_of_a_linked_group_whose_kilometre_is_rounded_up(found: Found, metres: int, is_remarked: bool) -> None:
+    def rounded(rows: List[Row]) -> None:
+        meaning_mistakes.links_shortened(rows)
+        change(rows, "Signal 2", GREEN, 12)["l_endsection"] = metres
+        for row in rows:
+            row.place += row.group == "Signal 3"
+
+    groups = [each.location.row.group for each in found("E17", SHORT, rounded) if each.location.row]
+    assert ("Signal 2" in groups) == is_remarked
+
+
 @pytest.mark.parametrize("metres, count", [(50, 1), (3, 0), (-400, 1), (-900, 1)])
 def test_e18(found: Found, metres: int, count: int) -> None:
     made = found("E18", BORDER, added("Signal 4", FIXED, "d_leveltr", 41, metres))
@@ -446,6 +458,11 @@ def test_e19_passes_over_stretches_without_length(found: Found) -> None:
         elements_of.insert(1, {**elements_of[0], "d_gradient": 0})
 
     assert found("E19", BOTH, empty) and not found("E13", BOTH, empty)
+
+
+def test_e19_passes_over_an_element_without_length(found: Found) -> None:
+    empty = [set_in_item("Signal R3", each, 21, "elements", 1, d_gradient=0) for each in (YELLOW, GREEN)]
+    assert found("E19", BOTH, all_of(meaning_mistakes.reverse_gradients_turned, *empty))
 
 
 def test_e20(found: Found) -> None:

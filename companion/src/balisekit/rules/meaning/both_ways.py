@@ -56,6 +56,7 @@ def may_differ(rising: Sequence[Profiles], falling: Sequence[Profiles]) -> bool:
 
 
 def steps(aspect: Aspect, way: int) -> Iterator[Step]:
+    """The stretches of a profile along the track. An element whose distance is 0 has none."""
     for begin, end, value in aspect.stretches:
         if begin < end:
             yield Step(min(begin * way, end * way), max(begin * way, end * way), value, aspect)

@@ -27,7 +27,7 @@ from __future__ import annotations
 
 from bisect import bisect_left
 from decimal import Decimal
-from typing import Dict, Iterator, List, Tuple
+from typing import Dict, Iterator, List, Optional, Tuple
 
 from balisekit.etcs.variables import metres
 from balisekit.rules.decoded import Decoded, GroupData
@@ -100,10 +100,17 @@ def _lanes(decoded: Decoded) -> Dict[Lane, Reach]:
             lane.groups.append(data.place * way)
         named = names_of(decoded, passage)
         if named:
-            lane.links.append((data.place * way, data.place * way + max(distance for distance, _ in named)))
+            begin = data.place * way
+            lane.links.append((begin, max(_linked(each, way, begin + distance) for distance, each in named)))
     for lane in lanes.values():
         lane.sort()
     return lanes
+
+
+def _linked(target: Optional[GroupData], way: int, place: int) -> int:
+    """Where a link leads: to the kilometre of its group too, which may be rounded to a place beyond that of D_LINK."""
+    by_kilometre = place if target is None or target.place is None else target.place * way
+    return by_kilometre if 0 < by_kilometre - place <= LESS else place
 
 
 def _look_at(decoded: Decoded, options: Options, lane: Reach, end: End) -> Iterator[Remark]:

@@ -1,0 +1,73 @@
+"""Random lines: no rule remarks on a sound one, and a change of one field is remarked at its row, with its value."""
+from __future__ import annotations
+
+import json
+from collections import Counter
+from pathlib import Path
+from typing import Any, List
+
+import pytest
+from conftest import Run
+from meaning_changes import CHANGES, Changed, changed
+from meaning_line import table
+from meaning_random import random_line
+
+from balisekit.engine.program import Program
+from balisekit.rules import checking, links, meaning
+from balisekit.rules.line import Line
+from balisekit.rules.rule import ALL, Options
+from balisekit.tables import reader
+
+ASKED = Options(asked=frozenset({ALL}))
+NOT_MODELLED = 9
+"""The rule that names packets that the program keeps as bits."""
+
+
+def found_in(program: Program, path: Path, seed: int, most: int) -> List[str]:
+    """What the program and all rules L and E find of a sound line."""
+    path.write_text(table(program, random_line(seed, most).rows), "utf-8")
+    checked = checking.check(program, reader.read(str(path)))
+    line = Line.of(checked)
+    made = [remark for rule in (*links.RULES, *meaning.RULES) for remark in rule.find(line, ASKED).found]
+    own = [place.finding.line for place in checked.findings if place.finding.rule != NOT_MODELLED]
+    return [*own, *(f"{each.rule}: {each.location}: {each.sentence}" for each in made)]
+
+
+@pytest.mark.parametrize("most, seeds", [(12, range(50)), pytest.param(200, range(1000), marks=pytest.mark.slow)])
+def test_sound(program: Program, tmp_path: Path, most: int, seeds: range) -> None:
+    found = {seed: made for seed in seeds for made in [found_in(program, tmp_path / "t.csv", seed, most)] if made}
+    assert not found
+
+
+def test_sizes() -> None:
+    """The lines have 5 to 200 groups."""
+    lines = [random_line(seed, most) for seed in range(60) for most in (12, 200)]
+    sizes = [sum(len(track.sites) for track in line.tracks) for line in lines]
+    assert min(sizes) == 5 and 150 < max(sizes) <= 200
+
+
+def is_named(change: Changed, entries: List[Any]) -> bool:
+    """Whether an entry has a row of the change, and its value."""
+    return any(
+        change.numbers.intersection([*each["rows"], *each["other_rows"]])
+        and any(words in each["sentence"] for words in change.words)
+        for each in entries
+    )
+
+
+@pytest.mark.parametrize("most, seeds", [(12, range(100)), pytest.param(30, range(1000), marks=pytest.mark.slow)])
+def test_changes(run: Run, program: Program, tmp_path: Path, most: int, seeds: range) -> None:
+    """At least 95 % are named, and of each kind at least half."""
+    path, answer = tmp_path / "t.csv", tmp_path / "t.json"
+    kinds: Counter[str] = Counter()
+    missed: Counter[str] = Counter()
+    for seed in seeds:
+        change = changed(seed, most)
+        kinds[change.kind] += 1
+        path.write_text(table(program, change.rows), "utf-8")
+        answer.unlink(missing_ok=True)
+        run("check", path, "--rules", "all", "--json", answer)
+        missed[change.kind] += not is_named(change, json.loads(answer.read_text("utf-8"))["entries"])
+    assert len(kinds) == len(CHANGES)
+    assert sum(missed.values()) * 20 <= len(seeds), missed
+    assert all(missed[kind] * 2 <= count for kind, count in kinds.items()), missed
