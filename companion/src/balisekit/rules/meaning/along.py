@@ -13,6 +13,8 @@ Name = Tuple[int, Optional[GroupData]]
 """The distance of a linked group, and the group of the table."""
 Extent = Tuple[int, int]
 """The least and the greatest place."""
+NEAR = 500
+"""In decimetres: how near to a group an authority is that ends at it."""
 
 
 class End(NamedTuple):
@@ -97,6 +99,27 @@ def extents_of(decoded: Decoded) -> Mapping[Lane, Extent]:
         for way in own - {None} if data.place is not None else ():
             places.setdefault((data.group.track, way or 0), []).append(data.place or 0)
     return {lane: (min(some), max(some)) for lane, some in places.items()}
+
+
+def ends_the_line(decoded: Decoded, end: End) -> bool:
+    """Whether an authority ends at the last group of its track and way, without a signal in between."""
+    lane = lane_of(end.passage)
+    begin, at = ((place or 0) * lane[1] for place in (end.passage.place(0), end.place))
+    places = _places(decoded).get(lane, {at: False})
+    signals = (place for place, is_signal in places.items() if is_signal)
+    return abs(max(places) - at) <= NEAR and not any(begin < place < at - NEAR for place in signals)
+
+
+def _places(decoded: Decoded) -> Mapping[Lane, Dict[int, bool]]:
+    """Of each track and way: where along it a group says something, and whether it gives an authority."""
+    known: Dict[Lane, Dict[int, bool]] = decoded.worked_out.setdefault(_places, {})
+    for passage in () if known else decoded.passages:
+        place = passage.place(0)
+        if passage.way is not None and place is not None and any(each.number < 254 for each in passage.said):
+            own = known.setdefault(lane_of(passage), {})
+            at = place * passage.way
+            own[at] = own.get(at, False) or bool(passage.authorities)
+    return known
 
 
 def leaves(options: Options, decoded: Decoded, passage: Passage, place: int) -> bool:
