@@ -1,6 +1,7 @@
 """What several rules E compare along a track: ends of authority, profiles as places, and where trains may leave it."""
 from __future__ import annotations
 
+from bisect import bisect_left
 from decimal import Decimal
 from typing import Dict, Iterator, List, Mapping, NamedTuple, Optional, Sequence, Set, Tuple
 
@@ -105,21 +106,24 @@ def ends_the_line(decoded: Decoded, end: End) -> bool:
     """Whether an authority ends at the last group of its track and way, without a signal in between."""
     lane = lane_of(end.passage)
     begin, at = ((place or 0) * lane[1] for place in (end.passage.place(0), end.place))
-    places = _places(decoded).get(lane, {at: False})
-    signals = (place for place, is_signal in places.items() if is_signal)
-    return abs(max(places) - at) <= NEAR and not any(begin < place < at - NEAR for place in signals)
+    if ends_the_line not in decoded.worked_out:
+        decoded.worked_out[ends_the_line] = _lasts_and_signals(decoded)
+    last, signals = decoded.worked_out[ends_the_line][lane]
+    ahead = bisect_left(signals, begin + 1)
+    return abs(last - at) <= NEAR and not (ahead < len(signals) and signals[ahead] < at - NEAR)
 
 
-def _places(decoded: Decoded) -> Mapping[Lane, Dict[int, bool]]:
-    """Of each track and way: where along it a group says something, and whether it gives an authority."""
-    known: Dict[Lane, Dict[int, bool]] = decoded.worked_out.setdefault(_places, {})
-    for passage in () if known else decoded.passages:
-        place = passage.place(0)
+def _lasts_and_signals(decoded: Decoded) -> Dict[Lane, Tuple[int, List[int]]]:
+    """Of each track and way, along it: the last group that says something, and all that give an authority."""
+    lasts: Dict[Lane, int] = {}
+    signals: Dict[Lane, Set[int]] = {}
+    for passage in decoded.passages:
+        place, lane = passage.place(0), lane_of(passage)
         if passage.way is not None and place is not None and any(each.number < 254 for each in passage.said):
-            own = known.setdefault(lane_of(passage), {})
             at = place * passage.way
-            own[at] = own.get(at, False) or bool(passage.authorities)
-    return known
+            lasts[lane] = max(lasts.get(lane, at), at)
+            signals.setdefault(lane, set()).update([at] if passage.authorities else [])
+    return {lane: (last, sorted(signals[lane])) for lane, last in lasts.items()}
 
 
 def leaves(options: Options, decoded: Decoded, passage: Passage, place: int) -> bool:

@@ -3,7 +3,7 @@
 What it says. A packet 12 with V_MAIN above 0 allows a train to go on for more than 50 m beyond the last group that
 packets 5 name: those of the same passage, and those of groups before it on that track and way. Only groups that say
 something in the direction of passage count. The rule is silent if no such group is between that place and 50 m beyond
-the end of the authority, if the end is beyond the last such group of the track, and if the last link of the passage has
+the end of the authority, if the end is beyond the last such group of the track, or if the last link of the passage has
 NID_BG 16,383: the group with repositioning information there names the next ones. A table without any packet 5 gets
 one remark for all (SUBSET-026, 3.4.4).
 

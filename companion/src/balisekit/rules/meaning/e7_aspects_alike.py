@@ -25,12 +25,12 @@ How sure. 93 %.
 from __future__ import annotations
 
 from decimal import Decimal
-from typing import Iterator, List, NamedTuple, Optional, Sequence, Tuple
+from typing import Dict, Iterator, List, Mapping, NamedTuple, Optional, Sequence, Tuple
 
 from balisekit.rules.decoded import Decoded, GroupData, Packet, Telegram
 from balisekit.rules.line import Line
 from balisekit.rules.location import Location
-from balisekit.rules.meaning.along import ends_of, ends_the_line
+from balisekit.rules.meaning.along import End, ends_of, ends_the_line
 from balisekit.rules.rule import Options, Remark, Result, Rule
 from balisekit.rules.urgency import Urgency
 from balisekit.tables.model import Aspect
@@ -63,7 +63,10 @@ def find(line: Line, options: Options) -> Result:
     several = [data for data in line.decoded.groups if len(data.group.group.aspects) > 1]
     alike = [each for data in several for each in _alike(data)]
     stops = [each for each in alike if not each.speeds]
-    found = [_remark(each, _urgency(line.decoded, each)) for each in alike if each.speeds]
+    ends: Dict[int, List[End]] = {}
+    for end in ends_of(line.decoded) if alike else ():
+        ends.setdefault(id(end.passage.group), []).append(end)
+    found = [_remark(each, _urgency(line.decoded, each, ends)) for each in alike if each.speeds]
     return Result(found, len(several), notes=list(_note(stops)))
 
 
@@ -89,10 +92,10 @@ def _are_alike(some: Sequence[Telegram], others: Sequence[Telegram]) -> bool:
     return all(one is other or one.forms == other.forms for one, other in zip(some, others))
 
 
-def _urgency(decoded: Decoded, alike: Alike) -> Optional[Urgency]:
+def _urgency(decoded: Decoded, alike: Alike, by_group: Mapping[int, Sequence[End]]) -> Optional[Urgency]:
     """The lowest one if all their authorities end at the last group of their way, without a signal in between."""
     own = [packet.form for packet in alike.packets]
-    ends = [end for end in ends_of(decoded) if end.passage.group is alike.data and end.packet.form in own]
+    ends = [end for end in by_group.get(id(alike.data), ()) if end.packet.form in own]
     return Urgency.RULE_ONLY if ends and all(ends_the_line(decoded, end) for end in ends) else None
 
 
