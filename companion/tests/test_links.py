@@ -455,6 +455,20 @@ def test_linked_by_many() -> None:
     ]
 
 
+def test_l5_names_the_first_packet_whose_direction_counts() -> None:
+    """Packets 44, 145 and 254 may hold in one direction."""
+    passed_over = [{"nid_packet": number, "q_dir": 1} for number in (44, 145, 254)]
+    order = {"nid_packet": 41, "q_dir": 0}
+    some = [("A", passed_over), ("B", [*passed_over, order]), ("C", [{**order, "q_dir": 2}])]
+    one = line_with(*((group(name, "1"), [header(ord(name), *own, linked=0)]) for name, own in some))
+    (remark,) = [each for each in compare(one).remarks if each.rule == "L5"]
+    assert remark.about and remark.about.group.name == "B"
+    words = (
+        "packet 41 (level transition order) holds only in reverse direction: a train cannot tell its direction by it"
+    )
+    assert remark.sentence == f"the group has one balise and Q_LINK 0, and {words}"
+
+
 def test_bad_input(run: Run, table: Write, tmp_path: Path) -> None:
     path = table("group,telegram", "A," + "0" * 54)
     assert run("links", path) == (2, [], [f"balisekit: {path}: no row has a kilometre: links needs the column km"])

@@ -1,6 +1,7 @@
 """The rules E12 to E23: what groups say of one line, by its kilometres."""
 from __future__ import annotations
 
+import copy
 from decimal import Decimal
 from pathlib import Path
 from typing import Any, Callable, Dict, List, Sequence, Tuple
@@ -394,6 +395,28 @@ def test_e16_of_a_balise_that_nobody_names(found: Found) -> None:
     assert not found("E16", SHORT, all_of(without_links, changed()))
 
 
+def repositioned(metres: int, with_packet_16: bool = True) -> Change:
+    """Signals 3 and 4 name a group that is not known, this far from signal 5, in its place."""
+
+    def change_(rows: List[Row]) -> None:
+        single_balise(rows, named=False)
+        if with_packet_16:
+            form_of(rows, "Single", "")["packets"].append(raw(16, f"01{400:015b}"))
+        for signal in ("Signal 3", "Signal 4"):
+            links = change(rows, signal, FIXED, 5)["links"]
+            at = [link["nid_bg"] for link in links].index(5)
+            links[at:] = [{**links[at], "nid_bg": 16_383, "d_link": 1500 + metres}]
+
+    return change_
+
+
+def test_e16_of_repositioning(found: Found) -> None:
+    """A balise with a packet 16 near a link with NID_BG 16,383 is none. Far from it, or without the packet, it is."""
+    assert not found("E16", SHORT, repositioned(-400))
+    assert len(found("E16", SHORT, repositioned(200))) == 1
+    assert len(found("E16", SHORT, repositioned(-300, with_packet_16=False))) == 1
+
+
 def test_e17(found: Found) -> None:
     made = found("E17", SHORT, meaning_mistakes.links_shortened)
     assert [each.location.row.group for each in made if each.location.row] == [
@@ -420,6 +443,22 @@ def test_e17_of_a_linked_group_whose_kilometre_is_rounded_up(found: Found, metre
 def test_e18(found: Found, metres: int, count: int) -> None:
     made = found("E18", BORDER, added("Signal 4", FIXED, "d_leveltr", 41, metres))
     assert len(made) == count and all(rows_named(each)[0] == 14 for each in made)
+
+
+def repeated_order(rows: List[Row], metres: int, level: int) -> None:
+    """A second group orders the level at once, these metres from the border."""
+    for row in [row for row in rows if row.group == "Border"]:
+        form: Any = {**copy.deepcopy(row.form), "nid_bg": 6001}
+        for each in form["packets"]:
+            each["transitions"] = [{"m_leveltr": level, "l_ackleveltr": 0}]
+        rows.append(Row("Again", f"Again {row.balise}", row.place + metres, "", row.balise, form))
+
+
+@pytest.mark.parametrize("metres, level, count", [(200, 0, 0), (200, 2, 1), (-200, 0, 1)])
+def test_e18_of_a_repeated_order(found: Found, metres: int, level: int, count: int) -> None:
+    """An order at once beyond an equal one is none. One with other levels, or in rear of it, is one."""
+    made = found("E18", BORDER, lambda rows: repeated_order(rows, metres, level))
+    assert len(made) == count, [each.sentence for each in made]
 
 
 def test_e18_levels(found: Found) -> None:
@@ -499,6 +538,20 @@ def test_e22(found: Found, number: int, distance: int, length: int, speed: int, 
     changes = all_of(RESTRICTED, with_packet("Signal 4", FIXED, restriction(number, distance, length, speed)))
     made = found("E22", SHORT, changes)
     assert len(made) == count and all(rows_named(each) == (14, 6) for each in made)
+
+
+@pytest.mark.parametrize("distance, length, speed, count", [(0, 1000, 40, 0), (0, 900, 40, 1), (0, 1000, 50, 1)])
+def test_e22_of_the_rest(found: Found, distance: int, length: int, speed: int, count: int) -> None:
+    """Signal 4 is 500 m within the restriction of signal 3. The rest of it is no difference."""
+    first = with_packet("Signal 3", FIXED, restriction(7, 1000, 1500, 40))
+    rest = with_packet("Signal 4", FIXED, restriction(7, distance, length, speed))
+    assert len(found("E22", SHORT, all_of(first, rest))) == count
+
+
+def test_e22_of_a_restriction_that_begins_at_its_group(found: Found) -> None:
+    """One with D_TSR 0 whose group is in rear of the restriction begins too early."""
+    first = with_packet("Signal 3", FIXED, restriction(7, 0, 2000, 40))
+    assert len(found("E22", SHORT, all_of(first, with_packet("Signal 2", FIXED, restriction(7, 2000, 1500, 40))))) == 1
 
 
 def test_e22_near_and_slow(found: Found) -> None:

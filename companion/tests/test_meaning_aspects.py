@@ -54,6 +54,24 @@ def without(signal: int, aspect: str, *numbers: int) -> Change:
     return remove
 
 
+def test_e7_at_the_last_group(program: Program, tmp_path: Path) -> None:
+    """If both end at the last group, the urgency is the lowest one, unless yellow could end at a signal before it."""
+
+    def copied(signal: int, to: str, source: str) -> Change:
+        def copy(rows: List[Row]) -> None:
+            telegram(rows, signal, to)["packets"] = telegram(rows, signal, source)["packets"]
+
+        return copy
+
+    for change_, urgency in (
+        (copied(5, GREEN, YELLOW), Urgency.RULE_ONLY),
+        (copied(4, YELLOW, GREEN), None),
+        (copied(3, YELLOW, GREEN), None),
+    ):
+        (one,) = found(program, tmp_path / "t.csv", "E7", change_)
+        assert one.urgency == urgency
+
+
 def test_e8_of_the_other_direction(program: Program, tmp_path: Path) -> None:
     """Green, and red: each of them is one remark. Two aspects are too few."""
     made = found(program, tmp_path / "t.csv", "E8", turned(2, GREEN), turned(4, RED))
@@ -80,28 +98,29 @@ def test_e8_of_packets_that_lack(program: Program, tmp_path: Path) -> None:
 
 
 def test_e8_of_stop_aspects(program: Program, tmp_path: Path) -> None:
-    """Five of six have packet 137 with stop; a "go" is none. With four of six nobody knows."""
+    """Five of six have packet 137 with stop. A "go" was meant. With four of six nobody knows."""
     stops = [packets_added(signal, RED, raw(137, "0")) for signal in range(1, 6)]
     words = (
         'a stop aspect, V_MAIN 0 km/h, without a packet 137 (stop if in staff responsible) with "stop": 5 of 6 stop '
         "aspects of the table have it"
     )
-    others: List[List[Change]] = [[], [packets_added(6, RED, raw(137, "1"))]]
-    for last in others:
-        (one,) = found(program, tmp_path / "t.csv", "E8", *stops, *last)
-        assert (one.sentence, one.location.row and one.location.row.number) == (words, row_of(6, RED))
+    (one,) = found(program, tmp_path / "t.csv", "E8", *stops)
+    assert (one.sentence, one.location.row and one.location.row.number) == (words, row_of(6, RED))
     assert not found(program, tmp_path / "t.csv", "E8", *stops[1:])
-    assert not found(program, tmp_path / "t.csv", "E8", *stops, packets_added(6, RED, raw(137, "0")))
+    for bit in "01":
+        assert not found(program, tmp_path / "t.csv", "E8", *stops, packets_added(6, RED, raw(137, bit)))
 
 
 def test_e8_of_packets_132(program: Program, tmp_path: Path) -> None:
-    """Of three stop aspects of one group one lacks it. Of two nobody knows which is right."""
+    """One of three stop aspects lacks it, and has it at another signal. If it has it nowhere, that is meant."""
     stop = [packet_with(2, aspect, 12, v_main=0) for aspect in (YELLOW, GREEN)]
     danger = [packets_added(2, aspect, raw(132, "0")) for aspect in (RED, GREEN)]
-    (one,) = found(program, tmp_path / "t.csv", "E8", *stop, *danger)
+    elsewhere = [packet_with(3, YELLOW, 12, v_main=0), packets_added(3, YELLOW, raw(132, "0"))]
+    assert not found(program, tmp_path / "t.csv", "E8", *stop, *danger)
+    (one,) = found(program, tmp_path / "t.csv", "E8", *stop, *danger, *elsewhere)
     assert one.location.row and one.location.row.number == row_of(2, YELLOW)
     assert one.sentence.endswith('without a packet 132 (danger for shunting information), which "red", "green" have')
-    assert not found(program, tmp_path / "t.csv", "E8", stop[0], danger[0])
+    assert not found(program, tmp_path / "t.csv", "E8", stop[0], danger[0], *elsewhere)
 
 
 def test_e9(program: Program, tmp_path: Path) -> None:

@@ -163,13 +163,14 @@ def _main(signal: int) -> str:
 
 
 def test_e3_of_equal_values(program: Program, tmp_path: Path) -> None:
-    """Each limit itself is in order, and so is a stop aspect with an overlap and without length."""
+    """Each limit itself is in order, a stop aspect with an overlap and without length, and V_LOA with a time limit."""
     timer = {"t_sectiontimer": 60, "d_sectiontimerstoploc": 1500}
     changes = [
         packet_with(1, YELLOW, 12, section_timer=timer, end_timer={"t_endtimer": 60, "d_endtimerstartloc": 1500}),
         packet_with(2, YELLOW, 12, overlap=overlap(1500, 200), danger_point={"d_dp": 200, "v_releasedp": 126}),
         packet_with(3, YELLOW, 12, end_speed=_raw_main(3), end_timeout=60, overlap=None),
         packet_with(4, RED, 12, overlap=overlap(300, 200)),
+        packet_with(4, GREEN, 12, end_speed=4, end_timeout=60, danger_point={"d_dp": 100, "v_releasedp": 126}),
     ]
     assert found(program, tmp_path / "t.csv", "E3", changes) == []
 
@@ -245,6 +246,17 @@ def test_e4_of_profiles_in_order(program: Program, tmp_path: Path) -> None:
     assert made == [(row_of(1, YELLOW), "the first element has a train category twice")]
 
 
+def test_e4_of_what_one_distance_cannot_hold(program: Program, tmp_path: Path) -> None:
+    """With Q_SCALE 0 one distance ends at 3,276.7 m: 32,767 units together are a repetition, and one more is none."""
+    line = [(16_000, 16_767), (16_000, 16_768)]
+    changes = [
+        packet_with(signal, GREEN, 21, q_scale=0, elements=gradients((0, 3), (one, 3), (other, 255)))
+        for signal, (one, other) in enumerate(line, 1)
+    ]
+    made = found(program, tmp_path / "t.csv", "E4", changes)
+    assert made == [(row_of(1, GREEN), "the second element repeats the one before it, +3 ‰")]
+
+
 def level(direction: int, distance: int) -> Any:
     """A level transition order."""
     order = [{"m_leveltr": 2, "l_ackleveltr": 0}]
@@ -265,6 +277,8 @@ def test_e5(program: Program, tmp_path: Path) -> None:
         packets_added(4, RED, level(2, 32_767)),
         packets_added(5, RED, raw(44, "0" * 9, 2), raw(137, "0", 2)),
         packets_added(6, RED, {**restriction(8), "q_dir": 2}),
+        packets_added(6, YELLOW, raw(68, f"011{0:015b}", 2)),
+        packets_added(6, GREEN, raw(68, f"011{100:015b}", 2)),
     ]
     words = "and Q_DIR 2, both directions: the place would be on both sides of the group"
     assert found(program, tmp_path / "t.csv", "E5", changes) == [
@@ -274,6 +288,7 @@ def test_e5(program: Program, tmp_path: Path) -> None:
             "profile) have distances, and Q_DIR 2, both directions: their places would be on both sides of the group",
         ),
         (row_of(6, RED), f"it has a distance, {words}"),
+        (row_of(6, GREEN), f"it has a distance, {words}"),
         (row_of(2, RED), f"it has a distance, D_LEVELTR 500 m, {words}"),
     ]
 

@@ -29,6 +29,8 @@ RECORD = re.compile(
     r'"q_link":(\d)'
 )
 """The record of a telegram: the keys of its header, and NID_C with the packets as one text."""
+WITHOUT_DIRECTION = (44, 145, 254)
+"""Packets whose direction is not compared: other applications, inhibition of balise reactions, default telegrams."""
 SAYS_NOTHING = (145, 254, 255)
 """Packets by which a group says nothing of the track."""
 KEPT = 1 << 12
@@ -261,7 +263,7 @@ def _packets(form: Form) -> Tuple[Tuple[Sequence[Packet], ...], Optional[OneWay]
     spoken: Set[int] = set()
     for place, packet in enumerate(form["packets"]):
         number, direction = packet["nid_packet"], packet.get("q_dir", 2)
-        if direction != 2 and one_way is None:
+        if direction != 2 and one_way is None and number not in WITHOUT_DIRECTION:
             one_way = number, NOMINAL if direction == 1 else REVERSE
         if number not in SAYS_NOTHING:
             spoken.update(HOLDING[direction])

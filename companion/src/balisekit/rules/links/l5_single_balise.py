@@ -1,8 +1,8 @@
 """L5: direction of a single balise not known.
 
-What it says. A group of one balise has Q_LINK 0, and one of its packets holds in only one direction (Q_DIR 0 or 1). The
-line names the first such packet. A single balise has no direction of its own, and one with Q_LINK 0 gets none by
-linking (SUBSET-026, 3.4.2).
+What it says. A group of one balise has Q_LINK 0, and one of its packets other than 44, 145 and 254 holds only in one
+direction (Q_DIR 0 or 1). The line names the first such packet. A single balise has no direction of its own, and one
+with Q_LINK 0 gets none by linking (SUBSET-026, 3.4.2).
 
 How urgent. At worst wrong information for the other direction, or none.
 
@@ -35,8 +35,8 @@ def find(line: Line, options: Options) -> Result:
         Remark(
             "L5",
             location,
-            f"the group has one balise and Q_LINK 0, and packet {number} ({packet_name(number, True)}) holds in "
-            f"{direction} direction alone: a train cannot tell its direction by it",
+            f"the group has one balise and Q_LINK 0, and packet {number} ({packet_name(number, True)}) holds only "
+            f"in {direction} direction: a train cannot tell its direction by it",
             location.group,
         )
         for location, (number, direction) in line.passages.one_way

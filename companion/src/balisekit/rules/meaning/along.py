@@ -1,6 +1,7 @@
 """What several rules E compare along a track: ends of authority, profiles as places, and where trains may leave it."""
 from __future__ import annotations
 
+from bisect import bisect_left
 from decimal import Decimal
 from typing import Dict, Iterator, List, Mapping, NamedTuple, Optional, Sequence, Set, Tuple
 
@@ -13,6 +14,8 @@ Name = Tuple[int, Optional[GroupData]]
 """The distance of a linked group, and the group of the table."""
 Extent = Tuple[int, int]
 """The least and the greatest place."""
+NEAR = 500
+"""In decimetres: how near to a group an authority is that ends at it."""
 
 
 class End(NamedTuple):
@@ -97,6 +100,30 @@ def extents_of(decoded: Decoded) -> Mapping[Lane, Extent]:
         for way in own - {None} if data.place is not None else ():
             places.setdefault((data.group.track, way or 0), []).append(data.place or 0)
     return {lane: (min(some), max(some)) for lane, some in places.items()}
+
+
+def ends_the_line(decoded: Decoded, end: End) -> bool:
+    """Whether an authority ends at the last group of its track and way, without a signal in between."""
+    lane = lane_of(end.passage)
+    begin, at = ((place or 0) * lane[1] for place in (end.passage.place(0), end.place))
+    if ends_the_line not in decoded.worked_out:
+        decoded.worked_out[ends_the_line] = _lasts_and_signals(decoded)
+    last, signals = decoded.worked_out[ends_the_line][lane]
+    ahead = bisect_left(signals, begin + 1)
+    return abs(last - at) <= NEAR and not (ahead < len(signals) and signals[ahead] < at - NEAR)
+
+
+def _lasts_and_signals(decoded: Decoded) -> Dict[Lane, Tuple[int, List[int]]]:
+    """Of each track and way, along it: the last group that says something, and all that give an authority."""
+    lasts: Dict[Lane, int] = {}
+    signals: Dict[Lane, Set[int]] = {}
+    for passage in decoded.passages:
+        place, lane = passage.place(0), lane_of(passage)
+        if passage.way is not None and place is not None and any(each.number < 254 for each in passage.said):
+            at = place * passage.way
+            lasts[lane] = max(lasts.get(lane, at), at)
+            signals.setdefault(lane, set()).update([at] if passage.authorities else [])
+    return {lane: (last, sorted(signals[lane])) for lane, last in lasts.items()}
 
 
 def leaves(options: Options, decoded: Decoded, passage: Passage, place: int) -> bool:

@@ -3,7 +3,8 @@
 What it says. A group of one balise with Q_LINK 1 has a packet for one direction, other than 44, 145 and 254, and no
 packet 5 of the table names it. Or the packets 5 that name a single balise give it different nominal directions along
 the kilometres, or another one than the column `nominal`. The first part is silent if no packet 5 that holds in the way
-of the packet leads past the kilometre of the balise. Single balises with Q_LINK 0 are L5 (SUBSET-026, 3.4.2 and 3.4.4).
+of the packet leads past the kilometre of the balise, or if the balise has a packet 16 and a link with NID_BG 16,383
+leads to a place within 500 m. Single balises with Q_LINK 0 are L5 (SUBSET-026, 3.4.2 and 3.4.4).
 
 How urgent. At worst wrong information: the packet may be taken for the other direction, or not at all.
 
@@ -16,7 +17,7 @@ that is for one direction; with the wrong one, it takes what is meant for trains
 How to correct it. Name the balise in the packets 5 of the groups before it, and give all these links one orientation.
 
 Correct data that gets it. Level 2, also as an overlay of level 1, if linking comes by radio and the messages are not
-among the data. A balise with repositioning information (packet 16), to which a link with NID_BG 16,383 leads.
+among the data.
 
 Example. Infill balise 5 has a packet 12 for the nominal direction. Signals 3 and 4 lead past it and do not name it.
 
@@ -24,48 +25,23 @@ How sure. 95 %.
 """
 from __future__ import annotations
 
-from bisect import bisect_left
 from decimal import Decimal
-from typing import Dict, Iterator, List, Tuple
+from typing import Dict, Iterator, Tuple
 
 from balisekit.etcs.geometry import DIRECTIONS
 from balisekit.rules.decoded import Decoded, GroupData, Packet
 from balisekit.rules.line import Line
 from balisekit.rules.location import BaliseGroup, Location
-from balisekit.rules.passages import Chain, Link
+from balisekit.rules.meaning.passed import Passed
+from balisekit.rules.passages import WITHOUT_DIRECTION, Chain, Link
 from balisekit.rules.rule import Options, Remark, Result, Rule
 from balisekit.rules.urgency import Urgency
 from balisekit.tables.names import rows_words
 
-NOT_COMPARED = {44, 145, 254}
+REPOSITIONING = 16
 WORDS = {1: "rising", -1: "falling"}
 Named = Dict[int, Dict[int, Tuple[Chain, Link]]]
 """Of each single balise, by its number: by its nominal direction along the kilometres the first link that gives it."""
-
-
-class Passed:
-    """Over which kilometres packets 5 lead, by track and way. Places count along the way."""
-
-    def __init__(self, line: Line) -> None:
-        self._spans: Dict[Tuple[str, int], List[Tuple[int, int]]] = {}
-        for chain in line.chains:
-            sender = chain.sender
-            way, place = (sender.along(chain.direction), line.places[sender.number]) if sender else (None, None)
-            if sender and way is not None and place is not None:
-                end = place * way + sum(link.distance for link in chain.links)
-                self._spans.setdefault((sender.track, way), []).append((place * way, end))
-        for spans in self._spans.values():
-            spans.sort()
-            farthest = -(10**12)
-            for index, (begin, end) in enumerate(spans):
-                farthest = max(farthest, end)
-                spans[index] = begin, farthest
-
-    def is_passed(self, track: str, place: int, way: int) -> bool:
-        """Whether a packet 5 that holds in this way leads past a place."""
-        spans = self._spans.get((track, way), [])
-        index = bisect_left(spans, (place * way,))
-        return index > 0 and spans[index - 1][1] > place * way
 
 
 def find(line: Line, options: Options) -> Result:
@@ -129,6 +105,9 @@ def _unnamed(decoded: Decoded, passed: Passed, data: GroupData) -> Iterator[Rema
     ways = (1, -1) if way is None else (way,)
     if data.place is None or not any(passed.is_passed(data.group.track, data.place, each) for each in ways):
         return
+    is_repositioning = any(each.number == REPOSITIONING for each in _packets(data))
+    if is_repositioning and passed.leads_to_repositioning(data.group.track, data.place):
+        return
     sentence = (
         f"it is for the {direction} direction, the balise is single and has Q_LINK 1, and no packet 5 names it: those "
         f"of other groups lead past {decoded.km(data.group.track, data.place)}"
@@ -139,7 +118,7 @@ def _unnamed(decoded: Decoded, passed: Passed, data: GroupData) -> Iterator[Rema
 
 def _packets(data: GroupData) -> Iterator[Packet]:
     for telegram in data.telegrams.values():
-        yield from (packet for packet in telegram.packets if packet.number not in NOT_COMPARED)
+        yield from (packet for packet in telegram.packets if packet.number not in WITHOUT_DIRECTION)
 
 
 RULE = Rule("E16", "single balises", __doc__ or "", find, Urgency.WRONG_INFORMATION, needs_kilometres=True)

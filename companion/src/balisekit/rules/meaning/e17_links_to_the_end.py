@@ -3,7 +3,8 @@
 What it says. A packet 12 with V_MAIN above 0 allows a train to go on for more than 50 m beyond the last group that
 packets 5 name: those of the same passage, and those of groups before it on that track and way. Only groups that say
 something in the direction of passage count. The rule is silent if no such group is between that place and 50 m beyond
-the end of the authority, and if the end is beyond the last such group of the track. A table without any packet 5 gets
+the end of the authority, if the end is beyond the last such group of the track, or if the last link of the passage has
+NID_BG 16,383: the group with repositioning information there names the next ones. A table without any packet 5 gets
 one remark for all (SUBSET-026, 3.4.4).
 
 How urgent. At worst a wrong place: a train misses a group and goes on.
@@ -16,8 +17,7 @@ not correct its position there.
 How to correct it. Name all groups to the end of the authority in the packet 5.
 
 Correct data that gets it. A line that never uses linking, or that uses it on a part only. Packets 5 that lead to the
-next signal, which has a packet 5 of its own. Links that end with NID_BG 16,383: the group with repositioning
-information there names the next ones.
+next signal, which has a packet 5 of its own.
 
 Example. The authority of signal 3 ends at km 16.000, and its packet 5 names groups to km 14.500 only.
 
@@ -30,8 +30,9 @@ from decimal import Decimal
 from typing import Dict, Iterator, List, Optional, Tuple
 
 from balisekit.etcs.variables import metres
-from balisekit.rules.decoded import Decoded, GroupData
+from balisekit.rules.decoded import LINKING, Decoded, GroupData, Passage
 from balisekit.rules.line import Line
+from balisekit.rules.location import NOT_KNOWN
 from balisekit.rules.meaning.along import End, Lane, ends_of, lane_of, leaves, names_of
 from balisekit.rules.meaning.words import merged
 from balisekit.rules.rule import Options, Remark, Result, Rule
@@ -113,12 +114,17 @@ def _linked(target: Optional[GroupData], way: int, place: int) -> int:
     return by_kilometre if 0 < by_kilometre - place <= LESS else place
 
 
+def _is_repositioned(passage: Passage) -> bool:
+    """Whether its last link leads to a group that is not known yet."""
+    return any(packet.form["links"][-1]["nid_bg"] == NOT_KNOWN for packet in passage.of(LINKING))
+
+
 def _look_at(decoded: Decoded, options: Options, lane: Reach, end: End) -> Iterator[Remark]:
     passage, way = end.passage, end.passage.way or 0
     data: GroupData = passage.group or decoded.groups[0]
     begin, place = (data.place or 0) * way, end.place * way
     reach = lane.at(begin)
-    if reach >= place - LESS or not lane.groups or place > lane.groups[-1]:
+    if reach >= place - LESS or not lane.groups or place > lane.groups[-1] or _is_repositioned(passage):
         return
     if lane.group_between(reach, place + LESS) and not leaves(options, decoded, passage, end.place):
         linked = f"lead to {decoded.km(passage.track, reach * way)} only" if reach > begin else "name no group"

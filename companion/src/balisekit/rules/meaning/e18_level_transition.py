@@ -5,8 +5,8 @@ place by more than the tolerance, or in the order of their M_LEVELTR and NID_NTC
 and D_LEVELTR from it unless that is 32,767 (now). The packet with D_LEVELTR 0 or 32,767 counts as right, or else the
 most frequent place. The tolerance is `--tolerance` (1 m without it), the unit of each packet by Q_SCALE, and one unit
 of the last decimal of the kilometres. If a place is between the first and the last group of the track, some group there
-has to have a packet 41 with D_LEVELTR 0 or 32,767. A packet for both directions with a distance is E5 (SUBSET-026, 5.10
-and 7.4.2).
+has to have a packet 41 with D_LEVELTR 0 or 32,767. A group that repeats such a packet beyond the border agrees. A
+packet for both directions with a distance is E5 (SUBSET-026, 5.10 and 7.4.2).
 
 How urgent. At worst wrong information: the train changes its level at another place.
 
@@ -19,9 +19,8 @@ trackside equipment has ended, or is braked.
 How to correct it. Compare D_LEVELTR of each announcement with the kilometre of the border, and put a packet 41 into the
 group at the border.
 
-Correct data that gets it. A line on which the last announcement alone makes the train change its level. A group that
-has D_LEVELTR 32,767 some metres from the border. A group beyond the border that repeats the order for trains that have
-missed it.
+Correct data that gets it. A line on which only the last announcement makes the train change its level. A group that
+has D_LEVELTR 32,767 some metres from the border.
 
 Example. Signal 4 announces level 0 at km 16.750, and the group at the border, at km 16.700, has it at once.
 
@@ -57,6 +56,11 @@ class Order(NamedTuple):
     def is_now(self) -> bool:
         """Whether it is for the place of its group."""
         return self.packet.form["d_leveltr"] in (0, NOW)
+
+    @property
+    def along(self) -> int:
+        """Its place, counted along the way."""
+        return self.place * (self.passage.way or 1)
 
     @property
     def levels(self) -> Sequence[Tuple[int, int]]:
@@ -113,7 +117,7 @@ def _parts(orders: Sequence[Order]) -> Iterator[List[Order]]:
 def _compare(decoded: Decoded, options: Options, orders: Sequence[Order]) -> Iterator[Remark]:
     """The orders that differ from that at the border, or from the most frequent one."""
     counts = Counter(each.place for each in orders)
-    usual = max(orders, key=lambda each: (each.is_now, counts[each.place]))
+    usual = max(orders, key=lambda each: (each.is_now, counts[each.place], -each.along))
     track = usual.passage.track
     for order in orders:
         tolerance = decoded.tolerance(options.tolerance_of_places, order.packet.unit, usual.packet.unit)
@@ -121,6 +125,8 @@ def _compare(decoded: Decoded, options: Options, orders: Sequence[Order]) -> Ite
         others = (usual.packet.row.number,) if usual.packet.row else ()
         values = {"place_m": Decimal(order.place) / 10, "other_place_m": Decimal(usual.place) / 10}
         by = f"{source(usual.passage, usual.packet)}, {'has' if usual.is_now else 'announces'}"
+        if order.is_now and usual.is_now and order.along > usual.along and order.levels == usual.levels:
+            continue  # repeated for trains that have missed the first one
         if apart > tolerance:
             sentence = (
                 f"the level transition is at {decoded.km(track, order.place)} by D_LEVELTR, and at "

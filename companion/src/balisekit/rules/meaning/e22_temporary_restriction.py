@@ -3,7 +3,8 @@
 What it says. Packets 65 of one track and way have one NID_TSR below 255 and places within 2 km of each other, and
 differ in the place by more than the tolerance, in L_TSR by more than the tolerance, or in V_TSR. The tolerance is
 `--tolerance` (1 m without it), the unit of each packet by Q_SCALE, and one unit of the last decimal of the kilometres.
-The most frequent one counts as right. The layout of packet 65 is balisekit's own (SUBSET-026, 3.11.5 and 7.4.2).
+The most frequent one counts as right. A packet with D_TSR 0 agrees if its group is within the restriction, V_TSR is
+equal and the end is the same. The layout of packet 65 is balisekit's own (SUBSET-026, 3.11.5 and 7.4.2).
 
 How urgent. At worst wrong information: the train takes the restriction that it gets last instead of the first one.
 
@@ -13,8 +14,7 @@ What may happen. The restriction begins too late, ends too early, or has another
 
 How to correct it. Compare D_TSR, L_TSR and V_TSR with the list of restrictions.
 
-Correct data that gets it. Two restrictions on one line that have the same number. A group within the restriction, which
-has D_TSR 0 and the rest of L_TSR.
+Correct data that gets it. Two restrictions on one line that have the same number.
 
 Example. Signal 3 has restriction 7 at km 14.000 with 40 km/h, and signal 4 has it at km 14.100.
 
@@ -100,6 +100,16 @@ def _parts(some: Sequence[Restriction]) -> Iterator[List[Restriction]]:
     yield part
 
 
+def _is_rest(one: Restriction, other: Restriction, tolerance: int) -> bool:
+    """Whether the one that begins farther along is the rest of the other one, sent by a group within it: D_TSR 0."""
+    way = one.passage.way or 1
+    whole, rest = sorted((one, other), key=lambda each: each.place * way)
+    begin = (rest.place - whole.place) * way
+    ends_there = abs(begin + rest.length - whole.length) <= tolerance
+    fields: Values = rest.packet.form
+    return fields["d_tsr"] == 0 and begin <= whole.length and ends_there and one.speed == other.speed
+
+
 def _compare(decoded: Decoded, options: Options, some: Sequence[Restriction]) -> Iterator[Remark]:
     """Those that differ from the most frequent one."""
     counts = Counter(each.says for each in some)
@@ -107,7 +117,7 @@ def _compare(decoded: Decoded, options: Options, some: Sequence[Restriction]) ->
     for each in some:
         tolerance = decoded.tolerance(options.tolerance_of_places, each.packet.unit, usual.packet.unit)
         apart = max(abs(each.place - usual.place), abs(each.length - usual.length))
-        if apart > tolerance or each.speed != usual.speed:
+        if (apart > tolerance or each.speed != usual.speed) and not _is_rest(each, usual, tolerance):
             sentence = (
                 f"the restriction with NID_TSR {each.number} is at {each.words(decoded)}, and by "
                 f"{source(usual.passage, usual.packet)} at {usual.words(decoded)}"

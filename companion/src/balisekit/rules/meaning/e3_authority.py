@@ -3,8 +3,8 @@
 What it says. In a packet 12 or 15 a D_SECTIONTIMERSTOPLOC is greater than the length of its section. Or
 D_ENDTIMERSTARTLOC or D_STARTOL is greater than the sum of all lengths, if that sum is above 0. Or the overlap ends
 before the danger point. Or V_LOA is above V_MAIN. Or V_LOA is 0 and T_LOA is not 1,023 (no time limit). Or V_LOA is
-above 0, and a danger point or an overlap is there. Or V_MAIN is above 0 and the sum of all lengths is 0. Or an
-L_SECTION is 0 (SUBSET-026, 3.8 and 7.4.2).
+above 0, T_LOA is 1,023, and a danger point or an overlap is there. Or V_MAIN is above 0 and the sum of all lengths is
+0. Or an L_SECTION is 0 (SUBSET-026, 3.8 and 7.4.2).
 
 How urgent. At worst wrong information: one of the two values of the sentence is not what was meant.
 
@@ -17,9 +17,7 @@ before its danger point. Or it may run at V_MAIN without any length.
 How to correct it. Compare both values of the sentence with the design of the signal, and correct the wrong one.
 
 Correct data that gets it. A section timer that stops on purpose beyond its section. A timer of the end section or of
-the overlap that starts on purpose in rear of the group. A V_LOA with a time limit: when T_LOA has run out, the limit of
-authority is an end of authority, which needs its danger point or overlap. A T_LOA that a template fills in although
-V_LOA is 0.
+the overlap that starts on purpose in rear of the group. A T_LOA that a template fills in although V_LOA is 0.
 
 Example. The overlap of Signal B ends 20 m after the end of authority, and the danger point is 50 m after it.
 
@@ -104,7 +102,9 @@ def _limit(form: Form, total: int) -> Iterator[Fault]:
         seconds = form["end_timeout"]
         yield Fault(f"T_LOA is {seconds} s and V_LOA is 0 km/h", {"t_loa_s": Decimal(seconds)})
     names = [name for key, name in (("danger_point", "a danger point"), ("overlap", "an overlap")) if key in form]
-    if limit > 0 and names:
+    if (
+        limit > 0 and names and form["end_timeout"] == ENDLESS
+    ):  # after T_LOA it is an end of authority, which needs them
         words = f"V_LOA is {speed(limit)}, and {' and '.join(names)} is there, which is for V_LOA 0 km/h"
         yield Fault(words, {"v_loa_kmh": kmh(limit)})
     if main and total == 0:

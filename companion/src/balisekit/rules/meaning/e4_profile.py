@@ -2,8 +2,9 @@
 
 What it says. In a packet 21 or 27 an element after the first one has D_GRADIENT or D_STATIC 0, an element follows an
 end mark, or the end mark is the first element. Or a V_STATIC is 0 km/h. Or an element repeats the gradient, or the
-speed, Q_FRONT and categories, of the one before it. Or an element has a train category twice, or its V_DIFF by cant
-deficiency falls while NC_CDDIFF rises, or is below V_STATIC (SUBSET-026, 3.11 and 7.4.2).
+speed, Q_FRONT and categories, of the one before it, and one distance could state both: up to 32,767 units. Or an
+element has a train category twice, or its V_DIFF by cant deficiency falls while NC_CDDIFF rises, or is below V_STATIC
+(SUBSET-026, 3.11 and 7.4.2).
 
 How urgent. At worst wrong information: a speed or gradient holds at another place, or for other trains, than was meant.
 
@@ -15,8 +16,7 @@ element often stands for a change that was meant.
 
 How to correct it. Compare the elements with the profile of the track, and correct or remove the wrong one.
 
-Correct data that gets it. A speed of 0 km/h beyond a buffer stop. A gradient or speed that is repeated because it holds
-longer than one distance can state, which is 3,276.7 m with Q_SCALE 0.
+Correct data that gets it. A speed of 0 km/h beyond a buffer stop.
 
 Example. The third element of the gradient profile of Signal B has D_GRADIENT 0 m, as if it were at the place of the
 second one.
@@ -29,7 +29,7 @@ from decimal import Decimal
 from typing import Iterator, List, Optional, Sequence, Tuple
 
 from balisekit.etcs.geometry import ELEMENT_KEYS
-from balisekit.etcs.variables import CANT, Form
+from balisekit.etcs.variables import CANT, Form, Values
 from balisekit.rules.decoded import GRADIENTS, SPEEDS, Packet
 from balisekit.rules.line import Line
 from balisekit.rules.meaning.sent import Fault, kmh, of_packets, speed
@@ -39,6 +39,8 @@ from balisekit.tables.names import ordinal
 
 CANT_DEFICIENCY = 0
 """The Q_DIFF of a difference by cant deficiency."""
+LONGEST = 32_767
+"""The greatest distance that fits into 15 bits, in units of Q_SCALE."""
 
 
 def find(line: Line, options: Options) -> Result:
@@ -76,9 +78,15 @@ def _steps(packet: Packet, own: Sequence[Form]) -> Iterator[Fault]:
             yield Fault(
                 f"{key.upper()} of {name} is 0 m: it begins where the one before it does", {"distance_m": Decimal()}
             )
-        elif place < len(own) and _said(packet, before) == _said(packet, each):
+        elif place < len(own) and _said(packet, before) == _said(packet, each) and _fits(all_of_them, place, key):
             value, words = _value(packet, each)
             yield Fault(f"{name} repeats the one before it, {words}", {"value": Decimal(value)})
+
+
+def _fits(elements: Sequence[Values], place: int, key: str) -> bool:
+    """Whether one distance could lead from the element before this one to the next one."""
+    distances: Sequence[int] = [each[key] for each in elements[place : place + 2]]
+    return sum(distances) <= LONGEST
 
 
 def _said(packet: Packet, element: Form) -> object:

@@ -1,8 +1,9 @@
 """E5: both directions with a distance.
 
 What it says. A packet that has distances along the track holds in both directions (Q_DIR 2). These are the packets 5,
-12, 15, 16, 21, 27, 39, 40, 51, 52, 65, 67 to 71, 80, 88, 131 and 138, and packet 41 unless its D_LEVELTR is 0 or "now".
-All such packets of a balise or message are named together (SUBSET-026, 3.6.1 and 7.4).
+12, 15, 16, 21, 27, 39, 40, 51, 52, 65, 67, 69 to 71, 80, 88, 131 and 138, packet 41 unless its D_LEVELTR is 0 or "now",
+and packet 68 unless its D_TRACKINIT is 0. All such packets of a balise or message are named together (SUBSET-026, 3.6.1
+and 7.4).
 
 How urgent. At worst wrong information for trains in one of the directions.
 
@@ -15,7 +16,7 @@ border or the restriction is then on both sides of the group.
 How to correct it. Set Q_DIR to 1 or 0. A group of one balise gets its direction if it is linked, or by a second balise.
 
 Correct data that gets it. A gradient of 0 ‰ or a speed that is the same in both directions as far as the profile goes.
-A packet whose only distance is 0, such as a packet 68 with Q_TRACKINIT 1 and D_TRACKINIT 0.
+A packet 39, 40, 51, 52, 69 or 70 whose only distance is 0: rules do not use its layout, which is not sure enough.
 
 Example. The level transition order of group D has Q_DIR 2 and D_LEVELTR 500 m.
 
@@ -47,10 +48,16 @@ def find(line: Line, options: Options) -> Result:
     count = 0
     for owner, packet in sent(line.decoded, *WITH_DISTANCES, LEVELS):
         count += 1
-        if packet.form.get("q_dir") == BOTH and not (packet.number == LEVELS and packet.form["d_leveltr"] in HERE):
+        if packet.form.get("q_dir") == BOTH and not _is_here(packet):
             key = id(owner), packet.row.number if packet.row else 0
             together.setdefault(key, (owner, []))[1].append(packet)
     return Result([_remark(owner, packets) for owner, packets in together.values()], count)
+
+
+def _is_here(packet: Packet) -> bool:
+    """Whether its only distance gives the place of the group."""
+    form = packet.form
+    return packet.number == LEVELS and form["d_leveltr"] in HERE or form.get("d_trackinit") == 0
 
 
 def _remark(owner: Owner, packets: List[Packet]) -> Remark:

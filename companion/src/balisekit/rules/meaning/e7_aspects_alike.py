@@ -4,7 +4,9 @@ What it says. Two or more aspects of a group have equal packets in every balise,
 among them has a V_MAIN above 0. The line names the aspects. If no packet 12 of such aspects has a V_MAIN above 0, one
 note for the whole table counts them: a stop aspect, a dark signal and a substitution aspect often share their packets.
 
-How urgent. At worst wrong information: one of the aspects allows what another aspect is meant to allow.
+How urgent. At worst wrong information: one of the aspects allows what another aspect is meant to allow. The urgency is
+the lowest one if the authority ends within 50 m of the last group of the table in that way, and no group with an
+authority is between both.
 
 Usual cause. The telegram of one aspect was copied, and its packets were not changed.
 
@@ -13,8 +15,8 @@ What may happen. A train that passes the more restrictive aspect gets the author
 How to correct it. Compare both telegrams with the aspect table of the signal, and correct the packets of the wrong one.
 
 Correct data that gets it. One aspect that the table has under two names. Aspects that differ only beyond the end of
-authority: yellow and green of the last signal before a buffer stop or a level border. Aspects that the driver sees as
-two and that give the train one authority.
+authority: yellow and green of the last signal before a buffer stop or a level border, which can have the lowest
+urgency. Aspects that the driver sees as two and that give the train one authority.
 
 Example. Signal B has the packets of green at yellow: both allow 120 km/h for 1,400 m.
 
@@ -23,11 +25,12 @@ How sure. 93 %.
 from __future__ import annotations
 
 from decimal import Decimal
-from typing import Iterator, List, NamedTuple, Sequence, Tuple
+from typing import Dict, Iterator, List, Mapping, NamedTuple, Optional, Sequence, Tuple
 
-from balisekit.rules.decoded import GroupData, Packet, Telegram
+from balisekit.rules.decoded import Decoded, GroupData, Packet, Telegram
 from balisekit.rules.line import Line
 from balisekit.rules.location import Location
+from balisekit.rules.meaning.along import End, ends_of, ends_the_line
 from balisekit.rules.rule import Options, Remark, Result, Rule
 from balisekit.rules.urgency import Urgency
 from balisekit.tables.model import Aspect
@@ -60,7 +63,11 @@ def find(line: Line, options: Options) -> Result:
     several = [data for data in line.decoded.groups if len(data.group.group.aspects) > 1]
     alike = [each for data in several for each in _alike(data)]
     stops = [each for each in alike if not each.speeds]
-    return Result([_remark(each) for each in alike if each.speeds], len(several), notes=list(_note(stops)))
+    ends: Dict[int, List[End]] = {}
+    for end in ends_of(line.decoded) if alike else ():
+        ends.setdefault(id(end.passage.group), []).append(end)
+    found = [_remark(each, _urgency(line.decoded, each, ends)) for each in alike if each.speeds]
+    return Result(found, len(several), notes=list(_note(stops)))
 
 
 def _alike(data: GroupData) -> Iterator[Alike]:
@@ -85,7 +92,14 @@ def _are_alike(some: Sequence[Telegram], others: Sequence[Telegram]) -> bool:
     return all(one is other or one.forms == other.forms for one, other in zip(some, others))
 
 
-def _remark(alike: Alike) -> Remark:
+def _urgency(decoded: Decoded, alike: Alike, by_group: Mapping[int, Sequence[End]]) -> Optional[Urgency]:
+    """The lowest one if all their authorities end at the last group of their way, without a signal in between."""
+    own = [packet.form for packet in alike.packets]
+    ends = [end for end in by_group.get(id(alike.data), ()) if end.packet.form in own]
+    return Urgency.RULE_ONLY if ends and all(ends_the_line(decoded, end) for end in ends) else None
+
+
+def _remark(alike: Alike, urgency: Optional[Urgency]) -> Remark:
     rows = [row for aspect in alike.aspects for row in aspect.rows]
     controlled = {row.number for row in rows if rows.count(row) < len(alike.aspects)}
     speed = max(alike.speeds)
@@ -95,7 +109,8 @@ def _remark(alike: Alike) -> Remark:
     )
     values = {"v_main_kmh": Decimal(speed)}
     where = Location(alike.data.group)
-    return Remark("E7", where, sentence, values=values, rows=tuple(sorted(controlled)), aspects=tuple(alike.names))
+    aspects, numbers = tuple(alike.names), tuple(sorted(controlled))
+    return Remark("E7", where, sentence, values=values, urgency=urgency, rows=numbers, aspects=aspects)
 
 
 def _note(stops: Sequence[Alike]) -> Iterator[str]:

@@ -3,8 +3,8 @@
 What it says. Of three or more aspects with a V_MAIN above 0 exactly one lacks a packet 5, 12, 21 or 27 in a direction
 in which all others have it. Or an aspect has one of these packets only for the other direction than all others, of
 which there are at least two. Or four of five stop aspects of the table have a packet 137 with "stop", and this one has
-none. Or of three or more stop aspects of the group exactly one lacks a packet 132. A stop aspect has a packet 12 with
-V_MAIN 0, not after a packet 136 (SUBSET-026, 3.8 and 7.4.2).
+no packet 137. Or of three or more stop aspects of the group exactly one lacks a packet 132, and a stop aspect of this
+name has one elsewhere. A stop aspect has a packet 12 with V_MAIN 0, not after a packet 136 (SUBSET-026, 3.8).
 
 How urgent. At worst wrong information: what the aspect lacks does not restrict the train.
 
@@ -17,8 +17,8 @@ aspect says nothing to its train. Without packet 137 a train in staff responsibl
 How to correct it. Compare the telegram of the aspect with those of the others, and add the packet or correct Q_DIR.
 
 Correct data that gets it. Aspects for one route only, on which the packet is not needed. A stop aspect without packet
-132, at which shunting is allowed. A stop aspect without "stop" in a packet 137, which a train in staff responsible mode
-may pass, such as a substitution aspect.
+137, which a train in staff responsible mode may pass. A signal with a stop aspect at which shunting is allowed, if that
+aspect has a packet 132 at another group.
 
 Example. The aspects red and yellow of Signal B have packets 12 for the nominal direction, and green for the reverse
 one.
@@ -119,9 +119,9 @@ def _stops(passage: Passage) -> List[Packet]:
 
 
 def _without_stop(stops: Sequence[Passage]) -> Iterator[Remark]:
-    """Stop aspects without a packet 137 with "stop", if four of five have it. Its layout is balisekit's own."""
-    without = [each for each in stops if all(packet.form.get("q_srstop") != 0 for packet in each.of(STOP_IN_SR))]
-    having = len(stops) - len(without)
+    """Stop aspects without a packet 137, if four of five have it with "stop". Its layout is balisekit's own."""
+    without = [each for each in stops if not each.of(STOP_IN_SR)]
+    having = sum(any(packet.form.get("q_srstop") == 0 for packet in each.of(STOP_IN_SR)) for each in stops)
     if len(stops) >= STOPS and having * 5 >= len(stops) * 4:
         for passage in without:
             words = (
@@ -133,13 +133,14 @@ def _without_stop(stops: Sequence[Passage]) -> Iterator[Remark]:
 
 
 def _without_danger(stops: Sequence[Passage]) -> Iterator[Remark]:
-    """The one stop aspect of a group without a packet 132, if two or more have it."""
+    """The one stop aspect of a group without a packet 132, if two or more have it, and its name has it elsewhere."""
+    names = {each.aspect for each in stops if each.of(DANGER_FOR_SH)}
     by_group: Dict[Tuple[int, str], List[Passage]] = {}
     for each in stops:
         by_group.setdefault((id(each.group), each.direction), []).append(each)
     for own in by_group.values():
         without = [each for each in own if not each.of(DANGER_FOR_SH)]
-        if len(own) >= SIBLINGS and len(without) == 1:
+        if len(own) >= SIBLINGS and len(without) == 1 and without[0].aspect in names:
             others = listed([quoted(each.aspect) for each in own if each is not without[0]], NAMED)
             words = f"a stop aspect without a packet 132 (danger for shunting information), which {others} have"
             yield Remark("E8", without[0].at(_stops(without[0])[0]), words, values={"stop_aspects": Decimal(len(own))})
