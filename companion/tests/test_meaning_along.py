@@ -429,7 +429,7 @@ def test_e17(found: Found) -> None:
 
 @pytest.mark.parametrize("identity, groups", [(16_383, []), (16_382, ["Signal 4"])])
 def test_e17_of_repositioning(found: Found, identity: int, groups: List[str]) -> None:
-    """The authority of signal 4 goes on beyond its last link. One with NID_BG 16,383 has a group that names the rest."""
+    """The authority of signal 4 goes beyond its last link. One with NID_BG 16,383 leads to one that names the rest."""
 
     def last_link(rows: List[Row]) -> None:
         for signal in ("Signal 3", "Signal 4"):
