@@ -439,6 +439,18 @@ def test_e17_of_a_linked_group_whose_kilometre_is_rounded_up(found: Found, metre
     assert ("Signal 2" in groups) == is_remarked
 
 
+@pytest.mark.parametrize("identity, groups", [(16_383, []), (16_382, ["Signal 4"])])
+def test_e17_of_repositioning(found: Found, identity: int, groups: List[str]) -> None:
+    """The authority of signal 4 goes beyond its last link. One with NID_BG 16,383 leads to one that names the rest."""
+
+    def last_link(rows: List[Row]) -> None:
+        for signal in ("Signal 3", "Signal 4"):
+            change(rows, signal, FIXED, 5)["links"][-1]["nid_bg"] = identity
+
+    made = found("E17", SHORT, all_of(repositioned(0), last_link))
+    assert [each.location.row.group for each in made if each.location.row] == groups
+
+
 @pytest.mark.parametrize("metres, count", [(50, 1), (3, 0), (-400, 1), (-900, 1)])
 def test_e18(found: Found, metres: int, count: int) -> None:
     made = found("E18", BORDER, added("Signal 4", FIXED, "d_leveltr", 41, metres))
