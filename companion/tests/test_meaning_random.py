@@ -33,7 +33,10 @@ def found_in(program: Program, path: Path, seed: int, most: int) -> List[str]:
     return [*own, *(f"{each.rule}: {each.location}: {each.sentence}" for each in made)]
 
 
-@pytest.mark.parametrize("most, seeds", [(12, range(50)), pytest.param(200, range(1000), marks=pytest.mark.slow)])
+MANY = [pytest.param(200, range(at, at + 50), marks=pytest.mark.slow) for at in range(0, 1000, 50)]
+
+
+@pytest.mark.parametrize("most, seeds", [(12, range(50)), *MANY])
 def test_sound(program: Program, tmp_path: Path, most: int, seeds: range) -> None:
     found = {seed: made for seed in seeds for made in [found_in(program, tmp_path / "t.csv", seed, most)] if made}
     assert not found
