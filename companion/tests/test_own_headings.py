@@ -70,6 +70,8 @@ def test_a_heading_that_is_not_there(table: Write) -> None:
         ("Gruppe,Stand,Text", "A,2.1,", '{ group = "..", telegram = "Text" }'),
         ('group,"Kilometer ""neu""",Text', "A,0.300,", '{ telegram = "Text", km = "Kilometer \\"neu\\"" }'),
         ("Gruppe,,Text", "A,12.300,", '{ group = "..", telegram = "Text" }'),
+        ("Gruppe;Kilometer;Text", "A;12,300;", '{ group = "..", telegram = "Text", km = "Kilometer" }'),
+        ("Gruppe\tText", "A\t", '{ group = "..", telegram = "Text" }'),
     ],
 )
 def test_the_line_that_a_refusal_gives_is_toml(table: Write, heading: str, cells: str, said: str) -> None:

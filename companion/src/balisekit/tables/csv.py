@@ -60,7 +60,7 @@ def stream(content: bytes, headings: Headings) -> Tuple[Sheet, Callable[[], Iter
 
 
 def _separator(lines: Sequence[str], headings: Headings) -> str:
-    """The one by which one of the first rows has the needed columns, and the most that are known."""
+    """The one by which one of the first rows has the needed columns, and the most that are known; or the most cells."""
     best, most = ",", 0
     for separator in SEPARATORS:
         for row in _first_rows(lines, separator):
@@ -68,7 +68,7 @@ def _separator(lines: Sequence[str], headings: Headings) -> str:
             known = len(found) + (len(headings.known) if found >= set(headings.needed) else 0)
             if known > most:
                 best, most = separator, known
-    return best
+    return best if most else max((",", *SEPARATORS), key=lambda one: max(map(len, _first_rows(lines, one)), default=0))
 
 
 def _first_rows(lines: Sequence[str], separator: str) -> Iterator[List[str]]:
