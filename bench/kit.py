@@ -40,9 +40,11 @@ COMMANDS: Dict[str, Sequence[str]] = {
     "check --json": ["check", "OLD.csv", "--json", "OUT"],
     "check --only F": ["check", "OLD.csv", "--only", "F"],
     "check --only F --json": ["check", "OLD.csv", "--only", "F", "--json", "OUT"],
+    "check --only F,L": ["check", "OLD.csv", "--only", "F,L"],
     "links": ["links", "OLD.csv"],
     "diff": ["diff", "OLD.csv", "NEW.csv"],
     "check .xlsx": ["check", "OLD.xlsx"],
+    "check .xlsx --only F,L": ["check", "OLD.xlsx", "--only", "F,L"],
     "show": ["show", "OLD.csv"],
 }
 Row = Tuple[Any, ...]
