@@ -11,7 +11,8 @@
 # `store` takes the program of these sources that the gate or ./build has left in out/, and tests nothing. A program
 # that differs from the stored one needs a number of its own. A release needs out/edits of `tests/edits --all`, and
 # out/gate.log and out/edits.log, which are what `.ci/run` and `tests/edits --all` have written. Two runs on one commit
-# give the same bytes. They need git, python3-hatchling, help2man and dpkg-deb.
+# give the same bytes. They need git, python3-hatchling, advancecomp,
+# help2man and dpkg-deb.
 set -euo pipefail
 
 cd "$(dirname "${BASH_SOURCE[0]}")"
