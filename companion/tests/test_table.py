@@ -247,6 +247,14 @@ BAD: Sequence[Any] = [
     (["group,balise,telegram", f"A,1,{ALONE}", f"A,,{ALONE}"], "row 3, column balise: empty beside numbered balises"),
     (["group,balise,telegram", f"A,1.5,{ALONE}"], "row 2, column balise: 1.5 is no whole number"),
     (
+        ["group,balise,telegram", f"A,1,{FIRST}", f"A,A-2,{SECOND}"],
+        "row 3, column balise: A-2 is no whole number: names of balises belong in the column name",
+    ),
+    (
+        ["group,name,balise,telegram", f"A,old,A-1,{ALONE}"],
+        "row 2, column balise: A-1 is no whole number: names of balises belong in the column name",
+    ),
+    (
         ["group,km,telegram", f"A,13.850,{ALONE}", f"A,13.8x,{ALONE}"],
         "row 3, column km: 13.8x is no kilometre: one is written like 13.850",
     ),
@@ -469,6 +477,22 @@ def test_notes(table: Write) -> None:
     )
     read = tables.read(str(table("group,aspect,balise,telegram", f"A,x,1,{ALONE}", f"A,y,2,{ALONE}")))
     assert read.notes == ('group "A": aspects "x" and "y" number their balises differently',)
+
+
+def test_a_column_balise_with_names(table: Write) -> None:
+    """It is the column `name`, and a note reports that. Empty cells change nothing, and numbers stay numbers."""
+    rows = [f"A,x,A-1,{FIRST}", f"A,x,A-2,{SECOND}", f"B,x,,{ALONE}"]
+    named = tables.read(str(table("group,aspect,Balise,telegram", *rows)))
+    assert [(row.name, row.balise) for row in named.rows] == [("A-1", None), ("A-2", None), ("", None)]
+    assert named.notes == (tables.NAMES,) and not named.passed_over
+    for cells in (("1", "2"), ("", "")):
+        rows = [f"A,x,{cell},{digits}" for cell, digits in zip(cells, (FIRST, SECOND))]
+        read = tables.read(str(table("group,aspect,Balise,telegram", *rows)))
+        assert [row.balise for row in read.rows] == [int(cell) if cell else None for cell in cells] and not read.notes
+    with pytest.raises(TableErrors) as raised:
+        tables.read(str(table("group,Balise,telegram", f"A,A-1,{FIRST}", f"A,A-1,{SECOND}")))
+    reported = [line.split(": ", 1)[1] for line in raised.value.lines()]
+    assert reported == [f"row 1: {tables.NAMES}", 'row 3, column name: row 2 has balise "A-1" too: are they of two aspects?']
 
 
 def test_messages(table: Write) -> None:

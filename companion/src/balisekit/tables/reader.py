@@ -25,6 +25,8 @@ COMPARED = 1000
 ABSENT = -1
 """The place of a column that the table has not: each row that is read ends with an empty cell."""
 NO_GROUP = "no group; fill merged cells"
+NUMBER = re.compile(r"[-+]?[0-9]+([.,][0-9]*)?")
+NAMES = "the column balise has names and no number: it is read as the column name, and the order of the rows counts"
 PLAIN = re.compile(r"[^\0\r\n#]{0,1000}")
 """A cell of text in which nothing has to be looked for."""
 
@@ -46,14 +48,18 @@ def read(
     with faults_of(path):
         cells = sheet_of(file.content, headings, sheet, fill_merged)
         place, places = head_of(cells, headings)
+        named = _has_names(cells, place, places)
+        if named:
+            places["name"] = places.pop("balise")
         passed_over = _passed_over(cells, place, places)
         meant = tuple(_meant(name, places) for name in passed_over[:COMPARED])
         try:
             rows = _rows(cells, place, places)
             grouped = groups_of(rows, by_position, place + 1)
         except (TableError, TableErrors) as error:
-            raise TableErrors([*_hints(passed_over, meant, place), *error.faults]) from error
-    of_heading = _notes_on_heading(place, headings.used(cells.rows[place]))
+            named_hint = [TableError(NAMES, row=place + 1)] if named else []
+            raise TableErrors([*_hints(passed_over, meant, place), *named_hint, *error.faults]) from error
+    of_heading = [*_notes_on_heading(place, headings.used(cells.rows[place])), *([NAMES] if named else [])]
     notes = (*cells.notes, *of_heading, *([BY_POSITION] if by_position else []), *grouped.notes)
     about = path, file.sha256, cells.encoding, cells.separator
     return Table(*about, passed_over, grouped.rows, grouped.groups, notes, meant)
@@ -104,6 +110,23 @@ def _notes_on_heading(place: int, own: List[str]) -> List[str]:
     """Notes on headings of the user's own, and on the rows above the headings."""
     above = f"the {place} rows above it are" if place > 1 else "row 1 is"
     return [*own, *([f"the headings are in row {place + 1}: {above} passed over"] if place else [])]
+
+
+def _has_names(sheet: Sheet, place: int, places: Mapping[str, int]) -> bool:
+    """Whether the column `balise` has names, not numbers, and no other column has the names."""
+    at = places.get("balise")
+    if at is None or "name" in places:
+        return False
+    rows = islice(sheet.rows, end_of_heading(place + 1, sheet.merged, places.values()), None)
+    filled = filter(str.strip, (row[at] for row in rows if at < len(row)))
+    first = next(filled, None)
+    return first is not None and _is_name(first) and all(map(_is_name, filled))
+
+
+def _is_name(cell: str) -> bool:
+    """Whether a cell is text, and no number."""
+    kind, text = kind_and_text(cell)
+    return not kind and not NUMBER.fullmatch(text.strip())
 
 
 def _meant(heading: str, places: Mapping[str, int]) -> str:
@@ -215,7 +238,8 @@ def _group(cell: str, kind: str) -> str:
 
 def _balise(cell: str, _: str) -> Optional[int]:
     if cell and not re.fullmatch("[0-9]{1,6}", cell):
-        raise TableError(f"{cell[:40]} is no whole number")
+        remedy = ": names of balises belong in the column name" if _is_name(cell) else ""
+        raise TableError(f"{cell[:40]} is no whole number{remedy}")
     return int(cell) if cell else None
 
 
