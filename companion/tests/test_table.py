@@ -492,7 +492,10 @@ def test_a_column_balise_with_names(table: Write) -> None:
     with pytest.raises(TableErrors) as raised:
         tables.read(str(table("group,Balise,telegram", f"A,A-1,{FIRST}", f"A,A-1,{SECOND}")))
     reported = [line.split(": ", 1)[1] for line in raised.value.lines()]
-    assert reported == [f"row 1: {tables.NAMES}", 'row 3, column name: row 2 has balise "A-1" too: are they of two aspects?']
+    assert reported == [
+        f"row 1: {tables.NAMES}",
+        'row 3, column name: row 2 has balise "A-1" too: are they of two aspects?',
+    ]
 
 
 def test_messages(table: Write) -> None:
