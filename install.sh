@@ -1,6 +1,5 @@
 #!/bin/sh
-# Installs both commands into PREFIX, else into /usr/local, with their manual pages, of which a clone has only that of
-# balisecheck:   ./install.sh [PREFIX]
+# Installs both commands with their manual pages into PREFIX, else into /usr/local:   ./install.sh [PREFIX]
 #
 # PREFIX/bin/balisecheck is one file that needs only the C library. In a clone it is the program that ./balisecheck would
 # run. PREFIX/bin/balisekit needs python3; its files are in PREFIX/share/balisecheck.
@@ -41,3 +40,13 @@ for page in balisecheck.1 balisekit.1; do
     install -m 644 "$top/$page" "$manual/$page"
     echo "installed: $manual/$page" >&2
 done
+# A clone has no page of balisekit: it is made of what the help of its commands writes.
+if [ -e "$top/dist/pack/manual" ]; then
+    if command -v help2man >/dev/null && "$top/dist/pack/manual" "$kit"; then
+        install -m 644 "$kit/balisekit.1" "$manual/balisekit.1"
+        rm "$kit/balisekit.1"
+        echo "installed: $manual/balisekit.1" >&2
+    else
+        echo "not installed: $manual/balisekit.1, which needs help2man" >&2
+    fi
+fi

@@ -286,6 +286,11 @@ installs() {
     holds 'both commands and their manual pages are installed' "$(installed "$tree" "$room/prefix")"
     touch "$room/prefix/share/balisecheck/companion/src/balisekit/older.py"
     holds 'and once more, over what was there' "$(installed "$tree" "$room/prefix")"
+    mkdir "$tree/dist/pack"
+    touch "$tree/dist/pack/manual"
+    holds 'a clone needs help2man for the page of balisekit' "$(PATH=$bare "$tree/install.sh" "$room/prefix" 2>&1 | tail -n 1 |
+        diff <(echo "not installed: $room/prefix/share/man/man1/balisekit.1, which needs help2man") -)"
+    rm -r "$tree/dist/pack"
     rm -r "$tree/dist/sources" && mv "$stored/balisecheck" "$tree" && program "$stored/balisecheck" stored
     holds 'a release has the program itself' "$(installed "$tree" "$room/of a release")"
     begin
