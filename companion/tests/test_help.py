@@ -43,6 +43,9 @@ def test_columns_and_statuses() -> None:
     assert sorted(columns) == sorted(COLUMNS)
     statuses = re.findall(r"^\| ([0-3]) \|", PAGE.split("## Statuses")[1], re.MULTILINE)
     assert statuses == re.findall(r"^  ([0-3])  ", cli.STATUSES, re.MULTILINE) == ["0", "1", "2", "3"]
+    for text in (PAGE.split("\n| 2 |")[1], cli.STATUSES.split("\n  2  ")[1]):
+        why = "INCOMPLETE: a telegram or message was refused, or a rule compared none of what it had to compare"
+        assert " ".join(text.split()).startswith(why)
 
 
 @pytest.mark.parametrize("words", [["--help"], *[[command, "--help"] for command in COMMANDS]])

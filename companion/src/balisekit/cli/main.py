@@ -37,8 +37,8 @@ exit status:
   0  the program says yes to all that was handed in, nothing is open or found, or the command has done what it is
      asked for
   1  what `check`, `links` or `diff` has found, or entries of accepted findings at fault
-  2  refused: a telegram or message, so that the answer is INCOMPLETE; a table that cannot be read; wrong options; an
-     output that would replace an input or, without --force, another file
+  2  INCOMPLETE: a telegram or message was refused, or a rule compared none of what it had to compare; or refused: a
+     table that cannot be read, wrong options, an output that would replace an input or, without --force, another file
   3  no answer: no program, a file that cannot be written, an interrupt
   SIGTERM ends a command with status 143, SIGHUP with 129
 

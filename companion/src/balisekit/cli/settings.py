@@ -55,7 +55,7 @@ FILES = ("jumps", "plan")
 
 def add_options(parser: argparse.ArgumentParser) -> None:
     """The options that state what the line is."""
-    shared.add(parser, "--tolerance", help=f"{shared.TOLERANCE}; 1 for the rules E")
+    shared.add(parser, "--tolerance", help=f"{shared.TOLERANCE}, and 1 for the rules E")
     speed = f"the greatest speed of the line, for the rules E; {LINE_SPEED} without it"
     release = f"the greatest release speed of the line, for the rules E; {RELEASE_SPEED} without it"
     parser.add_argument("--line-speed", **shared.value("KM/H", _speed, speed))
