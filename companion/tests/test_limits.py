@@ -30,11 +30,7 @@ from balisekit.rules import checking
 Write = Callable[..., Path]
 GROUPS = 1000
 OF = 10_000
-"""The limits are seconds for so many groups, where the piece of work takes a quarter of a second.
-
-That of a report is twice what it took on 2026-11-28, at a load of 14 to 27 on four processors: with `--only F` 24 to
-25 s for 2000 groups and 26 to 30 s for 500, with all rules 35 s for 2000 and 38 to 39 s for 500.
-"""
+"""The limits are seconds for so many groups, where the piece of work takes a quarter of a second."""
 QUARTER = 0.25
 STAND = """#!/bin/sh
 case "$*" in
@@ -133,8 +129,8 @@ def releases(tmp_path_factory: pytest.TempPathFactory, program: Program) -> Call
     [
         (2000, 10_000, 15, ["links", "OLD"], "links: "),
         (500, 2000, 15, ["draw", "OLD", "--track", "--svg", "OUT"], ""),
-        (500, 2000, 50, ["report", "OLD", "--only", "F", "--html", "OUT"], 'program: "no: findings '),
-        (500, 2000, 70, ["report", "OLD", "--html", "OUT"], 'program: "no: findings '),
+        (500, 2000, 22, ["report", "OLD", "--only", "F", "--html", "OUT"], 'program: "no: findings '),
+        (500, 2000, 40, ["report", "OLD", "--html", "OUT"], 'program: "no: findings '),
         (500, 2000, 22, ["diff", "OLD", "NEW", "--html", "OUT"], "groups added 0, removed 0; "),
     ],
     ids=["links", "draw", "report of findings", "report", "diff"],
@@ -149,7 +145,7 @@ def test_10000_groups(
     program: Program,
     tmp_path: Path,
 ) -> None:
-    """In the limit. With fewer groups in a part of that, and the time grows with their number alone."""
+    """In well less than 30 seconds. With fewer groups in a part of that, and the time grows with their number alone."""
     if "--html" in words:
         pytest.importorskip("jinja2")
 
