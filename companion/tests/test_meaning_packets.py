@@ -80,15 +80,15 @@ def test_e2(program: Program, tmp_path: Path) -> None:
     ]
     made = found(program, tmp_path / "t.csv", "E2", changes)
     assert [each for each in made if each[0] != row_of(5, YELLOW)] == [
-        (row_of(1, YELLOW), "V_MAIN is 500 km/h [100], above 350 km/h, the greatest speed of the line"),
-        (row_of(4, YELLOW), "V_RELEASEOL is 45 km/h [9], above 40 km/h, the greatest release speed of the line"),
+        (row_of(1, YELLOW), "V_MAIN is 500 km/h [100], above 350 km/h (--line-speed)"),
+        (row_of(4, YELLOW), "V_RELEASEOL is 45 km/h [9], above 40 km/h (--release-speed)"),
         (row_of(3, YELLOW), "G_A of the first element is 41 ‰, above 40 ‰"),
         (
             row_of(2, YELLOW),
-            "V_STATIC of the first element is 355 km/h [71], above 350 km/h, the greatest speed of the line; V_DIFF of "
-            "the first element is 360 km/h [72], above 350 km/h, the greatest speed of the line",
+            "V_STATIC of the first element is 355 km/h [71], above 350 km/h (--line-speed); V_DIFF of "
+            "the first element is 360 km/h [72], above 350 km/h (--line-speed)",
         ),
-        (row_of(5, RED), "V_TSR is 355 km/h [71], above 350 km/h, the greatest speed of the line"),
+        (row_of(5, RED), "V_TSR is 355 km/h [71], above 350 km/h (--line-speed)"),
     ]
 
 
@@ -99,7 +99,7 @@ def test_e2_of_a_mode_profile(program: Program, tmp_path: Path) -> None:
     assert found(program, tmp_path / "t.csv", "E2", [packets_added(1, RED, one)]) == [
         (
             row_of(1, RED),
-            "V_MAMODE of the second element is 355 km/h [71], above 350 km/h, the greatest speed of the line",
+            "V_MAMODE of the second element is 355 km/h [71], above 350 km/h (--line-speed)",
         )
     ]
 
@@ -107,7 +107,7 @@ def test_e2_of_a_mode_profile(program: Program, tmp_path: Path) -> None:
 def test_e2_by_the_speeds_of_the_line(program: Program, tmp_path: Path) -> None:
     """The signals allow 100 to 160 km/h. Several values of one packet are one remark."""
     made = found(program, tmp_path / "t.csv", "E2", [], Options(line_speed=120))
-    assert made and all("above 120 km/h, the greatest speed of the line" in each for _, each in made)
+    assert made and all("above 120 km/h (--line-speed)" in each for _, each in made)
     assert len({row for row, _ in made}) * 2 >= len(made)
     changes = [packet_with(1, YELLOW, 12, overlap={"d_startol": 0, "t_ol": 1, "d_ol": 200, "v_releaseol": 8})]
     assert len(found(program, tmp_path / "t.csv", "E2", changes, Options(release_speed=35))) == 1
