@@ -293,6 +293,41 @@ def test_e5(program: Program, tmp_path: Path) -> None:
     ]
 
 
+PLACES: List[Tuple[int, str]] = [
+    (39, "{:015b}0000"),
+    (40, "{:015b}0000000001"),
+    (70, f"0{{:015b}}00{1:08b}{0:05b}"),
+    *((number, "1{:015b}") for number in (51, 52, 68, 69, 70)),
+    (131, f"{{:015b}}{352:010b}{2:014b}{'1' * 64}0"),
+]
+"""Packets with one distance, and their bits behind Q_SCALE."""
+
+
+@pytest.mark.parametrize("number, bits", PLACES)
+@pytest.mark.parametrize("distance", (0, 100))
+def test_e5_of_the_place_of_the_group(
+    program: Program, tmp_path: Path, number: int, bits: str, distance: int
+) -> None:
+    change_ = packets_added(3, RED, raw(number, f"01{bits.format(distance)}", 2))
+    words = "it has a distance, and Q_DIR 2, both directions: the place would be on both sides of the group"
+    assert found(program, tmp_path / "t.csv", "E5", [change_]) == [(row_of(3, RED), words)][: distance > 0]
+
+
+def test_e5_of_a_stop(program: Program, tmp_path: Path) -> None:
+    """An authority without any length has no distance, and stops the trains of both directions."""
+
+    def both(rows: List[Row]) -> None:
+        change(rows, "Signal 1", RED, 12)["q_dir"] = 2
+        for number in (12, 27):
+            change(rows, "Signal 2", RED, number)["q_dir"] = 2
+
+    words = "and Q_DIR 2, both directions:"
+    assert found(program, tmp_path / "t.csv", "E5", [both]) == [
+        (row_of(1, RED), f"it has no length, {words} it stops the trains of both"),
+        (row_of(2, RED), f"it has a distance, {words} the place would be on both sides of the group"),
+    ]
+
+
 def test_e6(program: Program, tmp_path: Path) -> None:
     second = {"nid_packet": 5, "q_dir": 1, "q_scale": 1, "links": change(SHORT.rows, "Signal 3", FIXED, 5)["links"]}
     cover = {"nid_packet": 0, "nid_vbcmk": 1}
