@@ -85,7 +85,7 @@ def test_messages(run: Run, table: Write) -> None:
     assert "message of line 3: NID_MESSAGE is 4; 3 and 136 are read" in out
     odd = "it has 35 digits, an odd number: a digit is missing, or one too many; a message 3 begins with 03"
     assert f"message of line 4: {odd}" in out
-    said = "no packet 21 (gradient profile) and no packet 27 (international static speed profile) beside packet 15 ("
+    said = "no packet 21 (gradient profile) and no packet 27 (international static speed profile) with packet 15 ("
     said += "movement authority of levels 2 and 3)"
     expected = "expected if the profiles were sent before"
     assert f"message of line 1  to train 7  nominal: {said}; {expected}" in out
@@ -147,7 +147,10 @@ def lines_of(kinds: str) -> List[str]:
         ),
         ("A:ryg B:ryg C:ryg D:ryg E:rg F:rg G:rg H:rg", []),
         ("A:ryg B:ryg C:ryx D:rgx E:rx", []),
-        ("A:rygw B:rygw C:rg D:rg E:rg F:rg G:xy H:xy I:rgw", ['look: I:rgw has 3 aspects, 2 other groups have 4: it lacks "y"']),
+        (
+            "A:rygw B:rygw C:rg D:rg E:rg F:rg G:xy H:xy I:rgw",
+            ['look: I:rgw has 3 aspects, 2 other groups have 4: it lacks "y"'],
+        ),
         ("A: B:ryg C:x D:", []),
         ("A:ryg B:ryx", []),
     ],

@@ -120,8 +120,8 @@ def test_e8_of_groups_for_both_directions(program: Program, tmp_path: Path) -> N
     """A packet 12 may lack in one direction. An aspect that stops the trains of a direction needs no profiles there."""
     (one,) = found(program, tmp_path / "t.csv", "E8", both_directions, reverse_without(12), line=FOUR)
     assert one.sentence == (
-        'the aspect "green" lacks packet 12 (movement authority of level 1) in reverse direction, which all others with '
-        "a V_MAIN above 0 have"
+        'the aspect "green" lacks packet 12 (movement authority of level 1) in reverse direction, which all others '
+        "with a V_MAIN above 0 have"
     )
     stops = reverse_without(21, 27, v_main=0)
     assert not found(program, tmp_path / "t.csv", "E8", both_directions, stops, line=FOUR)

@@ -97,10 +97,7 @@ def test_e2_of_a_mode_profile(program: Program, tmp_path: Path) -> None:
     profile = [f"{place:015b}{0:02b}{speed:07b}{100:015b}{50:015b}0" for place, speed in ((0, 127), (200, 71))]
     one = raw(80, f"01{profile[0]}{1:05b}{profile[1]}")
     assert found(program, tmp_path / "t.csv", "E2", [packets_added(1, RED, one)]) == [
-        (
-            row_of(1, RED),
-            "V_MAMODE of the second element is 355 km/h [71], above 350 km/h (--line-speed)",
-        )
+        (row_of(1, RED), "V_MAMODE of the second element is 355 km/h [71], above 350 km/h (--line-speed)")
     ]
 
 
@@ -305,9 +302,7 @@ PLACES: List[Tuple[int, str]] = [
 
 @pytest.mark.parametrize("number, bits", PLACES)
 @pytest.mark.parametrize("distance", (0, 100))
-def test_e5_of_the_place_of_the_group(
-    program: Program, tmp_path: Path, number: int, bits: str, distance: int
-) -> None:
+def test_e5_of_the_place_of_the_group(program: Program, tmp_path: Path, number: int, bits: str, distance: int) -> None:
     change_ = packets_added(3, RED, raw(number, f"01{bits.format(distance)}", 2))
     words = "it has a distance, and Q_DIR 2, both directions: the place would be on both sides of the group"
     assert found(program, tmp_path / "t.csv", "E5", [change_]) == [(row_of(3, RED), words)][: distance > 0]

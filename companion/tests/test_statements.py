@@ -238,9 +238,9 @@ def missing(site: Site) -> None:
     if "which is silent in this direction" in site.sentence:
         assert holding and all(site.is_silent(at) for at in holding)
         assert not named or named == [site.aspect[holding[0]]]
-    elif f"packet {number} is there for" in site.sentence:
+    elif f"packet {number} holds only in" in site.sentence:
         assert there and not holding and all(packet["q_dir"] == int(direction == "reverse") for _, packet in there)
-        assert f"for {'reverse' if direction == 'nominal' else 'nominal'} only" in site.sentence
+        assert f"only in {'reverse' if direction == 'nominal' else 'nominal'} direction" in site.sentence
     else:
         assert not there and not named
 
@@ -512,8 +512,8 @@ LINKS: Dict[Mistake, Dict[str, str]] = {
         "which F14 finds used twice"
     },
     exchanged: {
-        "L2": f"{BEFORE}Signal H (km 22.900) is 1500 m from Signal G (km 21.403) by D_LINK, and 1497 m in rear of it by "
-        f"the kilometres: they differ by 2997 m, and Q_LOCACC is 5 m{WRONG_ORDER}",
+        "L2": f"{BEFORE}Signal H (km 22.900) is 1500 m from Signal G (km 21.403) by D_LINK, and 1497 m in rear of it "
+        f"by the kilometres: they differ by 2997 m, and Q_LOCACC is 5 m{WRONG_ORDER}",
         "L3": f"{BEFORE}Q_LINKORIENTATION says that Signal H (km 22.900) {TURNED}{WRONG_ORDER}",
     },
 }
@@ -606,9 +606,7 @@ def test_an_authority_without_profiles_is_one_entry(program: Program, tmp_path: 
         (["F10"], ("green",)),
         (["F12"], ("green",)),
     ]
-    profiles = (
-        "no packet 21 (gradient profile) and no packet 27 (international static speed profile) with packet 12 ("
-    )
+    profiles = "no packet 21 (gradient profile) and no packet 27 (international static speed profile) with packet 12 ("
     assert both.sentence.startswith(profiles) and gradient.sentence.endswith(
         ": packet 21 holds only in reverse direction, row 4"
     )

@@ -1,10 +1,10 @@
 """L2: distance differs.
 
 What it says. The distance of a linked group by D_LINK differs from that of the kilometres by more than its Q_LOCACC and
-`--tolerance` together. Both distances are in metres, from the group that is named in the line. "In rear of it" says that by
-the kilometres the train has passed the linked group already. If the direction of the sending group along the kilometres
-is not known, the first link that is compared shows it. If all links over a stretch differ by one amount, one remark
-asks whether the kilometres jump there (SUBSET-026, 3.4.4, 3.16.2.3 and 7.5.1).
+`--tolerance` together. Both distances are in metres, from the group that is named in the line. "In rear of it" says
+that by the kilometres the train has passed the linked group already. If the direction of the sending group along the
+kilometres is not known, the first link that is compared shows it. If all links over a stretch differ by one amount, one
+remark asks whether the kilometres jump there (SUBSET-026, 3.4.4, 3.16.2.3 and 7.5.1).
 
 How urgent. At worst the train brakes or is tripped, or takes a wrong position for its own.
 

@@ -64,8 +64,8 @@ def _siblings(data: GroupData) -> Iterator[Remark]:
         yield _remark(data, aspect, words, numbers)
     some = {aspect: own for aspect, own in said.items() if aspect not in turned}
     for (aspect, direction, among), numbers in lacking_in(some, go).items():
-        words = f"lacks {_packets(numbers)} in {direction} direction, which all others with a V_MAIN above 0{among} have"
-        yield _remark(data, aspect, words, numbers)
+        others = f"which all others with a V_MAIN above 0{among} have"
+        yield _remark(data, aspect, f"lacks {_packets(numbers)} in {direction} direction, {others}", numbers)
 
 
 def _remark(data: GroupData, aspect: str, words: str, numbers: Sequence[int]) -> Remark:
