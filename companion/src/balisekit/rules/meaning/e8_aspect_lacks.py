@@ -2,11 +2,11 @@
 
 What it says. Of three or more aspects with a V_MAIN above 0 in a direction exactly one lacks a packet 5, 21 or 27 that
 all others have in it. Or of three or more aspects with a V_MAIN above 0 exactly one lacks a packet 12 in a direction in
-which all others have one: in that direction of a group for both. Or an aspect has one of these packets only for the
-other direction than all others, of which there are at least two. Or four of five stop aspects of the table have a
-packet 137 with "stop", and this one has no packet 137. Or of three or more stop aspects of the group exactly one lacks
-a packet 132, and a stop aspect of this name has one elsewhere. A stop aspect has a packet 12 with V_MAIN 0, not after a
-packet 136 (SUBSET-026, 3.8).
+which all others have one, which only a group for both directions can show. Or an aspect has one of these packets only
+for the other direction than all others, of which there are at least two. Or four of five stop aspects of the table have
+a packet 137 with "stop", and this one has no packet 137. Or of three or more stop aspects of the group exactly one
+lacks a packet 132, and a stop aspect of this name has one elsewhere. A stop aspect has a packet 12 with V_MAIN 0, not
+after a packet 136 (SUBSET-026, 3.8).
 
 How urgent. At worst wrong information: what the aspect lacks does not restrict the train.
 
