@@ -40,7 +40,7 @@ def test_yes(run: Run, table: Write) -> None:
 def test_findings(run: Run, table: Write) -> None:
     status, out, _ = run("check", "--only", "F", table(*SOUND, f"Signal C,C1,16,,{OTHER}"))
     assert status == 1 and out[1:] == [
-        "at worst a wrong place:",
+        "at worst a wrong position of the train:",
         "row 5  Signal C  km 16.000: the identity 1/3 (NID_C/NID_BG) is also that of Signal B (km 15.000), row 4",
         "    program: F14 group 2: identity used before",
         "1 finding: F14 1; 2 of 3 groups without finding",
@@ -85,7 +85,7 @@ def test_messages(run: Run, table: Write) -> None:
     assert "message of line 3: NID_MESSAGE is 4; 3 and 136 are read" in out
     odd = "it has 35 digits, an odd number: a digit is missing, or one too many; a message 3 begins with 03"
     assert f"message of line 4: {odd}" in out
-    said = "no packet 21 (gradient profile) and no packet 27 (international static speed profile) beside packet 15 ("
+    said = "no packet 21 (gradient profile) and no packet 27 (international static speed profile) with packet 15 ("
     said += "movement authority of levels 2 and 3)"
     expected = "expected if the profiles were sent before"
     assert f"message of line 1  to train 7  nominal: {said}; {expected}" in out
@@ -139,15 +139,18 @@ def lines_of(kinds: str) -> List[str]:
 @pytest.mark.parametrize(
     "kinds, said",
     [
-        ("A:ryg B:yg", ['look: B:yg has 2 aspects, 1 other has 3: "r" too']),
-        ("A:ryg B:r C:ryg D:", ['look: B:r has 1 aspect, 2 others have 3: "g", "y" too']),
+        ("A:ryg B:yg", ['look: B:yg has 2 aspects, 1 other group has 3: it lacks "r"']),
+        ("A:ryg B:r C:ryg D:", ['look: B:r has 1 aspect, 2 other groups have 3: it lacks "g", "y"']),
         (
             "A:ryg B:ryg C:ryg D:ryg E:rg F:rg G:rg",
-            [f'look: {name}:rg has 2 aspects, 4 others have 3: "y" too' for name in "EFG"],
+            [f'look: {name}:rg has 2 aspects, 4 other groups have 3: it lacks "y"' for name in "EFG"],
         ),
         ("A:ryg B:ryg C:ryg D:ryg E:rg F:rg G:rg H:rg", []),
         ("A:ryg B:ryg C:ryx D:rgx E:rx", []),
-        ("A:rygw B:rygw C:rg D:rg E:rg F:rg G:xy H:xy I:rgw", ['look: I:rgw has 3 aspects, 2 others have 4: "y" too']),
+        (
+            "A:rygw B:rygw C:rg D:rg E:rg F:rg G:xy H:xy I:rgw",
+            ['look: I:rgw has 3 aspects, 2 other groups have 4: it lacks "y"'],
+        ),
         ("A: B:ryg C:x D:", []),
         ("A:ryg B:ryx", []),
     ],
@@ -166,7 +169,7 @@ def test_a_remark_on_aspects_changes_no_yes(run: Run, table: Write) -> None:
         table("group,aspect,telegram", *[f"A,{one},{ALONE}" for one in "xyz"], *[f"B,{one},{OTHER}" for one in "xy"]),
     )
     assert status == 0 and out[-4:] == [
-        'look: B has 2 aspects, 1 other has 3: "z" too',
+        'look: B has 2 aspects, 1 other group has 3: it lacks "z"',
         "aspects found: 3 in 1 group (A), 2 in 1 (B)",
         "no kilometres: rules over the line are not applied",
         'program: "yes: groups 2, messages 0"',

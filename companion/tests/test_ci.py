@@ -94,7 +94,7 @@ def test_the_output_tells_a_lost_aspect(run: Run, table: Write, tmp_path: Path) 
     assert run("check", path, "--junit", tmp_path / "out.xml")[0] == 0
     said = ElementTree.parse(tmp_path / "out.xml").findtext(".//system-out") or ""
     assert said.splitlines()[:4] == [
-        'look: B has 2 aspects, 1 other has 3: "z" too',
+        'look: B has 2 aspects, 1 other group has 3: it lacks "z"',
         "aspects found: 3 in 1 group (A), 2 in 1 (B)",
         "no kilometres: rules over the line are not applied",
         'program: "yes: groups 2, messages 0"',

@@ -76,7 +76,7 @@ def test_two_parts_one_verdict(run: Run, program: Program, tmp_path: Path) -> No
     assert status == 1 and out[-1] == 'program: "no: findings 1"; links: 1 found (L2 1)'
     first, second = out.index(PROVED), out.index(OWN)
     assert first < out.index("    program: F10 group 0 nominal: no gradient") < second
-    assert out[second + 1] == "at worst a wrong place:" and out[second + 2].startswith(
+    assert out[second + 1] == "at worst a wrong position of the train:" and out[second + 2].startswith(
         'row 2  A  km 10.000  balise "A1" (N_PIG 0)  nominal: L2: packet 5 (linking), first in the telegram, '
     )
     assert out[second + 3].startswith("compared: 3 links (L1, L2), ")
@@ -309,7 +309,7 @@ def test_every_rule_has_an_urgency() -> None:
     """As its page says."""
     words = {
         Urgency.WRONG_INFORMATION: ("wrong information", "old profile"),
-        Urgency.WRONG_PLACE: ("wrong place",),
+        Urgency.WRONG_PLACE: ("wrong position",),
         Urgency.BRAKING: ("brakes",),
         Urgency.RULE_ONLY: ("To be looked at",),
     }

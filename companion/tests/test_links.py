@@ -312,7 +312,7 @@ def test_a_group_behind_the_train_and_one_wrong_distance() -> None:
     falling = line_with((group("A", "0", nominal="falling"), [header(1, link_tables.linking(1, *links))]), *some)
     said = [one.sentence for one in compare(falling).remarks if one.rule == "L2"][0]
     assert said.startswith(
-        "B (km 1.000) is 1000 m from A (km 0.000) by D_LINK, and 1000 m behind it by the "
+        "B (km 1.000) is 1000 m from A (km 0.000) by D_LINK, and 1000 m in rear of it by the "
         "kilometres: they differ by 2000 m"
     )
     links[0]["d_link"] = 1006

@@ -348,6 +348,28 @@ def test_e15_compares_metres(found: Found) -> None:
     assert not found("E15", INFILL, lambda rows: form_of(rows, SITE, RED)["packets"].remove(profile))
 
 
+def test_e15_of_a_balise_without_direction(found: Found) -> None:
+    """It is a single balise that no link names. It faces its signal, whose group is laid for the other direction."""
+
+    def single(rows: List[Row]) -> None:
+        rows[:] = [row for row in rows if row.group != SITE or row.balise == 1]
+        for row in rows:
+            if row.group == SITE:
+                row.form.update(n_pig=0, n_total=0)
+                row.balise = 0
+            elif row.group == "Signal 4":
+                row.place = 29_000 - row.place
+            for packet in row.form["packets"]:
+                if row.group == "Signal 4":
+                    packet["q_dir"] = 1 - packet["q_dir"]
+                if packet["nid_packet"] == 5:
+                    packet["links"] = [each for each in packet["links"] if each["nid_bg"] < 5000]
+
+    assert not found("E15", INFILL, single)
+    (one,) = found("E15", INFILL, all_of(single, set_in(SITE, GREEN, 12, v_main=10)))
+    assert one.sentence.startswith("V_MAIN is 50 km/h in the infill, and ")
+
+
 def test_e15_names_a_group_ahead(found: Found) -> None:
     (one,) = found("E15", INFILL, infill(2))
     assert (

@@ -97,6 +97,36 @@ def test_e8_of_packets_that_lack(program: Program, tmp_path: Path) -> None:
     assert not found(program, tmp_path / "t.csv", "E8", *some)
 
 
+def both_directions(rows: List[Row]) -> None:
+    """Each aspect of signal 2 has its authority and profiles in both directions."""
+    for aspect in FOUR.aspects:
+        packets = telegram(rows, 2, aspect)["packets"]
+        packets += [{**each, "q_dir": 0} for each in packets]
+
+
+def reverse_without(*numbers: int, **values: Any) -> Change:
+    """At green signal 2 has not these packets for the reverse direction, and these values in its packet 12."""
+
+    def change_(rows: List[Row]) -> None:
+        form = telegram(rows, 2, GREEN)
+        form["packets"] = [each for each in form["packets"] if each["q_dir"] or each["nid_packet"] not in numbers]
+        for each in form["packets"]:
+            each.update(values if each["nid_packet"] == 12 and not each["q_dir"] else {})
+
+    return change_
+
+
+def test_e8_of_groups_for_both_directions(program: Program, tmp_path: Path) -> None:
+    """A packet 12 may lack in one direction. An aspect that stops the trains of a direction needs no profiles there."""
+    (one,) = found(program, tmp_path / "t.csv", "E8", both_directions, reverse_without(12), line=FOUR)
+    assert one.sentence == (
+        'the aspect "green" lacks packet 12 (movement authority of level 1) in reverse direction, which all others '
+        "with a V_MAIN above 0 have"
+    )
+    stops = reverse_without(21, 27, v_main=0)
+    assert not found(program, tmp_path / "t.csv", "E8", both_directions, stops, line=FOUR)
+
+
 def test_e8_of_stop_aspects(program: Program, tmp_path: Path) -> None:
     """Five of six have packet 137 with stop. A "go" was meant. With four of six nobody knows."""
     stops = [packets_added(signal, RED, raw(137, "0")) for signal in range(1, 6)]

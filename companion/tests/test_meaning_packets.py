@@ -80,15 +80,15 @@ def test_e2(program: Program, tmp_path: Path) -> None:
     ]
     made = found(program, tmp_path / "t.csv", "E2", changes)
     assert [each for each in made if each[0] != row_of(5, YELLOW)] == [
-        (row_of(1, YELLOW), "V_MAIN is 500 km/h [100], above 350 km/h, the greatest speed of the line"),
-        (row_of(4, YELLOW), "V_RELEASEOL is 45 km/h [9], above 40 km/h, the greatest release speed of the line"),
+        (row_of(1, YELLOW), "V_MAIN is 500 km/h [100], above 350 km/h (--line-speed)"),
+        (row_of(4, YELLOW), "V_RELEASEOL is 45 km/h [9], above 40 km/h (--release-speed)"),
         (row_of(3, YELLOW), "G_A of the first element is 41 ‰, above 40 ‰"),
         (
             row_of(2, YELLOW),
-            "V_STATIC of the first element is 355 km/h [71], above 350 km/h, the greatest speed of the line; V_DIFF of "
-            "the first element is 360 km/h [72], above 350 km/h, the greatest speed of the line",
+            "V_STATIC of the first element is 355 km/h [71], above 350 km/h (--line-speed); V_DIFF of "
+            "the first element is 360 km/h [72], above 350 km/h (--line-speed)",
         ),
-        (row_of(5, RED), "V_TSR is 355 km/h [71], above 350 km/h, the greatest speed of the line"),
+        (row_of(5, RED), "V_TSR is 355 km/h [71], above 350 km/h (--line-speed)"),
     ]
 
 
@@ -97,17 +97,14 @@ def test_e2_of_a_mode_profile(program: Program, tmp_path: Path) -> None:
     profile = [f"{place:015b}{0:02b}{speed:07b}{100:015b}{50:015b}0" for place, speed in ((0, 127), (200, 71))]
     one = raw(80, f"01{profile[0]}{1:05b}{profile[1]}")
     assert found(program, tmp_path / "t.csv", "E2", [packets_added(1, RED, one)]) == [
-        (
-            row_of(1, RED),
-            "V_MAMODE of the second element is 355 km/h [71], above 350 km/h, the greatest speed of the line",
-        )
+        (row_of(1, RED), "V_MAMODE of the second element is 355 km/h [71], above 350 km/h (--line-speed)")
     ]
 
 
 def test_e2_by_the_speeds_of_the_line(program: Program, tmp_path: Path) -> None:
     """The signals allow 100 to 160 km/h. Several values of one packet are one remark."""
     made = found(program, tmp_path / "t.csv", "E2", [], Options(line_speed=120))
-    assert made and all("above 120 km/h, the greatest speed of the line" in each for _, each in made)
+    assert made and all("above 120 km/h (--line-speed)" in each for _, each in made)
     assert len({row for row, _ in made}) * 2 >= len(made)
     changes = [packet_with(1, YELLOW, 12, overlap={"d_startol": 0, "t_ol": 1, "d_ol": 200, "v_releaseol": 8})]
     assert len(found(program, tmp_path / "t.csv", "E2", changes, Options(release_speed=35))) == 1
@@ -290,6 +287,39 @@ def test_e5(program: Program, tmp_path: Path) -> None:
         (row_of(6, RED), f"it has a distance, {words}"),
         (row_of(6, GREEN), f"it has a distance, {words}"),
         (row_of(2, RED), f"it has a distance, D_LEVELTR 500 m, {words}"),
+    ]
+
+
+PLACES: List[Tuple[int, str]] = [
+    (39, "{:015b}0000"),
+    (40, "{:015b}0000000001"),
+    (70, f"0{{:015b}}00{1:08b}{0:05b}"),
+    *((number, "1{:015b}") for number in (51, 52, 68, 69, 70)),
+    (131, f"{{:015b}}{352:010b}{2:014b}{'1' * 64}0"),
+]
+"""Packets with one distance, and their bits behind Q_SCALE."""
+
+
+@pytest.mark.parametrize("number, bits", PLACES)
+@pytest.mark.parametrize("distance", (0, 100))
+def test_e5_of_the_place_of_the_group(program: Program, tmp_path: Path, number: int, bits: str, distance: int) -> None:
+    change_ = packets_added(3, RED, raw(number, f"01{bits.format(distance)}", 2))
+    words = "it has a distance, and Q_DIR 2, both directions: the place would be on both sides of the group"
+    assert found(program, tmp_path / "t.csv", "E5", [change_]) == [(row_of(3, RED), words)][: distance > 0]
+
+
+def test_e5_of_a_stop(program: Program, tmp_path: Path) -> None:
+    """An authority without any length has no distance, and stops the trains of both directions."""
+
+    def both(rows: List[Row]) -> None:
+        change(rows, "Signal 1", RED, 12)["q_dir"] = 2
+        for number in (12, 27):
+            change(rows, "Signal 2", RED, number)["q_dir"] = 2
+
+    words = "and Q_DIR 2, both directions:"
+    assert found(program, tmp_path / "t.csv", "E5", [both]) == [
+        (row_of(1, RED), f"it has no length, {words} it stops the trains of both"),
+        (row_of(2, RED), f"it has a distance, {words} the place would be on both sides of the group"),
     ]
 
 

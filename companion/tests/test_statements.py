@@ -46,11 +46,11 @@ EXAMPLES = {
     "telegram, is 950 m [950], and 947 m [947] in balise (N_PIG 1), row 3",
     "packet-not-modelled": "balise (N_PIG 0): packet 254 (default balise, loop or RIU information), first in the "
     "telegram, reaches beyond its message: not judged; default telegram: expected",
-    "no-gradient": "nominal: no packet 21 (gradient profile) beside packet 12 (movement authority of level 1, V_MAIN "
+    "no-gradient": "nominal: no packet 21 (gradient profile) with packet 12 (movement authority of level 1, V_MAIN "
     "100 km/h) of balise (N_PIG 0)",
     "gradient-short": "balise (N_PIG 0)  nominal: packet 21 (gradient profile), second in the telegram, reaches 990 m, "
     "and the supervised location, the end of the authority of packet 12, is at 1000 m: 10 m missing",
-    "no-speed-profile": "nominal: no packet 27 (international static speed profile) beside packet 12 (movement "
+    "no-speed-profile": "nominal: no packet 27 (international static speed profile) with packet 12 (movement "
     "authority of level 1, V_MAIN 100 km/h) of balise (N_PIG 0)",
     "speed-profile-short": "balise (N_PIG 0)  nominal: packet 27 (international static speed profile), third in the "
     "telegram, reaches 1000 m, and the supervised location, the danger point (D_DP 50 m) of packet 12, is at 1050 m: "
@@ -226,7 +226,7 @@ def missing(site: Site) -> None:
         packet["nid_packet"] for packet in told
     ]
     authority = next(packet for packet in told if packet["nid_packet"] in (12, 15))
-    assert f"beside packet {authority['nid_packet']} (" in site.sentence
+    assert f"with packet {authority['nid_packet']} (" in site.sentence
     there = [
         (at, packet)
         for at, form in enumerate(site.aspect)
@@ -238,9 +238,9 @@ def missing(site: Site) -> None:
     if "which is silent in this direction" in site.sentence:
         assert holding and all(site.is_silent(at) for at in holding)
         assert not named or named == [site.aspect[holding[0]]]
-    elif f"packet {number} is there for" in site.sentence:
+    elif f"packet {number} holds only in" in site.sentence:
         assert there and not holding and all(packet["q_dir"] == int(direction == "reverse") for _, packet in there)
-        assert f"for {'reverse' if direction == 'nominal' else 'nominal'} only" in site.sentence
+        assert f"only in {'reverse' if direction == 'nominal' else 'nominal'} direction" in site.sentence
     else:
         assert not there and not named
 
@@ -491,13 +491,13 @@ MISTAKES: Dict[Mistake, Tuple[str, str]] = {
     exchanged: ("F1", "their telegrams or their rows look exchanged: N_PIG is 1 and 0 instead of 0 and 1"),
     wrong_direction: (
         "F12",
-        "no packet 27 (international static speed profile) beside packet 12 (movement authority of level 1, V_MAIN 120 "
-        'km/h) of balise "B2" (N_PIG 1): packet 27 is there for reverse only, row 8',
+        "no packet 27 (international static speed profile) with packet 12 (movement authority of level 1, V_MAIN 120 "
+        'km/h) of balise "B2" (N_PIG 1): packet 27 holds only in reverse direction, row 8',
     ),
     pasted: (
         "F3",
         "the telegram has the identity 352/108 (NID_C/NID_BG), and the other 3 telegrams of the group have 352/107: it "
-        "looks like one of Signal H (km 22.900); row 30 equals row 34 (Signal H) digit for digit",
+        "looks like one of Signal H (km 22.900); row 30 has the same telegram as row 34 (Signal H)",
     ),
 }
 BEFORE = "packet 5 (linking), first in the telegram, first link: "
@@ -512,8 +512,8 @@ LINKS: Dict[Mistake, Dict[str, str]] = {
         "which F14 finds used twice"
     },
     exchanged: {
-        "L2": f"{BEFORE}Signal H (km 22.900) is 1500 m from Signal G (km 21.403) by D_LINK, and 1497 m behind it by "
-        f"the kilometres: they differ by 2997 m, and Q_LOCACC is 5 m{WRONG_ORDER}",
+        "L2": f"{BEFORE}Signal H (km 22.900) is 1500 m from Signal G (km 21.403) by D_LINK, and 1497 m in rear of it "
+        f"by the kilometres: they differ by 2997 m, and Q_LOCACC is 5 m{WRONG_ORDER}",
         "L3": f"{BEFORE}Q_LINKORIENTATION says that Signal H (km 22.900) {TURNED}{WRONG_ORDER}",
     },
 }
@@ -562,7 +562,7 @@ def test_a_copy_is_named_with_its_rows(program: Program, tmp_path: Path) -> None
     )
     rows = [f"A,{own}", f"A,{second.upper()}", f"B,{first}", f"B,{second}"]
     (entry,) = entries(check(program, tmp_path / "t.csv", "group,telegram", *rows))
-    assert entry.sentence == "NID_BG is 2, and 1 in balise (N_PIG 0), row 2; row 3 equals row 5 (B) digit for digit"
+    assert entry.sentence == "NID_BG is 2, and 1 in balise (N_PIG 0), row 2; row 3 has the same telegram as row 5 (B)"
     assert (entry.rule, entry.rows, entry.other_rows) == ("F3", (3,), (2, 5))
     (entry,) = entries(check(program, tmp_path / "t.csv", "group,telegram", *rows[:2]))
     assert entry.sentence == "NID_BG is 2, and 1 in balise (N_PIG 0), row 2" and entry.other_rows == (2,)
@@ -606,11 +606,9 @@ def test_an_authority_without_profiles_is_one_entry(program: Program, tmp_path: 
         (["F10"], ("green",)),
         (["F12"], ("green",)),
     ]
-    profiles = (
-        "no packet 21 (gradient profile) and no packet 27 (international static speed profile) beside packet 12 ("
-    )
+    profiles = "no packet 21 (gradient profile) and no packet 27 (international static speed profile) with packet 12 ("
     assert both.sentence.startswith(profiles) and gradient.sentence.endswith(
-        ": packet 21 is there for reverse only, row 4"
+        ": packet 21 holds only in reverse direction, row 4"
     )
 
 

@@ -99,7 +99,7 @@ def test_a_link_that_turns_back(program: Program, run: Run, table: Write) -> Non
     status, out, _ = run("links", table(HEADING, *lines))
     assert (
         status == 1
-        and "second link: G3 (km 8.000) is 2000 m from G1 (km 10.000) by D_LINK, and 2000 m behind it" in out[-2]
+        and "second link: G3 (km 8.000) is 2000 m from G1 (km 10.000) by D_LINK, and 2000 m in rear of it" in out[-2]
     )
 
 

@@ -12,11 +12,11 @@ from balisekit.tables.names import clean, describe_message, kilometre, quoted, r
 
 URGENCIES: Dict[Urgency, str] = {
     Urgency.WRONG_INFORMATION: "at worst wrong information:",
-    Urgency.WRONG_PLACE: "at worst a wrong place:",
+    Urgency.WRONG_PLACE: "at worst a wrong position of the train:",
     Urgency.BRAKING: "at worst the train brakes:",
     Urgency.RULE_ONLY: "a rule only:",
 }
-CORRECT = "known cases of correct data, to be confirmed:"
+CORRECT = "findings that correct data can get; check each:"
 
 
 def heading(entry: Entry) -> str:

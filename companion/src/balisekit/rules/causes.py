@@ -77,7 +77,7 @@ def _missing_at(place: Place) -> Tuple[object, ...]:
 
 
 def _without_profiles(places: Iterable[Place]) -> Mapping[Tuple[object, ...], Statement]:
-    """What is said where both profiles are missing beside the same authority, and neither is elsewhere in the group."""
+    """What is said where both profiles are missing with the same authority, and neither is elsewhere in the group."""
     missing: Dict[Tuple[object, ...], List[Place]] = {}
     for place in places:
         if _missing_at(place):
@@ -258,7 +258,7 @@ def _not_of_group(one: Strange, owners: Mapping[Identity, Group]) -> Statement:
 
 
 def _with_copies(checked: Checked, some: Sequence[Cause]) -> Iterator[Cause]:
-    """The same causes. Those of F3 tell which of their telegrams are in other groups too, digit for digit."""
+    """The same causes. Those of F3 tell which of their telegrams are in other groups too."""
     suspects = {index: list(_compared(cause)) for index, cause in enumerate(some) if cause.rule == 3}
     copies: Dict[str, List[Row]] = {row.telegram.lower(): [] for rows in suspects.values() for row in rows}
     for row in checked.table.rows if copies else ():
@@ -286,5 +286,5 @@ def _copied(said: Statement, row: Row, copies: Sequence[Row]) -> Statement:
     if not copies:
         return said
     numbers, groups = [each.number for each in copies], dict.fromkeys(clean(each.group) for each in copies)
-    words = f"; row {row.number} equals {rows_words(numbers)} ({listed(list(groups), NAMED)}) digit for digit"
+    words = f"; row {row.number} has the same telegram as {rows_words(numbers)} ({listed(list(groups), NAMED)})"
     return replace(said, after=said.after + words, further=(*said.further, *numbers))

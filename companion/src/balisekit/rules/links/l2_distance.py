@@ -1,12 +1,12 @@
 """L2: distance differs.
 
 What it says. The distance of a linked group by D_LINK differs from that of the kilometres by more than its Q_LOCACC and
-`--tolerance` together. Both distances are in metres, from the group that is named in the line. "Behind it" says that by
-the kilometres the train has passed the linked group already. If the direction of the sending group along the kilometres
-is not known, the first link that is compared shows it. If all links over a stretch differ by one amount, one remark
-asks whether the kilometres jump there (SUBSET-026, 3.4.4, 3.16.2.3 and 7.5.1).
+`--tolerance` together. Both distances are in metres, from the group that is named in the line. "In rear of it" says
+that by the kilometres the train has passed the linked group already. If the direction of the sending group along the
+kilometres is not known, the first link that is compared shows it. If all links over a stretch differ by one amount, one
+remark asks whether the kilometres jump there (SUBSET-026, 3.4.4, 3.16.2.3 and 7.5.1).
 
-How urgent. At worst the train brakes or is tripped, or it takes a wrong place for its own.
+How urgent. At worst the train brakes or is tripped, or takes a wrong position for its own.
 
 Usual cause. A group was moved and the links to it were not made anew. Q_SCALE is not that of the distances. A distance
 was counted from another balise than the first one of the group. Or the kilometre of the table is wrong: then all links
@@ -20,7 +20,8 @@ How to correct it. Correct D_LINK, or the kilometre of the table. Where the kilo
 `--tolerance`.
 
 Correct data that gets it. Kilometres that jump between the groups, if neither `--jumps` nor a track plan says so, or
-that follow another axis than the track: all links over that place differ by the same amount.
+that follow another axis than the track: all links over that place differ by the same amount. A balloon loop, which
+leads a train back to a group that it has passed.
 
 Example. The link of group A to group B says 1,010 m, and their kilometres are 1,000 m apart. The sum for group C begins
 anew at group B, so that there is one line.
@@ -82,7 +83,7 @@ def compare(
         distance, by_kilometres = Decimal(summed) / 10, wanted / 10
         sentence = (
             f"{here} is {_metres(distance)} from {base} by D_LINK, and {_metres(abs(by_kilometres))}"
-            f"{' behind it' if wanted < 0 else ''} by the kilometres: they differ by "
+            f"{' in rear of it' if wanted < 0 else ''} by the kilometres: they differ by "
             f"{_metres(abs(distance - by_kilometres))}, and Q_LOCACC is {link.accuracy} m"
             + (f" and the tolerance {_metres(tolerance)}" if tolerance else "")
         )

@@ -16,7 +16,8 @@ announced. It applies the linking reaction or rejects the message.
 
 How to correct it. Correct Q_LINKORIENTATION. If the order of the balises in the table is wrong, correct the table.
 
-Correct data that gets it. None.
+Correct data that gets it. None, if each track is one straight chain of kilometres. A balloon loop is no such chain, and
+neither are kilometres that change their direction or jump within a group.
 
 Example. Group B faces the other way, and the link of group A says that it is passed in nominal direction.
 """

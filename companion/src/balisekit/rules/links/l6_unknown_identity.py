@@ -3,7 +3,7 @@
 What it says. The header of a balise has NID_BG 16,383, by which the standard says that an identity is not known. No
 group of the track has this number (SUBSET-026, 7.5.1).
 
-How urgent. At worst a wrong place.
+How urgent. At worst a wrong position of the train.
 
 Usual cause. A template was filled in by half. Or the number of a link that is not known yet got into a header.
 

@@ -14,7 +14,8 @@ wrong one. A train may also refuse an authority whose profiles do not end.
 
 How to correct it. End the profile with an end mark at the supervised location or beyond, or note why it is open.
 
-Correct data that gets it. None is known.
+Correct data that gets it. None, if each profile needs an end mark. Whether the standard requires that was not looked up
+in a print: a project that leaves end marks out on purpose gets L7 for each such profile.
 
 Example. The gradient profile of balise A2 has no end mark.
 """

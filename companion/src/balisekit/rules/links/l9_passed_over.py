@@ -17,7 +17,8 @@ group, and what that one says is lost without a reaction.
 How to correct it. Add the group to the packet 5, with its distance, and correct the distance of the group after it. If
 trains are to take it without linking, set Q_LINK to 0.
 
-Correct data that gets it. A packet 5 for one of several routes, which does not pass the group. A group for level 2
+Correct data that gets it. A packet 5 for one of several routes, which does not pass the group. A group with
+repositioning information (packet 16) on another route, to which packets 5 lead by NID_BG 16,383. A group for level 2
 only, on a line whose packets 5 are for level 1.
 
 Example. Group A links only group C, and group B stands between them.

@@ -1,10 +1,9 @@
 """E10: aspects that contradict each other about the track.
 
 What it says. For one stretch of track two aspects of a group have different V_STATIC, or signed gradients more than 5 ‰
-apart. The rule compares them as far as the packets 5 of both name the same groups. Without packets 5 it compares them
-only if both authorities end at the same place. Stretches that are shorter than `--tolerance` and the rounding of the
-lengths are passed over, and so is what lies beyond a `point` of the track plan. One remark names the aspect that most
-others disagree with (SUBSET-026, 3.11).
+apart. They are compared as far as the packets 5 of both name the same groups, or without packets 5 if both authorities
+end at the same place. Passed over are stretches shorter than `--tolerance` and the rounding of the lengths, and what
+lies beyond a `point` of the track plan. One remark names the aspect that most others disagree with (SUBSET-026, 3.11).
 
 How urgent. At worst wrong information: one of the aspects has a speed or gradient that the track does not have.
 
@@ -14,8 +13,9 @@ What may happen. The train gets a speed that is too great, or a gradient that is
 
 How to correct it. Compare both profiles with the track, and correct the wrong one.
 
-Correct data that gets it. Aspects for different routes, which part before the last group that both name. Gradients that
-are merged in the aspect with the longer authority. A speed profile that includes the speed of the aspect.
+Correct data that gets it. Aspects for routes that part before the last group that both name, or that end at one
+distance without packets 5. Gradients that are merged in the longer authority. A speed profile that includes the speed
+of the aspect. A profile of a stop aspect, which no train uses.
 
 Example. At Signal B yellow has 120 km/h from 500 m to 1,000 m, and green 100 km/h.
 

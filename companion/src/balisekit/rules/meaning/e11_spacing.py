@@ -6,7 +6,7 @@ either direction. The rule passes over a group whose balises all have the same k
 `nominal` with the direction in which the kilometres of the balises go (SUBSET-036 and SUBSET-040, installation of
 balise groups).
 
-How urgent. At worst a wrong place: distances of the group count from its first balise.
+How urgent. At worst a wrong position of the train: distances of the group count from its first balise.
 
 Usual cause. A kilometre was mistyped. A row belongs to another group. The balises were exchanged in the table, or the
 column `nominal` was filled in for the other direction.

@@ -8,7 +8,7 @@ how exactly D_LINK is written. If all links over a stretch differ by one amount,
 jump there. If more than a fifth of the links of a track differ, and five at least, one note counts them: the kilometres
 then follow another axis than the track (SUBSET-026, 3.4.4 and 7.5.1).
 
-How urgent. At worst a wrong place: the train corrects its position by a wrong distance.
+How urgent. At worst a wrong position of the train: it corrects its position by a wrong distance.
 
 Usual cause. A distance was counted from or to another balise than the first one of a group. A group was moved by a few
 metres. The kilometre of the table is wrong.

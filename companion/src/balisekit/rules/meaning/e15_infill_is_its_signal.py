@@ -3,10 +3,10 @@
 What it says. A packet 136 names a group that the table does not have, or that is not ahead of the infill group. Or a
 packet 12, 21, 27 or 80 after it differs from that of the named group, in the aspect with the same name and in the
 direction in which the train passes that group: in a distance, a speed, a time or any other field but Q_DIR and Q_SCALE.
-Distances are compared in metres; if Q_SCALE differs, the greater unit is allowed. Packets that only one of the groups
-has are passed over. If the infill group is the last one of the track that gives an authority in its direction, a group
-that the table does not have is a note: it may be beyond the table. The layouts of packets 80 and 136 are balisekit's
-own (SUBSET-026, 3.6.2 and 7.4.2).
+If the kilometres show no direction, both groups are taken to face the same way. Distances are compared in metres; if
+Q_SCALE differs, the greater unit is allowed. Packets that only one of the groups has are passed over. If the infill
+group is the last one of the track that gives an authority in its direction, a group that the table does not have is a
+note: it may be beyond the table. The layouts of packets 80 and 136 are balisekit's own (SUBSET-026, 3.6.2 and 7.4.2).
 
 How urgent. At worst wrong information: the train gets another aspect than the signal shows.
 
@@ -17,8 +17,9 @@ What may happen. A train releases its brake for an aspect that the signal does n
 
 How to correct it. Copy the packets of the signal after packet 136, aspect by aspect.
 
-Correct data that gets it. Infill that says less than its signal on purpose, such as a lower V_MAIN, or that has another
-section timer.
+Correct data that gets it. Infill that says less than its signal on purpose, such as a lower V_MAIN, that has another
+section timer, or that has a V_MAIN above 0 and no length for a signal at danger. A signal on a branch line that the
+table does not have. Without kilometres, a signal whose group faces the other way.
 
 Example. At yellow the infill of signal 4 has L_ENDSECTION 1,350 m, and signal 4 has 1,500 m.
 
@@ -89,8 +90,13 @@ def _ahead(passage: Passage, group: GroupData, reference: Packet, target: GroupD
 
 
 def _signal(passage: Passage, target: GroupData) -> Optional[Passage]:
-    """What the train gets from the named group, in the aspect with the same name."""
-    way = passage.way
+    """What the train gets from the named group, in the aspect with the same name.
+
+    A passage whose way is not known goes towards the named group.
+    """
+    way, here = passage.way, passage.group
+    if way is None and here and here.group.track == target.group.track and None not in (here.place, target.place):
+        way = 1 if (target.place or 0) > (here.place or 0) else -1
     direction = next((each for each in DIRECTIONS if way and target.group.along(each) == way), passage.direction)
     same = (each for each in target.passages if each.aspect == passage.aspect and each.direction == direction)
     return next(same, None)

@@ -17,7 +17,8 @@ that is for one direction; with the wrong one, it takes what is meant for trains
 How to correct it. Name the balise in the packets 5 of the groups before it, and give all these links one orientation.
 
 Correct data that gets it. Level 2, also as an overlay of level 1, if linking comes by radio and the messages are not
-among the data.
+among the data. A balise on another route than the packets 5 that lead past it. A balloon loop or a triangle, in which
+trains of one track come to the balise from both sides.
 
 Example. Infill balise 5 has a packet 12 for the nominal direction. Signals 3 and 4 lead past it and do not name it.
 

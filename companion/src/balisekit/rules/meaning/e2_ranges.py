@@ -15,8 +15,9 @@ or too late.
 
 How to correct it. Correct the value. If the line is faster, state its greatest speed with `--line-speed`.
 
-Correct data that gets it. A line that is steeper than 40 ‰. A V_MAIN that is meant as a ceiling above the profile. A
-V_DIFF of tilting trains, if `--line-speed` is the speed of other trains.
+Correct data that gets it. A line that is faster or steeper, or has greater release speeds, than these limits. A V_MAIN
+above all profiles, by which a project says that it does not restrict. A V_DIFF of tilting trains, if `--line-speed` is
+the speed of other trains.
 
 Example. V_STATIC of the first element at Signal B is 500 km/h, sent as 100: 100 km/h are sent as 20.
 
@@ -115,10 +116,10 @@ def _fault(values: Sequence[Value], options: Options) -> Fault:
     if key == "g_a":
         words = f"G_A{where} is {raw} ‰, above {STEEPEST} ‰"
         return Fault(f"{words}{more}", {"g_a_per_mille": Decimal(raw)})
-    limit, name = options.greatest_speed, "the greatest speed of the line"
+    limit, name = options.greatest_speed, "--line-speed"
     if key in RELEASE:
-        limit, name = options.release_speed, "the greatest release speed of the line"
-    words = f"{key.upper()}{where} is {speed(raw)}, above {limit} km/h, {name}"
+        limit, name = options.release_speed, "--release-speed"
+    words = f"{key.upper()}{where} is {speed(raw)}, above {limit} km/h ({name})"
     return Fault(f"{words}{more}", {f"{key}_kmh": kmh(raw), "limit_kmh": Decimal(limit)})
 
 

@@ -17,7 +17,9 @@ before its danger point. Or it may run at V_MAIN without any length.
 How to correct it. Compare both values of the sentence with the design of the signal, and correct the wrong one.
 
 Correct data that gets it. A section timer that stops on purpose beyond its section. A timer of the end section or of
-the overlap that starts on purpose in rear of the group. A T_LOA that a template fills in although V_LOA is 0.
+the overlap that starts on purpose in rear of the group. A V_LOA above V_MAIN, by which a project says that the limit of
+authority does not restrict. A section of 0 m, a T_LOA, a danger point or an overlap that a template fills in without
+need. After a packet 136, an authority without length and with V_MAIN above 0 for a signal at danger.
 
 Example. The overlap of Signal B ends 20 m after the end of authority, and the danger point is 50 m after it.
 

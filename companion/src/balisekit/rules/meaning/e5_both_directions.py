@@ -1,9 +1,11 @@
 """E5: both directions with a distance.
 
 What it says. A packet that has distances along the track holds in both directions (Q_DIR 2). These are the packets 5,
-12, 15, 16, 21, 27, 39, 40, 51, 52, 65, 67, 69 to 71, 80, 88, 131 and 138, packet 41 unless its D_LEVELTR is 0 or "now",
-and packet 68 unless its D_TRACKINIT is 0. All such packets of a balise or message are named together (SUBSET-026, 3.6.1
-and 7.4).
+12, 15, 16, 21, 27, 39, 40, 41, 51, 52, 65, 67 to 71, 80, 88, 131 and 138. A packet 41 with D_LEVELTR 0 or 32,767 (now)
+is passed over, and so is a packet 39, 40, 51, 52, 68 to 70 or 131 that gives only the place of its group, with
+D_TRACTION, D_CURRENT, D_TRACKINIT, D_SUITABILITY or D_RBCTR 0. An authority without any length is named if no other
+such packet is there: it stops the trains of both directions. All such packets of a balise or message are named together
+(SUBSET-026, 3.6.1 and 7.4).
 
 How urgent. At worst wrong information for trains in one of the directions.
 
@@ -15,8 +17,9 @@ border or the restriction is then on both sides of the group.
 
 How to correct it. Set Q_DIR to 1 or 0. A group of one balise gets its direction if it is linked, or by a second balise.
 
-Correct data that gets it. A gradient of 0 ‰ or a speed that is the same in both directions as far as the profile goes.
-A packet 39, 40, 51, 52, 69 or 70 whose only distance is 0: rules do not use its layout, which is not sure enough.
+Correct data that gets it. What holds over the same length on both sides of the group, such as a level track, one speed,
+big metal masses or a temporary speed restriction around it. A stop aspect of a group that serves signals of both
+directions.
 
 Example. The level transition order of group D has Q_DIR 2 and D_LEVELTR 500 m.
 
@@ -25,11 +28,12 @@ How sure. 93 %.
 from __future__ import annotations
 
 from decimal import Decimal
-from typing import Dict, List, Tuple
+from typing import Any, Dict, List, Mapping, Tuple
 
 from balisekit.etcs.packets import packet_name
+from balisekit.etcs.raw_packets import content_of
 from balisekit.etcs.variables import metres
-from balisekit.rules.decoded import LEVELS, Packet
+from balisekit.rules.decoded import AUTHORITIES, LEVELS, Packet
 from balisekit.rules.line import Line
 from balisekit.rules.location import Location
 from balisekit.rules.meaning.sent import Owner, distance, located, sent
@@ -39,6 +43,8 @@ from balisekit.rules.urgency import Urgency
 WITH_DISTANCES = (5, 12, 15, 16, 21, 27, 39, 40, 51, 52, 65, 67, 68, 69, 70, 71, 80, 88, 131, 138)
 HERE = (0, 32_767)
 """The D_LEVELTR that mean the place of the group."""
+ONLY = ("d_current", "d_rbctr", "d_suitability", "d_trackinit", "d_traction")
+"""Distances that are the only one of what has them."""
 BOTH = 2
 
 
@@ -55,15 +61,28 @@ def find(line: Line, options: Options) -> Result:
 
 
 def _is_here(packet: Packet) -> bool:
-    """Whether its only distance gives the place of the group."""
-    form = packet.form
-    return packet.number == LEVELS and form["d_leveltr"] in HERE or form.get("d_trackinit") == 0
+    """Whether its only distance gives the place of the group. Layouts that are not certain may show that too."""
+    if packet.number == LEVELS:
+        return packet.form["d_leveltr"] in HERE
+    content = content_of(packet.form)
+    values: Mapping[str, Any] = content.values if content and content.is_complete else {}
+    distances = [own[key] for own in (values, *values.get("elements", ())) for key in ONLY if key in own]
+    return bool(distances) and not any(distances)
+
+
+def _only_stops(packet: Packet) -> bool:
+    """Whether it is an authority without any length, which has V_MAIN 0."""
+    return packet.number in AUTHORITIES and not packet.form.get("v_main") and packet.authority.supervised == 0
 
 
 def _remark(owner: Owner, packets: List[Packet]) -> Remark:
+    packets = [each for each in packets if not _only_stops(each)] or packets[:1]
     first = min(packets, key=lambda packet: packet.place)
     where = located(owner, first)
     values = {"packets": Decimal(len(packets))}
+    if _only_stops(first):
+        words = "it has no length, and Q_DIR 2, both directions: it stops the trains of both"
+        return Remark("E5", where, words, values=values)
     if len(packets) == 1:
         at = ""
         if first.number == LEVELS:

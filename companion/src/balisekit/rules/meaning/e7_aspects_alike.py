@@ -16,7 +16,8 @@ How to correct it. Compare both telegrams with the aspect table of the signal, a
 
 Correct data that gets it. One aspect that the table has under two names. Aspects that differ only beyond the end of
 authority: yellow and green of the last signal before a buffer stop or a level border, which can have the lowest
-urgency. Aspects that the driver sees as two and that give the train one authority.
+urgency. Aspects that the driver sees as two and that give the train one authority. Two routes for which the group has
+the same data.
 
 Example. Signal B has the packets of green at yellow: both allow 120 km/h for 1,400 m.
 

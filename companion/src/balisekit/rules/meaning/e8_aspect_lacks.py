@@ -1,10 +1,12 @@
 """E8: aspect that lacks what its siblings have.
 
-What it says. Of three or more aspects with a V_MAIN above 0 exactly one lacks a packet 5, 12, 21 or 27 in a direction
-in which all others have it. Or an aspect has one of these packets only for the other direction than all others, of
-which there are at least two. Or four of five stop aspects of the table have a packet 137 with "stop", and this one has
-no packet 137. Or of three or more stop aspects of the group exactly one lacks a packet 132, and a stop aspect of this
-name has one elsewhere. A stop aspect has a packet 12 with V_MAIN 0, not after a packet 136 (SUBSET-026, 3.8).
+What it says. Of three or more aspects with a V_MAIN above 0 in a direction exactly one lacks a packet 5, 21 or 27 that
+all others have in it. Or of three or more aspects with a V_MAIN above 0 exactly one lacks a packet 12 in a direction in
+which all others have one, which only a group for both directions can show. Or an aspect has one of these packets only
+for the other direction than all others, of which there are at least two. Or four of five stop aspects of the table have
+a packet 137 with "stop", and this one has no packet 137. Or of three or more stop aspects of the group exactly one
+lacks a packet 132, and a stop aspect of this name has one elsewhere. A stop aspect has a packet 12 with V_MAIN 0, not
+after a packet 136 (SUBSET-026, 3.8).
 
 How urgent. At worst wrong information: what the aspect lacks does not restrict the train.
 
@@ -16,9 +18,10 @@ aspect says nothing to its train. Without packet 137 a train in staff responsibl
 
 How to correct it. Compare the telegram of the aspect with those of the others, and add the packet or correct Q_DIR.
 
-Correct data that gets it. Aspects for one route only, on which the packet is not needed. A stop aspect without packet
-137, which a train in staff responsible mode may pass. A signal with a stop aspect at which shunting is allowed, if that
-aspect has a packet 132 at another group.
+Correct data that gets it. Aspects for one route only, on which the packet is not needed. A group for both directions,
+one aspect of which is for another direction than all others. A stop aspect without packet 137, which a train in staff
+responsible mode may pass. A signal with a stop aspect at which shunting is allowed, if that aspect has a packet 132 at
+another group.
 
 Example. The aspects red and yellow of Signal B have packets 12 for the nominal direction, and green for the reverse
 one.
@@ -28,24 +31,20 @@ How sure. 87 %.
 from __future__ import annotations
 
 from decimal import Decimal
-from typing import Dict, FrozenSet, Iterator, List, Sequence, Tuple
+from typing import Dict, Iterator, List, Sequence, Tuple
 
-from balisekit.etcs.geometry import DIRECTIONS
 from balisekit.etcs.packets import packet_name
-from balisekit.rules.decoded import GRADIENTS, LINKING, SPEEDS, GroupData, Packet, Passage
+from balisekit.rules.decoded import GroupData, Packet, Passage
 from balisekit.rules.line import Line
 from balisekit.rules.location import Location
+from balisekit.rules.meaning.siblings import AUTHORITY, SIBLINGS, lacking_in, said_of, turned_in
 from balisekit.rules.rule import Options, Remark, Result, Rule
 from balisekit.rules.urgency import Urgency
 from balisekit.tables.names import listed, quoted
 
-AUTHORITY, STOP_IN_SR, DANGER_FOR_SH = 12, 137, 132
-NUMBERS = frozenset({LINKING, AUTHORITY, GRADIENTS, SPEEDS})
-SIBLINGS, STOPS = 3, 5
-"""So many aspects of a group, and stop aspects of a table, are compared at least."""
-NAMED = 5
-Said = Dict[str, Tuple[FrozenSet[int], ...]]
-"""By aspect: which of NUMBERS it has in each of the DIRECTIONS."""
+STOP_IN_SR, DANGER_FOR_SH = 137, 132
+STOPS, NAMED = 5, 5
+"""So many stop aspects of a table are compared at least."""
 
 
 def find(line: Line, options: Options) -> Result:
@@ -58,46 +57,15 @@ def find(line: Line, options: Options) -> Result:
 
 def _siblings(data: GroupData) -> Iterator[Remark]:
     """The aspect that has packets for the other direction, or that lacks packets."""
-    said: Said = {aspect.name: (frozenset(), frozenset()) for aspect in data.group.group.aspects}
-    go = set()
-    for passage in data.passages:
-        index = DIRECTIONS.index(passage.direction)
-        own = NUMBERS.intersection(packet.number for packet in passage.said)
-        said[passage.aspect] = (own, said[passage.aspect][1]) if index == 0 else (said[passage.aspect][0], own)
-        if any(packet.form["v_main"] for packet in passage.of(AUTHORITY)):
-            go.add(passage.aspect)
-    both = frozenset.intersection(*(frozenset().union(*own) for own in zip(*said.values())))
-    turned = {aspect: numbers for aspect in said for numbers in [_turned(said, aspect, both)] if numbers}
+    said, go = said_of(data)
+    turned = {aspect: numbers for aspect, numbers in ((each, turned_in(said, each)) for each in said) if numbers}
     for aspect, numbers in turned.items():
         words = f"has {_packets(numbers)} only for the other direction than all other aspects with them"
         yield _remark(data, aspect, words, numbers)
-    some = {aspect: own for aspect, own in said.items() if aspect in go and aspect not in turned}
-    for (aspect, direction), numbers in _lacking(some).items():
-        words = f"lacks {_packets(numbers)} in {direction} direction, which all others with a V_MAIN above 0 have"
-        yield _remark(data, aspect, words, numbers)
-
-
-def _turned(said: Said, aspect: str, both: FrozenSet[int]) -> List[int]:
-    """Of these packets: those that an aspect has for one direction, and all others, two at least, for the other one."""
-    found = []
-    for number in sorted(both):
-        has = {name: tuple(number in own for own in directions) for name, directions in said.items()}
-        mine = has.pop(aspect)
-        others = [each for each in has.values() if any(each)]
-        if sum(mine) == 1 and len(others) >= SIBLINGS - 1 and all(each == mine[::-1] for each in others):
-            found.append(number)
-    return found
-
-
-def _lacking(said: Said) -> Dict[Tuple[str, str], List[int]]:
-    """The packets that exactly one aspect of three or more lacks in a direction."""
-    found: Dict[Tuple[str, str], List[int]] = {}
-    for index, direction in enumerate(DIRECTIONS if len(said) >= SIBLINGS else ()):
-        for number in sorted(NUMBERS):
-            without = [aspect for aspect, own in said.items() if number not in own[index]]
-            if len(without) == 1:
-                found.setdefault((without[0], direction), []).append(number)
-    return found
+    some = {aspect: own for aspect, own in said.items() if aspect not in turned}
+    for (aspect, direction, among), numbers in lacking_in(some, go).items():
+        others = f"which all others with a V_MAIN above 0{among} have"
+        yield _remark(data, aspect, f"lacks {_packets(numbers)} in {direction} direction, {others}", numbers)
 
 
 def _remark(data: GroupData, aspect: str, words: str, numbers: Sequence[int]) -> Remark:

@@ -43,9 +43,9 @@ def _look(line: Line) -> Iterator[Remark]:
         most = max(larger, key=lambda names: counts[names], default=own)
         if most > own and counts[most] * 2 > sum(counts[names] for names in larger) + counts[own] - 1:
             sentence = (
-                f"{clean(group.name)} has {len(own)} aspect{'s' if len(own) > 1 else ''}, {counts[most]} "
-                f"other{'s have' if counts[most] > 1 else ' has'} {len(most)}: "
-                f"{', '.join(map(quoted, sorted(most - own)))} too"
+                f"{clean(group.name)} has {len(own)} aspect{'s' if len(own) > 1 else ''}, {counts[most]} other "
+                f"group{'s have' if counts[most] > 1 else ' has'} {len(most)}: it lacks "
+                f"{', '.join(map(quoted, sorted(most - own)))}"
             )
             yield Remark(RULE.name, Location(row=group.aspects[0].rows[0]), sentence)
 

@@ -11,7 +11,7 @@ from balisekit.rules.statements.scene import Scene, Statement, packet_words
 
 KINDS = {10: 21, 11: 21, 12: 27, 13: 27}
 """The NID_PACKET of the profile that the rule is about."""
-BESIDE = " beside "
+WITH = " with "
 
 
 def no_profile(scene: Scene) -> Statement:
@@ -25,17 +25,17 @@ def no_profile(scene: Scene) -> Statement:
     about = ", ".join([packet_name(packet["nid_packet"]), *(f"V_MAIN {value}" for value in speed.values())])
     of = "" if scene.own.row is None else f" of {scene.aspect[site.balise]}"
     more = f" and {len(authorities) - 1} more" if len(authorities) > 1 else ""
-    sentence = f"no packet {number} ({packet_name(number)}){BESIDE}packet {packet['nid_packet']} ({about}){of}{more}"
+    sentence = f"no packet {number} ({packet_name(number)}){WITH}packet {packet['nid_packet']} ({about}){of}{more}"
     before, rows = _elsewhere(scene, number, direction)
     return Statement(sentence + before, rows, values=speed, packet=number)
 
 
 def neither_profile(one: Statement, other: Statement) -> Optional[Statement]:
     """What F10 and F12 say together of an authority without any profile; None if what they say of it differs."""
-    (gradient, _, about), (speed, _, same) = (said.before.partition(BESIDE) for said in (one, other))
+    (gradient, _, about), (speed, _, same) = (said.before.partition(WITH) for said in (one, other))
     if (about, one.others) != (same, other.others):
         return None
-    return replace(one, before=f"{gradient} and {speed}{BESIDE}{about}", packet=None)
+    return replace(one, before=f"{gradient} and {speed}{WITH}{about}", packet=None)
 
 
 def _elsewhere(scene: Scene, number: int, direction: str) -> Tuple[str, Tuple[int, ...]]:
@@ -54,7 +54,7 @@ def _elsewhere(scene: Scene, number: int, direction: str) -> Tuple[str, Tuple[in
         return "", ()
     other = "reverse" if direction == "nominal" else "nominal"
     rows = [number for place, _ in there for number in scene.aspect[place].rows]
-    return f": packet {number} is there for {other} only", tuple(dict.fromkeys(rows))
+    return f": packet {number} holds only in {other} direction", tuple(dict.fromkeys(rows))
 
 
 def profile_short(scene: Scene) -> Statement:

@@ -10,7 +10,7 @@ track for one way, it needs all borders of that kind. A border of the plan betwe
 table that no packet names is named at the nearest group. What follows a packet 136 is not compared (SUBSET-026, 7.4.2
 and 7.5.1).
 
-How urgent. At worst wrong information: the train changes its level or its RBC at a wrong place.
+How urgent. At worst wrong information: the train changes its level or its RBC too early or too late.
 
 Usual cause. The distance was counted from another group. The border was moved, and not all announcements were made
 anew.
@@ -19,8 +19,9 @@ What may happen. The train is in a level that the track does not support there, 
 
 How to correct it. Correct the packet, or the row of the plan.
 
-Correct data that gets it. A level transition at a place of its own, such as for trains without radio. A group some
-metres from the border that has D_LEVELTR 32,767. Write such places into the plan.
+Correct data that gets it. A level transition at a place of its own, such as for trains without radio or for trains that
+start near the border. A group some metres from the border that has D_LEVELTR 32,767, or one beyond it that repeats the
+order. Write such places into the plan.
 
 Example. Group F announces level 2 at km 20.050, and the plan has the border at km 20.000.
 """

@@ -1,0 +1,58 @@
+"""Which packets the aspects of a group have in each direction, beside each other: for the rule E8."""
+from __future__ import annotations
+
+from typing import Dict, FrozenSet, List, Sequence, Set, Tuple
+
+from balisekit.etcs.geometry import DIRECTIONS
+from balisekit.rules.decoded import GRADIENTS, LINKING, SPEEDS, GroupData
+
+AUTHORITY = 12
+NUMBERS = frozenset({LINKING, AUTHORITY, GRADIENTS, SPEEDS})
+SIBLINGS = 3
+"""So many aspects of a group are compared at least."""
+Said = Dict[str, Tuple[FrozenSet[int], ...]]
+"""By aspect: which of NUMBERS it has in each of the DIRECTIONS."""
+Moving = Sequence[Set[str]]
+"""By direction: the aspects that have a V_MAIN above 0."""
+
+
+def said_of(data: GroupData) -> Tuple[Said, Moving]:
+    """The packets of each aspect of a group, and the aspects with a V_MAIN above 0."""
+    said: Said = {aspect.name: (frozenset(), frozenset()) for aspect in data.group.group.aspects}
+    moving: Moving = (set(), set())
+    for passage in data.passages:
+        index = DIRECTIONS.index(passage.direction)
+        own = NUMBERS.intersection(packet.number for packet in passage.said)
+        said[passage.aspect] = (own, said[passage.aspect][1]) if index == 0 else (said[passage.aspect][0], own)
+        if any(packet.form["v_main"] for packet in passage.of(AUTHORITY)):
+            moving[index].add(passage.aspect)
+    return said, moving
+
+
+def turned_in(said: Said, aspect: str) -> List[int]:
+    """The packets that an aspect has only for one direction, and all others, two at least, only for the other one."""
+    found = []
+    for number in sorted(NUMBERS):
+        has = {name: tuple(number in own for own in directions) for name, directions in said.items()}
+        mine = has.pop(aspect)
+        others = [each for each in has.values() if any(each)]
+        if sum(mine) == 1 and len(others) >= SIBLINGS - 1 and all(each == mine[::-1] for each in others):
+            found.append(number)
+    return found
+
+
+def lacking_in(said: Said, moving: Moving) -> Dict[Tuple[str, str, str], List[int]]:
+    """The packets that exactly one of three or more aspects lacks in a direction, and among which aspects, in words.
+
+    These have a V_MAIN above 0 in that direction. A packet 12 may lack there: in either direction then.
+    """
+    found: Dict[Tuple[str, str, str], List[int]] = {}
+    either = moving[0] | moving[1]
+    for index, direction in enumerate(DIRECTIONS):
+        for number in sorted(NUMBERS):
+            among = [aspect for aspect in said if aspect in (either if number == AUTHORITY else moving[index])]
+            without = [aspect for aspect in among if number not in said[aspect][index]]
+            if len(without) == 1 and len(among) >= SIBLINGS:
+                words = "" if number == AUTHORITY or moving[index] == either else " in it"
+                found.setdefault((without[0], direction, words), []).append(number)
+    return found
