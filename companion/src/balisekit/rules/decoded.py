@@ -36,7 +36,7 @@ from balisekit.etcs.raw_packets import fields_of
 from balisekit.etcs.variables import Form, unit_dm
 from balisekit.rules.chainage import Chainage, Jump
 from balisekit.rules.location import BaliseGroup, Identity, Location
-from balisekit.rules.passages import DUPLICATE, HOLDING
+from balisekit.rules.passages import DUPLICATE, HOLDING, Content, Said, packets_of
 from balisekit.tables.model import Message, Row
 
 LINKING, GRADIENTS, SPEEDS, LEVELS = 5, 21, 27, 41
@@ -80,10 +80,16 @@ class Packet:
     """The row of its telegram. A message has none."""
     n_pig: Optional[int] = None
 
-    @property
+    @cached_property
     def unit(self) -> int:
         """The unit of its distances in decimetres, by Q_SCALE."""
         return unit_dm(self.form)
+
+    @cached_property
+    def end(self) -> int:
+        """Of a packet 12 or 15: how far the authority goes."""
+        sections = sum([section["l_section"] for section in self.form["sections"]])
+        return (sections + self.form["l_endsection"]) * self.unit
 
     @cached_property
     def authority(self) -> geometry.Authority:
@@ -186,6 +192,9 @@ class Passage:
 
     def of(self, *numbers: int) -> List[Packet]:
         """The packets that are said with these NID_PACKET."""
+        if len(numbers) == 1:  # (which is asked most often, and takes less time so)
+            (number,) = numbers
+            return [packet for packet in self.said if packet.number == number]
         return [packet for packet in self.said if packet.number in numbers]
 
     @property
@@ -362,22 +371,22 @@ def allowance(packet: Packet, lengths: int = 1) -> int:
 def _passage(
     group: Optional[GroupData], aspect: str, direction: str, packets: List[Packet], message: Optional[Message] = None
 ) -> Passage:
-    place = next((place for place, packet in enumerate(packets) if packet.number == INFILL), None)
-    if place is None:
-        return Passage(group, aspect, direction, packets, message=message)
-    return Passage(group, aspect, direction, packets[:place], packets[place], packets[place + 1 :], message)
+    for place, packet in enumerate(packets):
+        if packet.number == INFILL:
+            return Passage(group, aspect, direction, packets[:place], packet, packets[place + 1 :], message)
+    return Passage(group, aspect, direction, packets, message=message)
 
 
 def decode(
     groups: Sequence[BaliseGroup],
-    telegrams: Iterable[Tuple[Row, Record]],
+    telegrams: Iterable[Telegram],
     messages: Iterable[Tuple[Message, Form]] = (),
     jumps: Sequence[Jump] = (),
 ) -> Decoded:
     """The data of these groups, whose telegrams come in the order of the table."""
     chainages = {track: Chainage.of(jumps, track) for track in dict.fromkeys(group.track for group in groups)}
     by_group: Dict[str, Dict[int, Telegram]] = {}
-    for telegram in _telegrams(telegrams):
+    for telegram in telegrams:
         by_group.setdefault(telegram.row.group, {})[telegram.row.number] = telegram
     made = [GroupData(each, by_group.get(each.group.name, {}), chainages[each.track].place(each.km)) for each in groups]
     decoded = Decoded(made, [], chainages, _resolution(groups))
@@ -397,11 +406,21 @@ def _of_message(decoded: Decoded, message: Message, form: Form) -> Iterator[Pass
             yield _passage(group, "", direction, own, message)
 
 
-def _telegrams(telegrams: Iterable[Tuple[Row, Record]]) -> Iterator[Telegram]:
-    """The telegrams, decoded in parts."""
+def contents_of_decoded(telegrams: Sequence[Telegram]) -> Iterator[Tuple[Row, Content]]:
+    """What rules over links compare of telegrams. Those with the same packets share it."""
+    known: Dict[int, Said] = {}
+    for each in telegrams:
+        said = known.get(id(each.forms))
+        if said is None:
+            said = known[id(each.forms)] = packets_of(each.forms, each.identity[0])
+        yield each.row, Content(each.identity, each.linked, each.n_pig, each.m_dup, *said)
+
+
+def telegrams_of(records: Iterable[Tuple[Row, Record]]) -> Iterator[Telegram]:
+    """The telegrams of these records, decoded in parts."""
     known: Dict[str, Sequence[Form]] = {}
     waiting: List[Tuple[Row, Tuple[str, ...]]] = []
-    for row, record in telegrams:
+    for row, record in records:
         waiting.append((row, RECORD.findall(record.line)[0]))
         if len(waiting) == AT_ONCE:
             yield from _decoded(waiting, known)

@@ -34,7 +34,7 @@ from typing import Dict, Iterator, List, Sequence, Tuple
 from balisekit.rules.decoded import GRADIENTS, SPEEDS, Decoded, Packet, allowance
 from balisekit.rules.line import Line
 from balisekit.rules.meaning.along import leaves
-from balisekit.rules.meaning.profiles import Piece, Profiles, agree, lanes_of, pairs, pieces_of
+from balisekit.rules.meaning.profiles import Piece, Profiles, lanes_of, longest_difference, pairs, pieces_of
 from balisekit.rules.meaning.words import source
 from balisekit.rules.rule import Options, Remark, Result, Rule
 from balisekit.rules.urgency import Urgency
@@ -64,7 +64,11 @@ def find(line: Line, options: Options) -> Result:
 def _difference(decoded: Decoded, options: Options, rear: Profiles, ahead: Profiles, low: int) -> Iterator[Difference]:
     """The stretches on which two groups differ."""
     high = min(rear.reach, ahead.reach)
-    if agree(rear.longest, ahead.longest, low, high) and rear.names(ahead, decoded):
+    allowed, longest = 0, longest_difference(rear.longest, ahead.longest, low, high)
+    if longest and max(rear.first, ahead.first) <= max(low, ahead.begin):
+        # (where both hold all the way, no piece is longer than what these two profiles differ on)
+        allowed = decoded.tolerance(options.tolerance_of_places, rear.unit, ahead.unit)
+    if longest <= allowed and rear.names(ahead, decoded):
         return
     pieces = []
     for piece in pieces_of(rear.naming(ahead, decoded), ahead.aspects, low, high):
