@@ -80,7 +80,7 @@ class Packet:
     """The row of its telegram. A message has none."""
     n_pig: Optional[int] = None
 
-    @cached_property
+    @property
     def unit(self) -> int:
         """The unit of its distances in decimetres, by Q_SCALE."""
         return unit_dm(self.form)
@@ -105,16 +105,14 @@ class Packet:
     def stretches(self) -> Tuple[Stretch, ...]:
         """Of a packet 21 or 27: its elements before the end mark. They are those of `profile`, made in less time."""
         distance, value, mark = ELEMENT_KEYS[self.number]
-        unit, is_speed, at, made = self.unit, self.number == SPEEDS, 0, []
+        unit, is_speed, made = self.unit, self.number == SPEEDS, []
         elements = self.form["elements"]
-        ends = [*accumulate(each[distance] for each in elements), None]
-        for each, end in zip(elements, ends[1:]):
-            at += each[distance]
+        places = [*accumulate([each[distance] * unit for each in elements])]
+        for each, begin, end in zip(elements, places, [*places[1:], None]):
             own = each[value]
             if own == mark:
                 break
-            signed = own if is_speed or each["q_gdir"] else -own
-            made.append(Stretch(at * unit, None if end is None else end * unit, signed, each))
+            made.append(Stretch(begin, end, own if is_speed or each["q_gdir"] else -own, each))
         return tuple(made)
 
     @property
@@ -232,23 +230,23 @@ class GroupData:
     @cached_property
     def passages(self) -> Sequence[Passage]:
         """Each aspect all telegrams of which were read, in both directions: those that give a train anything."""
-        aspects = [
-            aspect for aspect in self.group.group.aspects if all(row.number in self.telegrams for row in aspect.rows)
-        ]
-        made = (
-            self._passage(aspect.name, aspect.rows, index) for aspect in aspects for index in range(len(DIRECTIONS))
-        )
-        return [passage for passage in made if passage.said or passage.infill]
+        made: List[Passage] = []
+        for aspect in self.group.group.aspects:
+            telegrams = [self.telegrams[row.number] for row in aspect.rows if row.number in self.telegrams]
+            if len(telegrams) == len(aspect.rows):
+                made += self._passages(aspect.name, telegrams)
+        return made
 
-    def _passage(self, aspect: str, rows: Sequence[Row], index: int) -> Passage:
-        """What a train gets in the direction with this index."""
-        telegrams = [self.telegrams[row.number] for row in rows]
-        direction = DIRECTIONS[index]
-        packets: List[Packet] = []
-        for place, telegram in enumerate(telegrams if direction == NOMINAL else reversed(telegrams)):
-            if place == 0 or telegram.m_dup != DUPLICATE[index]:
-                packets += telegram.holding[index]
-        return _passage(self, aspect, direction, packets)
+    def _passages(self, aspect: str, telegrams: Sequence[Telegram]) -> Iterator[Passage]:
+        """What a train gets of an aspect in both directions, if that is anything."""
+        for index, direction in enumerate(DIRECTIONS):
+            packets: List[Packet] = []
+            for place, telegram in enumerate(telegrams if direction == NOMINAL else reversed(telegrams)):
+                if place == 0 or telegram.m_dup != DUPLICATE[index]:
+                    packets += telegram.holding[index]
+            passage = _passage(self, aspect, direction, packets) if packets else None
+            if passage and (passage.said or passage.infill):
+                yield passage
 
     def location(self, row: Optional[Row] = None) -> Location:
         """Where the group is, or one of its balises, for a remark."""
@@ -365,7 +363,8 @@ def allowance(packet: Packet, lengths: int = 1) -> int:
 
     It is in whole decimetres, rounded up.
     """
-    return packet.unit + (packet.unit * (lengths - 1) + 1) // 2
+    unit = packet.unit
+    return unit + (unit * (lengths - 1) + 1) // 2
 
 
 def _passage(

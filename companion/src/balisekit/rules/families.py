@@ -57,11 +57,7 @@ FAMILIES: Mapping[str, Family] = {
         in_full=True,
     ),
     "X": Family(
-        "X",
-        "track plan, by balisekit's own rules X1 to X5, not proved",
-        "track plan",
-        track_plan.RULES,
-        in_full=True,
+        "X", "track plan, by balisekit's own rules X1 to X5, not proved", "track plan", track_plan.RULES, in_full=True
     ),
 }
 """In the order of an answer."""

@@ -59,13 +59,13 @@ def find(line: Line, options: Options) -> Result:
 def _siblings(data: GroupData) -> Iterator[Remark]:
     """The aspect that has packets for the other direction, or that lacks packets."""
     said: Said = {aspect.name: (frozenset(), frozenset()) for aspect in data.group.group.aspects}
-    go = set()
     for passage in data.passages:
         index = DIRECTIONS.index(passage.direction)
-        own = NUMBERS.intersection(packet.number for packet in passage.said)
+        own = NUMBERS.intersection([packet.number for packet in passage.said])
         said[passage.aspect] = (own, said[passage.aspect][1]) if index == 0 else (said[passage.aspect][0], own)
-        if any(packet.form["v_main"] for packet in passage.of(AUTHORITY)):
-            go.add(passage.aspect)
+    if len(set(said.values())) == 1:
+        return
+    go = {each.aspect for each in data.passages if any(packet.form["v_main"] for packet in each.of(AUTHORITY))}
     both = frozenset.intersection(*(frozenset().union(*own) for own in zip(*said.values())))
     turned = {aspect: numbers for aspect in said for numbers in [_turned(said, aspect, both)] if numbers}
     for aspect, numbers in turned.items():
@@ -93,7 +93,7 @@ def _lacking(said: Said) -> Dict[Tuple[str, str], List[int]]:
     """The packets that exactly one aspect of three or more lacks in a direction."""
     found: Dict[Tuple[str, str], List[int]] = {}
     for index, direction in enumerate(DIRECTIONS if len(said) >= SIBLINGS else ()):
-        for number in sorted(NUMBERS):
+        for number in sorted(NUMBERS) if len({own[index] for own in said.values()}) > 1 else ():
             without = [aspect for aspect, own in said.items() if number not in own[index]]
             if len(without) == 1:
                 found.setdefault((without[0], direction), []).append(number)
@@ -115,7 +115,7 @@ def _packets(numbers: Sequence[int]) -> str:
 
 def _stops(passage: Passage) -> List[Packet]:
     """The packets 12 with V_MAIN 0."""
-    return [packet for packet in passage.of(AUTHORITY) if packet.form["v_main"] == 0]
+    return [packet for packet in passage.said if packet.number == AUTHORITY and packet.form["v_main"] == 0]
 
 
 def _without_stop(stops: Sequence[Passage]) -> Iterator[Remark]:
