@@ -8,6 +8,9 @@ compares two releases. The tables are made in a folder of their own by the progr
 (BALISECHECK names another one): signals of two balises in three aspects, in long telegrams with linking, authority,
 gradients and speeds, 2,500 groups a track. The new release differs from the old one in every twentieth group.
 
+Two commands check another table, whatever --rows is: sound lines of the tests, 10,000 groups in about 38,000 rows. The
+difference between these two is what the rules E take.
+
 All kits run with the Python that runs this script. Each line has the medians of all runs: seconds of the processor for balisekit and the program together, and the peak of
 memory of the larger process. Measure on an idle processor: other work makes both slower.
 """
@@ -15,6 +18,7 @@ from __future__ import annotations
 
 import argparse
 import csv
+import itertools
 import multiprocessing
 import os
 import statistics
@@ -28,10 +32,13 @@ TOP = Path(__file__).resolve().parents[1]
 sys.path[:0] = [str(TOP / "companion" / "src"), str(TOP / "companion" / "tests")]
 
 import line_table  # noqa: E402  (the path comes first)
+import meaning_random  # noqa: E402
 from balisekit.engine.program import Program, Text  # noqa: E402
 
 HEADING = ("group", "name", "km", "track", "nominal", "aspect", "balise", "telegram")
 GROUPS_OF_TRACK = 2500
+GROUPS = 10_000
+"""Of the sound lines, at least."""
 APART = 1500
 """Metres from a group to the next one."""
 COMMANDS: Dict[str, Sequence[str]] = {
@@ -46,6 +53,8 @@ COMMANDS: Dict[str, Sequence[str]] = {
     "check .xlsx": ["check", "OLD.xlsx"],
     "check .xlsx --only F,L": ["check", "OLD.xlsx", "--only", "F,L"],
     "show": ["show", "OLD.csv"],
+    "check 10,000 groups": ["check", "SOUND.csv"],
+    "10,000 --only F,L": ["check", "SOUND.csv", "--only", "F,L"],
 }
 Row = Tuple[Any, ...]
 
@@ -81,12 +90,25 @@ def rows(groups: int, is_new: bool) -> Iterator[Row]:
                        {**form, "nid_c": nid_c})
 
 
+def sound_rows() -> Iterator[Row]:
+    """The rows of sound lines: their groups have profiles and distances of their own, and get no remark."""
+    groups = 0
+    for number in itertools.count(1):
+        line = meaning_random.random_line(number)
+        for row in line.rows:
+            names = f"{number} {row.group}", row.name, f"{row.place / 1000:.3f}", f"{number} {row.track}", ""
+            yield (*names, row.aspect, row.balise, {**row.form, "nid_c": number})
+        groups += sum(len(track.sites) for track in line.tracks)
+        if groups >= GROUPS:
+            return
+
+
 def make(folder: Path, count: int, program: Program) -> None:
-    """The tables OLD.csv, NEW.csv and OLD.xlsx, of about so many rows."""
+    """The tables OLD.csv, NEW.csv and OLD.xlsx, of about so many rows, and SOUND.csv."""
     import openpyxl
 
-    for name in ("OLD", "NEW"):
-        made = list(rows(count // 6, name == "NEW"))
+    for name, of in (("OLD", rows(count // 6, False)), ("NEW", rows(count // 6, True)), ("SOUND", sound_rows())):
+        made = list(of)
         texts = program.encode([row[-1] for row in made])
         table = [HEADING, *((*row[:-1], text.line) for row, text in zip(made, texts) if isinstance(text, Text))]
         assert len(table) == len(made) + 1, "a telegram was refused"

@@ -36,7 +36,7 @@ from balisekit.etcs.raw_packets import fields_of
 from balisekit.etcs.variables import Form, unit_dm
 from balisekit.rules.chainage import Chainage, Jump
 from balisekit.rules.location import BaliseGroup, Identity, Location
-from balisekit.rules.passages import DUPLICATE, HOLDING
+from balisekit.rules.passages import DUPLICATE, HOLDING, Content, Said, packets_of
 from balisekit.tables.model import Message, Row
 
 LINKING, GRADIENTS, SPEEDS, LEVELS = 5, 21, 27, 41
@@ -86,6 +86,12 @@ class Packet:
         return unit_dm(self.form)
 
     @cached_property
+    def end(self) -> int:
+        """Of a packet 12 or 15: how far the authority goes."""
+        sections = sum([section["l_section"] for section in self.form["sections"]])
+        return (sections + self.form["l_endsection"]) * self.unit
+
+    @cached_property
     def authority(self) -> geometry.Authority:
         """Of a packet 12 or 15: its places, among them `end` and `supervised`."""
         return geometry.authority(Site(0, self.place), self.form)
@@ -99,16 +105,14 @@ class Packet:
     def stretches(self) -> Tuple[Stretch, ...]:
         """Of a packet 21 or 27: its elements before the end mark. They are those of `profile`, made in less time."""
         distance, value, mark = ELEMENT_KEYS[self.number]
-        unit, is_speed, at, made = self.unit, self.number == SPEEDS, 0, []
+        unit, is_speed, made = self.unit, self.number == SPEEDS, []
         elements = self.form["elements"]
-        ends = [*accumulate(each[distance] for each in elements), None]
-        for each, end in zip(elements, ends[1:]):
-            at += each[distance]
+        places = [*accumulate([each[distance] * unit for each in elements])]
+        for each, begin, end in zip(elements, places, [*places[1:], None]):
             own = each[value]
             if own == mark:
                 break
-            signed = own if is_speed or each["q_gdir"] else -own
-            made.append(Stretch(at * unit, None if end is None else end * unit, signed, each))
+            made.append(Stretch(begin, end, own if is_speed or each["q_gdir"] else -own, each))
         return tuple(made)
 
     @property
@@ -186,6 +190,9 @@ class Passage:
 
     def of(self, *numbers: int) -> List[Packet]:
         """The packets that are said with these NID_PACKET."""
+        if len(numbers) == 1:  # (which is asked most often, and takes less time so)
+            (number,) = numbers
+            return [packet for packet in self.said if packet.number == number]
         return [packet for packet in self.said if packet.number in numbers]
 
     @property
@@ -223,23 +230,23 @@ class GroupData:
     @cached_property
     def passages(self) -> Sequence[Passage]:
         """Each aspect all telegrams of which were read, in both directions: those that give a train anything."""
-        aspects = [
-            aspect for aspect in self.group.group.aspects if all(row.number in self.telegrams for row in aspect.rows)
-        ]
-        made = (
-            self._passage(aspect.name, aspect.rows, index) for aspect in aspects for index in range(len(DIRECTIONS))
-        )
-        return [passage for passage in made if passage.said or passage.infill]
+        made: List[Passage] = []
+        for aspect in self.group.group.aspects:
+            telegrams = [self.telegrams[row.number] for row in aspect.rows if row.number in self.telegrams]
+            if len(telegrams) == len(aspect.rows):
+                made += self._passages(aspect.name, telegrams)
+        return made
 
-    def _passage(self, aspect: str, rows: Sequence[Row], index: int) -> Passage:
-        """What a train gets in the direction with this index."""
-        telegrams = [self.telegrams[row.number] for row in rows]
-        direction = DIRECTIONS[index]
-        packets: List[Packet] = []
-        for place, telegram in enumerate(telegrams if direction == NOMINAL else reversed(telegrams)):
-            if place == 0 or telegram.m_dup != DUPLICATE[index]:
-                packets += telegram.holding[index]
-        return _passage(self, aspect, direction, packets)
+    def _passages(self, aspect: str, telegrams: Sequence[Telegram]) -> Iterator[Passage]:
+        """What a train gets of an aspect in both directions, if that is anything."""
+        for index, direction in enumerate(DIRECTIONS):
+            packets: List[Packet] = []
+            for place, telegram in enumerate(telegrams if direction == NOMINAL else reversed(telegrams)):
+                if place == 0 or telegram.m_dup != DUPLICATE[index]:
+                    packets += telegram.holding[index]
+            passage = _passage(self, aspect, direction, packets) if packets else None
+            if passage and (passage.said or passage.infill):
+                yield passage
 
     def location(self, row: Optional[Row] = None) -> Location:
         """Where the group is, or one of its balises, for a remark."""
@@ -356,28 +363,29 @@ def allowance(packet: Packet, lengths: int = 1) -> int:
 
     It is in whole decimetres, rounded up.
     """
-    return packet.unit + (packet.unit * (lengths - 1) + 1) // 2
+    unit = packet.unit
+    return unit + (unit * (lengths - 1) + 1) // 2
 
 
 def _passage(
     group: Optional[GroupData], aspect: str, direction: str, packets: List[Packet], message: Optional[Message] = None
 ) -> Passage:
-    place = next((place for place, packet in enumerate(packets) if packet.number == INFILL), None)
-    if place is None:
-        return Passage(group, aspect, direction, packets, message=message)
-    return Passage(group, aspect, direction, packets[:place], packets[place], packets[place + 1 :], message)
+    for place, packet in enumerate(packets):
+        if packet.number == INFILL:
+            return Passage(group, aspect, direction, packets[:place], packet, packets[place + 1 :], message)
+    return Passage(group, aspect, direction, packets, message=message)
 
 
 def decode(
     groups: Sequence[BaliseGroup],
-    telegrams: Iterable[Tuple[Row, Record]],
+    telegrams: Iterable[Telegram],
     messages: Iterable[Tuple[Message, Form]] = (),
     jumps: Sequence[Jump] = (),
 ) -> Decoded:
     """The data of these groups, whose telegrams come in the order of the table."""
     chainages = {track: Chainage.of(jumps, track) for track in dict.fromkeys(group.track for group in groups)}
     by_group: Dict[str, Dict[int, Telegram]] = {}
-    for telegram in _telegrams(telegrams):
+    for telegram in telegrams:
         by_group.setdefault(telegram.row.group, {})[telegram.row.number] = telegram
     made = [GroupData(each, by_group.get(each.group.name, {}), chainages[each.track].place(each.km)) for each in groups]
     decoded = Decoded(made, [], chainages, _resolution(groups))
@@ -397,11 +405,21 @@ def _of_message(decoded: Decoded, message: Message, form: Form) -> Iterator[Pass
             yield _passage(group, "", direction, own, message)
 
 
-def _telegrams(telegrams: Iterable[Tuple[Row, Record]]) -> Iterator[Telegram]:
-    """The telegrams, decoded in parts."""
+def contents_of_decoded(telegrams: Sequence[Telegram]) -> Iterator[Tuple[Row, Content]]:
+    """What rules over links compare of telegrams. Those with the same packets share it."""
+    known: Dict[int, Said] = {}
+    for each in telegrams:
+        said = known.get(id(each.forms))
+        if said is None:
+            said = known[id(each.forms)] = packets_of(each.forms, each.identity[0])
+        yield each.row, Content(each.identity, each.linked, each.n_pig, each.m_dup, *said)
+
+
+def telegrams_of(records: Iterable[Tuple[Row, Record]]) -> Iterator[Telegram]:
+    """The telegrams of these records, decoded in parts."""
     known: Dict[str, Sequence[Form]] = {}
     waiting: List[Tuple[Row, Tuple[str, ...]]] = []
-    for row, record in telegrams:
+    for row, record in records:
         waiting.append((row, RECORD.findall(record.line)[0]))
         if len(waiting) == AT_ONCE:
             yield from _decoded(waiting, known)

@@ -37,6 +37,8 @@ class Family(NamedTuple):
     """Those of balisekit. The rules F are in the program."""
     notes: Notes = no_notes
     """The notes on a line beside those of the rules."""
+    in_full: bool = False
+    """Whether its rules compare all that telegrams say."""
 
     @property
     def needs_kilometres(self) -> bool:
@@ -47,8 +49,16 @@ class Family(NamedTuple):
 FAMILIES: Mapping[str, Family] = {
     "F": Family("F", "findings of the program, proved", "findings"),
     "L": Family("L", "links, by balisekit's own rules L1 to L9, not proved", "links", links.RULES, links.notes_on),
-    "E": Family("E", "remarks on what the data mean, by balisekit's own rules, not proved", "remarks", meaning.RULES),
-    "X": Family("X", "track plan, by balisekit's own rules X1 to X5, not proved", "track plan", track_plan.RULES),
+    "E": Family(
+        "E",
+        "remarks on what the data mean, by balisekit's own rules, not proved",
+        "remarks",
+        meaning.RULES,
+        in_full=True,
+    ),
+    "X": Family(
+        "X", "track plan, by balisekit's own rules X1 to X5, not proved", "track plan", track_plan.RULES, in_full=True
+    ),
 }
 """In the order of an answer."""
 
@@ -179,7 +189,7 @@ def _looked_at(checked: Checked, applied: Sequence[Family], options: Options, be
         if family.letter == PROVED:
             yield Part(family, checked.findings, time.perf_counter() - begin)
             continue
-        line = line or Line.of(checked, options.jumps)
+        line = line or Line.of(checked, options.jumps, any(each.in_full for each in applied))
         found = look_for(line, options, family.rules, family.notes)
         yield Part(family, found.remarks, time.perf_counter() - begin, found)
 

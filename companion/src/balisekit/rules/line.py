@@ -18,7 +18,7 @@ from balisekit.etcs.geometry import kilometres
 from balisekit.etcs.variables import Form
 from balisekit.rules.chainage import Chainage, Jump
 from balisekit.rules.checking import Checked, Telegrams
-from balisekit.rules.decoded import Decoded, decode
+from balisekit.rules.decoded import Decoded, Telegram, contents_of_decoded, decode, telegrams_of
 from balisekit.rules.location import NOT_KNOWN, BaliseGroup, Identity
 from balisekit.rules.passages import Chain, Content, Passages, contents_of
 from balisekit.tables.model import Aspect, Group, Message, Row
@@ -78,9 +78,11 @@ class Line:
     """What the program has found of a group, by the group's name."""
     jumps: Sequence[Jump] = ()
     """Where the kilometres jump."""
+    in_full: bool = False
+    """Whether rules will ask for `decoded`. The telegrams are then decoded once, with all that they say."""
 
     @classmethod
-    def of(cls, checked: Checked, jumps: Sequence[Jump] = ()) -> Line:
+    def of(cls, checked: Checked, jumps: Sequence[Jump] = (), in_full: bool = False) -> Line:
         """The line of a table whose telegrams have been tried. A refused telegram says nothing of its group."""
         kept = {group.name: group for group in checked.kept}
         groups = [kept.get(group.name, group) for group in checked.table.groups]
@@ -89,7 +91,7 @@ class Line:
             if place.group is not None:
                 findings.setdefault(place.group.name, []).append(place.finding)
         messages = [(each.message, each.form) for each in checked.accepted_messages]
-        return cls(groups, checked.accepted, messages, findings, jumps)
+        return cls(groups, checked.accepted, messages, findings, jumps, in_full)
 
     @cached_property
     def passages(self) -> Passages:
@@ -111,6 +113,9 @@ class Line:
 
     def _contents(self) -> Iterator[Tuple[Optional[Row], Optional[Content]]]:
         """What rules compare of each telegram, in the order of the table. Those of a table are decoded here."""
+        if self.in_full:
+            yield from contents_of_decoded(self._telegrams)
+            return
         if isinstance(self.forms, Telegrams):
             yield from contents_of(self.forms.decoded())
             return
@@ -121,7 +126,12 @@ class Line:
     @cached_property
     def decoded(self) -> Decoded:
         """All data of the table as a train gets them. Rules that compare more than links and kilometres need them."""
-        return decode(self.groups, self._records(), self.messages, self.jumps)
+        return decode(self.groups, self._telegrams, self.messages, self.jumps)
+
+    @cached_property
+    def _telegrams(self) -> Sequence[Telegram]:
+        """The telegrams with all that they say, in the order of the table."""
+        return list(telegrams_of(self._records()))
 
     def _records(self) -> Iterator[Tuple[Row, Record]]:
         """The records of the telegrams, in the order of the table."""

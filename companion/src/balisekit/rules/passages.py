@@ -75,6 +75,8 @@ class Packet(NamedTuple):
 
 OneWay = Tuple[int, str]
 """The number of the first packet that holds in one direction only, and that direction."""
+Said = Tuple[Tuple[Sequence[Packet], ...], Optional[OneWay], Tuple[bool, ...]]
+"""The packets that rules compare, by direction, the first of all that holds in one direction only, and `says`."""
 
 
 class Content(NamedTuple):
@@ -95,7 +97,8 @@ class Content(NamedTuple):
     def of(cls, form: Form) -> Content:
         """That of a record."""
         identity = form["nid_c"], form["nid_bg"]
-        return cls(identity, bool(form.get("q_link")), form.get("n_pig", 0), form.get("m_dup", 0), *_packets(form))
+        said = packets_of(form["packets"], form["nid_c"])
+        return cls(identity, bool(form.get("q_link")), form.get("n_pig", 0), form.get("m_dup", 0), *said)
 
 
 class Chain(NamedTuple):
@@ -250,25 +253,31 @@ class Passages:
 
 def contents_of(telegrams: Iterable[Tuple[Row, Record]]) -> Iterator[Tuple[Row, Content]]:
     """What rules compare of telegrams. Many have the same packets, which are read once then."""
-    packets = lru_cache(KEPT)(lambda text: _packets(json.loads(f"{{{text}}}")))
+    said = lru_cache(KEPT)(_said)
     for row, record in telegrams:
         duplicate, n_pig, nid_bg, text, nid_c, linked = RECORD.findall(record.line)[0]
-        yield row, Content((int(nid_c), int(nid_bg)), linked == "1", int(n_pig), int(duplicate), *packets(text))
+        yield row, Content((int(nid_c), int(nid_bg)), linked == "1", int(n_pig), int(duplicate), *said(text))
 
 
-def _packets(form: Form) -> Tuple[Tuple[Sequence[Packet], ...], Optional[OneWay], Tuple[bool, ...]]:
-    """The packets that rules compare, by direction, the first of all that holds in one direction only, and `says`."""
+def _said(text: str) -> Said:
+    """What packets say, by the text of NID_C and them."""
+    form: Form = json.loads(f"{{{text}}}")
+    return packets_of(form["packets"], form["nid_c"])
+
+
+def packets_of(forms: Sequence[Form], country: int) -> Said:
+    """What these packets say. Links inherit the NID_C of the telegram or message."""
     own: Tuple[List[Packet], ...] = ([], [])
     one_way: Optional[OneWay] = None
     spoken: Set[int] = set()
-    for place, packet in enumerate(form["packets"]):
+    for place, packet in enumerate(forms):
         number, direction = packet["nid_packet"], packet.get("q_dir", 2)
         if direction != 2 and one_way is None and number not in WITHOUT_DIRECTION:
             one_way = number, NOMINAL if direction == 1 else REVERSE
         if number not in SAYS_NOTHING:
             spoken.update(HOLDING[direction])
         if number in COMPARED:
-            links = tuple(_links(packet, form["nid_c"])) if number == LINKING else ()
+            links = tuple(_links(packet, country)) if number == LINKING else ()
             begin, is_open = _begin(packet) if number in PROFILES else (0, False)
             content = Packet(place, number, links, begin, is_open)
             for index in HOLDING[direction]:

@@ -37,6 +37,8 @@ class End(NamedTuple):
 
     def differs(self, other: End, decoded: Decoded, options: Options) -> bool:
         """Whether this is another place."""
+        if self.place == other.place:
+            return False
         parts = (allowance(each.packet, each.packet.lengths) for each in (self, other))
         return abs(self.place - other.place) > decoded.tolerance(options.tolerance_of_places, *parts)
 
@@ -56,10 +58,8 @@ def _ends(decoded: Decoded) -> Iterator[End]:
         for packet in passage.said:
             if (packet.number == 12 and packet.form["v_main"] or packet.number == 15) and passage.way is not None:
                 key = id(packet), passage.direction
-                form = packet.form
-                lengths = sum(section["l_section"] for section in form["sections"]) + form["l_endsection"]
-                place = passage.place(lengths * packet.unit)
-                if place is not None and key not in known:
+                place = passage.place(packet.end) if key not in known else None
+                if place is not None:
                     known.add(key)
                     yield End(place, passage, packet)
 

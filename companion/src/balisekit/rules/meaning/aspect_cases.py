@@ -4,7 +4,7 @@ from __future__ import annotations
 from itertools import combinations
 from typing import Dict, Iterator, List, Mapping, NamedTuple, Sequence, Tuple
 
-from balisekit.rules.decoded import Packet, Passage
+from balisekit.rules.decoded import Packet, Passage, allowance
 from balisekit.rules.line import Line
 from balisekit.rules.meaning.sent import tolerance
 from balisekit.rules.rule import Options
@@ -22,7 +22,7 @@ class Case(NamedTuple):
     @property
     def end(self) -> int:
         """How far the authority goes, in decimetres."""
-        return self.packet.authority.end
+        return self.packet.end
 
 
 class Pair(NamedTuple):
@@ -63,14 +63,14 @@ def is_usual(count: int, of_how_many: int) -> bool:
 def pairs_of(line: Line, options: Options, cases: Sequence[Sequence[Case]]) -> Mapping[Tuple[str, str], Sequence[Pair]]:
     """Each two aspects of a group with a V_MAIN above 0, by their names in the order of the alphabet."""
     pairs: Dict[Tuple[str, str], List[Pair]] = {}
+    least = tolerance(line, options)
     for own in cases:
-        moving = sorted((case for case in own if case.packet.form["v_main"]), key=lambda case: case.passage.aspect)
-        for one, other in combinations(moving, 2):
-            allowed = tolerance(line, options, *((case.packet, case.packet.lengths) for case in (one, other)))
-            longer = other.end - one.end
-            longer = 0 if abs(longer) <= allowed else longer
-            pair = Pair(one, other, longer)
-            pairs.setdefault(pair.names, []).append(pair)
+        moving = sorted([case for case in own if case.packet.form["v_main"]], key=lambda case: case.passage.aspect)
+        parts = [(case.packet.end, allowance(case.packet, case.packet.lengths)) for case in moving]
+        for (one, (end, allowed)), (other, (its_end, its_allowed)) in combinations(zip(moving, parts), 2):
+            longer = its_end - end
+            longer = 0 if abs(longer) <= least + allowed + its_allowed else longer
+            pairs.setdefault((one.passage.aspect, other.passage.aspect), []).append(Pair(one, other, longer))
     return pairs
 
 

@@ -25,13 +25,13 @@ from __future__ import annotations
 
 from decimal import Decimal
 from itertools import combinations, product
-from typing import Dict, Iterator, List, NamedTuple, Optional, Sequence, Tuple
+from typing import Dict, Iterable, Iterator, List, NamedTuple, Optional, Sequence, Tuple
 
 from balisekit.etcs.variables import metres
 from balisekit.rules.decoded import GRADIENTS, LINKING, SPEEDS, Packet, Passage
 from balisekit.rules.line import Line
 from balisekit.rules.meaning.along import leaves
-from balisekit.rules.meaning.sent import by_culprit, distance, overlaps, speed, tolerance
+from balisekit.rules.meaning.sent import by_culprit, contrary, distance, speed, tolerance
 from balisekit.rules.rule import Options, Remark, Result, Rule
 from balisekit.rules.urgency import Urgency
 from balisekit.tables.names import listed, quoted
@@ -56,6 +56,8 @@ class Contrary(NamedTuple):
 
 
 Pairs = Dict[Tuple[str, str], Contrary]
+Linked = Tuple[Passage, Sequence[Packet]]
+"""A passage with its packets 5."""
 
 
 def find(line: Line, options: Options) -> Result:
@@ -74,56 +76,53 @@ def find(line: Line, options: Options) -> Result:
 
 
 def _of_group(line: Line, options: Options, some: Sequence[Passage]) -> Iterator[Remark]:
-    common = [(one, other, _common(line, options, one, other)) for one, other in combinations(some, 2)]
+    links = [passage.of(LINKING) for passage in some]
+    common = [_common(line, options, *pair) for pair in combinations(zip(some, links), 2)]
     for number in (SPEEDS, GRADIENTS):
         pairs: Pairs = {}
-        for one, other, reach in common:
-            contrary = _compared(line, options, one, other, number, reach) if reach else None
-            if contrary:
-                pairs[one.aspect, other.aspect] = contrary
+        said = [(passage, passage.of(number)) for passage in some]
+        for reach, ((one, mine), (other, its)) in zip(common, combinations(said, 2)):
+            differing = _compared(line, options, one, product(mine, its), reach) if reach else None
+            if differing:
+                pairs[one.aspect, other.aspect] = differing
         for culprit, others in by_culprit(list(pairs)):
             yield _remark(some, pairs, culprit, others)
 
 
-def _common(line: Line, options: Options, one: Passage, other: Passage) -> int:
+def _common(line: Line, options: Options, one: Linked, other: Linked) -> int:
     """How far the packets 5 of both name the same groups, or both authorities go if no packet 5 is there."""
-    mine, its = one.of(LINKING), other.of(LINKING)
+    (here, mine), (there, its) = one, other
     if mine and [packet.form for packet in mine] == [packet.form for packet in its]:
-        return max(sum(link["d_link"] for link in packet.form["links"]) * packet.unit for packet in mine)
+        return max([sum([link["d_link"] for link in packet.form["links"]]) * packet.unit for packet in mine])
     if mine or its:
         reach = 0
-        for here, there in zip(line.decoded.reached(one), line.decoded.reached(other)):
-            if here.identity != there.identity:
+        for own, theirs in zip(line.decoded.reached(here), line.decoded.reached(there)):
+            if own.identity != theirs.identity:
                 break
-            reach = min(here.distance, there.distance)
+            reach = min(own.distance, theirs.distance)
         return reach
-    if not (one.authorities and other.authorities):
+    if not (here.authorities and there.authorities):
         return 0
-    ends = [max(each.authorities, key=lambda packet: packet.authority.end) for each in (one, other)]
-    first, second = (packet.authority.end for packet in ends)
+    ends = [max(each.authorities, key=lambda packet: packet.end) for each in (here, there)]
+    first, second = (packet.end for packet in ends)
     is_same = abs(first - second) <= tolerance(line, options, *((packet, packet.lengths) for packet in ends))
     return min(first, second) if is_same else 0
 
 
 def _compared(
-    line: Line, options: Options, one: Passage, other: Passage, number: int, reach: int
+    line: Line, options: Options, one: Passage, pairs: Iterable[Tuple[Packet, Packet]], reach: int
 ) -> Optional[Contrary]:
-    """The first stretch before a point of the track plan of which both say different things."""
-    for packets in product(one.of(number), other.of(number)):
-        if packets[0].form == packets[1].form:
-            continue
-        for begin, end, here, there in overlaps(packets[0].stretches, packets[1].stretches, reach):
-            if not _differ(number, here, there):
-                continue
+    """The first stretch before a point of the track plan of which both packets of a pair say different things."""
+    for packets in pairs:
+        if packets[0] is packets[1]:
+            continue  # of a fixed balise
+        apart = STEEPER if packets[0].number == GRADIENTS else 0
+        for begin, end, *values in contrary(packets[0].stretches, packets[1].stretches, reach, apart):
             least = tolerance(line, options, *((each, len(each.stretches)) for each in packets))
             place = one.place(begin + least)
             if end - begin > least and (place is None or not leaves(options, line.decoded, one, place)):
-                return Contrary(packets, begin, end, (here, there))
+                return Contrary(packets, begin, end, (values[0], values[1]))
     return None
-
-
-def _differ(number: int, here: int, there: int) -> bool:
-    return here != there if number == SPEEDS else abs(here - there) > STEEPER
 
 
 def _remark(some: Sequence[Passage], pairs: Pairs, culprit: str, others: Sequence[str]) -> Remark:

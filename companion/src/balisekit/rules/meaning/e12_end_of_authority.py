@@ -114,20 +114,20 @@ def _compare(
         return
     at = target.place if target and target.place is not None else ends[0].place
     usual = max(ends, key=lambda each: (counts[each.place], -abs(each.place - at)))
-    same = sum(not end.differs(usual, decoded, options) for end in ends)
+    differing = [end for end in ends if end.differs(usual, decoded, options)]
+    same = len(ends) - len(differing)
     where = f" that lead{'s' if same == 1 else ''} to {target.group}" if target else " nearby"
-    for end in ends:
-        if end.differs(usual, decoded, options):
-            track = end.passage.track
-            sentence = (
-                f"the authority ends at {decoded.km(track, end.place)}, {metres(end.distance)} from the "
-                f"group by L_SECTION and L_ENDSECTION; {same} other{'s' if same > 1 else ''}{where}, such as that of "
-                f"{source(usual.passage, usual.packet)}, end{'s' if same == 1 else ''} at "
-                f"{decoded.km(track, usual.place)}: they differ by {metres(abs(end.place - usual.place))}"
-            )
-            values = {"end_m": Decimal(end.place) / 10, "other_end_m": Decimal(usual.place) / 10}
-            others = (usual.packet.row.number,) if usual.packet.row else ()
-            yield end, Remark("E12", end.passage.at(end.packet), sentence, None, values, others=others)
+    for end in differing:
+        track = end.passage.track
+        sentence = (
+            f"the authority ends at {decoded.km(track, end.place)}, {metres(end.distance)} from the "
+            f"group by L_SECTION and L_ENDSECTION; {same} other{'s' if same > 1 else ''}{where}, such as that of "
+            f"{source(usual.passage, usual.packet)}, end{'s' if same == 1 else ''} at "
+            f"{decoded.km(track, usual.place)}: they differ by {metres(abs(end.place - usual.place))}"
+        )
+        values = {"end_m": Decimal(end.place) / 10, "other_end_m": Decimal(usual.place) / 10}
+        others = (usual.packet.row.number,) if usual.packet.row else ()
+        yield end, Remark("E12", end.passage.at(end.packet), sentence, None, values, others=others)
 
 
 def _between(decoded: Decoded, options: Options, end: End) -> Iterator[Remark]:

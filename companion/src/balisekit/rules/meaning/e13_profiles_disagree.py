@@ -3,10 +3,9 @@
 What it says. On a stretch of one track and way the profiles of two groups differ: no V_STATIC of the group in rear
 equals that of the group ahead, or their gradients are more than 5 per mille apart. Each group is compared with the next
 one ahead that has a profile there. All aspects of both groups count, of the group in rear only those whose packet 5
-names the group ahead, if any does. Stretches are passed over that are no longer than the tolerance: `--tolerance` (1 m
-without it), the units of both packets by Q_SCALE, half a unit for each further distance, and one unit of the last
-decimal of the kilometres. If a group differs from those on both sides, the remark is on that group (SUBSET-026, 3.11.3
-and 3.11.12).
+names the group ahead, if any does. A stretch is passed over if it is no longer than the tolerance: `--tolerance` (else
+1 m), the units of both packets by Q_SCALE, half a unit for each further distance, and one unit of the last decimal of
+the kilometres. A group that differs from those on both sides has the remark (SUBSET-026, 3.11.3 and 3.11.12).
 
 How urgent. At worst wrong information: a train may go too fast, or brake too late on a slope.
 
@@ -35,7 +34,7 @@ from typing import Dict, Iterator, List, Sequence, Tuple
 from balisekit.rules.decoded import GRADIENTS, SPEEDS, Decoded, Packet, allowance
 from balisekit.rules.line import Line
 from balisekit.rules.meaning.along import leaves
-from balisekit.rules.meaning.profiles import Piece, Profiles, agree, lanes_of, pairs, pieces_of
+from balisekit.rules.meaning.profiles import Piece, Profiles, lanes_of, longest_difference, pairs, pieces_of
 from balisekit.rules.meaning.words import source
 from balisekit.rules.rule import Options, Remark, Result, Rule
 from balisekit.rules.urgency import Urgency
@@ -65,7 +64,11 @@ def find(line: Line, options: Options) -> Result:
 def _difference(decoded: Decoded, options: Options, rear: Profiles, ahead: Profiles, low: int) -> Iterator[Difference]:
     """The stretches on which two groups differ."""
     high = min(rear.reach, ahead.reach)
-    if agree(rear.longest, ahead.longest, low, high) and rear.names(ahead, decoded):
+    allowed, longest = 0, longest_difference(rear.longest, ahead.longest, low, high)
+    if longest and max(rear.first, ahead.first) <= max(low, ahead.begin):
+        # (where both hold all the way, no piece is longer than what these two profiles differ on)
+        allowed = decoded.tolerance(options.tolerance_of_places, rear.unit, ahead.unit)
+    if longest <= allowed and rear.names(ahead, decoded):
         return
     pieces = []
     for piece in pieces_of(rear.naming(ahead, decoded), ahead.aspects, low, high):

@@ -27,13 +27,13 @@ from __future__ import annotations
 
 from bisect import bisect_left
 from decimal import Decimal
-from typing import Dict, Iterator, List, Optional, Tuple
+from typing import Dict, Iterator, List, Optional, Sequence, Tuple
 
 from balisekit.etcs.variables import metres
 from balisekit.rules.decoded import LINKING, Decoded, GroupData, Passage
 from balisekit.rules.line import Line
 from balisekit.rules.location import NOT_KNOWN
-from balisekit.rules.meaning.along import End, Lane, ends_of, lane_of, leaves, names_of
+from balisekit.rules.meaning.along import End, Lane, Name, ends_of, lane_of, leaves, names_of
 from balisekit.rules.meaning.words import merged
 from balisekit.rules.rule import Options, Remark, Result, Rule
 from balisekit.rules.urgency import Urgency
@@ -91,6 +91,7 @@ def _lanes(decoded: Decoded) -> Dict[Lane, Reach]:
     """The links and groups of each track and way."""
     lanes: Dict[Lane, Reach] = {}
     known = set()
+    last: Dict[Tuple[GroupData, int], Sequence[Name]] = {}  # (aspects share the packets 5 of fixed balises)
     for passage in decoded.passages:
         way, data = passage.way, passage.group
         if way is None or data is None or data.place is None:
@@ -100,7 +101,8 @@ def _lanes(decoded: Decoded) -> Dict[Lane, Reach]:
             known.add((data, way))
             lane.groups.append(data.place * way)
         named = names_of(decoded, passage)
-        if named:
+        if named and last.get((data, way)) is not named:
+            last[data, way] = named
             begin = data.place * way
             lane.links.append((begin, max(_linked(each, way, begin + distance) for distance, each in named)))
     for lane in lanes.values():

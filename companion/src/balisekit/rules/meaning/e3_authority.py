@@ -49,8 +49,7 @@ def find(line: Line, options: Options) -> Result:
 
 
 def _faults(packet: Packet) -> List[Fault]:
-    form, unit = packet.form, packet.unit
-    total = (sum(section["l_section"] for section in form["sections"]) + form["l_endsection"]) * unit
+    form, unit, total = packet.form, packet.unit, packet.end
     return list(chain(_sections(form, unit), _starts(form, unit, total), _overlap(form, unit), _limit(form, total)))
 
 

@@ -50,11 +50,23 @@ def find(line: Line, options: Options) -> Result:
 
 
 def _faults(packet: Packet) -> List[Fault]:
+    if _is_usual(packet):
+        return []
     _, value, mark = ELEMENT_KEYS[packet.number]
     elements = packet.form["elements"]
     ended = next((place for place, each in enumerate(elements) if each[value] == mark), None)
     own = elements if ended is None else elements[:ended]
     return [*_end(elements, ended), *_steps(packet, own), *_speeds(packet, own)]
+
+
+def _is_usual(packet: Packet) -> bool:
+    """Whether nothing can be wrong. Most profiles are so, and this takes little time."""
+    is_speed, before = packet.number == SPEEDS, None
+    for begin, end, value, element in packet.stretches:
+        if begin == end or value == before or is_speed and (value == 0 or element["differences"]):
+            return False
+        before = value
+    return 0 < len(packet.stretches) >= len(packet.form["elements"]) - 1
 
 
 def _end(elements: Sequence[Form], ended: Optional[int]) -> Iterator[Fault]:

@@ -83,7 +83,7 @@ def _packets(numbers: Sequence[int]) -> str:
 
 def _stops(passage: Passage) -> List[Packet]:
     """The packets 12 with V_MAIN 0."""
-    return [packet for packet in passage.of(AUTHORITY) if packet.form["v_main"] == 0]
+    return [packet for packet in passage.said if packet.number == AUTHORITY and packet.form["v_main"] == 0]
 
 
 def _without_stop(stops: Sequence[Passage]) -> Iterator[Remark]:

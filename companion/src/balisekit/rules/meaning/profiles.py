@@ -31,6 +31,17 @@ class Aspect:
         """The value at a place, or None if it gives none there."""
         return next((value for begin, end, value in self.stretches if begin <= place < end), None)
 
+    def steps_at(self, places: Sequence[int]) -> Sequence[Optional[int]]:
+        """The value at each of these places, which rise, or None."""
+        found: List[Optional[int]] = []
+        index, stretches = 0, self.stretches
+        for place in places:
+            while index < len(stretches) and stretches[index][1] <= place:
+                index += 1
+            is_covered = index < len(stretches) and stretches[index][0] <= place
+            found.append(stretches[index][2] if is_covered else None)
+        return found
+
     def value_at(self, place: int) -> int:
         """The value at a place that it covers."""
         return self.step_at(place) or 0
@@ -54,20 +65,8 @@ class Aspect:
 
 
 def _stretches(packet: Packet, origin: int, up: int, down: int) -> Sequence[Step]:
-    distance, key, mark = ELEMENT_KEYS[packet.number]
-    unit, is_speed = packet.unit, packet.number == SPEEDS
-    found: List[Step] = []
-    at, begin, before, value = 0, 0, mark, 0
-    for each in packet.form["elements"]:
-        at += each[distance] * unit
-        place = origin + (at if up == down else at * up // down)
-        if before != mark:
-            found.append((begin, place, value))
-        before, begin = each[key], place
-        if before == mark:
-            break
-        value = before if is_speed or each["q_gdir"] else -before
-    return found
+    own = [(begin, end, value) for begin, end, value, _ in packet.stretches if end is not None]
+    return [(origin + begin * up // down, origin + end * up // down, value) for begin, end, value in own]
 
 
 class Profiles:
@@ -82,7 +81,14 @@ class Profiles:
         self.longest = Aspect(passage, packet, self.begin)
         """The profile that reaches farthest."""
         self.reach = self.longest.stretches[-1][1] if self.longest.stretches else self.begin
+        self.first = self.longest.stretches[0][0] if self.longest.stretches else self.begin
+        """From where on that profile holds."""
         self._sayings, self._differ = sayings, differ
+
+    @property
+    def unit(self) -> int:
+        """The least unit of their distances, in decimetres."""
+        return min([packet.unit for _, packet in self._sayings])
 
     @property
     def aspects(self) -> Sequence[Aspect]:
@@ -176,27 +182,38 @@ def pairs(lane: Sequence[Profiles]) -> Iterator[Tuple[Profiles, Profiles, int]]:
 
 def agree(one: Aspect, other: Aspect, low: int, high: int) -> bool:
     """Whether two profiles agree from one place to another one, as far as both cover it."""
-    is_speed, some, others = one.packet.number == SPEEDS, one.stretches, other.stretches
-    first = second = 0
+    return longest_difference(one, other, low, high) == 0
+
+
+def longest_difference(one: Aspect, other: Aspect, low: int, high: int) -> int:
+    """How long the longest stretch between two places is on which two profiles never agree, as far as both cover it."""
+    apart, some, others = 0 if one.packet.number == SPEEDS else APART, one.stretches, other.stretches
+    first = second = longest = 0
+    since, until = low, low - 1
     while first < len(some) and second < len(others):
         begin, end, value = some[first]
         other_begin, other_end, other_value = others[second]
-        if value != other_value and (is_speed or abs(value - other_value) > APART):
-            if max(begin, other_begin, low) < min(end, other_end, high):
-                return False
+        if abs(value - other_value) > apart:
+            start, stop = max(begin, other_begin, low), min(end, other_end, high)
+            if start < stop:
+                since, until = since if start == until else start, stop
+                longest = max(longest, until - since)
         first, second = first + (end <= other_end), second + (other_end <= end)
-    return True
+    return longest
 
 
 def pieces_of(rear: Sequence[Aspect], ahead: Sequence[Aspect], low: int, high: int) -> Iterator[Piece]:
     """The stretches on which no aspect of one group says what some aspect of the other one says."""
     cuts = {low, high, *(place for each in (*rear, *ahead) for step in each.stretches for place in step[:2])}
     places = sorted(place for place in cuts if low <= place <= high)
+    own, other = (zip(*(each.steps_at(places) for each in aspects)) for aspects in (rear, ahead))
     open_piece: Optional[Piece] = None
-    for begin, end in zip(places, places[1:]):
-        some = [(each, each.step_at(begin)) for each in rear]
-        others = [(each, each.step_at(begin)) for each in ahead]
-        piece = _piece(begin, end, *([(one, v) for one, v in own if v is not None] for own in (some, others)))
+    for begin, end, *values in zip(places, places[1:], own, other):
+        some, others = (
+            [(each, value) for each, value in zip(aspects, steps) if value is not None]
+            for aspects, steps in zip((rear, ahead), values)
+        )
+        piece = _piece(begin, end, some, others)
         if open_piece and piece and _continues(open_piece, piece):
             open_piece = open_piece._replace(high=end)
             continue

@@ -88,16 +88,20 @@ def by_culprit(pairs: Sequence[Tuple[Key, Key]]) -> Iterator[Tuple[Key, List[Key
         left = [pair for pair in left if culprit not in pair]
 
 
-def overlaps(some: Sequence[Stretch], others: Sequence[Stretch], reach: int) -> Iterator[Tuple[int, int, int, int]]:
-    """The stretches that two profiles share, up to a distance, with both values."""
+def contrary(
+    some: Sequence[Stretch], others: Sequence[Stretch], reach: int, apart: int
+) -> Iterator[Tuple[int, int, int, int]]:
+    """The stretches up to a distance on which two profiles differ by more than `apart`, with both values."""
     place = 0
-    for one in some:
+    for begin, end, value, _ in some:
+        if begin >= reach:
+            break
+        end = reach if end is None or end > reach else end
         while place < len(others):
-            other = others[place]
-            ends = [reach if end is None else min(end, reach) for end in (one.end, other.end)]
-            begin = max(one.begin, other.begin)
-            if begin < min(ends):
-                yield begin, min(ends), one.value, other.value
-            if ends[1] >= ends[0]:
+            other_begin, other_end, other_value, _ = others[place]
+            other_end = reach if other_end is None or other_end > reach else other_end
+            if abs(value - other_value) > apart and max(begin, other_begin) < min(end, other_end):
+                yield max(begin, other_begin), min(end, other_end), value, other_value
+            if other_end >= end:
                 break
             place += 1
