@@ -62,6 +62,8 @@ check           refused: {message}: (?P<text>not hexadecimal|{message fault})
 
 
 LONG = re.compile("[0-9]{19}")
+BEGIN = re.compile("F([0-9]{1,2}) ")
+"""How a finding begins. By its rule one expression is taken."""
 LINES: List[Tuple[str, str]] = re.findall(r"^(.+?) {2,}(.+)$", GRAMMAR, re.MULTILINE)
 """Each name with its expression."""
 PARTS = dict(LINES)
@@ -72,13 +74,14 @@ NAMES: Dict[int, str] = {
 
 
 @lru_cache(maxsize=None)
-def expressions(name: str) -> Tuple[Pattern[str], ...]:
-    """The expressions of a name: `verdict`, `finding`, and the command whose refusal it is."""
+def expressions(name: str, begin: str = "") -> Tuple[Pattern[str], ...]:
+    """The expressions of a name that begin so: `verdict`, `finding`, and the command whose refusal it is."""
 
     def put_in(expression: str) -> str:
         return re.sub(r"\{([a-z ]+)\}", lambda match: f"(?:{put_in(PARTS[match[1]])})", expression)
 
-    return tuple(re.compile(put_in(expression)) for key, expression in LINES if key == name)
+    found = (expression for key, expression in LINES if key == name and expression.startswith(begin))
+    return tuple(re.compile(put_in(expression)) for expression in found)
 
 
 @dataclass(frozen=True)
@@ -132,9 +135,9 @@ class Refusal:
     message: Optional[int] = None
 
 
-def _parts(name: str, line: str) -> Optional[Dict[str, Any]]:
+def _parts(name: str, line: str, begin: str = "") -> Optional[Dict[str, Any]]:
     """What a line of this name holds, or None if it is none. No number has more than 18 digits."""
-    matches = (expression.fullmatch(line) for expression in expressions(name))
+    matches = (expression.fullmatch(line) for expression in expressions(name, begin))
     match = None if LONG.search(line) else next(filter(None, matches), None)
     if match is None:
         return None
@@ -149,10 +152,11 @@ def verdict(line: str) -> Optional[Verdict]:
 
 def finding(line: str) -> Optional[Finding]:
     """The finding of a line, or None if it is none."""
-    parts = _parts("finding", line)
-    if parts is None:
+    begin = BEGIN.match(line)
+    parts = _parts("finding", line, begin[0]) if begin else None
+    if begin is None or parts is None:
         return None
-    rule = int(line[1 : line.index(" ")])
+    rule = int(begin[1])
     return Finding(line, rule, NAMES[rule], **parts)
 
 
