@@ -6,9 +6,8 @@ that name. An expression is matched against a whole line, without its line end.
 from __future__ import annotations
 
 import re
-from dataclasses import dataclass
 from functools import lru_cache
-from typing import Any, Dict, List, Optional, Pattern, Tuple
+from typing import Any, Dict, List, NamedTuple, Optional, Pattern, Tuple
 
 GRAMMAR = r"""
 number          0|[1-9][0-9]*
@@ -84,8 +83,7 @@ def expressions(name: str, begin: str = "") -> Tuple[Pattern[str], ...]:
     return tuple(re.compile(put_in(expression)) for expression in found)
 
 
-@dataclass(frozen=True)
-class Verdict:
+class Verdict(NamedTuple):
     """The first line of a report."""
 
     line: str
@@ -100,8 +98,7 @@ class Verdict:
         return self.groups is not None
 
 
-@dataclass(frozen=True)
-class Finding:
+class Finding(NamedTuple):
     """One line of a report. Numbers that it does not name are None."""
 
     line: str
@@ -115,8 +112,7 @@ class Finding:
     direction: Optional[str] = None
 
 
-@dataclass(frozen=True)
-class Refusal:
+class Refusal(NamedTuple):
     """A line that begins with `refused: `. What it does not name is None."""
 
     text: str

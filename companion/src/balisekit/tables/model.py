@@ -29,8 +29,7 @@ class Row(NamedTuple):
     """How the kilometres go in nominal direction: `rising`, `falling` or nothing."""
 
 
-@dataclass(frozen=True)
-class Aspect:
+class Aspect(NamedTuple):
     """One content of a group: its balises in nominal order."""
 
     name: str
@@ -55,8 +54,7 @@ class Group:
         return {row.number: place for aspect in reversed(self.aspects) for place, row in enumerate(aspect.rows)}
 
 
-@dataclass(frozen=True)
-class Table:
+class Table(NamedTuple):
     """A table as it was read."""
 
     path: str
@@ -75,8 +73,7 @@ class Table:
     """Of the first 1,000 headings that are passed over: the one for which each may have been mistyped, or nothing."""
 
 
-@dataclass(frozen=True)
-class Message:
+class Message(NamedTuple):
     """One radio message of a file of messages."""
 
     number: int
@@ -88,8 +85,7 @@ class Message:
     name: str = ""
 
 
-@dataclass(frozen=True)
-class Messages:
+class Messages(NamedTuple):
     """A file of radio messages as it was read."""
 
     path: str
