@@ -492,7 +492,7 @@ MISTAKES: Dict[Mistake, Tuple[str, str]] = {
     wrong_direction: (
         "F12",
         "no packet 27 (international static speed profile) beside packet 12 (movement authority of level 1, V_MAIN 120 "
-        'km/h) of balise "B2" (N_PIG 1): packet 27 is there for reverse only, row 8',
+        'km/h) of balise "B2" (N_PIG 1): packet 27 is there for reverse only (Q_DIR 0), row 8',
     ),
     pasted: (
         "F3",
@@ -610,7 +610,7 @@ def test_an_authority_without_profiles_is_one_entry(program: Program, tmp_path: 
         "no packet 21 (gradient profile) and no packet 27 (international static speed profile) beside packet 12 ("
     )
     assert both.sentence.startswith(profiles) and gradient.sentence.endswith(
-        ": packet 21 is there for reverse only, row 4"
+        ": packet 21 is there for reverse only (Q_DIR 0), row 4"
     )
 
 
