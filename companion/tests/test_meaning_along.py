@@ -29,18 +29,7 @@ from meaning_mistakes import (
     single_balise,
     with_packet,
 )
-from meaning_mistakes_of_groups import (
-    FIXED,
-    GREEN,
-    MISTAKES_FOLDER,
-    RED,
-    SHORT,
-    YELLOW,
-    Change,
-    answer,
-    raw,
-    telegram,
-)
+from meaning_mistakes_of_groups import FIXED, GREEN, MISTAKES_FOLDER, RED, SHORT, YELLOW, Change, answer, raw, telegram
 from test_meaning import written
 
 from balisekit.engine.program import Program

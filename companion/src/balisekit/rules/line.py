@@ -65,6 +65,7 @@ class LinkedGroups:
         ranges = map(range, [begin, *(cut + 1 for cut in cuts)], [*cuts, end])
         return [each for each in ranges if each]
 
+
 CAUSES = {1: "rows in a wrong order", 3: "a wrong telegram"}
 """What a finding of the program shows that other rules may find too."""
 
