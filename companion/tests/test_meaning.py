@@ -144,26 +144,40 @@ def test_e11_needs_kilometres(run: Run, program: Program, tmp_path: Path) -> Non
 
 
 def test_other_outputs(run: Run, program: Program, tmp_path: Path) -> None:
-    """A remark is in the report, in the JSON and in a proposal, whose signed entry accepts it as correct data may."""
+    """A remark is in the JSON and in a proposal, whose signed entry accepts it as correct data may."""
     path = written(program, tmp_path / "t.csv", Line(), _copied)
-    sentence = "have the same packets in every balise"
-    assert run("report", path, "--html", tmp_path / "r.html")[0] == 1
-    assert (tmp_path / "r.html").read_text("utf-8").count(sentence) == 2
-    run("check", path, "--json", tmp_path / "a.json", "--propose", tmp_path / "p.csv")
+    run("check", path, "--json", tmp_path / "a.json")
     answer = json.loads((tmp_path / "a.json").read_text("utf-8"))
     (entry,) = answer["entries"]
     assert (entry["rule"], entry["proved"], entry["rows"], entry["aspects"]) == ("E7", False, [16, 17], list(AHEAD))
     assert answer["rules"]["E7"]["looked_at"] == 15 and not answer["rules"]["E7"]["not_looked_at"]
-    proposal = (tmp_path / "p.csv").read_text("utf-8")
-    assert proposal.splitlines()[1].startswith("E7,352,4,,,,,,,,,,")
-    signed = tmp_path / "s.csv"
-    signed.write_text(proposal.replace("E7,352,4,,,,,,,,,,", "E7,352,4,,,,,,one aspect,J. Doe,2026-01-02,,"), "utf-8")
+    signed = _signed(run, path, tmp_path)
     status, out, _ = run("check", path, "--accepted", signed)
     assert status == 0 and out[-1] == "no open findings, links or remarks"
-    assert run("report", path, "--html", tmp_path / "r.html", "--force", "--accepted", signed)[0] == 0
-    assert "accepted: one aspect (J. Doe, 2026-01-02)" in (tmp_path / "r.html").read_text("utf-8")
     other = written(program, tmp_path / "t.csv", Line(), _copied, _farther)
     assert run("check", other, "--accepted", signed)[0] == 1
+
+
+def test_report(run: Run, program: Program, tmp_path: Path) -> None:
+    """A remark is in the report, and is accepted there by a signed entry."""
+    pytest.importorskip("jinja2")
+    path = written(program, tmp_path / "t.csv", Line(), _copied)
+    page = tmp_path / "r.html"
+    assert run("report", path, "--html", page)[0] == 1
+    assert page.read_text("utf-8").count("have the same packets in every balise") == 2
+    signed = _signed(run, path, tmp_path)
+    assert run("report", path, "--html", page, "--force", "--accepted", signed)[0] == 0
+    assert "accepted: one aspect (J. Doe, 2026-01-02)" in page.read_text("utf-8")
+
+
+def _signed(run: Run, path: Path, folder: Path) -> Path:
+    """The entry that is proposed for the remark of a table, signed."""
+    proposal, signed = folder / "p.csv", folder / "s.csv"
+    run("check", path, "--propose", proposal)
+    text = proposal.read_text("utf-8")
+    assert text.splitlines()[1].startswith("E7,352,4,,,,,,,,,,")
+    signed.write_text(text.replace("E7,352,4,,,,,,,,,,", "E7,352,4,,,,,,one aspect,J. Doe,2026-01-02,,"), "utf-8")
+    return signed
 
 
 def _farther(rows: List[Row]) -> None:

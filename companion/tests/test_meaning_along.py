@@ -8,6 +8,7 @@ from typing import Any, Callable, Dict, List, Sequence, Tuple
 
 import meaning_mistakes
 import pytest
+from conftest import Run
 from meaning_line import Line, Row, change, table
 from meaning_mistakes import (
     BORDER,
@@ -28,7 +29,7 @@ from meaning_mistakes import (
     single_balise,
     with_packet,
 )
-from meaning_mistakes_of_groups import FIXED, GREEN, MISTAKES_FOLDER, RED, SHORT, YELLOW, Change, answer, raw
+from meaning_mistakes_of_groups import FIXED, GREEN, MISTAKES_FOLDER, RED, SHORT, YELLOW, Change, answer, raw, telegram
 from test_meaning import written
 
 from balisekit.engine.program import Program
@@ -611,3 +612,31 @@ def test_e23(found: Found) -> None:
     assert [
         len(found("E23", SHORT, other(*each))) for each in (("Signal 6",), ("Signal 1", "Signal 2"), ("Signal 3",))
     ] == [0, 0, 1]
+
+
+def test_a_finding_may_be_the_cause(run: Run, program: Program, tmp_path: Path) -> None:
+    """A remark on rows whose group has F1 or F3 says so, and no other remark does."""
+
+    def strange(rows: List[Row]) -> None:
+        one, other = (telegram(rows, signal, "yellow") for signal in (4, 6))
+        one.update(other)
+
+    def turned_group(rows: List[Row]) -> None:
+        for row in rows:
+            if row.group == "Signal R3":
+                row.form["n_pig"] = 1 - row.form["n_pig"]
+
+    for line, changes, rule, end in (
+        (Line(), [strange], "E10", "; F3 is found in Signal 4: a wrong telegram may be the cause"),
+        (
+            BOTH,
+            [meaning_mistakes.reverse_gradients_turned, turned_group],
+            "E19",
+            "; F1 is found in Signal R3: rows in a wrong order may be the cause",
+        ),
+    ):
+        out = run("check", written(program, tmp_path / "t.csv", line, *changes), "--rules", rule)[1]
+        said = [one for one in out if f": {rule}: " in one]
+        group = end.split("found in ")[1].split(":")[0]
+        assert any(one.endswith(end) for one in said)
+        assert all(one.endswith(end) == (group in one) for one in said)

@@ -33,6 +33,33 @@ def found_in(program: Program, path: Path, seed: int, most: int) -> List[str]:
     return [*own, *(f"{each.rule}: {each.location}: {each.sentence}" for each in made)]
 
 
+def is_named(change: Changed, entries: List[Any]) -> bool:
+    """Whether an entry has a row of the change, and its value."""
+    return any(
+        change.numbers.intersection([*each["rows"], *each["other_rows"]])
+        and any(words in each["sentence"] for words in change.words)
+        for each in entries
+    )
+
+
+@pytest.mark.parametrize("most, seeds", [(12, range(100)), pytest.param(30, range(1000), marks=pytest.mark.slow)])
+def test_changes(run: Run, program: Program, tmp_path: Path, most: int, seeds: range) -> None:
+    """At least 95 % are named, and of each kind at least half. (The longest test of this file, so the first one.)"""
+    path, answer = tmp_path / "t.csv", tmp_path / "t.json"
+    kinds: Counter[str] = Counter()
+    missed: Counter[str] = Counter()
+    for seed in seeds:
+        change = changed(seed, most)
+        kinds[change.kind] += 1
+        path.write_text(table(program, change.rows), "utf-8")
+        answer.unlink(missing_ok=True)
+        run("check", path, "--rules", "all", "--json", answer)
+        missed[change.kind] += not is_named(change, json.loads(answer.read_text("utf-8"))["entries"])
+    assert len(kinds) == len(CHANGES)
+    assert sum(missed.values()) * 20 <= len(seeds), missed
+    assert all(missed[kind] * 2 <= count for kind, count in kinds.items()), missed
+
+
 MANY = [pytest.param(200, range(at, at + 50), marks=pytest.mark.slow) for at in range(0, 1000, 50)]
 
 
@@ -47,30 +74,3 @@ def test_sizes() -> None:
     lines = [random_line(seed, most) for seed in range(60) for most in (12, 200)]
     sizes = [sum(len(track.sites) for track in line.tracks) for line in lines]
     assert min(sizes) == 5 and 150 < max(sizes) <= 200
-
-
-def is_named(change: Changed, entries: List[Any]) -> bool:
-    """Whether an entry has a row of the change, and its value."""
-    return any(
-        change.numbers.intersection([*each["rows"], *each["other_rows"]])
-        and any(words in each["sentence"] for words in change.words)
-        for each in entries
-    )
-
-
-@pytest.mark.parametrize("most, seeds", [(12, range(100)), pytest.param(30, range(1000), marks=pytest.mark.slow)])
-def test_changes(run: Run, program: Program, tmp_path: Path, most: int, seeds: range) -> None:
-    """At least 95 % are named, and of each kind at least half."""
-    path, answer = tmp_path / "t.csv", tmp_path / "t.json"
-    kinds: Counter[str] = Counter()
-    missed: Counter[str] = Counter()
-    for seed in seeds:
-        change = changed(seed, most)
-        kinds[change.kind] += 1
-        path.write_text(table(program, change.rows), "utf-8")
-        answer.unlink(missing_ok=True)
-        run("check", path, "--rules", "all", "--json", answer)
-        missed[change.kind] += not is_named(change, json.loads(answer.read_text("utf-8"))["entries"])
-    assert len(kinds) == len(CHANGES)
-    assert sum(missed.values()) * 20 <= len(seeds), missed
-    assert all(missed[kind] * 2 <= count for kind, count in kinds.items()), missed

@@ -115,6 +115,14 @@ def test_each_key_is_needed_and_each_value_has_its_range(name: str, text: str) -
             agree(name, changed(form, path, "nid_c", 0))
 
 
+@pytest.mark.parametrize("name, text", shortest())
+def test_commas_of_lists(name: str, text: str) -> None:
+    """One too many or too few between objects, behind the last or before the first one is not accepted."""
+    for there, wrong in (("},{", "}{"), ("},{", "},,{"), ("}]", "},]"), ("[{", "[,{"), ("[]", "[,]"), ("}]", "}")):
+        for at in (match.start() for match in re.finditer(re.escape(there), text)):
+            assert not EXPRESSIONS[name]().fullmatch(text[:at] + wrong + text[at + len(there) :])
+
+
 @given(st.data())
 def test_several_changes(data: st.DataObject) -> None:
     name, text = data.draw(st.sampled_from(LINES))

@@ -492,7 +492,7 @@ MISTAKES: Dict[Mistake, Tuple[str, str]] = {
     wrong_direction: (
         "F12",
         "no packet 27 (international static speed profile) with packet 12 (movement authority of level 1, V_MAIN 120 "
-        'km/h) of balise "B2" (N_PIG 1): packet 27 holds only in reverse direction, row 8',
+        'km/h) of balise "B2" (N_PIG 1): packet 27 holds only in reverse direction (Q_DIR 0), row 8',
     ),
     pasted: (
         "F3",
@@ -608,7 +608,7 @@ def test_an_authority_without_profiles_is_one_entry(program: Program, tmp_path: 
     ]
     profiles = "no packet 21 (gradient profile) and no packet 27 (international static speed profile) with packet 12 ("
     assert both.sentence.startswith(profiles) and gradient.sentence.endswith(
-        ": packet 21 holds only in reverse direction, row 4"
+        ": packet 21 holds only in reverse direction (Q_DIR 0), row 4"
     )
 
 

@@ -125,5 +125,5 @@ def _only_message(messages: Optional[Messages], line: int) -> Messages:
         raise TableError("--message needs --messages FILE")
     for message in messages.messages:
         if message.number == line:
-            return replace(messages, messages=(message,))
+            return messages._replace(messages=(message,))
     raise TableError(f"line {line} of {messages.path} has no message")

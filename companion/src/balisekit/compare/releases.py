@@ -99,7 +99,7 @@ def by_place(table: Table) -> Table:
     groups = []
     for group in table.groups:
         names = [str(place) if len(group.aspects) > 1 else "" for place in range(len(group.aspects))]
-        aspects = tuple(replace(aspect, name=name) for name, aspect in zip(names, group.aspects))
+        aspects = tuple(aspect._replace(name=name) for name, aspect in zip(names, group.aspects))
         groups.append(replace(group, aspects=aspects))
     return replace(table, groups=tuple(groups))
 

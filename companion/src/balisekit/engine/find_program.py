@@ -4,7 +4,6 @@ from __future__ import annotations
 import hashlib
 import os
 import shutil
-import subprocess
 import sys
 from typing import Dict, Optional
 
@@ -20,27 +19,35 @@ SECONDS = 60
 def find(named: Optional[str]) -> str:
     """Where the program is. The start script of the clone stands for the program that it would run."""
     named = named or os.environ.get("BALISECHECK")
-    script = TOP / "balisecheck"
-    is_clone = (TOP / "companion" / "pyproject.toml").is_file() and script.is_file()
+    script = os.path.join(TOP, "balisecheck")
+    is_clone = os.path.isfile(os.path.join(TOP, "companion", "pyproject.toml")) and os.path.isfile(script)
     if named:
         path = shutil.which(named)
         if path is None or not os.path.isfile(path):
             raise NoAnswer(f"there is no program {named}")
     elif is_clone:
-        path = str(script)
+        path = script
     else:
         # (a wheel installs the program beside the interpreter, in a folder that need not be on the path)
         path = shutil.which("balisecheck", path=os.path.dirname(sys.executable)) or shutil.which("balisecheck")
         if path is None:
             raise NoAnswer("there is no balisecheck on the path: name one by --program or BALISECHECK")
     # (in a clone it is the start script; in a release it is the program itself)
-    if is_clone and os.path.samefile(path, script) and script.read_bytes()[:4] != b"\x7fELF":
-        path = _stored(str(script))
+    if is_clone and os.path.samefile(path, script) and not _is_program(script):
+        path = _stored(script)
     return os.path.abspath(path)
+
+
+def _is_program(path: str) -> bool:
+    """Whether a file is a program, and no script."""
+    with open(path, "rb") as file:
+        return file.read(4) == b"\x7fELF"
 
 
 def _stored(script: str) -> str:
     """The program that the start script would run."""
+    import subprocess  # (only a clone needs it)
+
     try:
         environment = {**os.environ, "BALISECHECK_PATH": "1"}
         words = ["/bin/sh", script]  # (a tree from a zip may have lost the modes, which the script reports)

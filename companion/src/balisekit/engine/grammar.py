@@ -6,9 +6,8 @@ that name. An expression is matched against a whole line, without its line end.
 from __future__ import annotations
 
 import re
-from dataclasses import dataclass
 from functools import lru_cache
-from typing import Any, Dict, List, Optional, Pattern, Tuple
+from typing import Any, Dict, List, NamedTuple, Optional, Pattern, Tuple
 
 GRAMMAR = r"""
 number          0|[1-9][0-9]*
@@ -62,6 +61,8 @@ check           refused: {message}: (?P<text>not hexadecimal|{message fault})
 
 
 LONG = re.compile("[0-9]{19}")
+BEGIN = re.compile("F([0-9]{1,2}) ")
+"""How a finding begins. By its rule one expression is taken."""
 LINES: List[Tuple[str, str]] = re.findall(r"^(.+?) {2,}(.+)$", GRAMMAR, re.MULTILINE)
 """Each name with its expression."""
 PARTS = dict(LINES)
@@ -72,17 +73,17 @@ NAMES: Dict[int, str] = {
 
 
 @lru_cache(maxsize=None)
-def expressions(name: str) -> Tuple[Pattern[str], ...]:
-    """The expressions of a name: `verdict`, `finding`, and the command whose refusal it is."""
+def expressions(name: str, begin: str = "") -> Tuple[Pattern[str], ...]:
+    """The expressions of a name that begin so: `verdict`, `finding`, and the command whose refusal it is."""
 
     def put_in(expression: str) -> str:
         return re.sub(r"\{([a-z ]+)\}", lambda match: f"(?:{put_in(PARTS[match[1]])})", expression)
 
-    return tuple(re.compile(put_in(expression)) for key, expression in LINES if key == name)
+    found = (expression for key, expression in LINES if key == name and expression.startswith(begin))
+    return tuple(re.compile(put_in(expression)) for expression in found)
 
 
-@dataclass(frozen=True)
-class Verdict:
+class Verdict(NamedTuple):
     """The first line of a report."""
 
     line: str
@@ -97,8 +98,7 @@ class Verdict:
         return self.groups is not None
 
 
-@dataclass(frozen=True)
-class Finding:
+class Finding(NamedTuple):
     """One line of a report. Numbers that it does not name are None."""
 
     line: str
@@ -112,8 +112,7 @@ class Finding:
     direction: Optional[str] = None
 
 
-@dataclass(frozen=True)
-class Refusal:
+class Refusal(NamedTuple):
     """A line that begins with `refused: `. What it does not name is None."""
 
     text: str
@@ -132,9 +131,9 @@ class Refusal:
     message: Optional[int] = None
 
 
-def _parts(name: str, line: str) -> Optional[Dict[str, Any]]:
+def _parts(name: str, line: str, begin: str = "") -> Optional[Dict[str, Any]]:
     """What a line of this name holds, or None if it is none. No number has more than 18 digits."""
-    matches = (expression.fullmatch(line) for expression in expressions(name))
+    matches = (expression.fullmatch(line) for expression in expressions(name, begin))
     match = None if LONG.search(line) else next(filter(None, matches), None)
     if match is None:
         return None
@@ -149,10 +148,11 @@ def verdict(line: str) -> Optional[Verdict]:
 
 def finding(line: str) -> Optional[Finding]:
     """The finding of a line, or None if it is none."""
-    parts = _parts("finding", line)
-    if parts is None:
+    begin = BEGIN.match(line)
+    parts = _parts("finding", line, begin[0]) if begin else None
+    if begin is None or parts is None:
         return None
-    rule = int(line[1 : line.index(" ")])
+    rule = int(begin[1])
     return Finding(line, rule, NAMES[rule], **parts)
 
 

@@ -9,10 +9,9 @@ import json
 import os
 import tempfile
 from collections.abc import Callable, Iterable, Iterator, Mapping, Sequence
-from concurrent.futures import ThreadPoolExecutor
 from dataclasses import dataclass, field, replace
 from threading import Event
-from typing import IO, Any, Dict, List, Optional, Tuple, TypeVar, Union
+from typing import IO, Any, Dict, List, NamedTuple, Optional, Tuple, TypeVar, Union
 
 from balisekit.engine import find_program, grammar, records
 from balisekit.engine.grammar import Finding, Refusal, Verdict
@@ -45,8 +44,7 @@ Answer = Union[str, Refusal]
 Done = TypeVar("Done")
 
 
-@dataclass(frozen=True)
-class Record:
+class Record(NamedTuple):
     """A telegram or message that the program has read."""
 
     line: str
@@ -59,16 +57,14 @@ class Record:
         return form
 
 
-@dataclass(frozen=True)
-class Text:
+class Text(NamedTuple):
     """A telegram or message that the program has written."""
 
     line: str
     """Its hexadecimal digits."""
 
 
-@dataclass(frozen=True)
-class Report:
+class Report(NamedTuple):
     """What `check` reports of a document that it has read."""
 
     verdict: Verdict
@@ -208,13 +204,19 @@ class Program:
             yield answer
             if refused == FEW:
                 break
-        program, starts = replace(self, _stop=Event()), range(done, count, PART)
+        if done < count:
+            yield from replace(self, _stop=Event())._in_parts(work, range(done, count, PART))
+
+    def _in_parts(self, work: Callable[[Program, Part], Iterator[Done]], starts: Sequence[int]) -> Iterator[Done]:
+        """What is done for the lines from these on, by several runs at a time. They end with the iterator."""
+        from concurrent.futures import ThreadPoolExecutor  # (few inputs need it, and it imports much)
+
         with ThreadPoolExecutor(AT_A_TIME) as pool:
             try:
-                for answers in pool.map(lambda start: list(work(program, (start, start + PART))), starts):
+                for answers in pool.map(lambda start: list(work(self, (start, start + PART))), starts):
                     yield from answers
             finally:
-                program._stop.set()
+                self._stop.set()
                 pool.shutdown(wait=False, cancel_futures=True)
 
     def _check(self, document: IO[bytes]) -> Union[Report, Refusal]:

@@ -153,8 +153,8 @@ def _up_to(digits: str, least: int = 0) -> str:
     """An expression for all texts of this many digits up to these, whose first digit is at least this one."""
     first, rest = int(digits[0]), digits[1:]
     if not rest.strip("9"):
-        return f"[{least}-{first}]" + f"[0-9]{{{len(rest)}}}" * bool(rest)
-    below = [f"[{least}-{first - 1}][0-9]{{{len(rest)}}}"] if first > least else []
+        return f"[{least}-{first}]" + "[0-9]" * len(rest)
+    below = [f"[{least}-{first - 1}]" + "[0-9]" * len(rest)] if first > least else []
     return "|".join([*below, f"{first}(?:{_up_to(rest)})"])
 
 
@@ -197,9 +197,8 @@ def _value(key: str) -> str:
 
 
 def _list(item: str, least: int, most: Optional[int] = None) -> str:
-    """An expression for a list with at least and at most this many items."""
-    items = f"{item}(?:,{item}){{{max(least - 1, 0)},{'' if most is None else most - 1}}}"
-    return rf"\[{items}\]" if least else rf"\[(?:{items})?\]"
+    """An expression for a list with at least and at most this many objects. It has theirs once, since that is long."""
+    return rf"\[(?:{item}(?:,(?={{)|(?=\]))){{{least},{'' if most is None else most}}}\]"
 
 
 def _object(keys: str, **values: str) -> str:

@@ -6,8 +6,7 @@ if their layout is known.
 """
 from __future__ import annotations
 
-from dataclasses import dataclass
-from typing import Any, Callable, Dict, Iterator, List, Optional, Sequence, Tuple
+from typing import Any, Callable, Dict, Iterator, List, NamedTuple, Optional, Sequence, Tuple
 
 from balisekit.etcs.packets import packet_name
 from balisekit.etcs.raw_packets import content_of, layout_words, with_content
@@ -33,8 +32,7 @@ PACKET_KEYS: Sequence[Callable[[Values], object]] = (
 """By what packets are paired, and then those that are left."""
 
 
-@dataclass(frozen=True)
-class Change:
+class Change(NamedTuple):
     """A field that differs, or a part that is in one of both alone."""
 
     kind: str

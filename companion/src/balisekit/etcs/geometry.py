@@ -41,8 +41,7 @@ GREATEST = 10**15
 """In decimetres. The kilometres of a table are far less."""
 
 
-@dataclass(frozen=True)
-class Authority:
+class Authority(NamedTuple):
     """A movement authority, packet 12 or 15."""
 
     site: Site
@@ -76,8 +75,7 @@ class Element(NamedTuple):
     """The value as it is sent."""
 
 
-@dataclass(frozen=True)
-class Profile:
+class Profile(NamedTuple):
     """A gradient profile or a static speed profile, packet 21 or 27."""
 
     site: Site
@@ -92,8 +90,7 @@ class Profile:
     """Where the first end mark lies. A profile without one is open."""
 
 
-@dataclass(frozen=True)
-class Way:
+class Way(NamedTuple):
     """What a group or message says in one direction."""
 
     direction: str

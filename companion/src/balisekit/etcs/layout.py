@@ -7,8 +7,7 @@ from __future__ import annotations
 
 import re
 from contextlib import suppress
-from dataclasses import dataclass
-from typing import Dict, List, Optional, Tuple
+from typing import Dict, List, NamedTuple, Optional, Tuple
 
 from balisekit.engine.records import BODIES, FROM_TRACK, FROM_TRAIN, KEYS, ONLY_WITH, allowed, width
 from balisekit.etcs.variables import NO_FORM, Values, variable_name
@@ -17,8 +16,7 @@ GROUPS = {"nid_c": "NID_LRBG", "prv_nid_c": "NID_PRVLRBG"}
 """Variables of NID_C and NID_BG, by the key of the first one."""
 
 
-@dataclass(frozen=True)
-class Field:
+class Field(NamedTuple):
     """A variable among the bits."""
 
     name: str

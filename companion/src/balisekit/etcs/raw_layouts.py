@@ -15,13 +15,13 @@ the order of the bits, each of them one of:
 from __future__ import annotations
 
 import json
+import os
 import re
 from dataclasses import dataclass
 from functools import lru_cache
-from pathlib import Path
 from typing import Any, Dict, Iterator, List, Mapping, NamedTuple, Optional, Tuple, Union
 
-DATA = Path(__file__).with_name("raw_layouts.json")
+DATA = "raw_layouts.json"
 CERTAIN = 97
 """From how many per cent on a layout is taken as certain. No remark rests on another one."""
 IMPLIED = ("Q_NEWCOUNTRY", "N_ITER")
@@ -37,8 +37,7 @@ class Span(NamedTuple):
     words: str
 
 
-@dataclass(frozen=True)
-class Variable:
+class Variable(NamedTuple):
     """A variable of the standard (SUBSET-026, 7.5.1), as balisekit believes it to be."""
 
     name: str
@@ -54,8 +53,7 @@ class Variable:
         return next((span for span in self.spans if span.first <= number <= span.last), None)
 
 
-@dataclass(frozen=True)
-class Condition:
+class Condition(NamedTuple):
     """Variables before a field that decide whether it is there: name, number, and whether it has that number."""
 
     parts: Tuple[Tuple[str, int, bool], ...] = ()
@@ -65,8 +63,7 @@ class Condition:
         return all(name in numbers and (numbers[name] == number) == wanted for name, number, wanted in self.parts)
 
 
-@dataclass(frozen=True)
-class One:
+class One(NamedTuple):
     """A variable in a layout."""
 
     variable: Variable
@@ -75,8 +72,7 @@ class One:
     when: Condition
 
 
-@dataclass(frozen=True)
-class Many:
+class Many(NamedTuple):
     """A list of items, or without a key fields that are there together."""
 
     fields: Tuple[Part, ...]
@@ -98,8 +94,7 @@ class Rest:
 Part = Union[One, Many, Rest]
 
 
-@dataclass(frozen=True)
-class Layout:
+class Layout(NamedTuple):
     """What the body of a packet has."""
 
     number: int
@@ -118,7 +113,8 @@ class Layout:
 @lru_cache(maxsize=None)
 def data() -> Dict[str, Any]:
     """The file as it is."""
-    read: Dict[str, Any] = json.loads(DATA.read_text("utf-8"))
+    with open(os.path.join(os.path.dirname(__file__), DATA), encoding="utf-8") as file:
+        read: Dict[str, Any] = json.load(file)
     return read
 
 
@@ -157,7 +153,7 @@ def _spans(numbers: str) -> Iterator[Span]:
     for text in numbers.split("; "):
         found = NUMBERS.fullmatch(text)
         if found is None:
-            raise ValueError(f"{DATA.name}: numbers of another form: {text}")
+            raise ValueError(f"{DATA}: numbers of another form: {text}")
         yield Span(int(found[1]), int(found[2] or found[1]), found[3] or "")
 
 
@@ -182,7 +178,7 @@ def _part(field: Any) -> Part:
 def _condition(text: str) -> Condition:
     found = [re.fullmatch(r"(\w+)( not)? (\d+)", part) for part in filter(None, text.split(" and "))]
     if not all(found):
-        raise ValueError(f"{DATA.name}: a condition of another form: {text}")
+        raise ValueError(f"{DATA}: a condition of another form: {text}")
     return Condition(tuple((part[1], int(part[3]), not part[2]) for part in found if part))
 
 

@@ -4,7 +4,7 @@ from __future__ import annotations
 import hashlib
 import os
 import stat
-from dataclasses import dataclass
+from typing import NamedTuple
 
 from balisekit.errors import TableError, faults_of
 
@@ -17,8 +17,7 @@ GREATEST = 2_000_000_000
 """So many bytes a file that is read may have."""
 
 
-@dataclass(frozen=True)
-class Input:
+class Input(NamedTuple):
     """A file that was read."""
 
     path: str

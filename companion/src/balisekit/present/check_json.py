@@ -1,10 +1,11 @@
 """The answer of `check` as JSON, for other tools."""
 from __future__ import annotations
 
-from typing import Any, Dict
+from itertools import islice
+from typing import Any, Dict, Iterator, Tuple
 
 from balisekit.engine.program import Record
-from balisekit.io.outputs import Json, encode
+from balisekit.io.outputs import Json, encode_each
 from balisekit.present import accepted_text
 from balisekit.present.entries_json import entries_json
 from balisekit.present.headings import finding_words, not_decoded
@@ -16,6 +17,9 @@ from balisekit.rules.checking import Checked, LeftOut, Place, Refused, RefusedMe
 from balisekit.rules.families import Outcome
 from balisekit.rules.remarks import remarks
 from balisekit.tables.model import Message, Row
+
+AT_A_TIME = 1000
+"""So many telegrams are made JSON of together."""
 
 
 def as_json(outcome: Outcome) -> Dict[str, Any]:
@@ -31,8 +35,8 @@ def as_json(outcome: Outcome) -> Dict[str, Any]:
         "verdict" if checked.whole else "rest": checked.verdict.line if checked.verdict else None,
         **_inputs(checked),
         "counts": _counts(checked),
-        "telegrams": (_with_form(_row(row), record) for row, record in checked.accepted.decoded()),
-        "read_messages": (_with_form(_message(one.message), one.record) for one in checked.accepted_messages),
+        "telegrams": _with_forms((_row(row), record) for row, record in checked.accepted.decoded()),
+        "read_messages": _with_forms((_message(one.message), one.record) for one in checked.accepted_messages),
         "refused": map(_refused, checked.refused),
         "refused_messages": map(_refused_message, checked.refused_messages),
         "left_out": map(_left_out, checked.left_out),
@@ -89,9 +93,11 @@ def _message(message: Message) -> Dict[str, Any]:
     return {"line_of_file": message.number, "name": message.name}
 
 
-def _with_form(members: Dict[str, Any], record: Record) -> Json:
-    """An object with the program's line as its last member."""
-    return Json(f'{encode(members)[:-1]},"form":{record.line}}}')
+def _with_forms(pairs: Iterator[Tuple[Dict[str, Any], Record]]) -> Iterator[Json]:
+    """Objects with the program's line as their last member."""
+    for some in iter(lambda: list(islice(pairs, AT_A_TIME)), []):
+        for text, (_, record) in zip(encode_each([members for members, _ in some]), some):
+            yield Json(f'{text[:-1]},"form":{record.line}}}')
 
 
 def _refused(refused: Refused) -> Dict[str, Any]:

@@ -8,7 +8,7 @@ from balisekit.rules.aspect_counts import aspects_found
 from balisekit.rules.checking import Checked
 from balisekit.rules.remarks import remarks
 from balisekit.tables.model import Table
-from balisekit.tables.names import clean, describe_group, passed_over
+from balisekit.tables.names import clean, counted, describe_group, passed_over
 
 
 def opening_lines(checked: Checked) -> Iterator[str]:
@@ -24,7 +24,7 @@ def opening_lines(checked: Checked) -> Iterator[str]:
 
 def head_line(table: Table) -> str:
     """The first line of an answer."""
-    return f"{clean(table.path)}: {len(table.rows)} telegrams of {len(table.groups)} groups"
+    return f"{clean(table.path)}: {counted(len(table.rows), 'telegram')} of {counted(len(table.groups), 'group')}"
 
 
 def before_last(table: Table) -> Iterator[str]:

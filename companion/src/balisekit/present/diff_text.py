@@ -108,7 +108,7 @@ def _exchanged_json(each: Exchanged) -> Dict[str, Any]:
 
 
 def _changed_json(changed: Changed) -> Dict[str, Any]:
-    changes = [vars(change) for change in changed.changes]
+    changes = [change._asdict() for change in changed.changes]
     return {"words": changed.words, "row_old": changed.old, "row_new": changed.new, "changes": changes}
 
 

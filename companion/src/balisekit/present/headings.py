@@ -8,7 +8,7 @@ from balisekit.etcs.raw_layouts import layout_of
 from balisekit.rules.checking import Checked, Place
 from balisekit.rules.entries import Entry, entry_of, track_of
 from balisekit.rules.urgency import Urgency
-from balisekit.tables.names import clean, describe_message, kilometre, quoted, rows_words
+from balisekit.tables.names import clean, counted, describe_message, kilometre, quoted, rows_words
 
 URGENCIES: Dict[Urgency, str] = {
     Urgency.WRONG_INFORMATION: "at worst wrong information:",
@@ -89,15 +89,11 @@ def summary(checked: Checked, found: Sequence[Entry], are_open: bool) -> Iterato
     findings = [place for entry in found for place in entry.findings]
     counts = Counter(f"F{place.finding.rule}" for place in findings)
     open_ = "open " if are_open else ""
-    causes = f" of {_count(len(found), 'cause')}" if len(found) < len(findings) else ""
+    causes = f" of {counted(len(found), 'cause')}" if len(found) < len(findings) else ""
     total, groups = len(checked.kept), {place.group.name for place in findings if place.group}
-    sound = f"; {total - len(groups)} of {_count(total, 'group')} without {open_}finding" if total else ""
+    sound = f"; {total - len(groups)} of {counted(total, 'group')} without {open_}finding" if total else ""
     of_rules = ", ".join(f"{rule} {count}" for rule, count in counts.items())
-    yield f"{_count(len(findings), f'{open_}finding')}{causes}: {of_rules}{sound}"
-
-
-def _count(count: int, what: str) -> str:
-    return f"{count} {what}{'s' * (count != 1)}"
+    yield f"{counted(len(findings), f'{open_}finding')}{causes}: {of_rules}{sound}"
 
 
 DECODED = {True: "decoded only by balisekit", False: "decoded only by balisekit, layout not certain"}

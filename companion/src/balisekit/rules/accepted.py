@@ -12,7 +12,7 @@ import re
 from collections import Counter
 from dataclasses import dataclass
 from functools import cached_property
-from typing import Dict, Iterable, Iterator, List, Mapping, Optional, Sequence, Tuple, Union
+from typing import Dict, Iterable, Iterator, List, Mapping, NamedTuple, Optional, Sequence, Tuple, Union
 
 from balisekit.errors import TableError, TableErrors, faults_of
 from balisekit.io import inputs
@@ -58,8 +58,7 @@ Item = Union[Place, Remark]
 """What one entry accepts: a finding of the program, or a remark of a rule of balisekit."""
 
 
-@dataclass(frozen=True)
-class Acceptance:
+class Acceptance(NamedTuple):
     """A row of the file."""
 
     row: int
@@ -122,8 +121,7 @@ class Acceptance:
         return [f"the {what} changed{f' since {self.date}' if self.date else ''}{hint}"]
 
 
-@dataclass(frozen=True)
-class Entries:
+class Entries(NamedTuple):
     """A file of accepted findings as it was read."""
 
     path: str

@@ -1,13 +1,16 @@
 """What rules have found of a line, and what they could not look at."""
 from __future__ import annotations
 
-from dataclasses import dataclass
+from dataclasses import dataclass, replace
 from functools import cached_property
 from typing import Callable, Iterator, Mapping, Sequence, Tuple
 
 from balisekit.rules.line import Line
+from balisekit.rules.location import BaliseGroup
 from balisekit.rules.rule import Options, Remark, Result, Rule
 
+FOLLOWS = {"E10": 3, "E12": 3, "E19": 1}
+"""The rule of the program whose findings may be the cause of a remark of the same rows."""
 Notes = Callable[[Line], Iterator[str]]
 
 
@@ -38,5 +41,21 @@ class Applied:
 
 def look_for(line: Line, options: Options, rules: Sequence[Rule], notes: Notes = no_notes) -> Applied:
     """Applies these rules to a line."""
-    results = {rule: rule.find(line, options) for rule in rules}
+    results = {rule: _with_causes(line, rule, rule.find(line, options)) for rule in rules}
     return Applied(line, results, (*notes(line), *(note for result in results.values() for note in result.notes)))
+
+
+def _with_causes(line: Line, rule: Rule, result: Result) -> Result:
+    """The same result. Remarks that may follow from a finding of the program say so."""
+    number = FOLLOWS.get(rule.name, 0)
+    suspects = [group for group in line.groups if line.has(number, group)] if number and result.found else []
+    if not suspects:
+        return result
+    return replace(result, found=[_with_cause(line, number, suspects, each) for each in result.found])
+
+
+def _with_cause(line: Line, number: int, suspects: Sequence[BaliseGroup], remark: Remark) -> Remark:
+    """The same remark, and which groups of its rows have that finding."""
+    rows = {*remark.rows, *remark.others, *([remark.location.row.number] if remark.location.row else [])}
+    groups = [group for group in suspects if not rows.isdisjoint(row.number for row in group.group.rows())]
+    return replace(remark, sentence=remark.sentence + line.cause(number, *groups)) if groups else remark

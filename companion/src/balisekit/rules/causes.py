@@ -5,7 +5,7 @@ Which findings belong to exchanged telegrams is the program's word: those that i
 from __future__ import annotations
 
 from collections import Counter
-from dataclasses import dataclass, replace
+from dataclasses import replace
 from typing import Dict, Iterable, Iterator, List, Mapping, NamedTuple, Optional, Sequence, Set, Tuple
 
 from balisekit.engine.program import Report
@@ -24,8 +24,7 @@ NO_GRADIENT, NO_SPEED_PROFILE = 10, 12
 Identity = Tuple[int, int]
 
 
-@dataclass(frozen=True)
-class Cause:
+class Cause(NamedTuple):
     """Findings of one cause, and what is wrong."""
 
     rule: int
@@ -268,7 +267,7 @@ def _with_copies(checked: Checked, some: Sequence[Cause]) -> Iterator[Cause]:
         said = cause.statement
         for row in suspects.get(index, ()):
             said = _copied(said, row, [each for each in copies[row.telegram.lower()] if each.group != row.group])
-        yield replace(cause, statement=said)
+        yield cause._replace(statement=said)
 
 
 def _compared(cause: Cause) -> Iterator[Row]:

@@ -5,7 +5,7 @@ import json
 import re
 from dataclasses import dataclass, replace
 from functools import cached_property, lru_cache, partial
-from typing import Dict, Iterable, Iterator, List, Mapping, Optional, Sequence, Set, Tuple, TypeVar
+from typing import Dict, Iterable, Iterator, List, Mapping, NamedTuple, Optional, Sequence, Set, Tuple, TypeVar
 
 from balisekit.engine.grammar import Finding, Refusal, Verdict
 from balisekit.engine.program import Program, Record, Report
@@ -87,8 +87,7 @@ class Telegrams(Mapping[int, Form]):
         return number in self._rows
 
 
-@dataclass(frozen=True)
-class Refused:
+class Refused(NamedTuple):
     """A row whose telegram the program has refused."""
 
     row: Row
@@ -97,8 +96,7 @@ class Refused:
     """The row at which the run began that refused it."""
 
 
-@dataclass(frozen=True)
-class AcceptedMessage:
+class AcceptedMessage(NamedTuple):
     """A message that the program has read."""
 
     message: Message
@@ -110,24 +108,21 @@ class AcceptedMessage:
         return self.record.form
 
 
-@dataclass(frozen=True)
-class RefusedMessage:
+class RefusedMessage(NamedTuple):
     """A message that the program has refused."""
 
     message: Message
     refusal: Refusal
 
 
-@dataclass(frozen=True)
-class LeftOut:
+class LeftOut(NamedTuple):
     """A group that was not handed to `check`, and why."""
 
     group: Group
     why: str
 
 
-@dataclass(frozen=True)
-class Place:
+class Place(NamedTuple):
     """What a finding is about, in the table's words. What it does not name is None."""
 
     finding: Finding

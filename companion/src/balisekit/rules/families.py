@@ -5,7 +5,7 @@ F are the findings of the program, which are proved. The other families are rule
 from __future__ import annotations
 
 import time
-from dataclasses import dataclass, replace
+from dataclasses import dataclass
 from datetime import date
 from functools import cached_property
 from typing import Iterator, Mapping, NamedTuple, Optional, Sequence, Tuple
@@ -63,8 +63,7 @@ FAMILIES: Mapping[str, Family] = {
 """In the order of an answer."""
 
 
-@dataclass(frozen=True)
-class Part:
+class Part(NamedTuple):
     """What the rules of one family have found of a table."""
 
     family: Family
@@ -200,7 +199,7 @@ def _with_entries(checked: Checked, part: Part, judged: Optional[Judged]) -> Par
     still_open = [item for item in part.items if not (judged and judged.of(item))]
     accepted = [item for item in part.items if judged and judged.of(item)]
     made = [_entries(checked, items) if items else [] for items in (still_open, accepted)]
-    return replace(part, open=made[0], accepted=made[1], seconds=part.seconds + time.perf_counter() - begin)
+    return part._replace(open=made[0], accepted=made[1], seconds=part.seconds + time.perf_counter() - begin)
 
 
 def _entries(checked: Checked, items: Sequence[Item]) -> Sequence[Entry]:

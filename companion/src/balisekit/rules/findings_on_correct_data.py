@@ -5,14 +5,14 @@ companion/tools/from_docs.py makes `findings_on_correct_data.json` of the table.
 from __future__ import annotations
 
 import json
-from pathlib import Path
+import os
 from typing import Dict, Sequence
 
 from balisekit.engine.grammar import Finding
 from balisekit.etcs.geometry import passed
 from balisekit.etcs.variables import Form
 
-MADE = Path(__file__).with_name("findings_on_correct_data.json")
+MADE = os.path.join(os.path.dirname(__file__), "findings_on_correct_data.json")
 MISSING, SHORT = (10, 12), (11, 13)
 PROFILES = (21, 27)
 Forms = Sequence[Form]
@@ -20,7 +20,8 @@ Forms = Sequence[Form]
 
 def reasons() -> Dict[str, str]:
     """What the table says of each row."""
-    said: Dict[str, str] = json.loads(MADE.read_text("utf-8"))
+    with open(MADE, encoding="utf-8") as file:
+        said: Dict[str, str] = json.load(file)
     return said
 
 

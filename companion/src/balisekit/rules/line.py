@@ -66,6 +66,10 @@ class LinkedGroups:
         return [each for each in ranges if each]
 
 
+CAUSES = {1: "rows in a wrong order", 3: "a wrong telegram"}
+"""What a finding of the program shows that other rules may find too."""
+
+
 @dataclass(eq=False)
 class Line:
     """All groups of a table in its order, and what can be asked of them. Each answer is worked out when it is asked."""
@@ -214,8 +218,12 @@ class Line:
 
     def wrong_order(self, *groups: BaliseGroup) -> str:
         """The end of a sentence that rests on the directions of groups: which have F1, so that these may be wrong."""
-        names = list(dict.fromkeys(clean(group.group.name) for group in groups if self.has(1, group)))
-        return f"; F1 is found in {' and '.join(names)}: rows in a wrong order may be the cause" if names else ""
+        return self.cause(1, *groups)
+
+    def cause(self, rule: int, *groups: BaliseGroup) -> str:
+        """The end of a sentence that may follow from a finding of the program: which of these groups have it."""
+        names = list(dict.fromkeys(clean(group.group.name) for group in groups if self.has(rule, group)))
+        return f"; F{rule} is found in {' and '.join(names)}: {CAUSES[rule]} may be the cause" if names else ""
 
     @cached_property
     def _used_twice(self) -> FrozenSet[Optional[Identity]]:

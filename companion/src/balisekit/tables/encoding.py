@@ -7,6 +7,9 @@ from typing import Tuple
 from balisekit.errors import TableError
 
 ZIPS = (b"PK\x03\x04", b"PK\x05\x06")
+OLD_WORKBOOK = b"\xd0\xcf\x11\xe0"
+WORKBOOKS = (*ZIPS, OLD_WORKBOOK)
+"""A zip, which a workbook is, and what an .xls or a workbook with a password begins with."""
 PIECE = 1 << 20
 ZEROS_WITHIN = 100
 """UTF-16 without a mark is known by the zeros among so many bytes."""

@@ -8,6 +8,7 @@ from balisekit.errors import TableError, TableErrors, faults_of
 from balisekit.io import inputs
 from balisekit.io.csv_writing import plain
 from balisekit.tables import csv as csv_file, own_headings, xlsx as xlsx_file
+from balisekit.tables.encoding import WORKBOOKS
 from balisekit.tables.cells import ERROR, Sheet, kind_and_text
 from balisekit.tables.headings import Headings
 from balisekit.tables.reader import head_of
@@ -78,7 +79,7 @@ def read(path: str, columns: Optional[str] = None) -> Expected:
 
 def _opened(content: bytes, headings: Headings) -> Tuple[Sheet, Callable[[], Iterator[List[str]]]]:
     """The first rows of a sheet, and a function that gives all of them."""
-    if not content.startswith(xlsx_file.BEGINS):
+    if not content.startswith(WORKBOOKS):
         return csv_file.stream(content, headings)
     sheet = xlsx_file.read(content, None, headings)
     return sheet, lambda: iter(sheet.rows)

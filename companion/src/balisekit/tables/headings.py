@@ -4,7 +4,7 @@ from __future__ import annotations
 import json
 import re
 from dataclasses import dataclass, field
-from typing import Dict, List, Mapping, Optional, Sequence, Tuple
+from typing import Dict, Iterable, List, Mapping, Optional, Sequence, Tuple
 
 from balisekit.errors import TableError
 from balisekit.tables.cells import COLUMNS, GREATEST_NAME, NEEDED, digits, kind_and_text
@@ -111,6 +111,13 @@ class Headings:
         """A note on the headings of the user's own that the row has."""
         names = [f'{name} is "{shown(own)}"' for name, own in self.own.items() if compared([own])[0] in compared(row)]
         return [f"headings by {self.source}: {', '.join(names)}"] if names else []
+
+
+def alike(name: str, known: Iterable[str]) -> str:
+    """The known name for which this one may have been mistyped, or nothing."""
+    from difflib import get_close_matches  # (few tables need it)
+
+    return "".join(get_close_matches(name, known, 1, ALIKE))
 
 
 def compared(row: Sequence[str]) -> List[str]:

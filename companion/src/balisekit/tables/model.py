@@ -29,8 +29,7 @@ class Row(NamedTuple):
     """How the kilometres go in nominal direction: `rising`, `falling` or nothing."""
 
 
-@dataclass(frozen=True)
-class Aspect:
+class Aspect(NamedTuple):
     """One content of a group: its balises in nominal order."""
 
     name: str
@@ -75,8 +74,7 @@ class Table:
     """Of the first 1,000 headings that are passed over: the one for which each may have been mistyped, or nothing."""
 
 
-@dataclass(frozen=True)
-class Message:
+class Message(NamedTuple):
     """One radio message of a file of messages."""
 
     number: int
@@ -88,8 +86,7 @@ class Message:
     name: str = ""
 
 
-@dataclass(frozen=True)
-class Messages:
+class Messages(NamedTuple):
     """A file of radio messages as it was read."""
 
     path: str

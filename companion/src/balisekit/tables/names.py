@@ -23,6 +23,11 @@ def ordinal(place: int) -> str:
     return f"{place + 1}{ending}"
 
 
+def counted(count: int, what: str) -> str:
+    """How many things of a kind: "1 group", "2 groups"."""
+    return f"{count} {what}{'s' * (count != 1)}"
+
+
 def rows_words(numbers: Iterable[int]) -> str:
     """Rows by their numbers: "row 5", "rows 2 to 5", "rows 3, 5 and 7 to 9"."""
     runs: List[List[int]] = []

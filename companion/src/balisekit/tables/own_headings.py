@@ -3,14 +3,13 @@ from __future__ import annotations
 
 import os
 import sys
-from difflib import get_close_matches
 from typing import Any, Dict, Mapping, Optional, Sequence, Tuple
 
 from balisekit.errors import TableError, faults_of
 from balisekit.io import inputs
 from balisekit.io.optional_packages import needed
 from balisekit.tables.cells import COLUMNS
-from balisekit.tables.headings import ALIKE, Headings
+from balisekit.tables.headings import Headings, alike
 
 BESIDE = "balisekit.toml"
 """The file that is read if it is in the folder of the table."""
@@ -90,8 +89,8 @@ def _look_at_stated(stated: Any) -> None:
 
 def _meant(name: str, known: Sequence[str], what: str) -> str:
     """For what a name may have been mistyped."""
-    meant = get_close_matches(name, known, 1, ALIKE)
-    return f'did you mean "{meant[0]}"?' if meant else f"the {what} are {', '.join(known)}"
+    meant = alike(name, known)
+    return f'did you mean "{meant}"?' if meant else f"the {what} are {', '.join(known)}"
 
 
 def _look_at(table: str, headings: Any) -> None:

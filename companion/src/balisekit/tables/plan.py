@@ -26,7 +26,6 @@ from __future__ import annotations
 
 from dataclasses import dataclass
 from decimal import Decimal
-from difflib import get_close_matches
 from functools import cached_property
 from typing import Callable, Dict, Iterator, List, Mapping, NamedTuple, Optional, Sequence, Tuple, TypeVar
 
@@ -35,7 +34,7 @@ from balisekit.io import inputs
 from balisekit.io.csv_writing import plain
 from balisekit.tables import csv as csv_file, plan_values as values
 from balisekit.tables.cells import ERROR, GREATEST_NAME, Sheet
-from balisekit.tables.headings import ALIKE, Headings, compared
+from balisekit.tables.headings import Headings, alike, compared
 from balisekit.tables.names import kilometre
 from balisekit.tables.plan_values import Terms, Value
 from balisekit.tables.reader import head_of, kilometre_of
@@ -198,8 +197,8 @@ def _head(sheet: Sheet, headings: Headings) -> Tuple[int, Dict[str, int]]:
     _, places = head_of(sheet, headings)
     for name in compared(sheet.rows[place]):
         if name and name not in COLUMNS:
-            meant = get_close_matches(name, COLUMNS, 1, ALIKE)
-            hint = f'did you mean "{meant[0]}"?' if meant else f"the columns are {', '.join(COLUMNS)}"
+            meant = alike(name, COLUMNS)
+            hint = f'did you mean "{meant}"?' if meant else f"the columns are {', '.join(COLUMNS)}"
             raise TableError(f"there is no column {name[:40]}: {hint}", row=place + 1)
     return place, places
 
@@ -243,8 +242,8 @@ def _row(number: int, cells: Mapping[str, str]) -> PlanRow:
     """A row of the plan, whose cells fit its kind."""
     kind = cells["kind"].lower()
     if kind not in READERS:
-        meant = get_close_matches(kind, READERS, 1, ALIKE)
-        hint = f'did you mean "{meant[0]}"?' if meant else f"the kinds are {', '.join(READERS)}"
+        meant = alike(kind, READERS)
+        hint = f'did you mean "{meant}"?' if meant else f"the kinds are {', '.join(READERS)}"
         raise TableError(f"{cells['kind'][:40] or 'nothing'} is no kind: {hint}", column="kind")
     way = WAYS.get(cells["way"].lower())
     if way is None:

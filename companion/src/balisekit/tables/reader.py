@@ -3,17 +3,17 @@ from __future__ import annotations
 
 import re
 from decimal import Decimal
-from difflib import get_close_matches
 from itertools import islice
 from operator import getitem, itemgetter
 from typing import Any, Callable, Dict, Iterator, List, Mapping, Optional, Sequence, Tuple
 
 from balisekit.errors import TableError, TableErrors, faults_of
 from balisekit.io import inputs
-from balisekit.tables import csv as csv_file, own_headings, xlsx as xlsx_file
+from balisekit.tables import csv as csv_file, own_headings
 from balisekit.tables.cells import COLUMNS, DIGITS, ERROR, GREATEST_NAME, Sheet, digits, kind_and_text
+from balisekit.tables.encoding import WORKBOOKS
 from balisekit.tables.grouping import groups_of
-from balisekit.tables.headings import ALIKE, SEARCHED, Headings
+from balisekit.tables.headings import SEARCHED, Headings, alike
 from balisekit.tables.merged import end_of_heading, fill, fill_heads
 from balisekit.tables.model import Row, Table
 
@@ -76,7 +76,9 @@ def _hints(passed_over: Sequence[str], meant: Sequence[str], place: int) -> List
 
 def sheet_of(content: bytes, headings: Headings, sheet: Optional[str] = None, fill_merged: bool = False) -> Sheet:
     """The cells of a CSV file, or of the sheet of a workbook that is named or has the headings."""
-    if content.startswith(xlsx_file.BEGINS):
+    if content.startswith(WORKBOOKS):
+        from balisekit.tables import xlsx as xlsx_file  # (a CSV needs no zip and no XML)
+
         return xlsx_file.read(content, sheet, headings, fill_merged)
     if sheet is not None:
         raise TableError("--sheet is for an .xlsx, and this is none")
@@ -132,7 +134,7 @@ def _is_name(cell: str) -> bool:
 def _meant(heading: str, places: Mapping[str, int]) -> str:
     """The column that the table has not and that this heading resembles, or nothing."""
     lacks = [name for name in COLUMNS if name not in places]
-    return "".join(get_close_matches(heading.lower(), lacks, 1, ALIKE))
+    return alike(heading.lower(), lacks)
 
 
 def _passed_over(sheet: Sheet, place: int, places: Mapping[str, int]) -> Tuple[str, ...]:

@@ -15,13 +15,10 @@ from xml.etree.ElementTree import Element, ParseError, iterparse
 from balisekit.errors import KitError, TableError
 from balisekit.io.optional_packages import needed
 from balisekit.tables.cells import Area, Sheet, of_kind
-from balisekit.tables.encoding import ZIPS
+from balisekit.tables.encoding import OLD_WORKBOOK
 from balisekit.tables.headings import SEARCHED, Headings, is_data
 from balisekit.tables.merged import fill_heads
 
-OLD = b"\xd0\xcf\x11\xe0"
-BEGINS = (*ZIPS, OLD)
-"""A zip, which a workbook is, and what an .xls or a workbook with a password begins with."""
 CONTENTS = "[Content_Types].xml"
 """A part that each workbook has."""
 GREATEST, GREATEST_PART = 200_000_000, 100_000_000
@@ -78,7 +75,7 @@ def _unreadable(error: Exception, row: Optional[int] = None) -> Exception:
 
 def _look_at_parts(content: bytes) -> None:
     """TableError is raised for what is no workbook, or takes too long to read."""
-    if content.startswith(OLD):
+    if content.startswith(OLD_WORKBOOK):
         raise TableError("it is an .xls, or protected by a password: save it as .xlsx or CSV")
     try:
         with zipfile.ZipFile(io.BytesIO(content)) as parts:

@@ -71,8 +71,8 @@ def _spacing(group: BaliseGroup, places: List[Tuple[Row, Decimal]], least: Decim
             continue
         limit = f"less than {least}" if metres < least else f"more than {GREATEST}"
         sentence = (
-            f"{_number(metres)} m from the balise before it in the group, row {before.number} (km "
-            f"{kilometre(from_km)}): that is {limit} m, and one unit of the last decimal of the kilometres is "
+            f"the balise is at km {kilometre(km)}, {_number(metres)} m from the one before it in the group, row "
+            f"{before.number}: that is {limit} m, and one unit of the last decimal of the kilometres is "
             f"{_number(unit)} m"
         )
         yield Remark("E11", Location(group, row), sentence, values={"spacing_m": metres}, others=(before.number,))

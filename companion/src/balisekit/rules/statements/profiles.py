@@ -52,9 +52,9 @@ def _elsewhere(scene: Scene, number: int, direction: str) -> Tuple[str, Tuple[in
         return f": packet {number} is in {balise}, which is silent in this direction", balise.rows
     if not there:
         return "", ()
-    other = "reverse" if direction == "nominal" else "nominal"
+    other, q_dir = ("reverse", 0) if direction == "nominal" else ("nominal", 1)
     rows = [number for place, _ in there for number in scene.aspect[place].rows]
-    return f": packet {number} holds only in {other} direction", tuple(dict.fromkeys(rows))
+    return f": packet {number} holds only in {other} direction (Q_DIR {q_dir})", tuple(dict.fromkeys(rows))
 
 
 def profile_short(scene: Scene) -> Statement:
