@@ -6,6 +6,7 @@ import argparse
 from balisekit.cli import options as shared, settings
 from balisekit.cli.outcome import add_only, outcome as outcome_of, stated
 from balisekit.cli.selection import check_aspect
+from balisekit.drawing.flags import marks_of
 from balisekit.drawing.track import track_pictures, tracks_of
 from balisekit.io import clock
 from balisekit.present.outcome_text import closing_lines, explained_rules
@@ -36,10 +37,10 @@ def run(options: argparse.Namespace) -> int:
     outcome = outcome_of(options, of_line, now)
     check_aspect(outcome.checked.table, options.aspect)
     parts, links = listed(outcome), _links(outcome, of_line)
-    line = links.line
+    line, marks = links.line, [mark for part in outcome.parts for mark in marks_of(part.open, part.accepted)]
     page = pieces(
         "report.html",
-        ["page.css", "picture.css", "track.css"],
+        ["palette.css", "page.css", "picture.css", "track.css"],
         cover=cover(outcome, now),
         parts=parts,
         explained=list(explained_rules(outcome)),
@@ -48,7 +49,7 @@ def run(options: argparse.Namespace) -> int:
         premises=premises(),
         links_rule=DISTANCE,
         aspect=options.aspect,
-        tracks=((clean(name), track_pictures(line, links, name, options.aspect)) for name in tracks_of(line)),
+        tracks=((clean(name), track_pictures(line, links, name, options.aspect, marks)) for name in tracks_of(line)),
     )
     options.html.write(page)
     shared.say([f"written: {clean(str(options.html))}", *closing_lines(outcome)], options.html)
