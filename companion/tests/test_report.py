@@ -32,16 +32,14 @@ HEADER = "a1007f802000" + "f" * 40 + "c0"
 HOSTILE = "<script>alert(1)</script>&\"'\x07\x1b[2J\u202e=1+1"
 TAGS = set(
     (
-        "html head meta title style body svg rect path text div h1 h2 h3 h4 p table thead tbody tr th td script "
+        "html head meta title desc style body svg rect path text div h1 h2 h3 h4 p table thead tbody tr th td script "
         "br bdi a b span section pre ul li header nav main figure details summary label input output "
-        "defs pattern circle "
     ).split()
 )
 ATTRIBUTES = set(
     (
         "id class href lang charset http-equiv content name role x y width height viewbox d "
         "scope data-print hidden type autocomplete tabindex aria-label open colspan "
-        "aria-hidden fill stroke stroke-width patternunits cx cy r "
     ).split()
 )
 

@@ -98,19 +98,19 @@ def test_landmarks_and_headings(run: Run, line: Path) -> None:
 
 
 def test_pictures_say_what_they_show(run: Run, line: Path) -> None:
-    """Each has a title with its group or its kilometres, and with what is drawn."""
+    """Each has a title, with its group or its kilometres, and a description of what is drawn."""
     page = Page(report(run, line))
-    pictures = [index for index, (tag, attributes, _) in enumerate(page.elements) if attributes.get("role") == "img"]
-    titles = [page.texts[index + 1] for index in pictures if page.elements[index + 1][0] == "title"]
-    assert len(titles) == len(pictures) == 8 + 3
-    assert 'Signal A: speeds, gradients and authorities in aspects red, yellow, green' in titles
-    assert all(re.search("(Signal|Infill|km) .*: .*speeds", title) for title in titles)
+    pictures = [index for index, (_, attributes, _) in enumerate(page.elements) if attributes.get("role") == "img"]
+    assert all([page.elements[index + at][0] for at in (1, 2)] == ["title", "desc"] for index in pictures)
+    titles = {page.texts[index + 1]: page.texts[index + 2] for index in pictures}
+    assert len(pictures) == len(titles) == 8 + 3 and {"Signal A", "Infill of D", "km 10 to 15"} <= set(titles)
+    assert "V_MAIN 160 km/h" in titles["Signal A"] and "Signal B at km 13.850" in titles["km 10 to 15"]
 
 
 def colours(text: str) -> Dict[str, str]:
     """The variables of a style sheet with colours."""
     found = dict(re.findall(r"--([a-z]+): (#[0-9a-f]{3,6});", text))
-    return {name: value if len(value) == 7 else "#" + "".join(digit * 2 for digit in value[1:]) for name, value in found.items()}
+    return {name: value if len(value) == 7 else re.sub("([0-9a-f])", r"\1\1", value) for name, value in found.items()}
 
 
 def contrast(one: str, other: str) -> float:
@@ -135,7 +135,7 @@ def test_texts_have_contrast(run: Run, line: Path) -> None:
     for block in re.findall(r"@media screen and \(prefers-color-scheme: dark\) \{.*?\n\}", style, re.DOTALL):
         light = light.replace(block, "")
     assert contrast("#000000", "#ffffff") == pytest.approx(21)
-    assert used >= {"ink", "muted", "blue", "red", "green", "amber"} and behind == {"paper", "panel", "marked"}
+    assert used >= {"ink", "muted", "blue", "red", "green", "warn"} and behind == {"paper", "panel", "marked"}
     for mode in (colours(light), {**colours(light), **colours(dark)}):
         assert colours(dark) and {*used, *behind} <= set(mode)
         for text in used:

@@ -18,14 +18,13 @@ def _escaped(text: str) -> str:
 def _svg(shape: Shape) -> str:
     """A line for a shape. Titles and texts are escaped; all else is numbers and words of balisekit."""
     tag, style, title, x, y, width, height, path, text = shape
+    look = f' class="{style}"' if style else ""
+    inside = f"<title>{_escaped(title)}</title>" if title else ""
     if tag == "rect":
-        return (
-            f'<rect class="{style}" x="{x}" y="{y}" width="{width}" height="{height}">'
-            f"<title>{_escaped(title)}</title></rect>\n"
-        )
+        return f'<rect{look} x="{x}" y="{y}" width="{width}" height="{height}">{inside}</rect>\n'
     if tag == "path":
-        return f'<path class="{style}" d="{path}">{f"<title>{_escaped(title)}</title>" if title else ""}</path>\n'
-    return f'<text class="{style}" x="{x}" y="{y}">{_escaped(text)}</text>\n'
+        return f'<path{look} d="{path}">{inside}</path>\n' if inside else f'<path{look} d="{path}"/>\n'
+    return f'<text{look} x="{x}" y="{y}">{_escaped(text)}{inside}</text>\n'
 
 
 def svg(shapes: Iterable[Shape]) -> Markup:

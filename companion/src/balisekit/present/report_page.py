@@ -6,6 +6,7 @@ from functools import partial
 from tempfile import SpooledTemporaryFile
 from typing import Iterable, Iterator, List, Optional
 
+from balisekit.drawing.flags import marks_of
 from balisekit.drawing.track import track_pictures, tracks_of
 from balisekit.present.cover import cover
 from balisekit.present.outcome_text import explained_rules
@@ -38,7 +39,7 @@ def report_page(
     page has nothing folded.
     """
     line, parts = links.line, listed(outcome)
-    names = tracks_of(line)
+    names, marks = tracks_of(line), [mark for part in outcome.parts for mark in marks_of(part.open, part.accepted)]
     rows: List[Block] = []
     made = _noted(blocks(outcome.checked, line, (each for part in parts for each in part.all)), rows)
     with SpooledTemporaryFile(IN_MEMORY, "w+", encoding="utf-8") as groups:
@@ -61,7 +62,7 @@ def report_page(
             full=full,
             has_tracks=bool(names),
             has_names=any(names),
-            tracks=((clean(name), track_pictures(line, links, name, aspect)) for name in names),
+            tracks=((clean(name), track_pictures(line, links, name, aspect, marks)) for name in names),
         )
 
 
