@@ -62,9 +62,9 @@
     });
   }
 
-  function addButton(event) {
-    const digits = event.target.open && event.target.querySelector(":scope > .digits");
-    if (!digits || event.target.querySelector("button")) return;
+  function addButton(telegram) {
+    const digits = telegram.open && telegram.querySelector(":scope > .digits");
+    if (!digits || telegram.querySelector("button")) return;
     const button = document.createElement("button");
     button.type = "button";
     button.textContent = "copy the digits";
@@ -72,7 +72,8 @@
     digits.before(button);
   }
 
-  document.addEventListener("toggle", addButton, true);
+  document.addEventListener("toggle", (event) => addButton(event.target), true);
+  document.querySelectorAll(".telegram[open]").forEach(addButton);
   addEventListener("hashchange", reveal);
   reveal();
 })();
