@@ -564,7 +564,8 @@ def test_the_order_of_the_page(tmp_path: Path) -> None:
     chapters = ["Overview", "The track", "Findings and remarks", "Groups and messages", "What a yes means"]
     assert re.findall("<h2[^>]*>(.+?)</h2>", page) == [*chapters, "Checksums and versions"]
     assert re.findall("<h3[^>]*>(.+?)</h3>", page)[: len(parts)] == parts and page.count('id="yes"') == 1
-    assert page.index('<a href="#yes">') < page.index('<div class="finding expected"><a href="#pg') < page.index('id="yes"')
+    places = [page.index(text) for text in ('<a href="#yes">', '<div class="finding expected"><a href="#pg', 'id="yes"')]
+    assert places == sorted(places)
 
 
 def test_a_list_is_a_list(tmp_path: Path) -> None:

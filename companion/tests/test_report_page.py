@@ -301,7 +301,11 @@ def test_an_entry_leads_to_its_places(run: Run, line: Path) -> None:
     """To its picture, its row, its packet, which is marked, and its rule; each other packet is not marked."""
     text = report(run, line)
     page = Page(text)
-    (entry,) = re.findall(r'<div class="finding"><a href="#pg5"><bdi>row 23  Signal E.*?</div>', text[: text.index('id="groups"')], re.DOTALL)
+    (entry,) = re.findall(
+        r'<div class="finding"><a href="#pg5"><bdi>row 23  Signal E.*?</div>',
+        text[: text.index('id="groups"')],
+        re.DOTALL,
+    )
     links = re.findall('<a href="#([^"]*)">([^<]*)</a>', entry)
     assert links == [("pg5", "picture"), ("r23", "row 23"), ("r23p1", "packet"), ("F11", "F11")]
     tag, packet = page.of("r23p1")
@@ -320,7 +324,10 @@ def test_what_is_folded(run: Run, line: Path) -> None:
     folded, full = ([attributes for _, attributes, _ in Page(text).all("details")] for text in texts)
     assert [each.get("id") for each in folded if "open" in each] == ["r26"], "a refused telegram is not folded"
     assert [each.get("class") for each in full if "open" not in each] == ["papers"] and len(full) == len(folded)
-    groups = [[attributes.get("data-print") for _, attributes, _ in Page(text).all("section") if attributes.get("class")] for text in texts]
+    groups = [
+        [attributes.get("data-print") for _, attributes, _ in Page(text).all("section") if attributes.get("class")]
+        for text in texts
+    ]
     assert groups == [["no", "no", None, None, "no", None, None, "no", "no"], [None] * 9]
     assert "groups without findings or remarks (5 of 9)" in texts[0] and "Not printed" not in texts[1]
 

@@ -162,7 +162,9 @@ def _listed(entry: Entry, ids: Mapping[str, str], heading: str, acceptances: Seq
     links += [Link(packet_id(*place), "packet") for place in packets_of(entry)]
     links += [Link(rule, rule) for rule in entry.rules]
     signatures = [_signature(each) for each in acceptances]
-    return Listed(entry, headings.words(entry), block, links, list(map(accepted_words, acceptances)), signatures, heading)
+    return Listed(
+        entry, headings.words(entry), block, links, list(map(accepted_words, acceptances)), signatures, heading
+    )
 
 
 def _signature(entry: Acceptance) -> Signature:

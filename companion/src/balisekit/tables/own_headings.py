@@ -37,8 +37,6 @@ STATED = {
 """The tables by which a project states something, and the keys of each."""
 
 
-
-
 def of_table(path: str, named: Optional[str]) -> Headings:
     """The headings of a table of telegrams: by the file that is named, else by balisekit.toml beside it."""
     file = named or beside(path)
