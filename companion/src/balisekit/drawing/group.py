@@ -173,9 +173,7 @@ def _describing(where: Kilometres, direction: str) -> Describe:
 
 def _row(sheet: Sheet, content: Content, ways: Sequence[Way], describe: Sequence[Describe], top_speed: int) -> None:
     if ways[1]:
-        sheet.text("ending", "← reverse", max(sheet.x(0) - 60, LEFT * 10), sheet.y)
-        if ways[0]:
-            sheet.text("", "nominal →", sheet.x(0) + 60, sheet.y)
+        _directions(sheet, bool(ways[0]))
     drawings = [
         WayDrawing(sheet, each, SIZES, describe[index], each.direction, 1 - 2 * index)
         for index, each in enumerate(ways)
@@ -187,6 +185,16 @@ def _row(sheet: Sheet, content: Content, ways: Sequence[Way], describe: Sequence
         areas = [(drawing, area) for drawing in drawings for area in drawing.way.areas if area.number == number]
         if areas:
             _areas(sheet, name, areas)
+
+
+def _directions(sheet: Sheet, has_nominal: bool) -> None:
+    """Which side of the group is which direction, in a line of its own."""
+    sheet.y += 8
+    nominal, reverse = "nominal \u2192", "\u2190 reverse"
+    begin = min(sheet.x(0) + 60, EDGES[1] - width("", nominal))
+    if has_nominal:
+        sheet.text("", nominal, begin, sheet.y)
+    sheet.text("ending", reverse, max(min(sheet.x(0), begin) - 60, EDGE + width("", reverse)), sheet.y)
 
 
 def _profiles(sheet: Sheet, content: Content, drawings: Sequence[WayDrawing], top_speed: int) -> None:

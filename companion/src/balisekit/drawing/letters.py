@@ -90,16 +90,20 @@ def _look(style: str) -> Tuple[Font, int]:
 
 
 @lru_cache(maxsize=1 << 14)
-def width(style: str, text: str) -> int:
-    """In tenths of a pixel."""
-    font = _look(style)[0]
-    known = WIDTHS[font.is_bold]
-    wide = sum(known.get(letter) or known.get(normalize("NFD", letter)[0]) or _other(letter) for letter in text)
-    return -(-wide * font.size // 100)
+def advance(text: str, is_bold: bool) -> int:
+    """In thousandths of the font's size."""
+    known = WIDTHS[is_bold]
+    return sum(known.get(letter) or known.get(normalize("NFD", letter)[0]) or _other(letter) for letter in text)
 
 
 def _other(letter: str) -> int:
     return OTHER if letter < "\u2e80" else PICTOGRAM
+
+
+def width(style: str, text: str) -> int:
+    """In tenths of a pixel."""
+    font = _look(style)[0]
+    return -(-advance(text, font.is_bold) * font.size // 100)
 
 
 def box(style: str, text: str, x: int, y: int) -> Box:

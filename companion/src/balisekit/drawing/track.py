@@ -173,9 +173,12 @@ def _groups(sheet: Sheet, page: Page, first: bool) -> None:
         written.add((arc.edges, _distance(arc)))
     places = range(sheet.least, sheet.greatest + 1, TICK)
     sheet.axis("kilometres", places)
-    for place, is_broken in ((sheet.least, page.before < page.begin), (sheet.greatest, page.is_broken_behind)):
+    for x, is_broken in (
+        (sheet.x(sheet.least) - 100, page.before < page.begin),
+        (sheet.x(sheet.greatest) + 100, page.is_broken_behind),
+    ):
         if is_broken:
-            sheet.path("break", "the axis is broken here", f"M{tenths(sheet.x(place))} {sheet.y - 8}l-4 6h8l-4 6")
+            sheet.path("break", "the axis is broken here", f"M{tenths(x)} {sheet.y - 8}l-4 6h8l-4 6")
     for place in places:
         sheet.tick(kilometre(Decimal(place).scaleb(-4))[:-2], place, sheet.y + 15)
     sheet.text("", "km", EDGE, sheet.y + 15)
@@ -202,7 +205,7 @@ def _names(sheet: Sheet, stations: Sequence[BaliseGroup], found: Sequence[Flag])
         sheet.path(f"flag{' quiet' * flag.is_quiet}", flag.title, f"M{tenths(sheet.x(flag.place))} {base}v-24l9 4l-9 4")
     for station in stations:
         _station(sheet, station, base)
-    sheet.y = base + 40 + 13 * max(rows.count, 1)
+    sheet.y = base + 32 + 13 * rows.count
 
 
 def _station(sheet: Sheet, station: BaliseGroup, base: int) -> None:
