@@ -82,11 +82,12 @@ def overlaps(picture: Picture) -> List[Tuple[str, str]]:
 def pictures(path: Path) -> Iterator[List[Written]]:
     """The texts of each picture of a file. A track has several pictures."""
     for svg in ElementTree.parse(path).iter(f"{SVG}svg"):
-        some = svg.findall(f"{SVG}text")
-        yield [
-            written(one.get("class", ""), one.text or "", float(one.get("x", "")), float(one.get("y", "")))
-            for one in some
+        some = [
+            (part.get("x", ""), one.get("y", ""), one.get("class", ""), part.text or "")
+            for one in svg.findall(f"{SVG}text")
+            for part in (one.findall(f"{SVG}tspan") or [one])
         ]
+        yield [written(style, text, float(x), float(y)) for x, y, style, text in some]
 
 
 def faults(path: Path) -> List[Tuple[str, object]]:

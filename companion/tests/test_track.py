@@ -258,7 +258,7 @@ def test_names_do_no_harm(run: Run, table: Write, tmp_path: Path) -> None:
         '4 groups of track "<script>&"\'\\u202e", each in the aspect with the farthest end of authority'
     )
     tags = {one.tag.split("}")[1] for one in ElementTree.parse(tmp_path / "t.svg").iter()}
-    assert tags <= {"svg", "title", "desc", "style", "rect", "path", "text"}
+    assert tags <= {"svg", "title", "desc", "style", "rect", "path", "text", "tspan"}
     run("report", path, "--html", tmp_path / "r.html")
     page = (tmp_path / "r.html").read_text("utf-8")
     assert "<script" not in page and "\u202e" not in page and "links L2: " in page
@@ -275,7 +275,7 @@ def test_the_report_has_the_track(run: Run, tmp_path: Path) -> None:
     "nominal, title, km", [("rising", "km 325 to 330", 328.67), ("falling", "km -330 to -325", -326.67)]
 )
 def test_far_away_ends_make_no_pages(nominal: str, title: str, km: float) -> None:
-    """An authority of hundreds of kilometres has a page for its end. Those on which nothing begins or ends are left out."""
+    """An authority of hundreds of kilometres has a page for its end. Pages on which nothing begins are left out."""
     packets = authority()
     packets[0].update(q_scale=2, l_endsection=32_767)
     pictures = drawn((group("A", "1", nominal=nominal), [header(1, *packets)]))
@@ -338,7 +338,7 @@ def test_the_farthest_authority_is_shown() -> None:
 
 
 def test_links_have_arrows_and_distances() -> None:
-    """An arrow to the linked group, and the sum of D_LINK. Two links of one distance between two groups have one text."""
+    """An arrow to the linked group, and the sum of D_LINK. Links in both directions have one text."""
     some = [
         (group("A", "1", nominal="rising"), [header(1, link_tables.linking(1, link_tables.link(2000, 2, 1)))]),
         (group("B", "3", nominal="rising"), [header(2, link_tables.linking(0, link_tables.link(2000, 1, 0)))]),
@@ -372,8 +372,8 @@ def test_what_a_picture_says_without_being_seen() -> None:
     """Its groups, authorities, speeds and gradients, in a few sentences."""
     (picture,) = drawn((group("A", "2", nominal="falling"), [header(1, *authority())]))
     assert picture.description == (
-        "km 0 to 5: A at km 2.000, each group in the aspect with the farthest end of authority. A, V_MAIN 100 km/h: "
-        "authority to km 1.000 with V_MAIN 100 km/h; speeds 100 km/h; gradients 5 \u2030"
+        "km 0 to 5: A at km 2.000, each group in the aspect with the farthest end of authority. A, V_MAIN 100 km/h, "
+        "authority to km 1.000; speeds 100 km/h; gradients 5 \u2030"
     )
 
 

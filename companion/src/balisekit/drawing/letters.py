@@ -78,7 +78,7 @@ class Box(NamedTuple):
 FONTS = {"title": Font(14, True), "head": Font(12, True), **dict.fromkeys(("name", "red"), Font(10, True))}
 """Of the styles that have another one than the usual one."""
 USUAL = Font(10)
-ANCHORS = {"middle": 1, "tick": 1, "ending": 2}
+ANCHORS = {**dict.fromkeys(("middle", "tick", "light"), 1), "ending": 2}
 """How many halves of a text are to the left of its coordinate, by a word of its style."""
 
 
