@@ -8,7 +8,7 @@ import csv
 import io
 import sys
 from pathlib import Path
-from typing import Any, Callable, Dict, Iterator, List, Optional, Sequence, Tuple
+from typing import Any, Callable, Dict, Iterator, List, Mapping, Sequence, Tuple
 
 HERE = Path(__file__).resolve().parent
 sys.path.insert(0, str(HERE.parent / "src"))
@@ -98,7 +98,7 @@ def linking(direction: int, *links: Tuple[int, int, int]) -> Form:
 
 
 def pair(
-    name: str, km: float, identity: int, aspects: Dict[str, Sequence[Form]], *fixed: Form, rising: int = 1
+    name: str, km: float, identity: int, aspects: Mapping[str, Sequence[Form]], *fixed: Form, rising: int = 1
 ) -> Iterator[Row]:
     """A group of a fixed balise with these packets, and one that is switched."""
 
@@ -224,7 +224,7 @@ def table(program: Program, rows: Sequence[Row]) -> str:
     return out.getvalue()
 
 
-def write(folder: Path, name: Optional[str] = None) -> None:
+def write(folder: Path) -> None:
     """Writes the tables and pictures."""
     for each, made in LINES.items():
         path = folder / f"{each.replace(' ', '-')}.csv"

@@ -20,6 +20,7 @@ from telegrams import FIRST, MESSAGE, OTHER, SECOND, digest
 
 from balisekit.cli import main as cli
 from balisekit.drawing.group import Content, draw
+from balisekit.drawing.letters import box
 from balisekit.engine.program import Program
 from balisekit.engine.records import Form
 from balisekit.etcs.geometry import Kilometres
@@ -32,7 +33,7 @@ HEADER = "a1007f802000" + "f" * 40 + "c0"
 HOSTILE = "<script>alert(1)</script>&\"'\x07\x1b[2J\u202e=1+1"
 TAGS = set(
     (
-        "html head meta title desc style body svg rect path text div h1 h2 h3 h4 p table thead tbody tr th td script "
+        "html head meta title desc style body svg rect path text tspan div h1 h2 h3 h4 p table thead tbody tr th td script "
         "br bdi a b span section pre ul li header nav main figure details summary label input output "
     ).split()
 )
@@ -455,7 +456,7 @@ def test_an_authority_has_all_its_places() -> None:
         "q_dir": 2,
         "q_scale": 1,
         "v_main": 24,
-        "end_speed": 4,
+        "end_speed": 0,
         "end_timeout": 60,
         "sections": [{"l_section": 800}],
         "l_endsection": 900,
@@ -467,20 +468,26 @@ def test_an_authority_has_all_its_places() -> None:
     titles = {one.title for one in picture.shapes if one.title}
     for direction, along in (("nominal", 1), ("reverse", -1)):
 
-        def km(metres_along: int) -> str:
-            return f"{metres_along} m, km {10 + along * Decimal(metres_along) / 1000:.3f}, {direction}"
+        def km(metres_along: int, more: str = "") -> str:
+            return f"{metres_along} m, km {10 + along * Decimal(metres_along) / 1000:.3f}{more}, {direction}"
 
         assert titles >= {
             f"section 0: 800 m, to {km(800)}",
             f"end section: 900 m, to {km(1700)}",
             f"end of the authority: {km(1700)}",
-            f"danger point: {km(1760)}",
-            f"overlap: 120 m, to {km(1820)}",
+            f"danger point: {km(1760, ', release speed 25 km/h')}",
+            f"overlap: 120 m, to {km(1820, ', release speed calculated on board')}",
             f"supervised location: {km(1820)}",
         }
-    texts = [one.text for one in picture.shapes if "V_MAIN" in one.text]
-    said = "V_MAIN 120 km/h; V_LOA 20 km/h; end 1700 m; DP 1760 m; overlap to 1820 m; SvL 1820 m"
-    assert texts == [f"nominal: {said}", f"reverse: {said}"]
+    texts = [one.text for one in picture.shapes]
+    said = "V_MAIN 120 km/h; V_LOA 0 km/h, stop"
+    assert [text for text in texts if "V_LOA" in text] == [f"nominal: {said}", f"reverse: {said}"]
+    for words in (
+        "end 1700 m",
+        "danger point 1760 m, release speed 25 km/h",
+        "overlap to 1820 m, release speed calculated on board; SvL",
+    ):
+        assert texts.count(words) == 2
 
 
 @pytest.mark.parametrize("length", [1, 300, 2000, 9000])
@@ -506,10 +513,8 @@ def test_texts_are_within_the_picture(length: int, direction: int, tmp_path: Pat
         assert cli.main(["draw", str(LINE), *words]) == 0
         picture = ElementTree.parse(tmp_path / f"{line}.svg").getroot()
         for one in picture.iter("{http://www.w3.org/2000/svg}text"):
-            look, said, x = str(one.get("class")), str(one.text), float(str(one.get("x")))
-            long_one = len(said) * (7 if "red" in look else 6)
-            left = x - long_one * (0 if "begin" in look else 1 if "ending" in look else 0.5 if "middle" in look else 0)
-            assert left >= 0 and (left + long_one <= int(str(picture.get("width"))) or "tick" in look), (said, left)
+            covered = box(str(one.get("class", "")), str(one.text), int(10 * float(str(one.get("x")))), 0)
+            assert 0 <= covered.left and covered.right <= 10 * int(str(picture.get("width"))), (one.text, covered)
 
 
 def test_two_groups_with_one_identity_give_a_message_no_kilometres(tmp_path: Path) -> None:

@@ -22,7 +22,7 @@ from balisekit.drawing.profiles import (
     speed_top,
 )
 from balisekit.drawing.sheet import EDGE, EDGES, LEFT, ROOM, WIDTH, Lane, Picture, Rows, Shape, Sheet, tenths
-from balisekit.drawing.words import Describe, area_words, place_words, speed_words, summary
+from balisekit.drawing.words import Describe, area_words, ends, place_words, speed_words, summary
 from balisekit.engine.grammar import Finding
 from balisekit.etcs.areas import Area
 from balisekit.etcs.geometry import DIRECTIONS, NOMINAL, REVERSE, Authority, Kilometres, Way, infill, kilometres, way
@@ -137,27 +137,32 @@ def draw(title: str, contents: Sequence[Content], where: Kilometres, titled: boo
             continue
         begin = sheet.y
         _row(sheet, content, ways, elsewhere if content.infill else own, top_speed)
-        group = "the infill's group" if content.infill else "the group"
-        sheet.path("group", group, f"M{tenths(sheet.x(0))} {begin}V{sheet.y + 4}")
+        sheet.path("group", "the infill's group" * content.infill, f"M{tenths(sheet.x(0))} {begin}V{sheet.y + 4}")
         if content.infill or index == last:
             _axis(sheet, Kilometres() if content.infill else where)
     return sheet.picture(clean(title), 6, _description(title, rows, where))
 
 
 def _description(title: str, rows: Sequence[Tuple[Content, Sequence[Way]]], where: Kilometres) -> str:
-    """What each row shows, for those who do not see it."""
+    """What the picture shows, for those who do not see it: authorities by row, and what all rows have together."""
     km = where.words(0, NOMINAL)
-    sentences = [clean(title) + (f", km {km}" if km else "")]
-    for content, ways in rows:
-        said = [f"{each.direction}: {summary(each, metres)}{_missing(content, each)}" for each in ways if each]
-        sentences.append(f"{clean(content.title)}: {'; '.join(said) or NOTHING}")
-    return ". ".join(sentences)
+    authorities = [f"{clean(content.title)}: {_authority_words(content, ways)}" for content, ways in rows]
+    whole = summary([each for _, ways in rows for each in ways], metres)
+    return ". ".join(filter(None, [clean(title) + (f", km {km}" if km else ""), *authorities, whole]))
+
+
+def _authority_words(content: Content, ways: Sequence[Way]) -> str:
+    """The authorities and gaps of a row."""
+    if not any(ways):
+        return NOTHING
+    said = [f"{each.direction}{_missing(content, each)}, {ends(each, metres)}" for each in ways if each]
+    return "; ".join(said)
 
 
 def _missing(content: Content, each: Way) -> str:
     """The gaps of a way."""
     found = [finding for finding in content.short if finding.direction == each.direction and gap(finding, each)]
-    return "".join(f"; {gap_label(finding, each)}" for finding in found)
+    return "".join(f", {gap_label(finding, each)}" for finding in found)
 
 
 def _describing(where: Kilometres, direction: str) -> Describe:
@@ -173,11 +178,9 @@ def _describing(where: Kilometres, direction: str) -> Describe:
 
 def _row(sheet: Sheet, content: Content, ways: Sequence[Way], describe: Sequence[Describe], top_speed: int) -> None:
     if ways[1]:
-        sheet.text("ending", "← reverse", max(sheet.x(0) - 60, LEFT * 10), sheet.y)
-        if ways[0]:
-            sheet.text("", "nominal →", sheet.x(0) + 60, sheet.y)
+        _directions(sheet, bool(ways[0]))
     drawings = [
-        WayDrawing(sheet, each, SIZES, describe[index], each.direction, 1 - 2 * index)
+        WayDrawing(sheet, each, SIZES, describe[index], each.direction if ways[1] else "", 1 - 2 * index)
         for index, each in enumerate(ways)
     ]
     _profiles(sheet, content, drawings, top_speed)
@@ -187,6 +190,16 @@ def _row(sheet: Sheet, content: Content, ways: Sequence[Way], describe: Sequence
         areas = [(drawing, area) for drawing in drawings for area in drawing.way.areas if area.number == number]
         if areas:
             _areas(sheet, name, areas)
+
+
+def _directions(sheet: Sheet, has_nominal: bool) -> None:
+    """Which side of the group is which direction, in a line of its own."""
+    sheet.y += 8
+    nominal, reverse = "nominal \u2192", "\u2190 reverse"
+    begin = min(sheet.x(0) + 60, EDGES[1] - width("", nominal))
+    if has_nominal:
+        sheet.text("", nominal, begin, sheet.y)
+    sheet.text("ending", reverse, max(min(sheet.x(0), begin) - 60, EDGE + width("", reverse)), sheet.y)
 
 
 def _profiles(sheet: Sheet, content: Content, drawings: Sequence[WayDrawing], top_speed: int) -> None:
@@ -223,25 +236,33 @@ def _authorities(sheet: Sheet, drawn: Drawn) -> None:
     for drawing, authority in drawn:
         words = f"{drawing.whose}: " * (len(drawn) > 1) + speed_words(authority)
         _write_at(drawing, words, 0, bar.bottom, is_toward=False)
-    for drawing, authority in drawn:
-        for place, words in place_words(authority):
-            _write_at(drawing, words, place, bar.bottom, is_toward=True)
+    lines = [
+        _write_at(drawing, words, place, bar.bottom, is_toward=True)
+        for drawing, authority in drawn
+        for place, words in place_words(authority)
+    ]
+    sheet.path("leader", "", "".join(lines))
     sheet.y += 6
 
 
-def _write_at(drawing: WayDrawing, words: str, place: int, bottom: int, is_toward: bool) -> None:
-    """Words below a place of a bar that ends there: at its side toward the group if they may, else at the other one."""
-    sheet, wide = drawing.sheet, width("halo", words)
+def _write_at(drawing: WayDrawing, words: str, place: int, bottom: int, is_toward: bool) -> str:
+    """Words below a place of a bar: at the side toward the group if they may be there, else at the other one.
+
+    The answer is the path of a line from the place to them, if they are toward the group.
+    """
+    sheet, wide = drawing.sheet, width("", words)
     x = sheet.x(drawing.at(place))
     left, right = x - 30 - wide, x + 40
     sides = [left, right] if drawing.sign > 0 else [right, left]
     near = min(max(x - wide // 2, EDGES[0]), EDGES[1] - wide)
     starts = [*(sides if is_toward else sides[1:]), near]
     spots = ((start, y) for y in count(bottom + LINE, LINE) for start in starts)
-    spot = sheet.label("halo", words, spots)
+    spot = sheet.label("", words, spots)
     if spot:
-        sheet.path("leader", "", f"M{tenths(x)} {bottom}V{spot[1] - 8 * (left < spot[0] < right)}")
         sheet.y = max(sheet.y, spot[1])
+        if is_toward:
+            return f"M{tenths(x)} {bottom}V{spot[1] - 8 * (left < spot[0] < right)}"
+    return ""
 
 
 def _areas(sheet: Sheet, name: str, areas: Sequence[Tuple[WayDrawing, Area]]) -> None:
@@ -252,15 +273,15 @@ def _areas(sheet: Sheet, name: str, areas: Sequence[Tuple[WayDrawing, Area]]) ->
         ends = [sheet.nearest(drawing.at(place)) for place in (max(begin, 0), area.begin, area.end or 0)]
         if area.end is None:
             ends.append(EDGES[int(drawing.sign > 0)])
-        left = min(min(ends), EDGES[1] - width("halo", words))
-        items.append((left, max(*ends, left + width("halo", words)) + EDGE, index, words))
+        left = min(min(ends), EDGES[1] - width("", words))
+        items.append((left, max(*ends, left + width("", words)) + EDGE, index, words))
     placed = [(rows.reserve(left, right), left, index, words) for left, right, index, words in sorted(items)]
     lane = _lane(sheet, name, rows.count * (AREA + LINE + 2))
     for row, left, index, words in placed:
         drawing, area = areas[index]
         bar = Lane(lane.top + row * (AREA + LINE + 2), AREA)
         drawing.area(area, bar)
-        sheet.text("halo", words, left, bar.bottom + LINE - 1)
+        sheet.text("", words, left, bar.bottom + LINE - 1)
 
 
 def _lane(sheet: Sheet, name: str, height: int) -> Lane:
@@ -293,10 +314,10 @@ def _axis(sheet: Sheet, where: Kilometres) -> None:
     known = [(place, where.words(abs(place), REVERSE if place < 0 else NOMINAL)) for place in _ticks(sheet, where)]
     sheet.axis("metres from the group", [place for place, _ in known])
     has_km = all(km for _, km in known)
-    for place, km in known:
+    for place, _ in known:
         sheet.tick(metres(abs(place)), place, sheet.y + 14)
-        if has_km:
-            sheet.tick(km, place, sheet.y + 25)
+    for place, km in known if has_km else ():
+        sheet.tick(km, place, sheet.y + 25)
     if has_km:
         sheet.text("", "km", EDGE, sheet.y + 25)
     sheet.y += 32 if has_km else 20

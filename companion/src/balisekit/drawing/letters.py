@@ -78,7 +78,7 @@ class Box(NamedTuple):
 FONTS = {"title": Font(14, True), "head": Font(12, True), **dict.fromkeys(("name", "red"), Font(10, True))}
 """Of the styles that have another one than the usual one."""
 USUAL = Font(10)
-ANCHORS = {"middle": 1, "tick": 1, "ending": 2}
+ANCHORS = {**dict.fromkeys(("middle", "tick", "light"), 1), "ending": 2}
 """How many halves of a text are to the left of its coordinate, by a word of its style."""
 
 
@@ -90,16 +90,20 @@ def _look(style: str) -> Tuple[Font, int]:
 
 
 @lru_cache(maxsize=1 << 14)
-def width(style: str, text: str) -> int:
-    """In tenths of a pixel."""
-    font = _look(style)[0]
-    known = WIDTHS[font.is_bold]
-    wide = sum(known.get(letter) or known.get(normalize("NFD", letter)[0]) or _other(letter) for letter in text)
-    return -(-wide * font.size // 100)
+def advance(text: str, is_bold: bool) -> int:
+    """In thousandths of the font's size."""
+    known = WIDTHS[is_bold]
+    return sum(known.get(letter) or known.get(normalize("NFD", letter)[0]) or _other(letter) for letter in text)
 
 
 def _other(letter: str) -> int:
     return OTHER if letter < "\u2e80" else PICTOGRAM
+
+
+def width(style: str, text: str) -> int:
+    """In tenths of a pixel."""
+    font = _look(style)[0]
+    return -(-advance(text, font.is_bold) * font.size // 100)
 
 
 def box(style: str, text: str, x: int, y: int) -> Box:

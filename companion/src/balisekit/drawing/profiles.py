@@ -102,7 +102,7 @@ class WayDrawing:
     sizes: Sizes
     describe: Describe
     whose: str
-    """The direction, and the group if the sheet has several."""
+    """The direction if the sheet has both, and the group if it has several."""
     sign: int
     """1 if the way leads to the right, -1 if to the left."""
     origin: int = 0
@@ -112,8 +112,11 @@ class WayDrawing:
         """Where a place of the way is on the sheet."""
         return self.origin + self.sign * place
 
+    def _titled(self, title: str) -> str:
+        return f"{title}, {self.whose}" if self.whose else title
+
     def _rect(self, style: str, title: str, begin: int, end: int, lane: Lane) -> Edges:
-        return self.sheet.rect(style, f"{title}, {self.whose}", (self.at(begin), self.at(end)), *lane)
+        return self.sheet.rect(style, self._titled(title), (self.at(begin), self.at(end)), *lane)
 
     def _hatched(self, style: str, title: str, begin: int, end: int, lane: Lane) -> Edges:
         edges = self._rect(style, title, begin, end, lane)
@@ -122,19 +125,22 @@ class WayDrawing:
         return edges
 
     def _mark(self, style: str, title: str, place: int, lane: Lane) -> None:
-        self.sheet.mark(style, f"{title}, {self.whose}", self.at(place), *lane)
+        self.sheet.mark(style, self._titled(title), self.at(place), *lane)
 
     def profile(self, profile: Profile, lane: Lane, top_speed: int) -> None:
         """A profile in its lane: its elements, the track before it, its end mark, and the elements behind that."""
         name = "speed profile" if profile.number == SPEED_PROFILE else "gradient profile"
+        steps = []
         for element in profile.elements:
             end = open_end(self.way) if element.end is None else element.end
             to = " on: an open profile" if element.end is None else f" to {self.describe(end)}"
             where = f"from {self.describe(element.begin)}{to}"
             if profile.number == SPEED_PROFILE:
-                self._speed(element, where, end, lane, top_speed)
+                steps.append(self._speed(element, where, end, lane, top_speed))
             else:
                 self._gradient(element, where, end, lane)
+        if any(steps):
+            self.sheet.path("step", "", "".join(steps))
         if profile.first > 0 and profile.elements:
             self._hatched("none", f"not given here: up to {self.describe(profile.first)}", 0, profile.first, lane)
         if profile.reach is None:
@@ -149,33 +155,35 @@ class WayDrawing:
         """The coordinate of a speed in km/h in its lane."""
         return lane.bottom - max(1, speed * self.sizes.speed // top_speed)
 
-    def _speed(self, element: Element, where: str, end: int, lane: Lane, top_speed: int) -> None:
+    def _speed(self, element: Element, where: str, end: int, lane: Lane, top_speed: int) -> str:
+        """A speed. The answer is the path of its step; that of an open one is drawn here."""
         speed = element.value * 5
         y = self._level(speed, lane, top_speed)
         edges = self._rect("speed", f"{speed} km/h {where}", element.begin, end, Lane(y, lane.bottom - y))
         if edges is None:
-            return
-        is_open = element.end is None
-        title = f"{speed} km/h {where}, {self.whose}" if is_open else ""
-        self.sheet.path("step open" if is_open else "step", title, f"M{tenths(edges[0])} {y}H{tenths(edges[1])}")
-        self.sheet.inside("halo", str(speed), edges, y + 10 if lane.bottom - y > 10 else y - 2)
+            return ""
+        step = f"M{tenths(edges[0])} {y}H{tenths(edges[1])}"
+        if element.end is None:
+            self.sheet.path("step open", self._titled(f"{speed} km/h {where}"), step)
+        self.sheet.inside("middle", str(speed), edges, y + 10 if lane.bottom - y > 10 else y - 2)
         for difference in element.form["differences"]:
             self._category(difference, where, edges, lane, top_speed)
+        return step if element.end is not None else ""
 
     def _category(self, difference: Form, where: str, edges: Tuple[int, int], lane: Lane, top_speed: int) -> None:
         """The speed of a category of trains, as a thin line."""
         speed, (short, full) = difference["v_diff"] * 5, category_words(difference)
         y = self._level(speed, lane, top_speed)
         title = f"{speed} km/h for {full} ({value_words('q_diff', difference['q_diff'], Around())}), {where}"
-        self.sheet.path("category", f"{title}, {self.whose}", f"M{tenths(edges[0])} {y}H{tenths(edges[1])}")
+        self.sheet.path("category", self._titled(title), f"M{tenths(edges[0])} {y}H{tenths(edges[1])}")
         self._along(f"{speed} {short}", edges, y)
 
     def _along(self, words: str, edges: Tuple[int, int], y: int) -> None:
         """What a line in the lane of speeds is, above or below it where there is room."""
-        free = edges[1] - edges[0] - width("halo", words) - 60
+        free = edges[1] - edges[0] - width("", words) - 60
         if self.sizes.has_words and free >= 0:
             spots = [(edges[0] + 30 + free * part // 4, at) for at in (y - 2, y + 10) for part in (4, 0, 2, 3, 1)]
-            self.sheet.label("halo", words, spots, edges)
+            self.sheet.label("", words, spots, edges)
 
     def v_main(self, authority: Authority, lane: Lane, top_speed: int) -> None:
         """V_MAIN as a line from the group to the end of the authority."""
@@ -186,19 +194,16 @@ class WayDrawing:
         if begin < self.sheet.greatest and end > self.sheet.least:
             edges = self.sheet.nearest(begin), self.sheet.nearest(end)
             words = f"V_MAIN {authority.form['v_main'] * 5}"
-            title = f"{words} km/h up to {self.describe(authority.end)}, {self.whose}"
-            self.sheet.path("vmain", title, f"M{tenths(edges[0])} {y}H{tenths(edges[1])}")
+            self.sheet.path("vmain", self._titled(f"{words} km/h"), f"M{tenths(edges[0])} {y}H{tenths(edges[1])}")
             self._along(words, edges, y)
 
     def _gradient(self, element: Element, where: str, end: int, lane: Lane) -> None:
-        """A gradient. Its minus is as wide as a plus, and so is seen on the dots of downhill."""
+        """A gradient. Its minus is as wide as a plus, and so is seen."""
         value = value_words("g_a", element.value, Around({}, element.form)).replace("-", "\u2212")
         style = "level" if element.value == 0 else "up" if element.form["q_gdir"] else "down"
         edges = self._rect(style, f"{value} {where}", element.begin, end, lane)
-        if edges and style == "down":
-            self.sheet.path("dots", "", f"M{tenths(edges[0] + 20)} {lane.bottom - 3}H{tenths(edges[1])}")
         if edges:
-            self.sheet.inside("halo", value, edges, lane.top + lane.height // 2 + 4)
+            self.sheet.inside("middle", value, edges, lane.top + lane.height // 2 + 4)
 
     def _arrow(self, title: str, lane: Lane) -> None:
         """The end of an open profile."""
@@ -207,7 +212,7 @@ class WayDrawing:
             tip, y = self.sheet.x(place), lane.bottom - 6
             tail = tenths(tip - self.sign * 80)
             path = f"M{tail} {y - 5}L{tenths(tip)} {y}L{tail} {y + 5}"
-            self.sheet.path("arrow", f"{title}, {self.whose}", path)
+            self.sheet.path("arrow", self._titled(title), path)
 
     def authority(self, authority: Authority, bar: Lane) -> None:
         """The sections of an authority, its overlap, its end, its danger point, and its supervised location."""
@@ -222,7 +227,8 @@ class WayDrawing:
         end, supervised, out = authority.end, authority.supervised, self.sizes.end
         if authority.overlap is not None:
             title = f"overlap: {metres(authority.overlap - end)}, to {self.describe(authority.overlap)}"
-            self._hatched("overlap", f"{title}, {release(authority, 'overlap')}", end, authority.overlap, bar)
+            title = self._titled(f"{title}, {release(authority, 'overlap')}")
+            self.sheet.stripes("overlap", title, (self.at(end), self.at(authority.overlap)), bar)
         self._mark("end", end_words(authority, self.describe(end)), end, Lane(bar.top - out, bar.height + 2 * out))
         self._danger_point(authority, bar)
         if not is_limit(authority):
@@ -233,7 +239,7 @@ class WayDrawing:
         place = authority.danger_point
         if place is not None and self.sheet.shows(self.at(place)):
             half, x = bar.height // 2 + 1, tenths(self.sheet.x(self.at(place)))
-            title = f"danger point: {self.describe(place)}, {release(authority, 'danger_point')}, {self.whose}"
+            title = self._titled(f"danger point: {self.describe(place)}, {release(authority, 'danger_point')}")
             self.sheet.path("danger", title, f"M{x} {bar.top - 1}l5 {half}l-5 {half}l-5 -{half}z")
 
     def area(self, area: Area, lane: Lane) -> Edges:
@@ -256,10 +262,10 @@ class WayDrawing:
         """Which area it is: beside its bar, or on it, between the edges that are its own."""
         end = open_end(self.way) if area.end is None else area.end
         near, far = (self.sheet.nearest(self.at(place)) for place in (area.begin, end))
-        wide = width("halo", words)
+        wide = width("", words)
         beyond, before = (far + 30, near - 30 - wide) if self.sign > 0 else (far - 30 - wide, near + 30)
         spots: Sequence[Spot] = [(beyond, y), (before, y), ((near + far - wide) // 2, y)]
-        self.sheet.label("halo", words, spots, within)
+        self.sheet.label("", words, spots, within)
 
     def gap(self, finding: Finding, lane: Lane) -> Edges:
         """The track on which a profile is missing."""
@@ -269,4 +275,5 @@ class WayDrawing:
         begin, end = edges
         missing = MISSING.get(finding.rule) or f"{metres(end - begin)} are missing"
         title = f"F{finding.rule}: {missing}, from {self.describe(begin)} to {self.describe(end)}"
+        title += "" if self.whose else f", {self.way.direction}"
         return self._hatched("gap", title, begin, end, lane)

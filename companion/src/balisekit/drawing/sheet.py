@@ -19,7 +19,7 @@ ROOM = (WIDTH - LEFT - RIGHT) * 10
 EDGE = 40
 """How far texts are from the edges, in tenths of a pixel."""
 EDGES = EDGE, WIDTH * 10 - EDGE
-STROKES = 6, 60
+STROKES = 7, 60
 """How many pixels the strokes of a hatch are apart at least, and how many there are at most."""
 Spot = Tuple[int, int]
 """The coordinate of a text: tenths of a pixel, and pixels."""
@@ -139,6 +139,12 @@ class Sheet:
                 strokes.append(f"M{tenths(low)} {tenths(lane.bottom * 10 - (low - begin))}l{length}-{length}")
         self.path(f"hatch {style}", "", "".join(strokes))
 
+    def stripes(self, style: str, title: str, places: Tuple[int, int], lane: Lane) -> None:
+        """The part of a strip of upright strokes that is on the sheet. The style sheet has their height."""
+        near, far = (min(max(place, self.least), self.greatest) for place in sorted(places))
+        if near < far or self.shows(places[0]) and places[0] == places[1]:
+            self.path(style, title, f"M{tenths(self.x(near))} {lane.top + lane.height // 2}H{tenths(self.x(far) + 10)}")
+
     def path(self, style: str, title: str, path: str) -> None:
         """A line through points."""
         self.shapes.append(Shape("path", style, title, "", "", "", "", path))
@@ -149,7 +155,8 @@ class Sheet:
             self.path(style, title, f"M{tenths(self.x(place))} {y}v{height}")
 
     def text(self, style: str, text: str, x: int, y: int, title: str = "") -> None:
-        """A text at a coordinate that nothing else covers."""
+        """A text at a coordinate that nothing else covers, which is rounded down to a pixel."""
+        x -= x % 10
         self.texts.append(Shape("text", style, title, tenths(x), str(y), "", "", "", text))
         covered = box(style, text, x, y)
         for strip in range(covered.top // 160, covered.bottom // 160 + 1):
@@ -168,7 +175,7 @@ class Sheet:
 
     def label(self, style: str, text: str, spots: Iterable[Spot], within: Tuple[int, int] = EDGES) -> Optional[Spot]:
         """A text at the first of these coordinates that is free. If none is, it is left out."""
-        for x, y in spots:
+        for x, y in ((x - x % 10, y) for x, y in spots):
             if self.is_free(box(style, text, x, y), within):
                 self.text(style, text, x, y)
                 return x, y
@@ -177,7 +184,7 @@ class Sheet:
     def inside(self, style: str, text: str, edges: Tuple[int, int], y: int) -> None:
         """A text in the middle between two coordinates, if it fits there."""
         if width(style, text) <= edges[1] - edges[0]:
-            self.label(f"{style} middle".lstrip(), text, [(sum(edges) // 2, y)])
+            self.label(style, text, [(sum(edges) // 2, y)])
 
     def axis(self, title: str, places: Iterable[int]) -> None:
         """A line from the least place to the greatest, with a tick at each of these places."""

@@ -15,7 +15,7 @@ from balisekit.drawing.letters import shortened, width
 from balisekit.drawing.profiles import Sizes, WayDrawing, open_end, profile_number, speed_top
 from balisekit.drawing.sheet import EDGE, EDGES, RIGHT, WIDTH, Lane, Picture, Rows, Sheet, tenths
 from balisekit.drawing.track_pages import Arc, Band, Page, at_km, pages, place_of, shown_words
-from balisekit.drawing.words import area_words, summary
+from balisekit.drawing.words import ends, summary
 from balisekit.etcs.geometry import NOMINAL, kilometre
 from balisekit.etcs.variables import metres
 from balisekit.rules.line import Line
@@ -94,11 +94,16 @@ def _description(title: str, page: Page, bands: Sequence[Band], shown: str) -> s
     """What a page shows, for those who do not see it."""
     stations = [f"{clean(each.group.name)} at {at_km(place_of(each))}" for each in page.stations]
     groups = listed(stations, NAMED) if stations else "no group"
-    said = [f"{band.label}: {summary(band.way, partial(_describe, band.at, band.sign))}" for band in bands]
+    said = [_band_words(band) for band in bands]
     found = [f"{flag.words} at {at_km(flag.place)}" for flag in page.flags]
     return ". ".join(
         filter(None, [f"{title}: {groups}, {shown}", page.left_out, listed(said, NAMED), listed(found, NAMED)])
     )
+
+
+def _band_words(band: Band) -> str:
+    describe = partial(_describe, band.at, band.sign)
+    return "; ".join(filter(None, [f"{band.label}, {ends(band.way, describe)}", summary([band.way], describe)]))
 
 
 class Placed(NamedTuple):
@@ -124,7 +129,7 @@ def _placed(page: Page, band: Band) -> Placed:
         end = open_end(band.way) if area.end is None else area.end
         far = band.at + band.sign * end
         if page.begin <= far <= page.end:
-            room = width("halo", area.words) + 60
+            room = width("", area.words) + 60
             left, right = min(left, scale.x(far) - room * (band.sign < 0)), max(
                 right, scale.x(far) + room * (band.sign > 0)
             )
@@ -173,9 +178,12 @@ def _groups(sheet: Sheet, page: Page, first: bool) -> None:
         written.add((arc.edges, _distance(arc)))
     places = range(sheet.least, sheet.greatest + 1, TICK)
     sheet.axis("kilometres", places)
-    for place, is_broken in ((sheet.least, page.before < page.begin), (sheet.greatest, page.is_broken_behind)):
+    for x, is_broken in (
+        (sheet.x(sheet.least) - 100, page.before < page.begin),
+        (sheet.x(sheet.greatest) + 100, page.is_broken_behind),
+    ):
         if is_broken:
-            sheet.path("break", "the axis is broken here", f"M{tenths(sheet.x(place))} {sheet.y - 8}l-4 6h8l-4 6")
+            sheet.path("break", "the axis is broken here", f"M{tenths(x)} {sheet.y - 8}l-4 6h8l-4 6")
     for place in places:
         sheet.tick(kilometre(Decimal(place).scaleb(-4))[:-2], place, sheet.y + 15)
     sheet.text("", "km", EDGE, sheet.y + 15)
@@ -183,7 +191,7 @@ def _groups(sheet: Sheet, page: Page, first: bool) -> None:
 
 
 def _names(sheet: Sheet, stations: Sequence[BaliseGroup], found: Sequence[Flag]) -> None:
-    """Each group as a mark on the axis, each flag above it, and below it their names, after the arrow of a direction."""
+    """Each group as a mark on the axis, each flag above it, and below it their names, after an arrow."""
     base, rows, named = sheet.y, Rows(), []
     for station in stations:
         sign = {1: "\u25b8", -1: "\u25c2"}.get(station.rising or 0, "\u2022")
@@ -202,7 +210,7 @@ def _names(sheet: Sheet, stations: Sequence[BaliseGroup], found: Sequence[Flag])
         sheet.path(f"flag{' quiet' * flag.is_quiet}", flag.title, f"M{tenths(sheet.x(flag.place))} {base}v-24l9 4l-9 4")
     for station in stations:
         _station(sheet, station, base)
-    sheet.y = base + 40 + 13 * max(rows.count, 1)
+    sheet.y = base + 32 + 13 * rows.count
 
 
 def _station(sheet: Sheet, station: BaliseGroup, base: int) -> None:
@@ -305,7 +313,7 @@ def _arc(sheet: Sheet, arc: Arc, has_label: bool) -> None:
     sheet.path("way", "", curve.arrow(first + (last - first) / 2))
     points = (curve.point(first + (last - first) * part) for part in (0.5, 0.4, 0.6, 0.3, 0.7))
     if has_label and (last - first >= PART or 0 < first < last < 1):
-        style = "red middle" if arc.wrong else "halo middle"
+        style = "red middle" if arc.wrong else "middle"
         sheet.label(style, _distance(arc), ((int(x), int(y) - 4) for x, y in points))
 
 

@@ -207,7 +207,7 @@ def pages(line: Line, links: Links, track: str, aspect: Optional[str], flags: Se
 
 
 def _pages(at: Set[int], bands: Sequence[Band]) -> Sequence[Page]:
-    """Empty pages for groups and flags at these places, and for bands. A band that ends at a page's edge is before it."""
+    """Empty pages for groups and flags at these places, and for bands. A band that ends at an edge is before it."""
     numbers = {place // PAGE for place in at}
     for band in bands:
         numbers.update((place - (place == band.end > band.begin)) // PAGE for place in band.places)

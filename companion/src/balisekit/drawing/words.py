@@ -1,4 +1,4 @@
-"""What the packets of a way say, in few words: at their places, and as a sentence for those who do not see a picture."""
+"""What the packets of a way say in few words: at their places, and in sentences for those who do not see a picture."""
 from __future__ import annotations
 
 from typing import Callable, Iterator, List, Sequence, Tuple
@@ -6,6 +6,7 @@ from typing import Callable, Iterator, List, Sequence, Tuple
 from balisekit.etcs.areas import Area
 from balisekit.etcs.geometry import Authority, Element, Profile, Way
 from balisekit.etcs.variables import Around, Form, metres, value_words
+from balisekit.tables.names import listed
 
 Describe = Callable[[int], str]
 """A place of a way in words."""
@@ -77,21 +78,23 @@ def area_words(area: Area, place: Describe) -> str:
     return f"{area.words} {where}{acknowledged}"
 
 
-def summary(way: Way, place: Describe) -> str:
-    """Authorities, speeds, gradients and areas of a way."""
-    parts = [_authority(authority, place) for authority in way.authorities[:NAMED]]
-    parts += [_span("speeds", [part.value * 5 for part in _elements(way.speeds)], "km/h")]
-    parts += [_span("gradients", [_slope(part.form) for part in _elements(way.gradients)], "\u2030")]
-    parts += [f"{area.kind} {area_words(area, place)}" for area in way.areas[:NAMED]]
-    more = max(len(way.authorities) - NAMED, 0) + max(len(way.areas) - NAMED, 0)
-    return "; ".join(filter(None, [*parts, f"{more} more" if more else ""]))
+def ends(way: Way, place: Describe) -> str:
+    """Where the authorities of a way end."""
+    found = [
+        f"{'limit of authority at' if is_limit(authority) else 'authority to'} {place(authority.end)}"
+        for authority in way.authorities
+    ]
+    return listed(found, NAMED) if found else "no authority"
 
 
-def _authority(authority: Authority, place: Describe) -> str:
-    kind = "limit of authority at" if is_limit(authority) else "authority to"
-    main = authority.form.get("v_main")
-    speed = "" if main is None else f" with V_MAIN {value_words('v_main', main, Around())}"
-    return f"{kind} {place(authority.end)}{speed}"
+def summary(ways: Sequence[Way], place: Describe) -> str:
+    """Speeds, gradients and areas of several ways together."""
+    parts = [
+        _span("speeds", [part.value * 5 for way in ways for part in _elements(way.speeds)], "km/h"),
+        _span("gradients", [_slope(part.form) for way in ways for part in _elements(way.gradients)], "\u2030"),
+    ]
+    areas = dict.fromkeys(f"{area.kind} {area_words(area, place)}" for way in ways for area in way.areas)
+    return "; ".join(filter(None, [*parts, listed(list(areas), NAMED)]))
 
 
 def _elements(profiles: Sequence[Profile]) -> Iterator[Element]:
