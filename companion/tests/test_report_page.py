@@ -104,7 +104,7 @@ def test_pictures_say_what_they_show(run: Run, line: Path) -> None:
     assert all([page.elements[index + at][0] for at in (1, 2)] == ["title", "desc"] for index in pictures)
     titles = {page.texts[index + 1]: page.texts[index + 2] for index in pictures}
     assert len(pictures) == len(titles) >= 8 + 3 and {"Signal A", "Infill of D", "km 10 to 15"} <= set(titles)
-    assert "V_MAIN 160 km/h" in titles["Signal A"] and "Signal B at km 13.850" in titles["km 10 to 15"]
+    assert "authority to 3000 m" in titles["Signal A"] and "Signal B at km 13.850" in titles["km 10 to 15"]
 
 
 def colours(text: str) -> Dict[str, str]:

@@ -26,6 +26,8 @@ from balisekit.tables.names import clean, describe_balise, describe_group, descr
 
 AT_ONCE = 250
 """So many groups are decoded at once."""
+LINKED = 8
+"""So many rows of an entry have a link."""
 
 
 class Text(NamedTuple):
@@ -158,7 +160,7 @@ def _listed_part(outcome: Outcome, part: Part, ids: Mapping[str, str]) -> Listed
 def _listed(entry: Entry, ids: Mapping[str, str], heading: str, acceptances: Sequence[Acceptance]) -> Listed:
     message, group = entry.message, entry.group
     block = f"m{message.number}" if message else ids[group.name] if group else ""
-    links = [Link(f"r{row}", rows_words([row])) for row in entry.rows] if entry.balises else []
+    links = [Link(f"r{row}", rows_words([row])) for row in entry.rows[:LINKED]]
     links += [Link(packet_id(*place), "packet") for place in packets_of(entry)]
     links += [Link(rule, rule) for rule in entry.rules]
     signatures = [_signature(each) for each in acceptances]
