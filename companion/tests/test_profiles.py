@@ -174,7 +174,7 @@ def test_where_a_level_and_a_mode_are_acknowledged() -> None:
     assert [shape.title for shape in of(picture, "acknowledged")] == [
         "change to level 1: acknowledged from -200 m, km 9.800",
         "change to level 2: acknowledged from 500 m, km 10.500",
-        "mode on sight (OS), 40 km/h: acknowledged from 300 m, km 10.300",
+        "mode on sight, 40 km/h: acknowledged from 300 m, km 10.300",
     ]
     assert of(picture, "acknowledged")[0].x == "84"
     assert {"level 2 at 700 m, acknowledged from 500 m", "level 1 at 100 m, acknowledged from -200 m"} <= set(

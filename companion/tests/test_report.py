@@ -17,6 +17,7 @@ from typing import Any, Dict, List, Optional, Tuple
 import pytest
 from cases_of_program import TOP
 from telegrams import FIRST, MESSAGE, OTHER, SECOND, digest
+from test_text_boxes import faults
 
 from balisekit.cli import main as cli
 from balisekit.drawing.group import Content, draw
