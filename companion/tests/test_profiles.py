@@ -172,11 +172,11 @@ def test_where_a_level_and_a_mode_are_acknowledged() -> None:
     later, at_once = picture_lines.level(1, 700, 3, 200), picture_lines.level(1, 100, 2, 300)
     picture = pictured(later, at_once, picture_lines.mode(1, (400, 300, 100)))
     assert [shape.title for shape in of(picture, "acknowledged")] == [
-        "change to level 2: acknowledged from 500 m, km 10.500",
         "change to level 1: acknowledged from -200 m, km 9.800",
-        "mode on sight (OS), 40 km/h: acknowledged from 300 m, km 10.300",
+        "change to level 2: acknowledged from 500 m, km 10.500",
+        "mode on sight, 40 km/h: acknowledged from 300 m, km 10.300",
     ]
-    assert of(picture, "acknowledged")[1].x == "84"
+    assert of(picture, "acknowledged")[0].x == "84"
     assert {"level 2 at 700 m, acknowledged from 500 m", "level 1 at 100 m, acknowledged from -200 m"} <= set(
         words(picture)
     )

@@ -17,10 +17,10 @@ from typing import Any, Dict, List, Optional, Tuple
 import pytest
 from cases_of_program import TOP
 from telegrams import FIRST, MESSAGE, OTHER, SECOND, digest
+from test_text_boxes import faults
 
 from balisekit.cli import main as cli
 from balisekit.drawing.group import Content, draw
-from balisekit.drawing.letters import box
 from balisekit.engine.program import Program
 from balisekit.engine.records import Form
 from balisekit.etcs.geometry import Kilometres
@@ -511,10 +511,7 @@ def test_texts_are_within_the_picture(length: int, direction: int, tmp_path: Pat
     for line in ("1", "2"):
         words = ["--messages", str(messages), "--message", line, "--svg", str(tmp_path / f"{line}.svg")]
         assert cli.main(["draw", str(LINE), *words]) == 0
-        picture = ElementTree.parse(tmp_path / f"{line}.svg").getroot()
-        for one in picture.iter("{http://www.w3.org/2000/svg}text"):
-            covered = box(str(one.get("class", "")), str(one.text), int(10 * float(str(one.get("x")))), 0)
-            assert 0 <= covered.left and covered.right <= 10 * int(str(picture.get("width"))), (one.text, covered)
+        assert not faults(tmp_path / f"{line}.svg")
 
 
 def test_two_groups_with_one_identity_give_a_message_no_kilometres(tmp_path: Path) -> None:

@@ -280,14 +280,14 @@ def test_far_away_ends_make_no_pages(nominal: str, title: str, km: float) -> Non
     packets[0].update(q_scale=2, l_endsection=32_767)
     pictures = drawn((group("A", "1", nominal=nominal), [header(1, *packets)]))
     first, last = ("km 0 to 5", title) if km > 0 else (title, "km 0 to 5")
-    assert [one.title for one in pictures if one.title != "km -5 to 0"] == [first, last]
+    assert [one.title for one in pictures] == [first, last]
     far = pictures[-1 if km > 0 else 0]
     (bar,) = looks(far, "section0")
     begin = float(bar.x) if km > 0 else float(bar.x) + float(bar.width)
     assert abs(begin - (LEFT if km > 0 else LEFT + ROOM)) < 0.2
     assert abs(place(looks(far, "end")[0].path[1:].split()[0]) + int(title.split()[1]) - km) < 0.01
     (note,) = [one.text for each in pictures for one in each.shapes if one.text.startswith("left out: ")]
-    assert note == f"left out: km {'5 to 325' if km > 0 else '-325 to -5'}, where nothing begins or ends"
+    assert note == f"left out: km {'5 to 325' if km > 0 else '-325 to 0'}, where nothing begins or ends"
     assert sum(len(looks(one, "break")) for one in pictures) == 2
 
 
@@ -310,7 +310,7 @@ def test_directions_have_labels_of_their_own() -> None:
         for shape in looks(picture, "run"):
             up = "nominal" in shape.title if sign > 0 else "reverse" in shape.title
             assert shape.title.startswith(f"runs {'up' if up else 'down'} the kilometres, ")
-            assert ("l8 4" in shape.path) == up
+            assert ("l8 4l-8" in shape.path) == up
             text = next(words for words in said if words.split(", ")[1] in shape.title)
             begin, end = said[text], said[text] + width("", text) / 10
             assert abs(place(str(begin if up else end)) - 2.5) < 0.1

@@ -312,7 +312,7 @@ def _axis(sheet: Sheet, where: Kilometres) -> None:
     """An axis with metres, and with kilometres if the table has them."""
     sheet.y += 8
     known = [(place, where.words(abs(place), REVERSE if place < 0 else NOMINAL)) for place in _ticks(sheet, where)]
-    sheet.axis("metres from the group", [place for place, _ in known])
+    sheet.axis("", [place for place, _ in known])
     has_km = all(km for _, km in known)
     for place, _ in known:
         sheet.tick(metres(abs(place)), place, sheet.y + 14)

@@ -63,10 +63,12 @@ def areas(packet: Form) -> Iterator[Area]:
         before = max(choice["l_ackleveltr"] for choice in packet["transitions"]) * unit_dm(packet)
         yield Area(41, "change to", ", ".join(_levels(packet)), at, at, acknowledged=at - before if before else None)
     read = fields_of(packet) if packet["nid_packet"] in DRAWN else None
-    for _, element, begin, end in stretches(read) if read else ():
+    if not read:
+        return
+    for _, element, begin, end in stretches(read):
         kind, keys = DRAWN[packet["nid_packet"]]
         words = ", ".join(value_words(key, element[key], Around(packet, element)) for key in keys)
-        before = element.get("l_ackmamode", 0) * unit_dm(packet)
+        before = element.get("l_ackmamode", 0) * unit_dm(read)
         yield Area(packet["nid_packet"], kind, words, begin, end, OWN, begin - before if before else None)
 
 
