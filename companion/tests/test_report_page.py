@@ -122,7 +122,8 @@ def contrast(one: str, other: str) -> float:
         return 0.2126 * linear[0] + 0.7152 * linear[1] + 0.0722 * linear[2]
 
     low, high = sorted(map(luminance, (one, other)))
-    return (high + 0.05) / (low + 0.05)
+    ratio: float = (high + 0.05) / (low + 0.05)
+    return ratio
 
 
 def test_texts_have_contrast(run: Run, line: Path) -> None:

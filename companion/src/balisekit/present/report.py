@@ -81,7 +81,7 @@ class Listed(NamedTuple):
     """What is above it in the list, if it is the first of its urgency."""
 
     @property
-    def count(self) -> int:
+    def items(self) -> int:
         """How many findings it has. A remark is one."""
         return len(self.entry.findings) or 1
 
@@ -132,10 +132,10 @@ class Block(NamedTuple):
         """Whether nothing is to be said of it."""
         return not (self.entries or self.left_out)
 
-    def count(self, remarks: bool) -> str:
+    def found(self, remarks: bool) -> str:
         """How many remarks, or else findings, it has, and how many of them were accepted. Nothing for none."""
         some = [each for each in self.entries if bool(each.entry.remark) == remarks]
-        total, accepted = sum(each.count for each in some), sum(each.count for each in some if each.accepted)
+        total, accepted = sum(each.items for each in some), sum(each.items for each in some if each.accepted)
         return f"{total or ''}{f', {accepted} accepted' if accepted else ''}"
 
 
@@ -299,4 +299,4 @@ def _texts(form: Form, here: Here, id: str, marked: Set[str]) -> List[Text]:
 
     lines = ((mark(line.path) if marked else "", text_of(line)) for line in form_lines(form, here))
     of_packets = groupby(lines, lambda each: each[0] if each[0] in marked else "")
-    return [Text("\n".join(text for _, text in some), name) for name, some in of_packets]
+    return [Text("".join(f"{text}\n" for _, text in some), name) for name, some in of_packets]

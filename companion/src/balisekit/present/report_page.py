@@ -18,7 +18,7 @@ from balisekit.rules.links import Links
 from balisekit.tables.names import clean
 from balisekit.tables.own_headings import ReportHeading
 
-IN_MEMORY, PIECE = 1 << 24, 1 << 16
+IN_MEMORY, PIECE = 1 << 20, 1 << 12
 """So many characters of the groups are kept in memory, and are copied at once."""
 STYLES = ("palette.css", "dark.css", "page.css", "report.css", "picture.css", "track.css")
 DISTANCE = "one whose distance differs from the kilometres (L2, a rule of balisekit)"
@@ -43,7 +43,8 @@ def report_page(
     rows: List[Block] = []
     made = _noted(blocks(outcome.checked, line, (each for part in parts for each in part.all)), rows)
     with SpooledTemporaryFile(IN_MEMORY, "w+", encoding="utf-8") as groups:
-        groups.writelines(pieces("blocks.html", blocks=made, full=full))
+        for piece in pieces("blocks.html", blocks=made, full=full):  # (writelines would keep them all in memory)
+            groups.write(piece)
         groups.seek(0)
         yield from pieces(
             "report.html",
