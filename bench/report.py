@@ -4,8 +4,10 @@
     bench/report.py [--groups N ..] [--print N] [--open N] [KIT ..]
 
 KIT is the start script of a clone, and ./balisekit without one. The tables are lines like examples/table/line.csv, on
-which little is to be remarked: a signal each 1,500 m with four telegrams, its fixed balise in every aspect and the other
-one in three aspects, 2,500 signals a track. Every fifteenth signal has a finding. For each number of groups a line has the command, seconds of the processor for balisekit and the program
+which little is to be remarked: a signal each 1,500 m with four telegrams, its fixed balise in every aspect and the
+other one in three aspects, 2,500 signals a track. Every fifteenth signal has a finding.
+
+For each number of groups a line has the command, seconds of the processor for balisekit and the program
 together, the peak of memory of the larger process, and the size of the page. With chromium (CHROMIUM names another
 one) there are two more lines: of --print groups the pages, the size and the wall time of the PDF; of --open groups
 the wall time until the page can be scrolled, less the time for an empty page. Measure on an idle processor.
@@ -19,7 +21,6 @@ import os
 import re
 import shutil
 import subprocess
-import sys
 import tempfile
 import time
 from pathlib import Path
@@ -105,7 +106,8 @@ def measured(command: Sequence[str], room: Path, groups: int) -> None:
     seconds, memory = kit.run(command, room)
     size = (room / "page.html").stat().st_size / 1e6
     only = " ".join(command[command.index("--only") :]) if "--only" in command else ""
-    print(f"{groups:6} groups {only:11} {seconds:7.2f} s {memory:6.0f} MB, page {size:.2f} MB   {command[0]}", flush=True)
+    figures = f"{seconds:7.2f} s {memory:6.0f} MB, page {size:.2f} MB"
+    print(f"{groups:6} groups {only:11} {figures}   {command[0]}", flush=True)
 
 
 def main() -> None:

@@ -33,8 +33,8 @@ HEADER = "a1007f802000" + "f" * 40 + "c0"
 HOSTILE = "<script>alert(1)</script>&\"'\x07\x1b[2J\u202e=1+1"
 TAGS = set(
     (
-        "html head meta title desc style body svg rect path text tspan div h1 h2 h3 h4 p table thead tbody tr th td script "
-        "br bdi a b span section pre ul li header nav main figure details summary label input output "
+        "html head meta title desc style body svg rect path text tspan div h1 h2 h3 h4 p table thead tbody tr th td "
+        "script br bdi a b span section pre ul li header nav main figure details summary label input output "
     ).split()
 )
 ATTRIBUTES = set(
@@ -566,8 +566,8 @@ def test_the_order_of_the_page(tmp_path: Path) -> None:
     chapters = ["Overview", "The track", "Findings and remarks", "Groups and messages", "What a yes means"]
     assert re.findall("<h2[^>]*>(.+?)</h2>", page) == [*chapters, "Checksums and versions"]
     assert re.findall("<h3[^>]*>(.+?)</h3>", page)[: len(parts)] == parts and page.count('id="yes"') == 1
-    places = [page.index(text) for text in ('<a href="#yes">', '<div class="finding expected"><a href="#pg', 'id="yes"')]
-    assert places == sorted(places)
+    texts = ('<a href="#yes">', '<div class="finding expected"><a href="#pg', 'id="yes"')
+    assert sorted(texts, key=page.index) == list(texts)
 
 
 def test_a_list_is_a_list(tmp_path: Path) -> None:
