@@ -61,14 +61,13 @@ def track_pictures(
     """
     for page in pages(line, links, track, aspect, flags(marks, track)):
         placed = [_placed(page, band) for band in page.bands]
-        parts = _parts(_lanes(placed))
+        parts, top_speed = _parts(_lanes(placed)), speed_top([band.way for band in page.bands])
         for number, part in enumerate(parts, 1):
             title = f"track {clean(track)}, " * bool(track) + f"km {page.begin // 10_000} to {page.end // 10_000}"
             title += f", part {number} of {len(parts)}" * (len(parts) > 1)
             sheet = Sheet(page.begin, page.end, 18)
             _head(sheet, page, title, shown_words(aspect))
             _groups(sheet, page, number == 1)
-            top_speed = speed_top([band.way for band in page.bands])
             for lane in part:
                 for one in lane:
                     _band(sheet, one, top_speed)
@@ -92,13 +91,12 @@ def _head(sheet: Sheet, page: Page, title: str, shown: str) -> None:
 
 def _description(title: str, page: Page, bands: Sequence[Band], shown: str) -> str:
     """What a page shows, for those who do not see it."""
-    stations = [f"{clean(each.group.name)} at {at_km(place_of(each))}" for each in page.stations]
-    groups = listed(stations, NAMED) if stations else "no group"
-    said = [_band_words(band) for band in bands]
-    found = [f"{flag.words} at {at_km(flag.place)}" for flag in page.flags]
-    return ". ".join(
-        filter(None, [f"{title}: {groups}, {shown}", page.left_out, listed(said, NAMED), listed(found, NAMED)])
-    )
+    stations = [f"{clean(each.group.name)} at {at_km(place_of(each))}" for each in page.stations[:NAMED]]
+    groups = listed(stations, NAMED, len(page.stations)) if stations else "no group"
+    said = listed(list(map(_band_words, bands[:NAMED])), NAMED, len(bands))
+    found = [f"{flag.words} at {at_km(flag.place)}" for flag in page.flags[:NAMED]]
+    parts = [f"{title}: {groups}, {shown}", page.left_out, said, listed(found, NAMED, len(page.flags))]
+    return ". ".join(filter(None, parts))
 
 
 def _band_words(band: Band) -> str:
@@ -170,7 +168,7 @@ def _lanes(placed: Sequence[Placed]) -> List[List[Placed]]:
 
 def _groups(sheet: Sheet, page: Page, first: bool) -> None:
     """The axis. The first picture of a page has links and flags above it, and names below."""
-    highest = max((_height(sheet, arc) for arc in page.arcs), default=0)
+    highest = max((_height(sheet, arc) for arc in page.arcs), default=0) if first else 0
     sheet.y += max(highest + 24, 32 * bool(page.flags), 18) if first else 18
     written: Set[Tuple[Tuple[int, int], str]] = set()
     for arc in page.arcs if first else ():

@@ -14,7 +14,7 @@ from typing import Dict, Iterator, List, Optional, Sequence, Set, Tuple
 from balisekit.drawing.flags import Flag
 from balisekit.drawing.profiles import gap, gap_label, places, short_profiles
 from balisekit.engine.grammar import Finding
-from balisekit.etcs.geometry import DIRECTIONS, Way, kilometre_of, way
+from balisekit.etcs.geometry import DIRECTIONS, Way, authority, infill, kilometre_of, passed, way
 from balisekit.etcs.variables import Around, value_words
 from balisekit.rules.line import Line
 from balisekit.rules.links import Links
@@ -162,10 +162,15 @@ def chosen(line: Line, station: BaliseGroup, aspect: Optional[str]) -> Optional[
 def _farthest(line: Line, aspect: Aspect) -> int:
     """The farthest end of authority of an aspect in either direction; -1 if it has none."""
     forms = [line.forms[row.number] for row in aspect.rows if row.number in line.forms]
-    if not any(packet["nid_packet"] in (12, 15) for form in forms for packet in form["packets"]):
-        return -1
-    authorities = (authority for each in DIRECTIONS for authority in way(forms, each).authorities)
-    return max((authority.end for authority in authorities), default=-1)
+    ends = [-1]
+    for direction in DIRECTIONS:
+        elsewhere = infill(forms, direction)
+        ends += [
+            authority(site, packet).end
+            for site, packet in passed(forms, direction)
+            if packet["nid_packet"] in (12, 15) and site not in elsewhere
+        ]
+    return max(ends)
 
 
 def undrawn(station: BaliseGroup, aspect: Optional[str]) -> str:
