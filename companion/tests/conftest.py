@@ -25,7 +25,7 @@ os.environ.setdefault("BALISEKIT_PYTHON", sys.executable)
 """What ./balisekit is run by in these tests."""
 if "BALISECHECK" not in os.environ:  # (found once here: the start script sums up all sources at each call)
     os.environ["BALISECHECK"] = find_program.find(None)
-PAGES = ["test_browser.py", "test_report.py", "test_track.py"]
+PAGES = ["test_browser.py", "test_hostile_texts.py", "test_report.py", "test_report_page.py", "test_track.py"]
 """The tests of pages and pictures, which need jinja2."""
 collect_ignore = [] if find_spec("jinja2") else PAGES
 

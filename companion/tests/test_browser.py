@@ -18,8 +18,8 @@ LINE = TOP / "examples" / "table" / "line.csv"
 PICTURES = Path(__file__).with_name("pictures")
 
 
-def browse(room: Path, page: Path, *words: str) -> "subprocess.CompletedProcess[str]":
-    """Opens the page in a profile of its own, without a network."""
+def browse(room: Path, page: Path, *words: str, place: str = "") -> "subprocess.CompletedProcess[str]":
+    """Opens the page, or a place of it, in a profile of its own, without a network."""
     command: List[str] = [
         str(CHROMIUM),
         "--headless",
@@ -31,7 +31,7 @@ def browse(room: Path, page: Path, *words: str) -> "subprocess.CompletedProcess[
         "--enable-logging=stderr",
         "--hide-scrollbars",
         *words,
-        page.as_uri(),
+        page.as_uri() + place,
     ]
     return subprocess.run(command, capture_output=True, text=True, timeout=300, check=True)
 
@@ -48,7 +48,7 @@ def test_the_console_is_empty(page: Path, tmp_path: Path) -> None:
     """No error, and no style or script that the page's policy refuses; the page is there as a whole."""
     run = browse(tmp_path, page, "--dump-dom")
     assert "CONSOLE" not in run.stderr
-    assert "Report on balise telegrams" in run.stdout and run.stdout.count("<section") == 9
+    assert "Report on balise telegrams" in run.stdout and run.stdout.count('<section class="group"') == 9
 
 
 def test_a_wrong_page_is_reported(page: Path, tmp_path: Path) -> None:
@@ -65,12 +65,81 @@ def test_a_screenshot(page: Path, tmp_path: Path) -> None:
     assert picture.stat().st_size > 50_000
 
 
+def pages_of(room: Path, page: Path) -> int:
+    """How many pages the print of a page has."""
+    printed = room / "page.pdf"
+    browse(room, page, "--no-pdf-header-footer", f"--print-to-pdf={printed}")
+    return len(re.findall(rb"/Type ?/Page\b", printed.read_bytes()))
+
+
 def test_a_print(page: Path, tmp_path: Path) -> None:
-    """The print has pages of A4 with the telegrams."""
-    printed = tmp_path / "page.pdf"
-    browse(tmp_path, page, "--no-pdf-header-footer", f"--print-to-pdf={printed}")
-    pages = len(re.findall(rb"/Type ?/Page\b", printed.read_bytes()))
-    assert pages > 5
+    """The print has pages of A4. That of a full report has all groups and telegrams."""
+    full = tmp_path / "full.html"
+    assert cli.main(["report", str(LINE), "--html", str(full), "--full"]) == 2
+    few, many = pages_of(tmp_path, page), pages_of(tmp_path, full)
+    assert 3 <= few <= 10 and many >= few + 8
+
+
+def test_what_is_folded_is_opened_at_its_place(page: Path, tmp_path: Path) -> None:
+    """A link to a row, or to a packet within it, opens its telegram, and a button to copy the digits appears."""
+    folded = '<details class="telegram" id="r3">'
+    assert folded in browse(tmp_path, page, "--dump-dom").stdout
+    for place in ("#r3", "#r23p1"):
+        seen = browse(tmp_path, page, "--dump-dom", "--virtual-time-budget=2000", place=place).stdout
+        row = place.split("p", maxsplit=1)[0][1:]
+        opened = seen[seen.index(f'<details class="telegram" id="{row}" open="">') :]
+        assert '<button type="button">copy the digits</button><pre class="digits">' in opened[:400]
+        assert seen.count("copy the digits</button>") == 2, "of this row, and of the refused one"
+
+
+def scripted(page: Path, target: Path, steps: str) -> Path:
+    """A copy of the page with these steps of a user. The policy of the page itself would refuse them."""
+    text = re.sub('<meta http-equiv="Content-Security-Policy"[^>]*>', "", page.read_text("utf-8"))
+    target.write_text(text.replace("</body>", f"<script>{steps}</script></body>"), "utf-8")
+    return target
+
+
+SORTED = """
+const button = [...document.querySelectorAll("thead button")].find((each) => each.textContent === "%s");
+for (let click = 0; click < %d; click++) button.click();
+"""
+TYPED = """
+const [text, only] = document.querySelectorAll(".search input");
+text.value = "%s"; text.dispatchEvent(new Event("input"));
+if (%s) only.click();
+"""
+ALL = ["A", "B", "C", "Infill", "D", "E", "F", "G", "H"]
+
+
+@pytest.mark.parametrize(
+    "steps, names",
+    [
+        ("", ALL),
+        (SORTED % ("km", 2), ALL[::-1]),
+        (SORTED % ("findings", 1), ["E", "C", "Infill", "F", "A", "B", "D", "G", "H"]),
+        (SORTED % ("group", 1), ["Infill", "A", "B", "C", "D", "E", "F", "G", "H"]),
+        (TYPED % ("signal 352/104", "false"), ["D"]),
+        (TYPED % ("", "true"), ["C", "Infill", "E", "F"]),
+        (TYPED % ("nothing", "false"), []),
+    ],
+)
+def test_the_overview_is_sorted_and_searched(page: Path, tmp_path: Path, steps: str, names: List[str]) -> None:
+    """By the headings, as numbers where they are numbers, and by words; empty cells come last."""
+    seen = browse(tmp_path, scripted(page, tmp_path / "steps.html", steps), "--dump-dom").stdout
+    body = seen[seen.index('id="overview"') : seen.index('id="tracks"')]
+    rows = [row for row in re.findall("<tr.*?</tr>", body)[1:] if 'hidden=""' not in row]
+    assert [re.findall("<bdi>(?:Signal )?([A-Za-z]+)", row)[0] for row in rows] == names
+
+
+@pytest.mark.parametrize("width", [500, 800, 1400])
+def test_nothing_is_wider_than_the_window(page: Path, tmp_path: Path, width: int) -> None:
+    """What is wider, as pictures and tables may be, is scrolled by itself."""
+    steps = "document.title = `${document.documentElement.scrollWidth} of ${innerWidth}`;"
+    wide = scripted(page, tmp_path / "wide.html", steps)
+    seen = browse(tmp_path, wide, "--dump-dom", f"--window-size={width},900").stdout
+    (title,) = re.findall("<title>([0-9]+ of [0-9]+)</title>", seen)
+    needed, there = map(int, title.split(" of "))
+    assert needed <= there and abs(there - width) <= 20
 
 
 def test_pictures_are_kept() -> None:

@@ -705,6 +705,7 @@ def test_a_direction_by_links_is_used_for_one_group(run: Run, table: Write, tmp_
         assert run("draw", path, "--all", folder)[0] == 0 and run("report", path, "--html", html)[0] != 3
         page = html.read_text("utf-8")
         texts = ["\n".join(out[2 * len(notes) :]), *(one.read_text() for one in (svg, folder / "group-B.svg"))]
-        said[word] = "".join([*texts, page[page.index('<section class="group" id="g1"') :]])
+        block = page[page.index('<section class="group" id="g1"') : page.index('<section id="yes">')]
+        said[word] = "".join([*texts, block])
         assert all("15.050" in text or "km 15.300" in text for text in (*texts, said[word]))
     assert said[""] == said["rising"]

@@ -17,6 +17,7 @@ from typing import Any, Dict, List, Optional, Tuple
 import pytest
 from cases_of_program import TOP
 from telegrams import FIRST, MESSAGE, OTHER, SECOND, digest
+from test_text_boxes import faults
 
 from balisekit.cli import main as cli
 from balisekit.drawing.group import Content, draw
@@ -32,14 +33,14 @@ HEADER = "a1007f802000" + "f" * 40 + "c0"
 HOSTILE = "<script>alert(1)</script>&\"'\x07\x1b[2J\u202e=1+1"
 TAGS = set(
     (
-        "html head meta title style body svg defs pattern rect path circle text div h1 h2 h3 p table tr th td "
-        "br bdi a b span section pre ul li "
+        "html head meta title desc style body svg rect path text tspan div h1 h2 h3 h4 p table thead tbody tr th td "
+        "script br bdi a b span section pre ul li header nav main figure details summary label input output "
     ).split()
 )
 ATTRIBUTES = set(
     (
-        "id class href lang charset http-equiv content name aria-hidden role x y width height viewbox d fill "
-        "stroke stroke-width patternunits cx cy r "
+        "id class href lang charset http-equiv content name role x y width height viewbox d "
+        "scope data-print hidden type autocomplete tabindex aria-label open colspan "
     ).split()
 )
 
@@ -102,10 +103,11 @@ def test_the_page_has_all_that_was_said(
     links = [(attributes["href"] or "")[1:] for tag, attributes in seen.tags if tag == "a"]
     assert len(ids) == len(set(ids)) and set(links) <= set(ids)
     assert len(links) > sum(line.startswith("row") for line in said)
+    assert page.count("<script>") == 1
     with open(table, encoding="utf-8") as file:
         for number, row in enumerate(csv.DictReader(file), 2):
             assert f"r{number}" in ids and row["telegram"] in text
-    assert not re.search(r"https?://(?!www\.w3\.org/2000/svg)|<script|<img|<link", page)
+    assert not re.search(r"https?://(?!www\.w3\.org/2000/svg)|<script[^>]|<img|<link", page)
 
 
 def escape(text: str) -> str:
@@ -129,8 +131,8 @@ def test_links_are_accepted_beside_findings(tmp_path: Path, capsys: pytest.Captu
     told = capsys.readouterr().out.splitlines()[1:]
     assert row["rule"] == "L2" and status == 0
     assert told[-1].startswith("no open findings, links or remarks") and escape("\n".join(told)) in page
-    accepted = _between(page, ACCEPTED, MEANING)
-    assert accepted.count("accepted: surveyed (J. Doe, 2026-01-02)") == 1 and "L2: packet 5" in accepted
+    accepted = _between(page, ACCEPTED, PAPERS)
+    assert accepted.count(f"<td><bdi>surveyed</bdi></td>{SIGNED}</td>") == 1 and "L2: packet 5" in accepted
     block = page[page.index('<section class="group" id="g0">') :]
     assert "L2: packet 5" in block and "accepted: surveyed" in block
 
@@ -186,8 +188,9 @@ def _accepted(path: Path, *rows: Dict[str, str]) -> Path:
     return path
 
 
-PROGRAM, MEANING = "<h2>Findings of the program, proved</h2>", "<h2>What the rules say</h2>"
-ACCEPTED = "<h3>Accepted</h3>"
+PROGRAM, RULES = "<h3>Findings of the program, proved</h3>", "<h3>What the rules say</h3>"
+ACCEPTED, PAPERS = '<h3 id="accepted">Accepted entries</h3>', '<section id="papers">'
+SIGNED = "<td><bdi>J. Doe</bdi></td><td>2026-01-02</td><td>"
 
 
 def _between(page: str, begin: str, end: str) -> str:
@@ -233,11 +236,11 @@ def test_accepted_findings_stand_apart(tmp_path: Path, capsys: pytest.CaptureFix
         )
         assert f'<p class="verdict">{escape(closing)}</p>' in page
         assert ("until 2026-02-01 is past" in page) == ("fault" in counts)
-        still_open, accepted = _between(page, PROGRAM, ACCEPTED), _between(page, ACCEPTED, MEANING)
+        still_open, accepted = _between(page, PROGRAM, RULES), _between(page, ACCEPTED, PAPERS)
         assert ("F11 group 5 aspect 2" in still_open, "F11 group 5 aspect 2" in accepted) == (status == 1, status == 0)
-        assert ("None is open: all were accepted." in still_open) == (status == 0)
-        assert accepted.count("accepted: by &lt;b&gt;design&lt;/b&gt; (J. Doe, 2026-01-02)") == (3, 2)[status]
-        assert accepted.count("(J. Doe, 2026-01-02, until 2999-01-01)") == 1 and "accepted: " not in still_open
+        assert ("None is open: all were <a" in still_open) == (status == 0)
+        assert accepted.count(f"<td><bdi>by &lt;b&gt;design&lt;/b&gt;</bdi></td>{SIGNED}") == (4, 3)[status]
+        assert accepted.count(f"{SIGNED}2999-01-01</td>") == 1 and "accepted: " not in still_open
         assert hashlib.sha256((tmp_path / "accepted.csv").read_bytes()).hexdigest() in page
 
 
@@ -265,7 +268,7 @@ def test_findings_of_one_cause_are_one_entry(tmp_path: Path) -> None:
     table = _table(tmp_path / "t.csv", *rows)
     _, page = _report(table, tmp_path / "r.html")
     listed = _between(page, PROGRAM, "<h2>Groups and messages</h2>")
-    assert re.findall('<p class="several"><bdi>(.*)</bdi></p>', page) == ["at worst wrong information:"]
+    assert re.findall('<h4 class="several"><bdi>(.*)</bdi></h4>', page) == ["at worst wrong information:"]
     assert page.count("look exchanged") == 2 and "12 findings of 1 cause: F1 6, F4 6; " in listed
     assert listed.count("position wrong</span>") == 6 and page.count("position wrong</span>") == 12
     some = [
@@ -274,7 +277,7 @@ def test_findings_of_one_cause_are_one_entry(tmp_path: Path) -> None:
         for balise, text in (("0", SECOND), ("1", FIRST))
     ]
     _, page = _report(table, tmp_path / "r.html", "--accepted", str(_accepted(tmp_path / "a.csv", *some)))
-    still_open, accepted = _between(page, PROGRAM, ACCEPTED), _between(page, ACCEPTED, MEANING)
+    still_open, accepted = _between(page, PROGRAM, RULES), _between(page, ACCEPTED, PAPERS)
     assert (still_open.count("position wrong</span>"), accepted.count("position wrong</span>")) == (2, 4)
     assert still_open.count("look exchanged") == accepted.count("look exchanged") == 1
 
@@ -295,7 +298,7 @@ def test_names_do_no_harm(tmp_path: Path) -> None:
     seen = _Page(page)
     assert {tag for tag, _ in seen.tags} <= TAGS
     assert {name for _, attributes in seen.tags for name in attributes} <= ATTRIBUTES
-    assert "<script" not in page and "\u202e" not in page and "<script>alert(1)</script>" in "".join(seen.texts)
+    assert page.count("<script") == 1 and "\u202e" not in page and "<script>alert(1)</script>" in "".join(seen.texts)
     assert cli.main(["draw", str(table), "--group", name, "--svg", str(tmp_path / "a.svg")]) == 0
     ElementTree.parse(tmp_path / "a.svg")
 
@@ -436,7 +439,7 @@ def test_messages_are_drawn_and_shown(tmp_path: Path, capsys: pytest.CaptureFixt
     assert "F13: 500 m are missing, from 1500 m, km 13.800 to 2000 m, km 14.300, nominal" in text
     assert "D_LRBG 500 m [500]" in text and "F13 message 0 packet 0 nominal: speed profile short" in text
     sections = page.split('<section class="group" id="m')[1:]
-    assert [section.count('<svg class="picture"') for section in sections] == [1, 1, 0, 0]
+    assert [section.count("<figure") for section in sections] == [1, 1, 0, 0]
     assert "km " not in sections[1] and "metres from the group of NID_LRBG (NID_C 352, NID_BG 9)" in sections[1]
     assert cli.main(["draw", str(LINE), *words, "--message", "1", "--svg", str(tmp_path / "m.svg")]) == 0
     assert any(title.startswith("F13: 500 m are missing") for title in _titles(tmp_path / "m.svg"))
@@ -453,7 +456,7 @@ def test_an_authority_has_all_its_places() -> None:
         "q_dir": 2,
         "q_scale": 1,
         "v_main": 24,
-        "end_speed": 4,
+        "end_speed": 0,
         "end_timeout": 60,
         "sections": [{"l_section": 800}],
         "l_endsection": 900,
@@ -465,20 +468,26 @@ def test_an_authority_has_all_its_places() -> None:
     titles = {one.title for one in picture.shapes if one.title}
     for direction, along in (("nominal", 1), ("reverse", -1)):
 
-        def km(metres_along: int) -> str:
-            return f"{metres_along} m, km {10 + along * Decimal(metres_along) / 1000:.3f}, {direction}"
+        def km(metres_along: int, more: str = "") -> str:
+            return f"{metres_along} m, km {10 + along * Decimal(metres_along) / 1000:.3f}{more}, {direction}"
 
         assert titles >= {
             f"section 0: 800 m, to {km(800)}",
             f"end section: 900 m, to {km(1700)}",
             f"end of the authority: {km(1700)}",
-            f"danger point: {km(1760)}",
-            f"overlap: 120 m, to {km(1820)}",
+            f"danger point: {km(1760, ', release speed 25 km/h')}",
+            f"overlap: 120 m, to {km(1820, ', release speed calculated on board')}",
             f"supervised location: {km(1820)}",
         }
-    texts = [one.text for one in picture.shapes if "V_MAIN" in one.text]
-    said = "V_MAIN 120 km/h; V_LOA 20 km/h; end 1700 m; DP 1760 m; overlap to 1820 m; SvL 1820 m"
-    assert texts == [f"nominal: {said}", f"reverse: {said}"]
+    texts = [one.text for one in picture.shapes]
+    said = "V_MAIN 120 km/h; V_LOA 0 km/h, stop"
+    assert [text for text in texts if "V_LOA" in text] == [f"nominal: {said}", f"reverse: {said}"]
+    for words in (
+        "end 1700 m",
+        "danger point 1760 m, release speed 25 km/h",
+        "overlap to 1820 m, release speed calculated on board; SvL",
+    ):
+        assert texts.count(words) == 2
 
 
 @pytest.mark.parametrize("length", [1, 300, 2000, 9000])
@@ -502,12 +511,7 @@ def test_texts_are_within_the_picture(length: int, direction: int, tmp_path: Pat
     for line in ("1", "2"):
         words = ["--messages", str(messages), "--message", line, "--svg", str(tmp_path / f"{line}.svg")]
         assert cli.main(["draw", str(LINE), *words]) == 0
-        picture = ElementTree.parse(tmp_path / f"{line}.svg").getroot()
-        for one in picture.iter("{http://www.w3.org/2000/svg}text"):
-            look, said, x = str(one.get("class")), str(one.text), float(str(one.get("x")))
-            long_one = len(said) * (7 if "red" in look else 6)
-            left = x - long_one * (0 if "begin" in look else 1 if "ending" in look else 0.5 if "middle" in look else 0)
-            assert left >= 0 and (left + long_one <= int(str(picture.get("width"))) or "tick" in look), (said, left)
+        assert not faults(tmp_path / f"{line}.svg")
 
 
 def test_two_groups_with_one_identity_give_a_message_no_kilometres(tmp_path: Path) -> None:
@@ -548,27 +552,28 @@ def test_messages_that_cannot_be_drawn(
     assert sorted(os.listdir(tmp_path)) == ["m.txt"]
 
 
-def test_findings_stand_before_what_a_yes_means(tmp_path: Path) -> None:
-    """The cover has a link to it."""
+def test_the_order_of_the_page(tmp_path: Path) -> None:
+    """Overview, track, findings by family, groups, and what a yes means, to which the cover has a link."""
     _, page = _report(LINE, tmp_path / "r.html")
     own = "by balisekit&#39;s own rules"
     parts = [
+        "What was left out",
         "Findings of the program, proved",
         f"Links, {own} L1 to L9, not proved",
         f"Remarks on what the data mean, {own}, not proved",
+        "What the rules say",
     ]
-    wanted = ["What was left out", *parts, "What the rules say", "What a yes means", "The track"]
-    headings = re.findall("<h2[^>]*>(.+?)</h2>", page)
-    assert headings[:7] == wanted and page.count('id="yes"') == 1
-    assert (
-        page.index('<a href="#yes">') < page.index('<div class="finding expected"><a href="#g') < page.index('id="yes"')
-    )
+    chapters = ["Overview", "The track", "Findings and remarks", "Groups and messages", "What a yes means"]
+    assert re.findall("<h2[^>]*>(.+?)</h2>", page) == [*chapters, "Checksums and versions"]
+    assert re.findall("<h3[^>]*>(.+?)</h3>", page)[: len(parts)] == parts and page.count('id="yes"') == 1
+    texts = ('<a href="#yes">', '<div class="finding expected"><a href="#pg', 'id="yes"')
+    assert sorted(texts, key=page.index) == list(texts)
 
 
 def test_a_list_is_a_list(tmp_path: Path) -> None:
     """What a yes means has a list of four, without the document's hyphens."""
     _, page = _report(_table(tmp_path / "t.csv", {"group": "A", "telegram": HEADER}), tmp_path / "r.html")
-    said = page.split("What a yes means")[1].split("<h2>")[0]
+    said = page.split("<h2>What a yes means")[1].split("<h3>")[0]
     items = re.findall(r"<li>(.+?)</li>", said)
     assert len(items) == 4 and items[0].startswith("Each aspect of each group is well formed")
     assert said.count("<ul>") == 1 and not re.search(r">\s*- ", said)

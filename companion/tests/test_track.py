@@ -14,13 +14,17 @@ from cases_of_program import TOP
 from conftest import Run
 from telegrams import ALONE, MESSAGE
 from test_links import group, header, line_with
+from test_text_boxes import overlaps
 
+from balisekit.drawing.flags import Mark
+from balisekit.drawing.letters import width
 from balisekit.drawing.sheet import LEFT, RIGHT, WIDTH, Picture, Shape
 from balisekit.drawing.track import LANES, track_pictures, tracks_of
 from balisekit.drawing.track_pages import at_km, pages
 from balisekit.etcs.geometry import kilometre
 from balisekit.io import csv_writing
 from balisekit.rules.links import compare
+from balisekit.tables.model import Aspect, Group, Row
 
 Write = Callable[..., Path]
 Form = Any
@@ -128,16 +132,7 @@ def test_names_and_bands_do_not_overlap() -> None:
     assert [one.title for one in pictures] == ["km 0 to 5, part 1 of 2", "km 0 to 5, part 2 of 2"]
     assert [len(looks(one, "section0")) for one in pictures] == [LANES, 20 - LANES]
     for picture in pictures:
-        for name, letter in (("name middle", 6.2), ("small", 6.2)):
-            boxes = []
-            for one in looks(picture, name):
-                width = len(one.text) * letter
-                left = float(one.x) - (width / 2 if "middle" in name else 0)
-                boxes.append((left, float(one.y), left + width))
-            for number, box in enumerate(boxes):
-                for other in boxes[number + 1 :]:
-                    assert abs(box[1] - other[1]) >= 10 or box[2] <= other[0] + 0.1 or other[2] <= box[0] + 0.1
-        assert picture.height < 1400
+        assert picture.height < 1400 and not overlaps(picture)
 
 
 def test_an_open_profile_is_dashed_and_ends_somewhere() -> None:
@@ -208,7 +203,7 @@ def test_groups_that_are_left_out(run: Run, table: Write) -> None:
     assert (status, err) == (
         0,
         [
-            'written: standard output: 2 groups of track "0", the first aspect of each',
+            'written: standard output: 2 groups of track "0", each in the aspect with the farthest end of authority',
             "a mark alone, the direction of its kilometres is not known: G0",
             "left out, on another track: G2",
             "left out, no kilometre: G3, G4, G5, G6, G7 and 2 more",
@@ -259,9 +254,11 @@ def test_names_do_no_harm(run: Run, table: Write, tmp_path: Path) -> None:
     )
     path = table(content=named.encode())
     status, out, _ = run("draw", path, "--track", "--svg", tmp_path / "t.svg")
-    assert status == 0 and out[0].endswith('4 groups of track "<script>&"\'\\u202e", the first aspect of each')
+    assert status == 0 and out[0].endswith(
+        '4 groups of track "<script>&"\'\\u202e", each in the aspect with the farthest end of authority'
+    )
     tags = {one.tag.split("}")[1] for one in ElementTree.parse(tmp_path / "t.svg").iter()}
-    assert tags <= {"svg", "title", "style", "defs", "pattern", "rect", "path", "circle", "text"}
+    assert tags <= {"svg", "title", "desc", "style", "rect", "path", "text", "tspan"}
     run("report", path, "--html", tmp_path / "r.html")
     page = (tmp_path / "r.html").read_text("utf-8")
     assert "<script" not in page and "\u202e" not in page and "links L2: " in page
@@ -274,13 +271,110 @@ def test_the_report_has_the_track(run: Run, tmp_path: Path) -> None:
     assert "L2, a rule of balisekit" in page and "km 10 to 15" in page
 
 
-def test_far_away_ends_make_no_pages() -> None:
-    """An authority of thousands of kilometres is cut off behind the last group."""
+@pytest.mark.parametrize(
+    "nominal, title, km", [("rising", "km 325 to 330", 328.67), ("falling", "km -330 to -325", -326.67)]
+)
+def test_far_away_ends_make_no_pages(nominal: str, title: str, km: float) -> None:
+    """An authority of hundreds of kilometres has a page for its end. Pages on which nothing begins are left out."""
     packets = authority()
     packets[0].update(q_scale=2, l_endsection=32_767)
-    pictures = drawn((group("A", "1", nominal="rising"), [header(1, *packets)]))
-    assert [one.title for one in pictures] == ["km 0 to 5", "km 5 to 10"]
-    assert Decimal(looks(pictures[1], "section0")[0].width) == Decimal(ROOM)
+    pictures = drawn((group("A", "1", nominal=nominal), [header(1, *packets)]))
+    first, last = ("km 0 to 5", title) if km > 0 else (title, "km 0 to 5")
+    assert [one.title for one in pictures] == [first, last]
+    far = pictures[-1 if km > 0 else 0]
+    (bar,) = looks(far, "section0")
+    begin = float(bar.x) if km > 0 else float(bar.x) + float(bar.width)
+    assert abs(begin - (LEFT if km > 0 else LEFT + ROOM)) < 0.2
+    assert abs(place(looks(far, "end")[0].path[1:].split()[0]) + int(title.split()[1]) - km) < 0.01
+    (note,) = [one.text for each in pictures for one in each.shapes if one.text.startswith("left out: ")]
+    assert note == f"left out: km {'5 to 325' if km > 0 else '-325 to 0'}, where nothing begins or ends"
+    assert sum(len(looks(one, "break")) for one in pictures) == 2
+
+
+def test_falling_lines_are_whole() -> None:
+    """Pages reach from the least to the greatest place of any authority or profile, below km 0 as well."""
+    pictures = drawn((group("A", "0.4", nominal="falling"), [header(1, *authority())]))
+    assert [one.title for one in pictures] == ["km -5 to 0", "km 0 to 5"]
+    assert [len(looks(one, "end")) for one in pictures] == [1, 0]
+    assert [one.text for one in pictures[0].shapes if one.text.startswith("A")] == ["A, V_MAIN 100 km/h, from km 0.400"]
+
+
+def test_directions_have_labels_of_their_own() -> None:
+    """A name is at its group, with an arrow to where its band runs along the kilometres, and each V_MAIN is its own."""
+    back = authority(0)
+    back[0]["v_main"] = 16
+    for nominal, sign in (("rising", 1), ("falling", -1)):
+        (picture,) = drawn((group("G", "2.5", nominal=nominal), [header(1, *authority(), *back)]))
+        said = {one.text: float(one.x) for one in picture.shapes if "V_MAIN" in one.text}
+        assert set(said) == {"G, nominal, V_MAIN 100 km/h", "G, reverse, V_MAIN 80 km/h"}
+        for shape in looks(picture, "run"):
+            up = "nominal" in shape.title if sign > 0 else "reverse" in shape.title
+            assert shape.title.startswith(f"runs {'up' if up else 'down'} the kilometres, ")
+            assert ("l8 4l-8" in shape.path) == up
+            text = next(words for words in said if words.split(", ")[1] in shape.title)
+            begin, end = said[text], said[text] + width("", text) / 10
+            assert abs(place(str(begin if up else end)) - 2.5) < 0.1
+
+
+def test_the_farthest_authority_is_shown() -> None:
+    """Of each group, in either direction. Only an aspect of this name is shown if one is named."""
+    rows = {name: Row(number, "A", "", km=Decimal(2), nominal="rising") for number, name in enumerate("rgy")}
+    group_of_three = Group("A", tuple(Aspect(name, (row,)) for name, row in rows.items()))
+    lengths = {"r": (0, 1), "g": (900, 0), "y": (400, 1)}
+    forms = [
+        header(
+            1,
+            *({**one, "q_dir": way, **({"l_endsection": to} if "l_endsection" in one else {})} for one in authority()),
+        )
+        for to, way in lengths.values()
+    ]
+    for aspect, wanted in ((None, "g"), ("r", "r"), ("y", "y")):
+        (picture,) = drawn((group_of_three, forms), aspect=aspect)
+        assert [one.text.split(",")[1].strip() for one in picture.shapes if "V_MAIN" in one.text] == [wanted]
+        shown = (
+            "each group in the aspect with the farthest end of authority" if aspect is None else f'aspect "{aspect}"'
+        )
+        assert [one.text for one in looks(picture, "ending")] == [shown]
+
+
+def test_links_have_arrows_and_distances() -> None:
+    """An arrow to the linked group, and the sum of D_LINK. Links in both directions have one text."""
+    some = [
+        (group("A", "1", nominal="rising"), [header(1, link_tables.linking(1, link_tables.link(2000, 2, 1)))]),
+        (group("B", "3", nominal="rising"), [header(2, link_tables.linking(0, link_tables.link(2000, 1, 0)))]),
+    ]
+    (picture,) = drawn(*some)
+    tips = [float(one.path[1:].split()[0]) - float(one.path.split("L")[1].split()[0]) for one in looks(picture, "way")]
+    assert sorted(tip > 0 for tip in tips) == [False, True]
+    assert [one.text for one in picture.shapes if one.text == "2000 m"] == ["2000 m"]
+
+
+def test_marks_are_flags() -> None:
+    """At their places; all about a group together, those of other tracks not. What is accepted is quiet."""
+    marks = [
+        Mark("", Decimal("2.1"), "F11", "gradient short", (4,), "A"),
+        Mark("", Decimal("2.0"), "E3", "<b>", (2, 3), "A"),
+        Mark("", Decimal("17.0"), "X1", "not on the plan", is_quiet=True),
+        Mark("other", Decimal("3.0"), "L1", "not there"),
+    ]
+    line = line_with((group("A", "2", nominal="rising"), [header(1)]))
+    near, far = track_pictures(line, compare(line), "", None, marks)
+    assert [one.title for one in (near, far)] == ["km 0 to 5", "km 15 to 20"]
+    (flag,), (quiet,) = looks(near, "flag"), looks(far, "flag quiet")
+    assert (
+        flag.title == "F11: row 4: gradient short; E3: rows 2, 3: <b>"
+        and abs(place(flag.path[1:].split()[0]) - 2) < 0.01
+    )
+    assert quiet.title == "X1: not on the plan" and [one.text for one in looks(near, "red middle")] == ["F11, E3"]
+
+
+def test_what_a_picture_says_without_being_seen() -> None:
+    """Its groups, authorities, speeds and gradients, in a few sentences."""
+    (picture,) = drawn((group("A", "2", nominal="falling"), [header(1, *authority())]))
+    assert picture.description == (
+        "km 0 to 5: A at km 2.000, each group in the aspect with the farthest end of authority. A, V_MAIN 100 km/h, "
+        "authority to km 1.000; speeds 100 km/h; gradients 5 \u2030"
+    )
 
 
 @pytest.mark.parametrize("place", [0, 1, 10, 123_450, 123_456, -5, -123_450, 99_999_999])
@@ -311,7 +405,7 @@ def test_gaps_and_end_marks(run: Run, tmp_path: Path) -> None:
         run("draw", LINE, "--track", "--aspect", aspect, "--force", "--svg", tmp_path / "t.svg")
         assert sorted(_titles(tmp_path / "t.svg", "gap")) == gaps
         texts = [one.text or "" for one in ElementTree.parse(tmp_path / "t.svg").iter(f"{SVG}text")]
-        assert sorted({text for text in texts if re.match("F[0-9]", text)}) == said
+        assert sorted({text for text in texts if re.match("F[0-9]+: ", text)}) == said
         marks = _titles(tmp_path / "t.svg", "endmark")
         assert "end mark: the speed profile reaches km 15.500, nominal, Signal A" in marks or aspect != "green"
         assert len(marks) == {"green": 16, "yellow": 14, "red": 14}[aspect]

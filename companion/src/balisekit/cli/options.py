@@ -19,7 +19,7 @@ from balisekit.tables.names import passed_over
 
 TABLE = "a CSV file or an .xlsx with the columns group and telegram"
 TIMEOUT = "wait this long for each answer of the program; without it a minute, and more for a large input"
-ASPECT = "which aspect of the groups a track shows; without it the first one of each group"
+ASPECT = "which aspect of the groups a track shows; without it the one with the farthest end of authority"
 TOLERANCE = "the error to allow for in the kilometres of the table, in addition to Q_LOCACC; 0 without it"
 EXACT = Decimal()
 """The tolerance without --tolerance."""

@@ -2,23 +2,24 @@
 from __future__ import annotations
 
 import argparse
+import shlex
+from typing import Iterator
 
 from balisekit.cli import options as shared, settings
 from balisekit.cli.outcome import add_only, outcome as outcome_of, stated
 from balisekit.cli.selection import check_aspect
-from balisekit.drawing.track import track_pictures, tracks_of
 from balisekit.io import clock
-from balisekit.present.outcome_text import closing_lines, explained_rules
-from balisekit.present.pages import pieces, premises
-from balisekit.present.report import blocks, cover, listed
-from balisekit.present.telegram_text import LEGEND
+from balisekit.present.outcome_text import closing_lines
+from balisekit.present.report_page import report_page
 from balisekit.rules.families import Outcome
 from balisekit.rules.line import Line
 from balisekit.rules.links import L2, Links, compare
 from balisekit.rules.rule import Options
 from balisekit.tables.names import clean
 
-DISTANCE = "one whose distance differs from the kilometres (L2, a rule of balisekit)"
+FULL = "fold nothing: decoded telegrams and groups without findings are printed too"
+OF_THE_DOCUMENT = ("messages", "by_position", *(word[2:].replace("-", "_") for word in shared.READING), "all")
+"""The options by which a document differs."""
 
 
 def add_options(parser: argparse.ArgumentParser) -> None:
@@ -26,33 +27,31 @@ def add_options(parser: argparse.ArgumentParser) -> None:
     shared.add(parser, *shared.INPUTS)
     parser.add_argument("--html", **shared.output_file("where to write"), required=True)
     shared.add(parser, "--force", "--accepted", "--all", "--aspect")
+    parser.add_argument("--full", **shared.flag(FULL))
     add_only(parser)
     settings.add_options(parser)
 
 
 def run(options: argparse.Namespace) -> int:
     """Does it. The answer is the exit status."""
-    now, of_line = clock.now(), stated(options)
+    now, of_line, heading = clock.now(), stated(options), settings.heading(options)
     outcome = outcome_of(options, of_line, now)
     check_aspect(outcome.checked.table, options.aspect)
-    parts, links = listed(outcome), _links(outcome, of_line)
-    line = links.line
-    page = pieces(
-        "report.html",
-        ["page.css", "picture.css", "track.css"],
-        cover=cover(outcome, now),
-        parts=parts,
-        explained=list(explained_rules(outcome)),
-        blocks=blocks(outcome.checked, line, (each for part in parts for each in part.all)),
-        legend=LEGEND,
-        premises=premises(),
-        links_rule=DISTANCE,
-        aspect=options.aspect,
-        tracks=((clean(name), track_pictures(line, links, name, options.aspect)) for name in tracks_of(line)),
-    )
+    command = clean(shlex.join(_command(options)))
+    page = report_page(outcome, _links(outcome, of_line), heading, command, now, options.aspect, options.full)
     options.html.write(page)
     shared.say([f"written: {clean(str(options.html))}", *closing_lines(outcome)], options.html)
     return outcome.status
+
+
+def _command(options: argparse.Namespace) -> Iterator[str]:
+    """The words of a command that hands the same document to the program."""
+    yield from ("balisekit", "check", str(options.table))
+    for name in OF_THE_DOCUMENT:
+        value = getattr(options, name)
+        if value:
+            yield f"--{name.replace('_', '-')}"
+            yield from () if value is True else (str(value),)
 
 
 def _links(outcome: Outcome, options: Options) -> Links:

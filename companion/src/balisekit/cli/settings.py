@@ -1,4 +1,7 @@
-"""What a user states of the line: by options, else by the table [check] of balisekit.toml beside the table."""
+"""What a user states of the line: by options, else by the table [check] of balisekit.toml beside the table.
+
+The table [report] of the file has what a report is headed with.
+"""
 from __future__ import annotations
 
 import argparse
@@ -108,7 +111,7 @@ def _given(options: argparse.Namespace) -> Dict[str, Any]:
 
 def _of_file(options: argparse.Namespace) -> Dict[str, Any]:
     """What the table [check] of the file has. A path is seen from the folder of the file."""
-    path, values = own_headings.of_check(options.table, options.columns)
+    path, values = own_headings.stated(options.table, options.columns, own_headings.CHECK_TABLE)
     with faults_of(path):
         found = {name: _value(name, value) for name, value in values.items()}
     folder = os.path.dirname(path)
@@ -122,3 +125,22 @@ def _value(name: str, value: object) -> Any:
         return KINDS[name](words)
     except argparse.ArgumentTypeError as error:
         raise TableError(f"[check] {name}: {error}") from error
+
+
+def heading(options: argparse.Namespace) -> own_headings.ReportHeading:
+    """What the table [report] of the file has. TableError is raised for a value that is no text."""
+    path, values = own_headings.stated(options.table, options.columns, own_headings.REPORT_TABLE)
+    with faults_of(path):
+        texts = {name: _texts(name, value) for name, value in values.items()}
+    signatures = texts.pop("signatures", ())
+    return own_headings.ReportHeading(**{name: text for name, (text,) in texts.items()}, signatures=signatures)
+
+
+def _texts(name: str, value: object) -> Tuple[str, ...]:
+    """The text of a key, or the texts of `signatures`."""
+    several = isinstance(value, list)
+    texts = value if isinstance(value, list) else [value]
+    if several != (name == "signatures") or not all(isinstance(text, str) and text.strip() for text in texts):
+        example = '["prepared", "verified"]' if name == "signatures" else '"..."'
+        raise TableError(f"[report] {name} is no text: write {name} = {example}")
+    return tuple(texts)

@@ -6,35 +6,40 @@ from __future__ import annotations
 
 from dataclasses import dataclass
 from functools import lru_cache
-from itertools import count, zip_longest
-from typing import Callable, Dict, Iterator, List, Mapping, Optional, Sequence, Tuple
+from itertools import chain, count, zip_longest
+from typing import Dict, Iterator, List, Mapping, Optional, Sequence, Tuple
 
+from balisekit.drawing.letters import width
 from balisekit.drawing.profiles import (
     Sizes,
     WayDrawing,
+    gap,
     gap_label,
     is_about,
+    places,
     profile_number,
-    reach,
     short_profiles,
     speed_top,
 )
-from balisekit.drawing.sheet import BOLD_LETTER, LEFT, LETTER, WIDTH, Lane, Picture, Shape, Sheet, tenths
+from balisekit.drawing.sheet import EDGE, EDGES, LEFT, ROOM, WIDTH, Lane, Picture, Rows, Shape, Sheet, tenths
+from balisekit.drawing.words import Describe, area_words, ends, place_words, speed_words, summary
 from balisekit.engine.grammar import Finding
 from balisekit.etcs.areas import Area
 from balisekit.etcs.geometry import DIRECTIONS, NOMINAL, REVERSE, Authority, Kilometres, Way, infill, kilometres, way
-from balisekit.etcs.variables import Around, Form, metres, value_words
+from balisekit.etcs.variables import Form, metres
 from balisekit.tables.model import Aspect, Group
 from balisekit.tables.names import NAMED, clean, listed, quoted
 
 AREAS = ((41, "level"), (65, "restriction"), (80, "mode"), (68, "condition"))
 """The lanes of what has no lane of its own: packet and name."""
-AREA_HEIGHT = 8
+AREA, LINE = 8, 12
+"""The height of an area, and of a line of words."""
 PROFILES = ((27, "speed, km/h", 58), (21, "gradient, ‰", 20))
 """The lanes of profiles: packet, name and height."""
-MISSING_HEIGHT, AUTHORITY_HEIGHT, LINE = 20, 50, 12
-SIZES = Sizes(speed=46, above=3, end=4, supervised=10)
-Describe = Callable[[int], str]
+MISSING_HEIGHT, BAR = 20, Lane(12, 14)
+SIZES = Sizes(speed=46, end=4, supervised=10, has_words=True)
+NOTHING = "no authority, gradient or speed profile"
+Drawn = Sequence[Tuple[WayDrawing, Authority]]
 
 
 @dataclass(frozen=True)
@@ -114,29 +119,50 @@ def draw(title: str, contents: Sequence[Content], where: Kilometres, titled: boo
     """The picture of a group: a row for each content, below the title if it is to be seen."""
     rows = [(content, [way(content.forms, each, content.infill) for each in DIRECTIONS]) for content in contents]
     nominal, reverse = (
-        max((place for _, ways in rows for place in reach(ways[index])), default=0) for index in range(2)
+        max((place for _, ways in rows for place in places(ways[index])), default=0) for index in range(2)
     )
     sheet = Sheet(-reverse, max(nominal, 1000 - reverse))
     if titled:
-        sheet.text("title", clean(title), 40, 20)
+        sheet.short("title", clean(title), EDGE, 20, WIDTH * 10 - 2 * EDGE)
         sheet.y = 28
     own, elsewhere = ([_describing(known, each) for each in DIRECTIONS] for known in (where, Kilometres()))
     top_speed = speed_top([each for _, ways in rows for each in ways])
     last = max((index for index, (content, ways) in enumerate(rows) if any(ways) and not content.infill), default=None)
     for index, (content, ways) in enumerate(rows):
-        sheet.text("head", clean(content.title), 40, sheet.y + 18)
+        sheet.short("head", clean(content.title), EDGE, sheet.y + 18, WIDTH * 10 - 2 * EDGE)
         sheet.y += 26
         if not any(ways):
-            sheet.text("small", "no authority, gradient or speed profile", LEFT * 10, sheet.y + 10)
+            sheet.text("", NOTHING, LEFT * 10, sheet.y + 10)
             sheet.y += 20
             continue
         begin = sheet.y
         _row(sheet, content, ways, elsewhere if content.infill else own, top_speed)
-        group = "the infill's group" if content.infill else "the group"
-        sheet.path("group", group, f"M{tenths(sheet.x(0))} {begin}V{sheet.y + 4}")
+        sheet.path("group", "the infill's group" * content.infill, f"M{tenths(sheet.x(0))} {begin}V{sheet.y + 4}")
         if content.infill or index == last:
             _axis(sheet, Kilometres() if content.infill else where)
-    return sheet.picture(clean(title), 6)
+    return sheet.picture(clean(title), 6, _description(title, rows, where))
+
+
+def _description(title: str, rows: Sequence[Tuple[Content, Sequence[Way]]], where: Kilometres) -> str:
+    """What the picture shows, for those who do not see it: authorities by row, and what all rows have together."""
+    km = where.words(0, NOMINAL)
+    authorities = [f"{clean(content.title)}: {_authority_words(content, ways)}" for content, ways in rows]
+    whole = summary([each for _, ways in rows for each in ways], metres)
+    return ". ".join(filter(None, [clean(title) + (f", km {km}" if km else ""), *authorities, whole]))
+
+
+def _authority_words(content: Content, ways: Sequence[Way]) -> str:
+    """The authorities and gaps of a row."""
+    if not any(ways):
+        return NOTHING
+    said = [f"{each.direction}{_missing(content, each)}, {ends(each, metres)}" for each in ways if each]
+    return "; ".join(said)
+
+
+def _missing(content: Content, each: Way) -> str:
+    """The gaps of a way."""
+    found = [finding for finding in content.short if finding.direction == each.direction and gap(finding, each)]
+    return "".join(f", {gap_label(finding, each)}" for finding in found)
 
 
 def _describing(where: Kilometres, direction: str) -> Describe:
@@ -152,101 +178,160 @@ def _describing(where: Kilometres, direction: str) -> Describe:
 
 def _row(sheet: Sheet, content: Content, ways: Sequence[Way], describe: Sequence[Describe], top_speed: int) -> None:
     if ways[1]:
-        sheet.text("small ending", "← reverse", sheet.x(0) - 60, sheet.y)
-        if ways[0]:
-            sheet.text("small begin", "nominal →", sheet.x(0) + 60, sheet.y)
+        _directions(sheet, bool(ways[0]))
     drawings = [
-        WayDrawing(sheet, each, SIZES, describe[index], each.direction, 1 - 2 * index)
+        WayDrawing(sheet, each, SIZES, describe[index], each.direction if ways[1] else "", 1 - 2 * index)
         for index, each in enumerate(ways)
     ]
+    _profiles(sheet, content, drawings, top_speed)
+    for authorities in zip_longest(*[each.authorities for each in ways]):
+        _authorities(sheet, [(drawing, one) for drawing, one in zip(drawings, authorities) if one])
+    for number, name in AREAS:
+        areas = [(drawing, area) for drawing in drawings for area in drawing.way.areas if area.number == number]
+        if areas:
+            _areas(sheet, name, areas)
+
+
+def _directions(sheet: Sheet, has_nominal: bool) -> None:
+    """Which side of the group is which direction, in a line of its own."""
+    sheet.y += 8
+    nominal, reverse = "nominal \u2192", "\u2190 reverse"
+    begin = min(sheet.x(0) + 60, EDGES[1] - width("", nominal))
+    if has_nominal:
+        sheet.text("", nominal, begin, sheet.y)
+    sheet.text("ending", reverse, max(min(sheet.x(0), begin) - 60, EDGE + width("", reverse)), sheet.y)
+
+
+def _profiles(sheet: Sheet, content: Content, drawings: Sequence[WayDrawing], top_speed: int) -> None:
+    """The lanes of profiles, with V_MAIN in the first one of speeds."""
     for number, name, height in PROFILES:
-        for profiles in zip_longest(*[each.speeds if number == 27 else each.gradients for each in ways]):
+        kinds = [drawing.way.speeds if number == 27 else drawing.way.gradients for drawing in drawings]
+        for index, profiles in enumerate(zip_longest(*kinds)):
             lane = _lane(sheet, name, height)
             for drawing, profile in zip(drawings, profiles):
                 if profile:
                     drawing.profile(profile, lane, top_speed)
+            for drawing, authority in _all_authorities(drawings) if number == 27 and index == 0 else ():
+                drawing.v_main(authority, lane, top_speed)
+            for drawing, profile in zip(drawings, profiles):
+                if profile:
                     _gaps(drawing, [finding for finding in content.short if is_about(finding, profile)], lane)
         missing = [finding for finding in content.short if finding.packet is None and profile_number(finding) == number]
         if missing:
             lane = _lane(sheet, name, MISSING_HEIGHT)
             for drawing in drawings:
                 _gaps(drawing, missing, lane)
-    for authorities in zip_longest(*[each.authorities for each in ways]):
-        lane = _lane(sheet, "authority", AUTHORITY_HEIGHT + (LINE if all(authorities) else 0))
-        drawn = [(drawing, authority) for drawing, authority in zip(drawings, authorities) if authority]
-        for drawing, authority in drawn:
-            drawing.authority(authority, Lane(lane.top + 12, 14))
-        for index, (drawing, authority) in enumerate(drawn):
-            label = f"{drawing.whose}: " * (len(drawn) > 1) + _authority_words(authority)
-            left = max(40, min(sheet.x(0) + 40, WIDTH * 10 - len(label) * LETTER))
-            sheet.text("small begin halo", label, left, lane.top + 40 + index * LINE)
-    for number, name in AREAS:
-        for drawing in drawings:
-            for area in drawing.way.areas:
-                if area.number == number:
-                    _area(drawing, area, _lane(sheet, name, AREA_HEIGHT + LINE))
 
 
-def _area(drawing: WayDrawing, area: Area, lane: Lane) -> None:
-    """A bar, and below it which area it is."""
-    edges = drawing.area(area, Lane(lane.top, AREA_HEIGHT))
-    if edges:
-        left = max(40, min(edges[0], WIDTH * 10 - len(area.words) * LETTER))
-        drawing.sheet.text("small begin halo", area.words, left, lane.bottom)
+def _all_authorities(drawings: Sequence[WayDrawing]) -> Drawn:
+    return [(drawing, authority) for drawing in drawings for authority in drawing.way.authorities]
+
+
+def _authorities(sheet: Sheet, drawn: Drawn) -> None:
+    """A lane with an authority of each direction, and below it what is at which place."""
+    lane = _lane(sheet, "authority", BAR.bottom)
+    bar = Lane(lane.top + BAR.top, BAR.height)
+    for drawing, authority in drawn:
+        drawing.authority(authority, bar)
+    for drawing, authority in drawn:
+        words = f"{drawing.whose}: " * (len(drawn) > 1) + speed_words(authority)
+        _write_at(drawing, words, 0, bar.bottom, is_toward=False)
+    lines = [
+        _write_at(drawing, words, place, bar.bottom, is_toward=True)
+        for drawing, authority in drawn
+        for place, words in place_words(authority)
+    ]
+    sheet.path("leader", "", "".join(lines))
+    sheet.y += 6
+
+
+def _write_at(drawing: WayDrawing, words: str, place: int, bottom: int, is_toward: bool) -> str:
+    """Words below a place of a bar: at the side toward the group if they may be there, else at the other one.
+
+    The answer is the path of a line from the place to them, if they are toward the group.
+    """
+    sheet, wide = drawing.sheet, width("", words)
+    x = sheet.x(drawing.at(place))
+    left, right = x - 30 - wide, x + 40
+    sides = [left, right] if drawing.sign > 0 else [right, left]
+    near = min(max(x - wide // 2, EDGES[0]), EDGES[1] - wide)
+    starts = [*(sides if is_toward else sides[1:]), near]
+    spots = ((start, y) for y in count(bottom + LINE, LINE) for start in starts)
+    spot = sheet.label("", words, spots)
+    if spot:
+        sheet.y = max(sheet.y, spot[1])
+        if is_toward:
+            return f"M{tenths(x)} {bottom}V{spot[1] - 8 * (left < spot[0] < right)}"
+    return ""
+
+
+def _areas(sheet: Sheet, name: str, areas: Sequence[Tuple[WayDrawing, Area]]) -> None:
+    """The areas of a packet as bars, and below each of them which one it is. What overlaps is below each other."""
+    rows, items = Rows(), []
+    for index, (drawing, area) in enumerate(areas):
+        words, begin = area_words(area, metres), area.begin if area.acknowledged is None else area.acknowledged
+        ends = [sheet.nearest(drawing.at(place)) for place in (max(begin, 0), area.begin, area.end or 0)]
+        if area.end is None:
+            ends.append(EDGES[int(drawing.sign > 0)])
+        left = min(min(ends), EDGES[1] - width("", words))
+        items.append((left, max(*ends, left + width("", words)) + EDGE, index, words))
+    placed = [(rows.reserve(left, right), left, index, words) for left, right, index, words in sorted(items)]
+    lane = _lane(sheet, name, rows.count * (AREA + LINE + 2))
+    for row, left, index, words in placed:
+        drawing, area = areas[index]
+        bar = Lane(lane.top + row * (AREA + LINE + 2), AREA)
+        drawing.area(area, bar)
+        sheet.text("", words, left, bar.bottom + LINE - 1)
 
 
 def _lane(sheet: Sheet, name: str, height: int) -> Lane:
     """The next lane, below what is drawn."""
     lane = Lane(sheet.y + 6, height)
     sheet.y = lane.bottom
-    sheet.text("small", name, 40, lane.top + height // 2 + 4)
+    sheet.text("", name, EDGE, lane.top + min(height, 58) // 2 + 4)
     return lane
 
 
 def _gaps(drawing: WayDrawing, findings: Sequence[Finding], lane: Lane) -> None:
     """Where profiles of a direction are missing, with a text: inside if there is room, else below the lane."""
+    sheet = drawing.sheet
     for finding in findings:
         edges = drawing.gap(finding, lane) if finding.direction == drawing.way.direction else None
         if edges is None:
             continue
-        label, (left, right) = gap_label(finding, drawing.way), edges
-        width, middle = len(label) * BOLD_LETTER, (left + right) // 2
-        if width + 2 * BOLD_LETTER < right - left:
-            drawing.sheet.text("red middle", label, middle, lane.top + 14)
-        else:
-            left = max(40, min(middle - width // 2, WIDTH * 10 - width - 20))
-            drawing.sheet.text("red begin", label, left, lane.bottom + LINE - 1)
-            drawing.sheet.y = max(drawing.sheet.y, lane.bottom + LINE + 2)
-
-
-def _authority_words(authority: Authority) -> str:
-    """Speeds and places of an authority."""
-    form, dp, overlap = authority.form, authority.danger_point, authority.overlap
-    parts = [f"V_MAIN {value_words('v_main', form['v_main'], Around())}"] if "v_main" in form else []
-    parts += [f"V_LOA {value_words('end_speed', form['end_speed'], Around())}", f"end {metres(authority.end)}"]
-    parts += [] if dp is None else [f"DP {metres(dp)}"]
-    parts += [] if overlap is None else [f"overlap to {metres(overlap)}"]
-    return "; ".join([*parts, f"SvL {metres(authority.supervised)}"])
+        label = gap_label(finding, drawing.way)
+        wide = width("red", label)
+        left = (edges[0] + edges[1] - wide) // 2
+        inside = [(left, lane.top + 14)] if wide + 100 < edges[1] - edges[0] else []
+        below = min(max(left, LEFT * 10), EDGES[1] - wide)
+        spot = sheet.label("red", label, chain(inside, ((below, y) for y in count(lane.bottom + LINE - 1, LINE))))
+        sheet.y = max(sheet.y, spot[1] + 3) if spot and spot[1] > lane.bottom else sheet.y
 
 
 def _axis(sheet: Sheet, where: Kilometres) -> None:
     """An axis with metres, and with kilometres if the table has them."""
     sheet.y += 8
-    step = _tick(sheet.greatest - sheet.least)
-    places = range(-(-sheet.least // step) * step, sheet.greatest + 1, step)
-    sheet.axis("metres from the group", places)
-    known = [(place, where.words(abs(place), REVERSE if place < 0 else NOMINAL)) for place in places]
+    known = [(place, where.words(abs(place), REVERSE if place < 0 else NOMINAL)) for place in _ticks(sheet, where)]
+    sheet.axis("", [place for place, _ in known])
     has_km = all(km for _, km in known)
-    for place, km in known:
-        sheet.text("tick", metres(abs(place)), sheet.x(place), sheet.y + 14)
-        if has_km:
-            sheet.text("tick", km, sheet.x(place), sheet.y + 25)
+    for place, _ in known:
+        sheet.tick(metres(abs(place)), place, sheet.y + 14)
+    for place, km in known if has_km else ():
+        sheet.tick(km, place, sheet.y + 25)
     if has_km:
-        sheet.text("small", "km", 40, sheet.y + 25)
+        sheet.text("", "km", EDGE, sheet.y + 25)
     sheet.y += 32 if has_km else 20
 
 
-def _tick(length: int) -> int:
-    """A distance between ticks of 1, 2 or 5 times a power of ten, for ten ticks at most."""
+def _ticks(sheet: Sheet, where: Kilometres) -> Sequence[int]:
+    """The places of ticks: a distance of 1, 2 or 5 times a power of ten apart, with room for what is below them."""
+    length = sheet.greatest - sheet.least
+    ends = [
+        text
+        for place, direction in ((sheet.least, REVERSE), (sheet.greatest, NOMINAL))
+        for text in (metres(place), where.words(abs(place), direction))
+    ]
+    widest = max(width("tick", text) for text in ends) + 100
     steps = (int(digit * 10**power) for power in count(1) for digit in (1, 2, 5))
-    return next(step for step in steps if length // step < 11)
+    step = next(step for step in steps if step * ROOM // length > widest and length // step < 11)
+    return range(-(-sheet.least // step) * step, sheet.greatest + 1, step)

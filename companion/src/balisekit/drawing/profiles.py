@@ -5,13 +5,15 @@ Pictures of groups and of tracks are both drawn by it.
 from __future__ import annotations
 
 from dataclasses import dataclass
-from typing import Callable, Iterator, NamedTuple, Optional, Sequence, Tuple
+from typing import Iterator, NamedTuple, Optional, Sequence, Tuple
 
-from balisekit.drawing.sheet import Lane, Sheet, tenths
+from balisekit.drawing.letters import width
+from balisekit.drawing.sheet import Lane, Sheet, Spot, tenths
+from balisekit.drawing.words import Describe, category_words, end_words, is_limit, release
 from balisekit.engine.grammar import Finding
 from balisekit.etcs.areas import Area
 from balisekit.etcs.geometry import Authority, Element, Profile, Way
-from balisekit.etcs.variables import Around, metres, value_words
+from balisekit.etcs.variables import Around, Form, metres, value_words
 
 MISSING = {10: "no gradient", 12: "no speed profile"}
 """The findings of a profile that is missing as a whole. F11 and F13 are about one that is too short."""
@@ -58,21 +60,24 @@ def open_end(way: Way) -> int:
     return max(known) * 11 // 10 + 1000
 
 
-def reach(way: Way) -> Iterator[int]:
-    """The farthest places of a way, which a picture has to show."""
+def places(way: Way) -> Iterator[int]:
+    """The places of a way at which something begins or ends, all of which a picture has to show."""
     for authority in way.authorities:
-        yield from (authority.end, authority.supervised, authority.danger_point or 0)
+        yield from (*authority.cuts, authority.end, authority.supervised, authority.danger_point or 0)
     for profile in (*way.gradients, *way.speeds):
-        yield from (element.begin for element in profile.beyond)
+        yield from (element.begin for element in (*profile.elements, *profile.beyond))
         yield open_end(way) if profile.reach is None else profile.reach
     for area in way.areas:
-        yield open_end(way) if area.end is None else area.end
+        yield from (area.begin, open_end(way) if area.end is None else area.end)
 
 
 def speed_top(ways: Sequence[Way]) -> int:
     """The speed at the upper edge of a lane: the greatest one in km/h, rounded up to 20."""
-    speeds = (element.value * 5 for way in ways for profile in way.speeds for element in profile.elements)
-    return -(-max(speeds, default=20) // 20) * 20 or 20
+    elements = [element for way in ways for profile in way.speeds for element in profile.elements]
+    speeds = [element.value for element in elements]
+    speeds += [difference["v_diff"] for element in elements for difference in element.form["differences"]]
+    speeds += [authority.form.get("v_main", 0) for way in ways if way.speeds for authority in way.authorities]
+    return -(-max(speeds, default=4) * 5 // 20) * 20 or 20
 
 
 class Sizes(NamedTuple):
@@ -80,12 +85,12 @@ class Sizes(NamedTuple):
 
     speed: int
     """The height of the greatest speed."""
-    above: int
-    """How far a speed is written above its line."""
     end: int
     """How far the end of an authority stands out above and below its bar."""
     supervised: int
     """How far the supervised location stands out above it."""
+    has_words: bool
+    """Whether there is room for the words of lines: V_MAIN, and speeds of categories."""
 
 
 @dataclass(frozen=True)
@@ -95,10 +100,9 @@ class WayDrawing:
     sheet: Sheet
     way: Way
     sizes: Sizes
-    describe: Callable[[int], str]
-    """A place of the way in words."""
+    describe: Describe
     whose: str
-    """The direction, and the group if the sheet has several."""
+    """The direction if the sheet has both, and the group if it has several."""
     sign: int
     """1 if the way leads to the right, -1 if to the left."""
     origin: int = 0
@@ -108,25 +112,37 @@ class WayDrawing:
         """Where a place of the way is on the sheet."""
         return self.origin + self.sign * place
 
+    def _titled(self, title: str) -> str:
+        return f"{title}, {self.whose}" if self.whose else title
+
     def _rect(self, style: str, title: str, begin: int, end: int, lane: Lane) -> Edges:
-        return self.sheet.rect(style, f"{title}, {self.whose}", (self.at(begin), self.at(end)), *lane)
+        return self.sheet.rect(style, self._titled(title), (self.at(begin), self.at(end)), *lane)
+
+    def _hatched(self, style: str, title: str, begin: int, end: int, lane: Lane) -> Edges:
+        edges = self._rect(style, title, begin, end, lane)
+        if edges:
+            self.sheet.hatch(style, edges, lane)
+        return edges
 
     def _mark(self, style: str, title: str, place: int, lane: Lane) -> None:
-        self.sheet.mark(style, f"{title}, {self.whose}", self.at(place), *lane)
+        self.sheet.mark(style, self._titled(title), self.at(place), *lane)
 
     def profile(self, profile: Profile, lane: Lane, top_speed: int) -> None:
         """A profile in its lane: its elements, the track before it, its end mark, and the elements behind that."""
         name = "speed profile" if profile.number == SPEED_PROFILE else "gradient profile"
+        steps = []
         for element in profile.elements:
             end = open_end(self.way) if element.end is None else element.end
             to = " on: an open profile" if element.end is None else f" to {self.describe(end)}"
             where = f"from {self.describe(element.begin)}{to}"
             if profile.number == SPEED_PROFILE:
-                self._speed(element, where, end, lane, top_speed)
+                steps.append(self._speed(element, where, end, lane, top_speed))
             else:
                 self._gradient(element, where, end, lane)
+        if any(steps):
+            self.sheet.path("step", "", "".join(steps))
         if profile.first > 0 and profile.elements:
-            self._rect("none", f"not given here: up to {self.describe(profile.first)}", 0, profile.first, lane)
+            self._hatched("none", f"not given here: up to {self.describe(profile.first)}", 0, profile.first, lane)
         if profile.reach is None:
             self._arrow(f"the {name} has no end mark: it is open", lane)
         else:
@@ -135,23 +151,59 @@ class WayDrawing:
             title = f"behind the end mark: an element at {self.describe(element.begin)}"
             self._mark("pale", title, element.begin, lane)
 
-    def _speed(self, element: Element, where: str, end: int, lane: Lane, top_speed: int) -> None:
+    def _level(self, speed: int, lane: Lane, top_speed: int) -> int:
+        """The coordinate of a speed in km/h in its lane."""
+        return lane.bottom - max(1, speed * self.sizes.speed // top_speed)
+
+    def _speed(self, element: Element, where: str, end: int, lane: Lane, top_speed: int) -> str:
+        """A speed. The answer is the path of its step; that of an open one is drawn here."""
         speed = element.value * 5
-        height = max(1, speed * self.sizes.speed // top_speed)
-        title, y = f"{speed} km/h {where}", lane.bottom - height
-        edges = self._rect("speed", title, element.begin, end, Lane(y, height))
-        if edges:
-            style = "step open" if element.end is None else "step"
-            self.sheet.path(style, f"{title}, {self.whose}", f"M{tenths(edges[0])} {y}H{tenths(edges[1])}")
-            self.sheet.inside("small", str(speed), *edges, y - self.sizes.above)
+        y = self._level(speed, lane, top_speed)
+        edges = self._rect("speed", f"{speed} km/h {where}", element.begin, end, Lane(y, lane.bottom - y))
+        if edges is None:
+            return ""
+        step = f"M{tenths(edges[0])} {y}H{tenths(edges[1])}"
+        if element.end is None:
+            self.sheet.path("step open", self._titled(f"{speed} km/h {where}"), step)
+        self.sheet.inside("middle", str(speed), edges, y + 10 if lane.bottom - y > 10 else y - 2)
+        for difference in element.form["differences"]:
+            self._category(difference, where, edges, lane, top_speed)
+        return step if element.end is not None else ""
+
+    def _category(self, difference: Form, where: str, edges: Tuple[int, int], lane: Lane, top_speed: int) -> None:
+        """The speed of a category of trains, as a thin line."""
+        speed, (short, full) = difference["v_diff"] * 5, category_words(difference)
+        y = self._level(speed, lane, top_speed)
+        title = f"{speed} km/h for {full} ({value_words('q_diff', difference['q_diff'], Around())}), {where}"
+        self.sheet.path("category", self._titled(title), f"M{tenths(edges[0])} {y}H{tenths(edges[1])}")
+        self._along(f"{speed} {short}", edges, y)
+
+    def _along(self, words: str, edges: Tuple[int, int], y: int) -> None:
+        """What a line in the lane of speeds is, above or below it where there is room."""
+        free = edges[1] - edges[0] - width("", words) - 60
+        if self.sizes.has_words and free >= 0:
+            spots = [(edges[0] + 30 + free * part // 4, at) for at in (y - 2, y + 10) for part in (4, 0, 2, 3, 1)]
+            self.sheet.label("", words, spots, edges)
+
+    def v_main(self, authority: Authority, lane: Lane, top_speed: int) -> None:
+        """V_MAIN as a line from the group to the end of the authority."""
+        if not authority.form.get("v_main") or not authority.end:
+            return
+        y = self._level(authority.form["v_main"] * 5, lane, top_speed)
+        begin, end = sorted(map(self.at, (0, authority.end)))
+        if begin < self.sheet.greatest and end > self.sheet.least:
+            edges = self.sheet.nearest(begin), self.sheet.nearest(end)
+            words = f"V_MAIN {authority.form['v_main'] * 5}"
+            self.sheet.path("vmain", self._titled(f"{words} km/h"), f"M{tenths(edges[0])} {y}H{tenths(edges[1])}")
+            self._along(words, edges, y)
 
     def _gradient(self, element: Element, where: str, end: int, lane: Lane) -> None:
-        """A gradient. Its minus is as wide as a plus, and so is seen on the dots of downhill."""
+        """A gradient. Its minus is as wide as a plus, and so is seen."""
         value = value_words("g_a", element.value, Around({}, element.form)).replace("-", "\u2212")
         style = "level" if element.value == 0 else "up" if element.form["q_gdir"] else "down"
         edges = self._rect(style, f"{value} {where}", element.begin, end, lane)
         if edges:
-            self.sheet.inside("small halo", value, *edges, lane.top + lane.height // 2 + 4)
+            self.sheet.inside("middle", value, edges, lane.top + lane.height // 2 + 4)
 
     def _arrow(self, title: str, lane: Lane) -> None:
         """The end of an open profile."""
@@ -160,7 +212,7 @@ class WayDrawing:
             tip, y = self.sheet.x(place), lane.bottom - 6
             tail = tenths(tip - self.sign * 80)
             path = f"M{tail} {y - 5}L{tenths(tip)} {y}L{tail} {y + 5}"
-            self.sheet.path("arrow", f"{title}, {self.whose}", path)
+            self.sheet.path("arrow", self._titled(title), path)
 
     def authority(self, authority: Authority, bar: Lane) -> None:
         """The sections of an authority, its overlap, its end, its danger point, and its supervised location."""
@@ -170,38 +222,58 @@ class WayDrawing:
             length = metres(cut - begin)
             edges = self._rect(f"section{number % 2}", f"{name}: {length}, to {self.describe(cut)}", begin, cut, bar)
             if edges:
-                self.sheet.inside("light", length, *edges, bar.top + bar.height // 2 + 4)
+                self.sheet.inside("light", length, edges, bar.top + bar.height // 2 + 4)
             begin = cut
-        end, danger_point, supervised = authority.end, authority.danger_point, authority.supervised
+        end, supervised, out = authority.end, authority.supervised, self.sizes.end
         if authority.overlap is not None:
             title = f"overlap: {metres(authority.overlap - end)}, to {self.describe(authority.overlap)}"
-            self._rect("overlap", title, end, authority.overlap, bar)
-        out, above = self.sizes.end, self.sizes.supervised
-        self._mark("end", f"end of the authority: {self.describe(end)}", end, Lane(bar.top - out, bar.height + 2 * out))
-        if danger_point is not None and self.sheet.shows(self.at(danger_point)):
-            half, x = bar.height // 2 + 1, tenths(self.sheet.x(self.at(danger_point)))
-            title = f"danger point: {self.describe(danger_point)}, {self.whose}"
+            title = self._titled(f"{title}, {release(authority, 'overlap')}")
+            self.sheet.stripes("overlap", title, (self.at(end), self.at(authority.overlap)), bar)
+        self._mark("end", end_words(authority, self.describe(end)), end, Lane(bar.top - out, bar.height + 2 * out))
+        self._danger_point(authority, bar)
+        if not is_limit(authority):
+            title, above = f"supervised location: {self.describe(supervised)}", self.sizes.supervised
+            self._mark("supervised", title, supervised, Lane(bar.top - above, bar.height + above + out))
+
+    def _danger_point(self, authority: Authority, bar: Lane) -> None:
+        place = authority.danger_point
+        if place is not None and self.sheet.shows(self.at(place)):
+            half, x = bar.height // 2 + 1, tenths(self.sheet.x(self.at(place)))
+            title = self._titled(f"danger point: {self.describe(place)}, {release(authority, 'danger_point')}")
             self.sheet.path("danger", title, f"M{x} {bar.top - 1}l5 {half}l-5 {half}l-5 -{half}z")
-        title = f"supervised location: {self.describe(supervised)}"
-        self._mark("supervised", title, supervised, Lane(bar.top - above, bar.height + above + out))
 
     def area(self, area: Area, lane: Lane) -> Edges:
-        """A restriction, condition or mode, or the place at which the level changes."""
+        """A restriction, condition or mode, or the place at which the level changes, and where it is acknowledged."""
         end = open_end(self.way) if area.end is None else area.end
         to = " on" if area.end is None else f" to {self.describe(end)}"
         where = f"at {self.describe(area.begin)}" if area.begin == end else f"from {self.describe(area.begin)}{to}"
-        title = f"{area.kind} {area.words}, {where}" + f"; {area.layout}" * bool(area.layout)
+        title = f"{area.kind} {area.words}, {where}"
+        if area.acknowledged is not None:
+            title += f", acknowledged from {self.describe(area.acknowledged)}"
+            asked = f"{area.kind} {area.words}: acknowledged from {self.describe(area.acknowledged)}"
+            self._rect("acknowledged", asked, max(area.acknowledged, 0), area.begin, lane)
+        title += f"; {area.layout}" * bool(area.layout)
         if area.begin < end:
             return self._rect(f"area{area.number}", title, area.begin, end, lane)
         self._mark(f"area{area.number}", title, end, lane)
         return (self.sheet.x(self.at(end)),) * 2 if self.sheet.shows(self.at(end)) else None
 
+    def label_area(self, area: Area, words: str, y: int, within: Tuple[int, int]) -> None:
+        """Which area it is: beside its bar, or on it, between the edges that are its own."""
+        end = open_end(self.way) if area.end is None else area.end
+        near, far = (self.sheet.nearest(self.at(place)) for place in (area.begin, end))
+        wide = width("", words)
+        beyond, before = (far + 30, near - 30 - wide) if self.sign > 0 else (far - 30 - wide, near + 30)
+        spots: Sequence[Spot] = [(beyond, y), (before, y), ((near + far - wide) // 2, y)]
+        self.sheet.label("", words, spots, within)
+
     def gap(self, finding: Finding, lane: Lane) -> Edges:
         """The track on which a profile is missing."""
-        places = gap(finding, self.way)
-        if places is None:
+        edges = gap(finding, self.way)
+        if edges is None:
             return None
-        begin, end = places
+        begin, end = edges
         missing = MISSING.get(finding.rule) or f"{metres(end - begin)} are missing"
         title = f"F{finding.rule}: {missing}, from {self.describe(begin)} to {self.describe(end)}"
-        return self._rect("gap", title, begin, end, lane)
+        title += "" if self.whose else f", {self.way.direction}"
+        return self._hatched("gap", title, begin, end, lane)

@@ -1,19 +1,28 @@
 """What a picture is drawn on: shapes with their coordinates, and the scale of places along the track.
 
-Coordinates are whole tenths of a pixel. The template draws what is here and computes nothing.
+Coordinates across are whole tenths of a pixel. The template draws what is here and computes nothing. No text of a
+picture is over another one: a sheet knows what its texts cover.
 """
 from __future__ import annotations
 
 from dataclasses import dataclass, field
 from functools import lru_cache
 from heapq import heappop, heappush
-from typing import Iterable, List, NamedTuple, Optional, Tuple
+from itertools import chain
+from typing import Dict, Iterable, List, NamedTuple, Optional, Tuple
+
+from balisekit.drawing.letters import Box, box, shortened, width
 
 WIDTH, LEFT, RIGHT = 800, 84, 34
 ROOM = (WIDTH - LEFT - RIGHT) * 10
 """How much of the width is for places, in tenths of a pixel."""
-LETTER, BOLD_LETTER = 62, 70
-"""The width of a letter, in tenths of a pixel."""
+EDGE = 40
+"""How far texts are from the edges, in tenths of a pixel."""
+EDGES = EDGE, WIDTH * 10 - EDGE
+STROKES = 7, 60
+"""How many pixels the strokes of a hatch are apart at least, and how many there are at most."""
+Spot = Tuple[int, int]
+"""The coordinate of a text: tenths of a pixel, and pixels."""
 
 
 class Shape(NamedTuple):
@@ -38,6 +47,8 @@ class Picture:
     height: int
     shapes: Tuple[Shape, ...]
     width: int = WIDTH
+    description: str = ""
+    """What the picture shows, in a few sentences, for those who do not see it."""
 
 
 class Lane(NamedTuple):
@@ -55,7 +66,7 @@ class Lane(NamedTuple):
 @lru_cache(maxsize=1 << 14)
 def tenths(number: int) -> str:
     """A coordinate of whole tenths, as SVG has it."""
-    return f"{number / 10:.1f}"
+    return f"{number / 10:.1f}".replace(".0", "")
 
 
 class Rows:
@@ -89,6 +100,10 @@ class Sheet:
     y: int = 0
     """Down to where it is drawn on."""
     shapes: List[Shape] = field(default_factory=list)
+    texts: List[Shape] = field(default_factory=list)
+    """The texts, which are above all else."""
+    _covered: Dict[int, List[Box]] = field(default_factory=dict)
+    """What texts cover, by strips of 16 pixels."""
 
     def x(self, place: int) -> int:
         """Where a place is, in tenths of a pixel."""
@@ -97,6 +112,10 @@ class Sheet:
     def shows(self, place: int) -> bool:
         """Whether a place is on the sheet."""
         return self.least <= place <= self.greatest
+
+    def nearest(self, place: int) -> int:
+        """Where the place of the sheet is that is nearest to this one, in tenths of a pixel."""
+        return self.x(min(max(place, self.least), self.greatest))
 
     def rect(self, style: str, title: str, places: Tuple[int, int], y: int, height: int) -> Optional[Tuple[int, int]]:
         """The part of a rectangle that is on the sheet, at least a pixel wide, and from where to where it is."""
@@ -109,6 +128,23 @@ class Sheet:
         self.shapes.append(Shape("rect", style, title, tenths(left), str(y), tenths(right - left), str(height)))
         return left, right
 
+    def hatch(self, style: str, edges: Tuple[int, int], lane: Lane) -> None:
+        """Strokes across a rectangle, from its lower left to its upper right: a pattern makes great files of prints."""
+        left, right, tall = edges[0], edges[1], lane.height * 10
+        step, strokes = max(STROKES[0] * 10, (right - left + tall) // STROKES[1]), []
+        for begin in range(left - tall + step // 2, right, step):
+            low, high = max(begin, left), min(begin + tall, right)
+            if low < high:
+                length = tenths(high - low)
+                strokes.append(f"M{tenths(low)} {tenths(lane.bottom * 10 - (low - begin))}l{length}-{length}")
+        self.path(f"hatch {style}", "", "".join(strokes))
+
+    def stripes(self, style: str, title: str, places: Tuple[int, int], lane: Lane) -> None:
+        """The part of a strip of upright strokes that is on the sheet. The style sheet has their height."""
+        near, far = (min(max(place, self.least), self.greatest) for place in sorted(places))
+        if near < far or self.shows(places[0]) and places[0] == places[1]:
+            self.path(style, title, f"M{tenths(self.x(near))} {lane.top + lane.height // 2}H{tenths(self.x(far) + 10)}")
+
     def path(self, style: str, title: str, path: str) -> None:
         """A line through points."""
         self.shapes.append(Shape("path", style, title, "", "", "", "", path))
@@ -118,14 +154,37 @@ class Sheet:
         if self.shows(place):
             self.path(style, title, f"M{tenths(self.x(place))} {y}v{height}")
 
-    def text(self, style: str, text: str, x: int, y: int) -> None:
-        """A text at a coordinate."""
-        self.shapes.append(Shape("text", style, "", tenths(x), str(y), "", "", "", text))
+    def text(self, style: str, text: str, x: int, y: int, title: str = "") -> None:
+        """A text at a coordinate that nothing else covers, which is rounded down to a pixel."""
+        x -= x % 10
+        self.texts.append(Shape("text", style, title, tenths(x), str(y), "", "", "", text))
+        covered = box(style, text, x, y)
+        for strip in range(covered.top // 160, covered.bottom // 160 + 1):
+            self._covered.setdefault(strip, []).append(covered)
 
-    def inside(self, style: str, text: str, begin: int, end: int, y: int) -> None:
+    def short(self, style: str, text: str, x: int, y: int, room: int) -> None:
+        """A text of which only as much is written as fits into the room. Its title has all of it."""
+        written = shortened(style, text, room)
+        self.text(style, written, x, y, "" if written == text else text)
+
+    def is_free(self, wanted: Box, within: Tuple[int, int] = EDGES) -> bool:
+        """Whether it is between the edges, and no text covers a part of it."""
+        strips = range(wanted.top // 160, wanted.bottom // 160 + 1)
+        others = chain.from_iterable(self._covered.get(strip, ()) for strip in strips)
+        return within[0] <= wanted.left and wanted.right <= within[1] and not any(map(wanted.meets, others))
+
+    def label(self, style: str, text: str, spots: Iterable[Spot], within: Tuple[int, int] = EDGES) -> Optional[Spot]:
+        """A text at the first of these coordinates that is free. If none is, it is left out."""
+        for x, y in ((x - x % 10, y) for x, y in spots):
+            if self.is_free(box(style, text, x, y), within):
+                self.text(style, text, x, y)
+                return x, y
+        return None
+
+    def inside(self, style: str, text: str, edges: Tuple[int, int], y: int) -> None:
         """A text in the middle between two coordinates, if it fits there."""
-        if len(text) * LETTER <= end - begin:
-            self.text(f"{style} middle", text, (begin + end) // 2, y)
+        if width(style, text) <= edges[1] - edges[0]:
+            self.label(style, text, [(sum(edges) // 2, y)])
 
     def axis(self, title: str, places: Iterable[int]) -> None:
         """A line from the least place to the greatest, with a tick at each of these places."""
@@ -133,6 +192,11 @@ class Sheet:
         ends = f"M{tenths(self.x(self.least))} {self.y}H{tenths(self.x(self.greatest))}"
         self.path("axis", title, ends + ticks)
 
-    def picture(self, title: str, margin: int) -> Picture:
+    def tick(self, text: str, place: int, y: int) -> None:
+        """A text below the axis, within the picture."""
+        half = width("tick", text) // 2 + 10
+        self.text("tick", text, min(max(self.x(place), half), WIDTH * 10 - half), y)
+
+    def picture(self, title: str, margin: int, description: str = "") -> Picture:
         """What has been drawn."""
-        return Picture(title, self.y + margin, tuple(self.shapes))
+        return Picture(title, self.y + margin, (*self.shapes, *self.texts), description=description)

@@ -2,7 +2,8 @@
 from __future__ import annotations
 
 from functools import lru_cache
-from typing import Iterable
+from itertools import groupby
+from typing import Iterable, List
 
 from markupsafe import Markup, escape
 
@@ -16,18 +17,29 @@ def _escaped(text: str) -> str:
 
 
 def _svg(shape: Shape) -> str:
-    """A line for a shape. Titles and texts are escaped; all else is numbers and words of balisekit."""
+    """A line for a shape. Titles and texts are escaped; all else is numbers and words of balisekit.
+
+    A rectangle as a path is shorter, and a great page has a hundred thousand of them.
+    """
     tag, style, title, x, y, width, height, path, text = shape
+    look = f' class="{style}"' if style else ""
+    inside = f"<title>{_escaped(title)}</title>" if title else ""
     if tag == "rect":
-        return (
-            f'<rect class="{style}" x="{x}" y="{y}" width="{width}" height="{height}">'
-            f"<title>{_escaped(title)}</title></rect>\n"
-        )
+        return f'<path{look} d="M{x} {y}h{width}v{height}H{x}z">{inside}</path>\n'
     if tag == "path":
-        return f'<path class="{style}" d="{path}">{f"<title>{_escaped(title)}</title>" if title else ""}</path>\n'
-    return f'<text class="{style}" x="{x}" y="{y}">{_escaped(text)}</text>\n'
+        return f'<path{look} d="{path}">{inside}</path>\n' if inside else f'<path{look} d="{path}"/>\n'
+    return f'<text{look} x="{x}" y="{y}">{_escaped(text)}{inside}</text>\n'
+
+
+def _ticks(y: str, shapes: Iterable[Shape]) -> str:
+    """The texts of ticks in one line, which share what they have in common."""
+    inside = "".join(f'<tspan x="{shape.x}">{_escaped(shape.text)}</tspan>' for shape in shapes)
+    return f'<text class="tick" y="{y}">{inside}</text>\n'
 
 
 def svg(shapes: Iterable[Shape]) -> Markup:
     """The shapes of a picture, a line each."""
-    return Markup("".join(map(_svg, shapes)))
+    lines: List[str] = []
+    for y, some in groupby(shapes, lambda shape: shape.y if shape.style == "tick" else ""):
+        lines += [_ticks(y, some)] if y else map(_svg, some)
+    return Markup("".join(lines))

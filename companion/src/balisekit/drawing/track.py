@@ -1,33 +1,42 @@
 """A track as pictures, one for each 5 km: links as arcs above the kilometre axis, and bands of groups below it.
 
-A band has the speeds, gradients and authority of a group, below its name. Bands that overlap are below each other.
+A band has the speeds, gradients and authority of a group in one direction. Its name is at the group, with an arrow that
+shows which way the band runs along the kilometres. Bands that overlap are below each other.
 """
 from __future__ import annotations
 
 from decimal import Decimal
 from functools import partial
-from typing import Iterator, List, Optional, Sequence, Tuple
+from math import hypot
+from typing import Iterator, List, NamedTuple, Optional, Sequence, Set, Tuple
 
-from balisekit.drawing.profiles import Sizes, WayDrawing, profile_number, speed_top
-from balisekit.drawing.sheet import BOLD_LETTER, LEFT, LETTER, RIGHT, WIDTH, Lane, Picture, Rows, Sheet, tenths
-from balisekit.drawing.track_pages import PAGE, Arc, Band, Page, at_km, pages, place_of
-from balisekit.etcs.geometry import DIRECTIONS, NOMINAL, kilometre
+from balisekit.drawing.flags import Flag, Mark, flags
+from balisekit.drawing.letters import shortened, width
+from balisekit.drawing.profiles import Sizes, WayDrawing, open_end, profile_number, speed_top
+from balisekit.drawing.sheet import EDGE, EDGES, RIGHT, WIDTH, Lane, Picture, Rows, Sheet, tenths
+from balisekit.drawing.track_pages import Arc, Band, Page, at_km, pages, place_of, shown_words
+from balisekit.drawing.words import ends, summary
+from balisekit.etcs.geometry import NOMINAL, kilometre
 from balisekit.etcs.variables import metres
 from balisekit.rules.line import Line
 from balisekit.rules.links import Links
 from balisekit.rules.location import BaliseGroup
-from balisekit.tables.names import clean, describe_identity, quoted
+from balisekit.tables.names import clean, describe_identity, listed
 
-ARCS = 84
-"""Height of the arcs."""
+ARCS, PART = 68, 0.4
+"""The height of the highest arc, and how much of one is on the page that has its distance."""
 BAND, SPEEDS, LOW = 76, 18, 12
 """Heights of a band, and in it of the speeds, and of gradients and authority."""
-AREAS, AREA = (41, 65, 80, 68), 6
+AREAS, AREA = (41, 65, 80, 68), 12
 """The packets of the other areas of a band, each of them in a row below it, and the height of a row."""
-SIZES = Sizes(speed=SPEEDS, above=2, end=3, supervised=3)
+SIZES = Sizes(speed=SPEEDS, end=3, supervised=3, has_words=False)
 LANES = 12
 """So many bands without other areas fit below each other on a printed page."""
 TICK = 5000
+ARROW, SPACE, NAME = 110, 70, 3400
+"""The room of the arrow before a name, of a space, and the greatest one of a name, in tenths of a pixel."""
+NAMED = 5
+"""So many groups of a page are named in words."""
 
 
 def tracks_of(line: Line) -> List[str]:
@@ -38,36 +47,96 @@ def tracks_of(line: Line) -> List[str]:
 def note(text: str) -> Picture:
     """A line above a track, of what is not drawn on it."""
     sheet = Sheet(0, 1, 18)
-    sheet.text("red", text, 40, sheet.y)
-    return sheet.picture(text, 8)
+    sheet.short("red", text, EDGE, sheet.y, WIDTH * 10 - 2 * EDGE)
+    return sheet.picture(text, 8, text)
 
 
-def track_pictures(line: Line, links: Links, track: str, aspect: Optional[str]) -> Iterator[Picture]:
-    """The pictures of a track. If a page has too many bands below each other, the next picture goes on with them."""
-    shown = "the first aspect of each group" if aspect is None else f"aspect {quoted(aspect)}"
-    for page in pages(line, links, track, aspect):
-        lanes, top_speed = _lanes(page), speed_top([way for band in page.bands for way in band.ways])
-        parts = _parts(lanes)
+def track_pictures(
+    line: Line, links: Links, track: str, aspect: Optional[str], marks: Sequence[Mark] = ()
+) -> Iterator[Picture]:
+    """The pictures of a track. If a page has too many bands below each other, the next picture goes on with them.
+
+    Each group is in the aspect of this name, or in the one with the farthest end of authority. Marks are flags at their
+    places: those of other tracks are passed over.
+    """
+    for page in pages(line, links, track, aspect, flags(marks, track)):
+        placed = [_placed(page, band) for band in page.bands]
+        parts, top_speed = _parts(_lanes(placed)), speed_top([band.way for band in page.bands])
         for number, part in enumerate(parts, 1):
             title = f"track {clean(track)}, " * bool(track) + f"km {page.begin // 10_000} to {page.end // 10_000}"
             title += f", part {number} of {len(parts)}" * (len(parts) > 1)
             sheet = Sheet(page.begin, page.end, 18)
-            sheet.text("head", title, 40, sheet.y)
-            sheet.text("small ending", shown, (WIDTH - RIGHT) * 10, sheet.y)
+            _head(sheet, page, title, shown_words(aspect))
             _groups(sheet, page, number == 1)
             for lane in part:
-                for band in lane:
-                    _band(sheet, band, top_speed)
+                for one in lane:
+                    _band(sheet, one, top_speed)
                 sheet.y += _lane_height(lane)
             if not part:
-                sheet.text("small", "no authority, gradient or speed profile", 400, sheet.y + 12)
+                sheet.text("", "no authority, gradient or speed profile", 4000, sheet.y + 12)
                 sheet.y += 20
-            yield sheet.picture(title, 8)
+            bands = [one.band for lane in part for one in lane]
+            yield sheet.picture(title, 8, _description(title, page, bands, shown_words(aspect)))
 
 
-def _parts(lanes: List[List[Band]]) -> List[List[List[Band]]]:
+def _head(sheet: Sheet, page: Page, title: str, shown: str) -> None:
+    """The title, which aspects are shown, and which kilometres before the page are left out."""
+    right = (WIDTH - RIGHT) * 10
+    sheet.text("ending", shown, right, sheet.y)
+    sheet.short("head", title, EDGE, sheet.y, right - width("", shown) - EDGE - SPACE)
+    if page.left_out:
+        sheet.y += 14
+        sheet.text("", page.left_out, EDGE, sheet.y)
+
+
+def _description(title: str, page: Page, bands: Sequence[Band], shown: str) -> str:
+    """What a page shows, for those who do not see it."""
+    stations = [f"{clean(each.group.name)} at {at_km(place_of(each))}" for each in page.stations[:NAMED]]
+    groups = listed(stations, NAMED, len(page.stations)) if stations else "no group"
+    said = listed(list(map(_band_words, bands[:NAMED])), NAMED, len(bands))
+    found = [f"{flag.words} at {at_km(flag.place)}" for flag in page.flags[:NAMED]]
+    parts = [f"{title}: {groups}, {shown}", page.left_out, said, listed(found, NAMED, len(page.flags))]
+    return ". ".join(filter(None, parts))
+
+
+def _band_words(band: Band) -> str:
+    describe = partial(_describe, band.at, band.sign)
+    return "; ".join(filter(None, [f"{band.label}, {ends(band.way, describe)}", summary([band.way], describe)]))
+
+
+class Placed(NamedTuple):
+    """A band on a page, from where to where it needs its lane, and where its name begins, in tenths of a pixel."""
+
+    left: int
+    right: int
+    name: int
+    words: str
+    band: Band
+
+
+def _placed(page: Page, band: Band) -> Placed:
+    """The room of a band. Its name begins at the group, on the side to which it runs, or at the edge of the page."""
+    scale = Sheet(page.begin, page.end)
+    words = shortened("", band.label, NAME) + ("" if scale.shows(band.at) else f", from {at_km(band.at)}")
+    findings = width("red", band.findings) + SPACE if band.findings else 0
+    wide = ARROW + width("", words) + findings
+    origin = scale.nearest(band.at)
+    name = min(max(origin if band.sign > 0 else origin - wide, EDGES[0]), EDGES[1] - wide)
+    left, right = min(name, scale.nearest(band.begin)), max(name + wide, scale.nearest(band.end))
+    for area in band.way.areas:
+        end = open_end(band.way) if area.end is None else area.end
+        far = band.at + band.sign * end
+        if page.begin <= far <= page.end:
+            room = width("", area.words) + 60
+            left, right = min(left, scale.x(far) - room * (band.sign < 0)), max(
+                right, scale.x(far) + room * (band.sign > 0)
+            )
+    return Placed(max(left, EDGES[0]), min(right, EDGES[1]), name, words, band)
+
+
+def _parts(lanes: List[List[Placed]]) -> List[List[List[Placed]]]:
     """The lanes of a page in as many parts as are needed, so that each fits on a printed page."""
-    parts: List[List[List[Band]]] = [[]]
+    parts: List[List[List[Placed]]] = [[]]
     for lane in lanes:
         used = sum(map(_lane_height, parts[-1]))
         parts += [[]] if parts[-1] and used + _lane_height(lane) > LANES * BAND else []
@@ -75,98 +144,121 @@ def _parts(lanes: List[List[Band]]) -> List[List[List[Band]]]:
     return parts
 
 
-def _lane_height(lane: List[Band]) -> int:
+def _lane_height(lane: List[Placed]) -> int:
     """How high the bands of a lane are, with their other areas."""
-    return BAND + AREA * max((len(_kinds(band)) for band in lane), default=0)
+    return max((_areas_top(one.band) + AREA * len(_kinds(one.band)) for one in lane), default=BAND)
 
 
-def _lanes(page: Page) -> List[List[Band]]:
+def _areas_top(band: Band) -> int:
+    """Where the other areas of a band begin, below its name and what else it has."""
+    way = band.way
+    return BAND if way.authorities or way.gradients or way.speeds else 16
+
+
+def _lanes(placed: Sequence[Placed]) -> List[List[Placed]]:
     """The bands of a page in as many lanes as they need, so that no two of them overlap."""
-    lanes: List[List[Band]] = []
+    lanes: List[List[Placed]] = []
     rows = Rows()
-    needed = [(*_room(page, band), band) for band in page.bands]
-    for begin, end, band in sorted(needed, key=lambda item: (item[0], item[2].begin)):
-        row = rows.reserve(begin, end)
+    for one in sorted(placed, key=lambda one: (one.left, one.band.begin, one.right)):
+        row = rows.reserve(one.left, one.right)
         lanes += [[]] if row == len(lanes) else []
-        lanes[row].append(band)
+        lanes[row].append(one)
     return lanes
 
 
-def _room(page: Page, band: Band) -> Tuple[int, int]:
-    """From where to where a band needs its lane: for what is drawn, and for its name."""
-    width = (sum(_widths(band)) // 10 + 12) * (PAGE // (WIDTH - LEFT - RIGHT))
-    begin = min(max(band.begin, page.begin), page.end - width)
-    return begin, max(min(band.end, page.end), begin + width)
-
-
-def _widths(band: Band) -> Tuple[int, int]:
-    """How wide the band's name is, and the findings after it."""
-    return len(band.label) * LETTER, (len(band.findings) + 2) * BOLD_LETTER if band.findings else 0
-
-
 def _groups(sheet: Sheet, page: Page, first: bool) -> None:
-    """The axis. The first picture of a page has links above it, and names below."""
-    sheet.y += ARCS + 8 if first else 18
+    """The axis. The first picture of a page has links and flags above it, and names below."""
+    highest = max((_height(sheet, arc) for arc in page.arcs), default=0) if first else 0
+    sheet.y += max(highest + 24, 32 * bool(page.flags), 18) if first else 18
+    written: Set[Tuple[Tuple[int, int], str]] = set()
     for arc in page.arcs if first else ():
-        _arc(sheet, arc)
-    for arc in page.arcs if first else ():
-        _wrong(sheet, arc)
+        _arc(sheet, arc, (arc.edges, _distance(arc)) not in written)
+        written.add((arc.edges, _distance(arc)))
     places = range(sheet.least, sheet.greatest + 1, TICK)
     sheet.axis("kilometres", places)
+    for x, is_broken in (
+        (sheet.x(sheet.least) - 100, page.before < page.begin),
+        (sheet.x(sheet.greatest) + 100, page.is_broken_behind),
+    ):
+        if is_broken:
+            sheet.path("break", "the axis is broken here", f"M{tenths(x)} {sheet.y - 8}l-4 6h8l-4 6")
     for place in places:
-        sheet.text("tick", kilometre(Decimal(place).scaleb(-4))[:-2], sheet.x(place), sheet.y + 15)
-    sheet.text("small", "km", 40, sheet.y + 15)
-    _names(sheet, page.stations if first else ())
+        sheet.tick(kilometre(Decimal(place).scaleb(-4))[:-2], place, sheet.y + 15)
+    sheet.text("", "km", EDGE, sheet.y + 15)
+    _names(sheet, page.stations if first else (), page.flags if first else ())
 
 
-def _names(sheet: Sheet, stations: Sequence[BaliseGroup]) -> None:
-    """Each group as a mark on the axis, and below it its name, after the arrow of its direction."""
+def _names(sheet: Sheet, stations: Sequence[BaliseGroup], found: Sequence[Flag]) -> None:
+    """Each group as a mark on the axis, each flag above it, and below it their names, after an arrow."""
     base, rows, named = sheet.y, Rows(), []
-    for index, station in enumerate(stations):
+    for station in stations:
         sign = {1: "\u25b8", -1: "\u25c2"}.get(station.rising or 0, "\u2022")
         name = f"{sign} {clean(station.group.name)}{': refused' if station.unread else ''}"
-        width, x = len(name) * LETTER + 60, sheet.x(place_of(station))
-        named.append((min(max(x - width // 2, 20), WIDTH * 10 - width), width, name, index))
-    for begin, width, name, index in sorted(named):
-        station = stations[index]
-        at, y = tenths(sheet.x(place_of(station))), base + 22 + 13 * rows.reserve(begin, begin + width)
-        identity = describe_identity(station.identity) if station.identity else "identity not known"
-        title = f"{clean(station.group.name)}, {at_km(place_of(station))}, {identity}, balises: {station.balises}"
-        title += f"; refused: row {', '.join(map(str, station.unread))}" if station.unread else ""
-        sheet.path("leader", "", f"M{at} {base + 4}V{y + 2}")
-        sheet.path("station refused" if station.unread else "station", title, f"M{at} {base}l-4 -7h8z")
-        sheet.text("red middle" if station.unread else "name middle", name, begin + width // 2, y + 11)
-    sheet.y = base + 40 + 13 * max(rows.count, 1)
+        named.append(("red middle" if station.unread else "name middle", name, place_of(station)))
+    named += [("middle" if flag.is_quiet else "red middle", flag.words, flag.place) for flag in found]
+    items = []
+    for style, name, place in named:
+        wide = min(width(style, name), NAME) + SPACE
+        items.append((min(max(sheet.x(place) - wide // 2, EDGES[0]), EDGES[1] - wide), wide, place, style, name))
+    for begin, wide, place, style, name in sorted(items):
+        y = base + 22 + 13 * rows.reserve(begin, begin + wide)
+        sheet.path("leader", "", f"M{tenths(sheet.x(place))} {base + 4}V{y + 2}")
+        sheet.short(style, name, begin + wide // 2, y + 11, NAME)
+    for flag in found:
+        sheet.path(f"flag{' quiet' * flag.is_quiet}", flag.title, f"M{tenths(sheet.x(flag.place))} {base}v-24l9 4l-9 4")
+    for station in stations:
+        _station(sheet, station, base)
+    sheet.y = base + 32 + 13 * rows.count
 
 
-def _band(sheet: Sheet, band: Band, top_speed: int) -> None:
+def _station(sheet: Sheet, station: BaliseGroup, base: int) -> None:
+    """The mark of a group on the axis."""
+    at, identity = place_of(station), describe_identity(station.identity) if station.identity else "identity not known"
+    title = f"{clean(station.group.name)}, {at_km(at)}, {identity}, balises: {station.balises}"
+    title += f"; refused: row {', '.join(map(str, station.unread))}" if station.unread else ""
+    sheet.path("station refused" if station.unread else "station", title, f"M{tenths(sheet.x(at))} {base}l-4 -7h8z")
+
+
+def _band(sheet: Sheet, one: Placed, top_speed: int) -> None:
     """Speeds, gradients and authority of a group, where profiles are missing, and its name above them."""
-    name, findings = _widths(band)
-    begin = min(max(sheet.x(max(band.begin, sheet.least)), 40), WIDTH * 10 - name - findings - 40)
-    sheet.text("small", band.label, begin, sheet.y + 10)
-    if findings:
-        sheet.text("red begin", band.findings, begin + name + BOLD_LETTER, sheet.y + 10)
-    at, group, lane = place_of(band.station), clean(band.station.group.name), Lane(sheet.y + 26, SPEEDS)
+    band, lane = one.band, Lane(sheet.y + 26, SPEEDS)
     lanes = {27: lane, 21: Lane(lane.bottom + 2, LOW)}
-    drawings = []
-    for way in band.ways:
-        sign = band.station.along(way.direction) or 1
-        drawing = WayDrawing(sheet, way, SIZES, partial(_describe, at, sign), f"{way.direction}, {group}", sign, at)
-        drawings.append(drawing)
-        for profile in (*way.speeds, *way.gradients):
-            drawing.profile(profile, lanes[profile.number], top_speed)
-        for authority in way.authorities:
-            drawing.authority(authority, Lane(lanes[21].bottom + 2, LOW))
-        for area in way.areas:
-            drawing.area(area, Lane(lanes[21].bottom + LOW + 5 + AREA * _kinds(band).index(area.number), AREA - 2))
-    for finding in band.short:
-        drawings[DIRECTIONS.index(finding.direction or "")].gap(finding, lanes[profile_number(finding)])
-    sheet.mark("group", "", at, sheet.y + 14, BAND - 18)
+    whose = f"{band.way.direction}, {clean(band.station.group.name)}"
+    drawing = WayDrawing(sheet, band.way, SIZES, partial(_describe, band.at, band.sign), whose, band.sign, band.at)
+    _name(sheet, one, whose)
+    for profile in (*band.way.speeds, *band.way.gradients):
+        drawing.profile(profile, lanes[profile.number], top_speed)
+    for authority in band.way.authorities:
+        if band.way.speeds:
+            drawing.v_main(authority, lanes[27], top_speed)
+        drawing.authority(authority, Lane(lanes[21].bottom + 2, LOW))
+    kinds = _kinds(band)
+    for area in band.way.areas:
+        row = Lane(sheet.y + _areas_top(band) - 1 + AREA * kinds.index(area.number), AREA - 2)
+        drawing.area(area, row)
+        drawing.label_area(area, area.words, row.bottom - 1, (one.left, one.right))
+    for finding in band.found:
+        drawing.gap(finding, lanes[profile_number(finding)])
+    sheet.mark("group", "", band.at, sheet.y + 14, _areas_top(band) + AREA * len(kinds) - 18)
+
+
+def _name(sheet: Sheet, one: Placed, whose: str) -> None:
+    """The name of a band, an arrow to where it runs, and what is missing: the arrow is at the group."""
+    band, y = one.band, sheet.y + 10
+    parts = [("red", band.findings, width("red", band.findings) + SPACE)] if band.findings else []
+    parts.insert(0 if band.sign > 0 else 1, ("", one.words, width("", one.words) + SPACE))
+    left = one.name + (ARROW if band.sign > 0 else 0)
+    for style, words, wide in parts:
+        sheet.text(style, words, left, y, band.label if words != band.label and not style else "")
+        left += wide
+    tail = one.name if band.sign > 0 else left - SPACE + ARROW
+    title = f"runs {'up' if band.sign > 0 else 'down'} the kilometres, {whose}"
+    sheet.path("run", title, f"M{tenths(tail)} {y - 8}l{8 * band.sign} 4l{-8 * band.sign} 4z")
 
 
 def _kinds(band: Band) -> List[int]:
     """The packets of the other areas of a band, as they are below each other."""
-    known = {area.number for way in band.ways for area in way.areas}
+    known = {area.number for area in band.way.areas}
     return [number for number in AREAS if number in known]
 
 
@@ -174,42 +266,63 @@ def _describe(at: int, sign: int, place: int) -> str:
     return at_km(at + sign * place)
 
 
-def _arc(sheet: Sheet, arc: Arc) -> None:
-    """The part of a link that is on the page: a parabola over the axis, higher if it is longer."""
+class Curve(NamedTuple):
+    """The parabola of a link over the axis, higher if it is longer. Its parameter goes from 0 to 1."""
+
+    begin: int
+    end: int
+    base: int
+    high: int
+
+    def point(self, at: float) -> Tuple[float, float]:
+        """A point, in tenths of a pixel and in pixels."""
+        return self.begin + (self.end - self.begin) * at, self.base - 4 * self.high * at * (1 - at)
+
+    def path(self, first: float, last: float) -> str:
+        """The part between two points."""
+        (x, y), (to_x, to_y) = self.point(first), self.point(last)
+        slope = -4 * self.high * (1 - 2 * first)
+        middle = x + (to_x - x) / 2, y + slope * (last - first) / 2
+        return f"M{x / 10:.1f} {y:.1f}Q{middle[0] / 10:.1f} {middle[1]:.1f} {to_x / 10:.1f} {to_y:.1f}"
+
+    def arrow(self, at: float) -> str:
+        """A triangle along the way of the link."""
+        x, y = self.point(at)
+        along = (self.end - self.begin) / 10, -4 * self.high * (1 - 2 * at)
+        dx, dy = (4 * each / (hypot(*along) or 1) for each in along)
+        corners = ((dx, dy), (-dx - dy * 0.7, -dy + dx * 0.7), (-dx + dy * 0.7, -dy - dx * 0.7))
+        return "M" + "L".join(f"{x / 10 + right:.1f} {y + down:.1f}" for right, down in corners) + "z"
+
+
+def _arc(sheet: Sheet, arc: Arc, has_label: bool) -> None:
+    """The part of a link that is on the page, with an arrow to where it leads, and its distance."""
     begin, end = sheet.x(arc.begin), sheet.x(arc.end)
     if begin == end:
         return
-    high = _height(sheet, arc)
-    edges = (sheet.x(sheet.least), sheet.x(sheet.greatest))
+    curve = Curve(begin, end, sheet.y, _height(sheet, arc))
+    edges = sheet.x(sheet.least), sheet.x(sheet.greatest)
     first, last = sorted(min(1.0, max(0.0, (edge - begin) / (end - begin))) for edge in edges)
-
-    def point(at: float) -> Tuple[float, float]:
-        return begin + (end - begin) * at, sheet.y - 4 * high * at * (1 - at)
-
-    slope = -4 * high * (1 - 2 * first)
-    (x, y), (to_x, to_y) = point(first), point(last)
-    middle = x + (to_x - x) / 2, y + slope * (last - first) / 2
     target = clean(arc.link.target.group.name) if arc.link.target else ""
     sender = clean(arc.chain.sender.group.name) if arc.chain.sender else ""
     title = f"{sender} links {target}: {metres(arc.distance)} by D_LINK, {arc.chain.direction}"
     style = "arc wrong" if arc.wrong else "arc" if arc.chain.direction == NOMINAL else "arc back"
-    if arc.wrong:
-        title += f"; links L2: {arc.wrong.sentence}"
-    sheet.path(style, title, f"M{x / 10:.1f} {y:.1f}Q{middle[0] / 10:.1f} {middle[1]:.1f} {to_x / 10:.1f} {to_y:.1f}")
-
-
-def _wrong(sheet: Sheet, arc: Arc) -> None:
-    """What L2 has found, over the middle of the arc."""
-    middle = (arc.begin + arc.end) // 2
-    if arc.wrong is None or not sheet.least <= middle < sheet.greatest:
-        return
-    values = arc.wrong.values
-    label = f"L2: {metres(int(values['metres_by_d_link'] * 10))}, by km {values['metres_by_kilometres']:.0f} m"
-    half = len(label) * LETTER // 2
-    x = min(max(sheet.x(middle), half), WIDTH * 10 - half)
-    sheet.text("red middle", label, x, sheet.y - _height(sheet, arc) - 3)
+    title += f"; links L2: {arc.wrong.sentence}" if arc.wrong else ""
+    sheet.path(style, title, curve.path(first, last))
+    sheet.path("way", "", curve.arrow(first + (last - first) / 2))
+    points = (curve.point(first + (last - first) * part) for part in (0.5, 0.4, 0.6, 0.3, 0.7))
+    if has_label and (last - first >= PART or 0 < first < last < 1):
+        style = "red middle" if arc.wrong else "middle"
+        sheet.label(style, _distance(arc), ((int(x), int(y) - 4) for x, y in points))
 
 
 def _height(sheet: Sheet, arc: Arc) -> int:
     """How high an arc is: the higher the longer."""
-    return min(ARCS - 16, 14 + abs(sheet.x(arc.end) - sheet.x(arc.begin)) // 60)
+    return min(ARCS, 14 + abs(sheet.x(arc.end) - sheet.x(arc.begin)) // 60)
+
+
+def _distance(arc: Arc) -> str:
+    """The distance of a link, or what L2 has found of it."""
+    if arc.wrong is None:
+        return metres(arc.distance)
+    values = arc.wrong.values
+    return f"L2: {metres(int(values['metres_by_d_link'] * 10))}, by km {values['metres_by_kilometres']:.0f} m"

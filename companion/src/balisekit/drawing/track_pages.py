@@ -1,17 +1,20 @@
 """What the pictures of a track show: its groups, their authorities and profiles in one aspect each, and their links.
 
-Places are whole decimetres along the kilometres of the track. Each page has 5 km.
+Places are whole decimetres along the kilometres of the track. Each page has 5 km. Pages reach as far as any authority
+or profile does. Where nothing begins or ends, pages are left out, so that one group far away makes no empty pages.
 """
 from __future__ import annotations
 
-from dataclasses import dataclass
+from bisect import bisect_left
+from dataclasses import dataclass, field
 from decimal import Decimal
 from functools import cached_property
-from typing import Iterator, List, Optional, Sequence, Tuple
+from typing import Dict, Iterator, List, Optional, Sequence, Set, Tuple
 
-from balisekit.drawing.profiles import gap, gap_label, reach, short_profiles
+from balisekit.drawing.flags import Flag
+from balisekit.drawing.profiles import gap, gap_label, places, short_profiles
 from balisekit.engine.grammar import Finding
-from balisekit.etcs.geometry import DIRECTIONS, Way, kilometre_of, way
+from balisekit.etcs.geometry import DIRECTIONS, Way, authority, infill, kilometre_of, passed, way
 from balisekit.etcs.variables import Around, value_words
 from balisekit.rules.line import Line
 from balisekit.rules.links import Links
@@ -27,31 +30,53 @@ PAGE = 50_000
 
 @dataclass(frozen=True)
 class Band:
-    """What a group says in its chosen aspect, in both directions, and from where to where it reaches."""
+    """What a group says in its chosen aspect in one direction."""
 
     station: BaliseGroup
     aspect: str
-    ways: Tuple[Way, ...]
-    begin: int
-    end: int
-    short: Sequence[Finding] = ()
-    """The profiles that the program has found too short or missing."""
+    way: Way
+    has_other: bool
+    """Whether the group says something in the other direction too."""
+    found: Sequence[Finding] = ()
+    """The profiles of this direction that the program has found too short or missing."""
+
+    @cached_property
+    def at(self) -> int:
+        """The place of the group."""
+        return place_of(self.station)
+
+    @cached_property
+    def sign(self) -> int:
+        """1 if the band runs up the kilometres, -1 if it runs down."""
+        return self.station.along(self.way.direction) or 1
+
+    @cached_property
+    def places(self) -> Sequence[int]:
+        """Where anything of it begins or ends, in order."""
+        return sorted({self.at, *(self.at + self.sign * place for place in places(self.way))})
+
+    @property
+    def begin(self) -> int:
+        """Its least place."""
+        return self.places[0]
+
+    @property
+    def end(self) -> int:
+        """Its greatest place."""
+        return self.places[-1]
 
     @cached_property
     def label(self) -> str:
-        """The group's name, the aspect, and V_MAIN."""
-        aspect = f", {clean(self.aspect)}" if self.aspect else ""
-        forms = (authority.form for each in self.ways for authority in each.authorities)
-        speed = next((form["v_main"] for form in forms if "v_main" in form), None)
-        main = "" if speed is None else f", V_MAIN {value_words('v_main', speed, Around())}"
-        return f"{clean(self.station.group.name)}{aspect}{main}"
+        """The group's name, the aspect, the direction if there is another one, and each V_MAIN."""
+        forms = (authority.form for authority in self.way.authorities)
+        speeds = dict.fromkeys(value_words("v_main", form["v_main"], Around()) for form in forms if "v_main" in form)
+        parts = [clean(self.station.group.name), clean(self.aspect), self.way.direction if self.has_other else ""]
+        return ", ".join(filter(None, [*parts, f"V_MAIN {' and '.join(speeds)}" if speeds else ""]))
 
     @cached_property
     def findings(self) -> str:
-        """F10 to F13 of the group, each once."""
-        ways = {each.direction: each for each in self.ways}
-        short = ((finding, ways[finding.direction or ""]) for finding in self.short)
-        return "; ".join(dict.fromkeys(gap_label(*each) for each in short if gap(*each)))
+        """F10 to F13 of the group in this direction, each once."""
+        return "; ".join(dict.fromkeys(gap_label(one, self.way) for one in self.found if gap(one, self.way)))
 
 
 @dataclass(frozen=True)
@@ -67,20 +92,37 @@ class Arc:
     wrong: Optional[Remark]
     """What L2 has found of it."""
 
+    @property
+    def edges(self) -> Tuple[int, int]:
+        """Its lesser and its greater place."""
+        return min(self.begin, self.end), max(self.begin, self.end)
 
-@dataclass(frozen=True)
+
+@dataclass
 class Page:
     """What lies between two places of a track."""
 
     begin: int
-    stations: List[BaliseGroup]
-    bands: List[Band]
-    arcs: List[Arc]
+    before: int
+    """Where the page before it ends. The axis is broken if that is not where this page begins."""
+    is_broken_behind: bool = False
+    """Whether pages behind it are left out."""
+    stations: List[BaliseGroup] = field(default_factory=list)
+    bands: List[Band] = field(default_factory=list)
+    arcs: List[Arc] = field(default_factory=list)
+    flags: List[Flag] = field(default_factory=list)
 
     @property
     def end(self) -> int:
         """Where the page ends."""
         return self.begin + PAGE
+
+    @property
+    def left_out(self) -> str:
+        """Which kilometres before it no page has."""
+        if self.before >= self.begin:
+            return ""
+        return f"left out: km {self.before // 10_000} to {self.begin // 10_000}, where nothing begins or ends"
 
 
 def place_of(station: BaliseGroup) -> int:
@@ -93,72 +135,119 @@ def at_km(place: int) -> str:
     return f"km {kilometre_of(place)}"
 
 
-def chosen(station: BaliseGroup, aspect: Optional[str]) -> Optional[Aspect]:
-    """The aspect of this name, the only one, or the first one if no name is given."""
+def shown_words(aspect: Optional[str], each: str = "each group") -> str:
+    """Which aspect of each group is shown."""
+    return f"{each} in the aspect with the farthest end of authority" if aspect is None else f"aspect {quoted(aspect)}"
+
+
+def _read_aspects(station: BaliseGroup) -> Sequence[Aspect]:
+    """The aspects of a group whose telegrams the program has read."""
     aspects = station.group.aspects
-    if aspect is None or len(aspects) == 1:
+    return [one for one in aspects if not any(row.number in station.unread for row in one.rows)]
+
+
+def chosen(line: Line, station: BaliseGroup, aspect: Optional[str]) -> Optional[Aspect]:
+    """The aspect of this name, the only one, or if no name is given the one with the farthest end of authority.
+
+    An aspect of which a telegram is refused has no known end.
+    """
+    aspects = station.group.aspects
+    if len(aspects) == 1:
         return aspects[0]
-    return next((known for known in aspects if known.name == aspect), None)
+    if aspect is not None:
+        return next((known for known in aspects if known.name == aspect), None)
+    return max(_read_aspects(station) or aspects[:1], key=lambda one: _farthest(line, one))
+
+
+def _farthest(line: Line, aspect: Aspect) -> int:
+    """The farthest end of authority of an aspect in either direction; -1 if it has none."""
+    forms = [line.forms[row.number] for row in aspect.rows if row.number in line.forms]
+    ends = [-1]
+    for direction in DIRECTIONS:
+        elsewhere = infill(forms, direction)
+        ends += [
+            authority(site, packet).end
+            for site, packet in passed(forms, direction)
+            if packet["nid_packet"] in (12, 15) and site not in elsewhere
+        ]
+    return max(ends)
 
 
 def undrawn(station: BaliseGroup, aspect: Optional[str]) -> str:
     """Why only the mark of a group is drawn, or nothing if all that it says can be drawn."""
-    shown = chosen(station, aspect)
-    if shown is None:
+    aspects = station.group.aspects
+    named = [one for one in aspects if len(aspects) == 1 or aspect in (None, one.name)]
+    if not named:
         return f"no aspect {quoted(aspect or '')}"
     if station.rising is None:
         return "the direction of its kilometres is not known"
-    return "refused" if any(row.number in station.unread for row in shown.rows) else ""
+    read = _read_aspects(station)
+    return "" if any(one in read for one in named) else "refused"
 
 
-def pages(line: Line, links: Links, track: str, aspect: Optional[str]) -> List[Page]:
-    """The pages of a track on which there is anything."""
+def pages(line: Line, links: Links, track: str, aspect: Optional[str], flags: Sequence[Flag] = ()) -> Sequence[Page]:
+    """The pages of a track on which anything begins or ends, and one between two of them that anything crosses."""
     stations = line.along.get(track, ())
-    if not stations:
-        return []
-    first, last = place_of(stations[0]) // PAGE, place_of(stations[-1]) // PAGE + 1
-    known = {number: Page(number * PAGE, [], [], []) for number in range(first, last + 1)}
+    shown = {station.number: chosen(line, station, aspect) for station in stations}
+    bands = [band for station in stations for band in _bands(line, station, shown[station.number], aspect)]
+    arcs = list(_arcs(links, track, shown))
+    known = _pages({place_of(each) for each in stations} | {flag.place for flag in flags}, bands)
+    begins = [page.begin for page in known]
 
-    def crossed(begin: int, end: int) -> Iterator[Page]:
+    def crossed(begin: int, end: int) -> Sequence[Page]:
         """The pages between two places. A page does not have what only ends at its beginning."""
-        numbers = range(max(begin // PAGE, first), min(max(end - 1, begin) // PAGE, last) + 1)
-        return (known[number] for number in numbers)
+        return known[bisect_left(begins, begin // PAGE * PAGE) : bisect_left(begins, max(end, begin + 1))]
 
     for station in stations:
-        known[place_of(station) // PAGE].stations.append(station)
-    for band in _bands(line, stations, aspect):
+        crossed(place_of(station), place_of(station))[0].stations.append(station)
+    for flag in flags:
+        crossed(flag.place, flag.place)[0].flags.append(flag)
+    for band in bands:
         for page in crossed(band.begin, band.end):
             page.bands.append(band)
-    for arc in _arcs(links, track, aspect):
-        for page in crossed(min(arc.begin, arc.end), max(arc.begin, arc.end)):
+    for arc in arcs:
+        for page in crossed(*arc.edges):
             page.arcs.append(arc)
-    return [page for page in known.values() if page.stations or page.bands or page.arcs]
+    return known
 
 
-def _bands(line: Line, stations: Sequence[BaliseGroup], aspect: Optional[str]) -> Iterator[Band]:
-    """The groups whose direction is known and that have an authority or a profile."""
-    for station in stations:
-        shown = chosen(station, aspect)
-        if shown is None or undrawn(station, aspect):
-            continue
-        forms = [line.forms[row.number] for row in shown.rows]
-        ways = tuple(way(forms, direction) for direction in DIRECTIONS)
-        if any(ways):
-            at, index = place_of(station), station.group.aspects.index(shown)
-            ends = [at + far * (station.along(each.direction) or 1) for each in ways for far in reach(each)]
-            short = short_profiles(line.findings.get(station.group.name, ()), index)
-            yield Band(station, shown.name, ways, min([at, *ends]), max([at, *ends]), short)
+def _pages(at: Set[int], bands: Sequence[Band]) -> Sequence[Page]:
+    """Empty pages for groups and flags at these places, and for bands. A band that ends at an edge is before it."""
+    numbers = {place // PAGE for place in at}
+    for band in bands:
+        numbers.update((place - (place == band.end > band.begin)) // PAGE for place in band.places)
+    for number in [number + 1 for number in numbers if number + 1 not in numbers and number + 2 in numbers]:
+        if any(band.begin < (number + 1) * PAGE and band.end > number * PAGE for band in bands):
+            numbers.add(number)
+    along = sorted(numbers)
+    ends = [number + 1 for number in along]
+    return [
+        Page(number * PAGE, before * PAGE, number + 1 not in numbers and number != along[-1])
+        for number, before in zip(along, [along[0], *ends] if along else [])
+    ]
 
 
-def _arcs(links: Links, track: str, aspect: Optional[str]) -> Iterator[Arc]:
+def _bands(line: Line, station: BaliseGroup, shown: Optional[Aspect], aspect: Optional[str]) -> Iterator[Band]:
+    """A band for each direction of a group whose direction is known, and that has an authority or a profile."""
+    if shown is None or undrawn(station, aspect):
+        return
+    forms = [line.forms[row.number] for row in shown.rows]
+    ways = [way(forms, direction) for direction in DIRECTIONS]
+    short = short_profiles(line.findings.get(station.group.name, ()), station.group.aspects.index(shown))
+    for each in filter(None, ways):
+        found = [finding for finding in short if finding.direction == each.direction]
+        yield Band(station, shown.name, each, all(ways), found)
+
+
+def _arcs(links: Links, track: str, shown: Dict[int, Optional[Aspect]]) -> Iterator[Arc]:
     """The links between groups of the track that are sent in the chosen aspects."""
     wrong = {remark.location.order: remark for remark in links.remarks if remark.rule == "L2"}
     for chain in links.line.chains:
         sender, row, distance = chain.sender, chain.location.row, 0
         if sender is None or row is None or sender.km is None or sender.track != track:
             continue
-        shown = chosen(sender, aspect)
-        if shown is None or row not in shown.rows:
+        aspect = shown[sender.number]
+        if aspect is None or row not in aspect.rows:
             continue
         for link in chain.links:
             distance += link.distance

@@ -41,6 +41,8 @@ class Area(NamedTuple):
     """Where it ends. One that goes on and on has no end, and one place ends where it begins."""
     layout: str = ""
     """Whose layout it was read by, if that is not proved."""
+    acknowledged: Optional[int] = None
+    """From where on the driver acknowledges it, if it has to be acknowledged."""
 
 
 def stretches(packet: Values) -> Iterator[Tuple[str, Values, int, Optional[int]]]:
@@ -58,12 +60,16 @@ def areas(packet: Form) -> Iterator[Area]:
     """What pictures have of a packet beside authorities and profiles."""
     if packet["nid_packet"] == 41:
         at = 0 if packet["d_leveltr"] == NOW_OR_INFINITE else packet["d_leveltr"] * unit_dm(packet)
-        yield Area(41, "change to", ", ".join(_levels(packet)), at, at)
+        before = max(choice["l_ackleveltr"] for choice in packet["transitions"]) * unit_dm(packet)
+        yield Area(41, "change to", ", ".join(_levels(packet)), at, at, acknowledged=at - before if before else None)
     read = fields_of(packet) if packet["nid_packet"] in DRAWN else None
-    for _, element, begin, end in stretches(read) if read else ():
+    if not read:
+        return
+    for _, element, begin, end in stretches(read):
         kind, keys = DRAWN[packet["nid_packet"]]
         words = ", ".join(value_words(key, element[key], Around(packet, element)) for key in keys)
-        yield Area(packet["nid_packet"], kind, words, begin, end, OWN)
+        before = element.get("l_ackmamode", 0) * unit_dm(read)
+        yield Area(packet["nid_packet"], kind, words, begin, end, OWN, begin - before if before else None)
 
 
 def _levels(packet: Form) -> Iterator[str]:

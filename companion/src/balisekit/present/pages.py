@@ -17,17 +17,28 @@ PIECES = 100
 TEMPLATES = Path(__file__).with_name("templates")
 
 
-def pieces(template: str, styles: Sequence[str], **values: Any) -> Iterator[str]:
-    """The page in pieces, so that it never stands in memory whole. All values but its style sheets are escaped."""
+def pieces(template: str, styles: Sequence[str] = (), script: str = "", **values: Any) -> Iterator[str]:
+    """The page in pieces, so that it never stands in memory whole.
+
+    All values but its style sheets, its script and `parts` are escaped. The parts are pieces of another page.
+    """
     with needed("jinja2", "a picture or a page"):
         import jinja2
         from markupsafe import Markup
 
         environment = _environment(jinja2)
-    style = "".join((TEMPLATES / name).read_text("utf-8") for name in styles)
-    page = environment.get_template(template).stream(style=Markup(style), style_hash=_hash(style), **values)
+    own = {"style": "".join(map(_read, styles)), "script": _read(script) if script else ""}
+    hashes = {f"{name}_hash": _hash(text) for name, text in own.items()}
+    if "parts" in values:
+        values["parts"] = map(Markup, values["parts"])
+    texts = {name: Markup(text) for name, text in own.items()}
+    page = environment.get_template(template).stream(**texts, **hashes, **values)
     page.enable_buffering(PIECES)
     yield from page
+
+
+def _read(name: str) -> str:
+    return (TEMPLATES / name).read_text("utf-8")
 
 
 @lru_cache(maxsize=None)
@@ -46,13 +57,13 @@ def _environment(jinja2: Any) -> Any:
     return environment
 
 
-def _hash(style: str) -> str:
-    """The checksum by which a page's policy allows its style sheet."""
-    return "sha256-" + base64.b64encode(hashlib.sha256(style.encode("utf-8")).digest()).decode()
+def _hash(text: str) -> str:
+    """The checksum by which a page's policy allows its style sheet or its script."""
+    return "sha256-" + base64.b64encode(hashlib.sha256(text.encode("utf-8")).digest()).decode()
 
 
 def premises() -> List[Tuple[bool, List[str]]]:
     """What a yes means, rests on and does not cover: paragraphs in blocks, and whether each block is a list."""
-    paragraphs: List[str] = json.loads((TEMPLATES / "premises.json").read_text("utf-8"))
+    paragraphs: List[str] = json.loads(_read("premises.json"))
     parts = groupby(paragraphs, lambda paragraph: paragraph.startswith("- "))
     return [(is_list, [paragraph[2 * is_list :] for paragraph in block]) for is_list, block in parts]

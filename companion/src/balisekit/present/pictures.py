@@ -7,35 +7,41 @@ from itertools import accumulate
 from typing import Iterator, Optional, Set
 from unicodedata import normalize
 
+from balisekit.drawing.flags import marks_of
 from balisekit.drawing.group import picture_of_message
 from balisekit.drawing.sheet import WIDTH, Picture
 from balisekit.drawing.track import note, track_pictures
+from balisekit.drawing.track_pages import shown_words
 from balisekit.etcs.places import Identities
 from balisekit.present.pages import pieces
 from balisekit.present.track_text import refused_rows
 from balisekit.rules.checking import AcceptedMessage, Checked
+from balisekit.rules.entries import entries
 from balisekit.rules.line import Line
 from balisekit.rules.links import Links
 from balisekit.tables.names import clean, describe_message
 
+PALETTE = ["palette.css", "dark.css"]
+"""The colours of a file by itself, on a light and on a dark page."""
 GREATEST_NAME = 50
 """So many characters of a file's name are taken from the table."""
 
 
 def picture_page(picture: Picture) -> Iterator[str]:
     """The picture of a group or message."""
-    return pieces("group.svg", ["picture.css"], picture=picture)
+    return pieces("group.svg", [*PALETTE, "picture.css"], picture=picture)
 
 
 def track_page(checked: Checked, line: Line, links: Links, track: str, aspect: Optional[str]) -> Iterator[str]:
     """The pictures of a track below each other, after a note on what was refused."""
-    pictures = list(track_pictures(line, links, track, aspect))
+    pictures = list(track_pictures(line, links, track, aspect, list(marks_of(entries(checked)))))
     pictures[:0] = [] if checked.whole else [note(refused_rows(checked))]
     tops = list(accumulate([0, *(picture.height for picture in pictures)]))
     return pieces(
         "track.svg",
-        ["picture.css", "track.css"],
+        [*PALETTE, "picture.css", "track.css"],
         title=f"track {clean(track)}" if track else "the track",
+        description=f"{len(line.along[track])} groups, {shown_words(aspect, 'each')}, in pictures of 5 km each",
         width=WIDTH,
         height=tops[-1],
         pictures=list(zip(tops, pictures)),

@@ -1,31 +1,41 @@
-"""What a report is made of: the cover, what each family of rules finds, and a block for each group and message."""
+"""What the body of a report is made of: what each family of rules finds, and a block for each group and message."""
 from __future__ import annotations
 
-from datetime import datetime
-from typing import Dict, Iterable, Iterator, List, Mapping, NamedTuple, Optional, Sequence, Tuple
+from itertools import groupby
+from typing import Dict, Iterable, Iterator, List, Mapping, NamedTuple, Optional, Sequence, Set, Tuple
 
-from balisekit import __version__
 from balisekit.drawing.group import picture_of, picture_of_message
 from balisekit.drawing.sheet import Picture
 from balisekit.engine.grammar import Finding
+from balisekit.engine.records import Form
 from balisekit.etcs.geometry import kilometre
-from balisekit.etcs.places import Identities, places_of_rows
-from balisekit.etcs.variables import Form
-from balisekit.io import clock
-from balisekit.present import NOT_PROVED, headings
-from balisekit.present.accepted_text import accepted_words, fault_lines
-from balisekit.present.outcome_text import behind, closing_lines, not_looked_at, unnamed_lines
-from balisekit.present.refusals import RefusedInput, not_looked_at as not_tried, refused
-from balisekit.present.telegram_text import text
-from balisekit.rules.accepted import Judged
-from balisekit.rules.aspect_counts import aspects_found
+from balisekit.etcs.places import Here, Identities, places_of_rows
+from balisekit.present import headings
+from balisekit.present.accepted_text import accepted_words
+from balisekit.present.outcome_text import behind
+from balisekit.present.refusals import RefusedInput, refused
+from balisekit.present.telegram_text import form_lines, text_of
+from balisekit.rules.accepted import Acceptance
 from balisekit.rules.checking import AcceptedMessage, Checked
-from balisekit.rules.entries import Entry
+from balisekit.rules.entries import Entry, track_of
 from balisekit.rules.families import Outcome, Part
 from balisekit.rules.line import Line
-from balisekit.rules.remarks import remarks
+from balisekit.rules.location import BaliseGroup
 from balisekit.tables.model import Group
-from balisekit.tables.names import clean, describe_balise, describe_group, describe_message, describe_rows, passed_over
+from balisekit.tables.names import clean, describe_balise, describe_group, describe_message, describe_rows, rows_words
+
+AT_ONCE = 250
+"""So many groups are decoded at once."""
+LINKED = 8
+"""So many rows of an entry have a link."""
+
+
+class Text(NamedTuple):
+    """A part of a telegram in words."""
+
+    text: str
+    id: str = ""
+    """If it is a packet that an entry is about: its place in the page."""
 
 
 class Telegram(NamedTuple):
@@ -34,9 +44,25 @@ class Telegram(NamedTuple):
     id: str
     heading: str
     digits: str
-    text: str = ""
+    texts: Sequence[Text] = ()
     refused: str = ""
     """The program's words, if it has refused the telegram."""
+
+
+class Link(NamedTuple):
+    """A place of the page, and what it is called."""
+
+    target: str
+    words: str
+
+
+class Signature(NamedTuple):
+    """Who has accepted an entry."""
+
+    reason: str
+    who: str
+    date: str
+    until: str
 
 
 class Listed(NamedTuple):
@@ -46,12 +72,18 @@ class Listed(NamedTuple):
     words: str
     block: str
     """The block of its group or message."""
-    target: str
-    """The telegram of the balise that it names, else the block."""
+    links: Sequence[Link]
+    """To the telegrams, packets and rules that it is about."""
     accepted: Sequence[str]
     """Why, by whom and when its findings were accepted. Open ones have nothing."""
+    signatures: Sequence[Signature]
     heading: str
     """What is above it in the list, if it is the first of its urgency."""
+
+    @property
+    def items(self) -> int:
+        """How many findings it has. A remark is one."""
+        return len(self.entry.findings) or 1
 
 
 class ListedPart(NamedTuple):
@@ -74,47 +106,37 @@ class Block(NamedTuple):
 
     id: str
     title: str
+    identity: str
+    """NID_C and NID_BG, if they are known."""
+    km: str
+    track: str
     where: str
     left_out: str
+    balises: str
+    aspects: Sequence[str]
     picture: Optional[Picture]
-    findings: Sequence[Listed]
-    telegrams: Iterable[Telegram]
+    entries: Sequence[Listed]
+    telegrams: Sequence[Telegram]
+    packets: Sequence[int] = ()
+    """Each NID_PACKET once."""
+    has_picture: bool = False
+    """Whether the page has its picture, if the block itself has it no longer."""
 
+    @property
+    def picture_id(self) -> str:
+        """The place of its picture in the page."""
+        return f"p{self.id}"
 
-def cover(outcome: Outcome, now: datetime) -> Dict[str, object]:
-    """The content of the first page."""
-    checked, judged = outcome.checked, outcome.judged
-    table, program = checked.table, checked.program
-    about = [("file", clean(program.path)), ("SHA-256", program.sha256)]
-    about += [(key, value) for key, value in program.about.items() if key != "program"]
-    about += [] if program.about else [("version", "not a released program")]
-    at_fault = list(fault_lines(judged)) if judged else []
-    return {
-        "date": clock.stamp(now),
-        "inputs": list(_inputs(checked, judged)),
-        "program": about,
-        "version": __version__,
-        "not_proved": NOT_PROVED,
-        "not_looked_at": [*not_tried(checked), *not_looked_at(outcome)],
-        "verdict": closing_lines(outcome)[len(at_fault) :],
-        "at_fault": [*at_fault, *(unnamed_lines(outcome) if judged else ())],
-        "refused": list(refused(checked)),
-        "left_out": [(describe_group(left_out.group), clean(left_out.why)) for left_out in checked.left_out],
-        "aspects": aspects_found(table),
-        "remarks": list(remarks(table)),
-        "notes": [*map(clean, table.notes), *passed_over(table)],
-    }
+    @property
+    def is_plain(self) -> bool:
+        """Whether nothing is to be said of it."""
+        return not (self.entries or self.left_out)
 
-
-def _inputs(checked: Checked, judged: Optional[Judged]) -> Iterator[Tuple[str, str, str]]:
-    """Name, SHA-256 and content of each input."""
-    table, messages, entries = checked.table, checked.messages, judged.entries if judged else None
-    content = f"{len(table.rows)} telegrams of {len(table.groups)} groups; {table.encoding}"
-    yield clean(table.path), table.sha256, content
-    if messages:
-        yield clean(messages.path), messages.sha256, f"{len(messages.messages)} radio messages"
-    if entries:
-        yield clean(entries.path), entries.sha256, f"{len(entries.entries)} entries of accepted findings"
+    def found(self, remarks: bool) -> str:
+        """How many remarks, or else findings, it has, and how many of them were accepted. Nothing for none."""
+        some = [each for each in self.entries if bool(each.entry.remark) == remarks]
+        total, accepted = sum(each.items for each in some), sum(each.items for each in some if each.accepted)
+        return f"{total or ''}{f', {accepted} accepted' if accepted else ''}"
 
 
 def listed(outcome: Outcome) -> List[ListedPart]:
@@ -126,7 +148,7 @@ def listed(outcome: Outcome) -> List[ListedPart]:
 def _listed_part(outcome: Outcome, part: Part, ids: Mapping[str, str]) -> ListedPart:
     still_open, accepted = (
         [
-            _listed(entry, ids, heading, map(accepted_words, outcome.acceptances(entry)))
+            _listed(entry, ids, heading, outcome.acceptances(entry))
             for entry, heading in zip(some, headings.first_of_each(some))
         ]
         for some in (part.open, part.accepted)
@@ -135,11 +157,38 @@ def _listed_part(outcome: Outcome, part: Part, ids: Mapping[str, str]) -> Listed
     return ListedPart(title, still_open, accepted, list(behind(outcome, part)))
 
 
-def _listed(entry: Entry, ids: Mapping[str, str], heading: str, accepted: Iterable[str]) -> Listed:
+def _listed(entry: Entry, ids: Mapping[str, str], heading: str, acceptances: Sequence[Acceptance]) -> Listed:
     message, group = entry.message, entry.group
     block = f"m{message.number}" if message else ids[group.name] if group else ""
-    target = f"r{entry.rows[0]}" if entry.balises else block
-    return Listed(entry, headings.words(entry), block, target, list(accepted), heading)
+    links = [Link(f"r{row}", rows_words([row])) for row in entry.rows[:LINKED]]
+    links += [Link(packet_id(*place), "packet") for place in packets_of(entry)]
+    links += [Link(rule, rule) for rule in entry.rules]
+    signatures = [_signature(each) for each in acceptances]
+    return Listed(
+        entry, headings.words(entry), block, links, list(map(accepted_words, acceptances)), signatures, heading
+    )
+
+
+def _signature(entry: Acceptance) -> Signature:
+    return Signature(clean(entry.reason), clean(entry.who), str(entry.date), str(entry.until or ""))
+
+
+def packets_of(entry: Entry) -> List[Tuple[str, int]]:
+    """The packets that an entry is about: the place of the telegram or message in the page, and that of the packet."""
+    where = entry.remark.location if entry.remark else None
+    places = [(where.message, where.row, where.packet)] if where else []
+    places += [(place.message, place.row, place.finding.packet) for place in entry.findings]
+    found = [
+        (f"m{message.number}" if message else f"r{row.number}" if row else "", packet)
+        for message, row, packet in places
+        if packet is not None
+    ]
+    return list(dict.fromkeys((id, packet) for id, packet in found if id))
+
+
+def packet_id(telegram: str, packet: int) -> str:
+    """The place of a packet in the page."""
+    return f"{telegram}p{packet}"
 
 
 def blocks(checked: Checked, line: Line, found: Iterable[Listed]) -> Iterator[Block]:
@@ -147,46 +196,86 @@ def blocks(checked: Checked, line: Line, found: Iterable[Listed]) -> Iterator[Bl
     by_block: Dict[str, List[Listed]] = {}
     for each in found:
         by_block.setdefault(each.block, []).append(each)
-    left_out, forms = {left_out.group.name: clean(left_out.why) for left_out in checked.left_out}, line.forms
+    left_out = {left_out.group.name: clean(left_out.why) for left_out in checked.left_out}
     items = {item.id: item for item in refused(checked)}
-    for index, group in enumerate(line.directed):
-        id = f"g{index}"
-        of_group, why = by_block.get(id, []), left_out.get(group.name, "")
-        whole = all(row.number in forms for row in group.rows())
-        picture = picture_of(group, forms, _findings(of_group)) if whole else None
-        yield Block(id, clean(group.name), _where(group), why, picture, of_group, _telegrams(group, forms, items))
-    identities = Identities(line.directed, forms)
+    for group, station, forms in _decoded(checked, line):
+        entries, why = by_block.get(f"g{station.number}", []), left_out.get(group.name, "")
+        yield _block(group, station, forms, entries, items)._replace(left_out=why)
+    if checked.accepted_messages:
+        heads = [group.aspects[0].rows[0].number for group in line.directed]
+        known = checked.accepted.decoded([number for number in heads if number in checked.accepted])
+        identities = Identities(line.directed, {row.number: record.form for row, record in known})
     for message in checked.accepted_messages:
         yield _message(message, by_block.get(f"m{message.message.number}", []), identities)
     for bad in checked.refused_messages:
         item, heading = items[f"m{bad.message.number}"], f"message of {describe_message(bad.message)}"
         telegram = Telegram("", item.sentence, clean(bad.message.text), refused=item.program)
-        yield Block(item.id, heading, "", "refused", None, (), [telegram])
+        yield Block(item.id, heading, "", "", "", "", "refused", "", (), None, (), [telegram])
+
+
+def _decoded(checked: Checked, line: Line) -> Iterator[Tuple[Group, BaliseGroup, Mapping[int, Form]]]:
+    """Each group with its telegrams. Only some groups are decoded at once, since all telegrams take much memory."""
+    pairs = list(zip(line.directed, line.groups))
+    for begin in range(0, len(pairs), AT_ONCE):
+        some = pairs[begin : begin + AT_ONCE]
+        numbers = {row.number for group, _ in some for row in group.rows()}
+        records = checked.accepted.decoded(sorted(number for number in numbers if number in checked.accepted))
+        known = {row.number: record for row, record in records}
+        for group, station in some:
+            own = dict.fromkeys(row.number for row in group.rows())
+            yield group, station, {number: known[number].form for number in own if number in known}
+
+
+def _block(
+    group: Group,
+    station: BaliseGroup,
+    forms: Mapping[int, Form],
+    entries: Sequence[Listed],
+    items: Mapping[str, RefusedInput],
+) -> Block:
+    """The block of a group."""
+    picture = None if station.unread else picture_of(group, forms, _findings(entries))
+    packets = sorted({packet["nid_packet"] for form in forms.values() for packet in form["packets"]})
+    return Block(
+        f"g{station.number}",
+        clean(group.name),
+        "{}/{}".format(*station.identity) if station.identity else "",
+        "" if station.km is None else kilometre(station.km),
+        clean(track_of(group)),
+        describe_rows(group),
+        "",
+        str(station.balises),
+        [clean(aspect.name) for aspect in group.aspects],
+        picture,
+        entries,
+        list(_telegrams(group, forms, items, _marked(entries))),
+        packets,
+    )
+
+
+def _marked(entries: Sequence[Listed]) -> Set[str]:
+    """The places in the page of the packets that these are about."""
+    return {packet_id(*place) for each in entries for place in packets_of(each.entry)}
 
 
 def _findings(some: Iterable[Listed]) -> List[Finding]:
     return [place.finding for each in some for place in each.entry.findings]
 
 
-def _message(item: AcceptedMessage, findings: Sequence[Listed], identities: Identities) -> Block:
+def _message(item: AcceptedMessage, entries: Sequence[Listed], identities: Identities) -> Block:
     """The block of a message that the program has read."""
-    form, heading = item.form, f"message of {describe_message(item.message)}"
+    form, heading, id = item.form, f"message of {describe_message(item.message)}", f"m{item.message.number}"
     group, here = identities.group_of(form), identities.here(form)
     where = f"its places count from {describe_group(group)}" if group else ""
-    picture = picture_of_message(heading, form, _findings(findings), here.kilometres)
-    telegram = Telegram("", "in words", clean(item.message.text), text(form, here))
-    return Block(f"m{item.message.number}", heading, where, "", picture, findings, [telegram])
+    picture = picture_of_message(heading, form, _findings(entries), here.kilometres)
+    telegram = Telegram("", "in words", clean(item.message.text), _texts(form, here, id, _marked(entries)))
+    packets = sorted({packet["nid_packet"] for packet in form["packets"]})
+    return Block(id, heading, "", "", "", where, "", "", (), picture, entries, [telegram], packets)
 
 
-def _where(group: Group) -> str:
-    """The group's kilometre and track, and its rows."""
-    first = group.aspects[0].rows[0]
-    parts = [f"km {kilometre(first.km)}"] if first.km is not None else []
-    parts += [f"track {clean(first.track)}"] if first.track else []
-    return ", ".join([*parts, f"{describe_rows(group)} of the table"])
-
-
-def _telegrams(group: Group, forms: Mapping[int, Form], items: Mapping[str, RefusedInput]) -> Iterator[Telegram]:
+def _telegrams(
+    group: Group, forms: Mapping[int, Form], items: Mapping[str, RefusedInput], marked: Set[str]
+) -> Iterator[Telegram]:
     """Each row once, in the order of the table."""
     rows = {row.number: row for row in group.rows()}
     for number, here in places_of_rows(group, forms).items():
@@ -196,6 +285,18 @@ def _telegrams(group: Group, forms: Mapping[int, Form], items: Mapping[str, Refu
         if id in items:
             yield Telegram(id, items[id].sentence, digits, refused=items[id].program)
         elif number in forms:
-            yield Telegram(id, heading, digits, text(forms[number], here))
+            yield Telegram(id, heading, digits, _texts(forms[number], here, id, marked))
         else:
             yield Telegram(id, f"{heading}: not looked at", digits)
+
+
+def _texts(form: Form, here: Here, id: str, marked: Set[str]) -> List[Text]:
+    """A telegram or message in words, the packets apart that are marked."""
+
+    def mark(path: str) -> str:
+        packet = path.split("/")[2] if path.startswith("/packets/") else ""
+        return packet_id(id, int(packet)) if packet else ""
+
+    lines = ((mark(line.path) if marked else "", text_of(line)) for line in form_lines(form, here))
+    of_packets = groupby(lines, lambda each: each[0] if each[0] in marked else "")
+    return [Text("".join(f"{text}\n" for _, text in some), name) for name, some in of_packets]

@@ -3,7 +3,7 @@ from __future__ import annotations
 
 from typing import Dict, Iterator, List, Optional
 
-from balisekit.drawing.track_pages import undrawn
+from balisekit.drawing.track_pages import shown_words, undrawn
 from balisekit.rules.checking import Checked
 from balisekit.rules.line import Line
 from balisekit.tables.names import clean, listed, quoted
@@ -23,9 +23,8 @@ def written(line: Line, track: str, aspect: Optional[str], where: str) -> Iterat
             reason = undrawn(station, aspect)
             why = f"{MARK_ALONE}, {reason}" if reason else ""
         reasons.setdefault(why, []).append(clean(station.group.name))
-    shown = "the first aspect of each" if aspect is None else f"aspect {quoted(aspect)}"
     of_track, groups = f"track {quoted(track)}" if track else "the track", len(line.along[track])
-    yield f"written: {where}: {groups} group{'s' * (groups > 1)} of {of_track}, {shown}"
+    yield f"written: {where}: {groups} group{'s' * (groups > 1)} of {of_track}, {shown_words(aspect, 'each')}"
     yield from (f"{why}: {listed(names, NAMED)}" for why, names in reasons.items() if why)
 
 

@@ -1,9 +1,9 @@
-"""balisekit.toml: headings of one's own, and what a project states of its line."""
+"""balisekit.toml: headings of one's own, what a project states of its line, and what its reports are headed with."""
 from __future__ import annotations
 
 import os
 import sys
-from typing import Any, Dict, Mapping, Optional, Sequence, Tuple
+from typing import Any, Dict, Mapping, NamedTuple, Optional, Sequence, Tuple
 
 from balisekit.errors import TableError, faults_of
 from balisekit.io import inputs
@@ -13,12 +13,27 @@ from balisekit.tables.headings import Headings, alike
 
 BESIDE = "balisekit.toml"
 """The file that is read if it is in the folder of the table."""
-COLUMNS_TABLE, EXPECT_TABLE, CHECK_TABLE = "columns", "expect", "check"
-STATED = ("line_speed", "release_speed", "tolerance", "jumps", "plan", "rules")
-"""The keys of [check]."""
+COLUMNS_TABLE, EXPECT_TABLE, CHECK_TABLE, REPORT_TABLE = "columns", "expect", "check", "report"
 SHEET = ("group", "identity", "aspect", "balise", "packet", "element", "variable", "raw", "value", "unit", "km")
 """The columns of a flat table of variables."""
 KNOWN = {COLUMNS_TABLE: tuple(dict.fromkeys((*COLUMNS, *SHEET))), EXPECT_TABLE: SHEET}
+
+
+class ReportHeading(NamedTuple):
+    """What [report] has: texts above a report. What it does not state is empty."""
+
+    project: str = ""
+    revision: str = ""
+    author: str = ""
+    signatures: Tuple[str, ...] = ()
+    """Who signs: there is a box for each of these."""
+
+
+STATED = {
+    CHECK_TABLE: ("line_speed", "release_speed", "tolerance", "jumps", "plan", "rules"),
+    REPORT_TABLE: ReportHeading._fields,
+}
+"""The tables by which a project states something, and the keys of each."""
 
 
 def of_table(path: str, named: Optional[str]) -> Headings:
@@ -38,10 +53,10 @@ def of_sheet(path: str, named: Optional[str], needed_columns: Sequence[str]) -> 
     return Headings(SHEET, tuple(needed_columns), known, file, bool(named and of_expect))
 
 
-def of_check(path: str, named: Optional[str]) -> Tuple[str, Mapping[str, object]]:
-    """The file that states something of a table's line, and the keys of its [check] with their values."""
+def stated(path: str, named: Optional[str], table: str) -> Tuple[str, Mapping[str, object]]:
+    """The file that states something of a table's line, and the keys of this one of STATED with their values."""
     file = named or beside(path)
-    return file, _read(file)[CHECK_TABLE] if file else {}
+    return file, _read(file)[table] if file else {}
 
 
 def beside(path: str) -> str:
@@ -54,13 +69,14 @@ def _read(path: str) -> Dict[str, Mapping[str, Any]]:
     """The tables of a file. Lines at the top are those of [columns]."""
     with faults_of(path):
         form = _parsed(inputs.read(path).content)
-        tables = {name: form.pop(name, {}) for name in (COLUMNS_TABLE, EXPECT_TABLE, CHECK_TABLE)}
+        tables = {name: form.pop(name, {}) for name in (COLUMNS_TABLE, EXPECT_TABLE, *STATED)}
         if form and tables[COLUMNS_TABLE]:
             raise TableError(f"{next(iter(form))} is outside of [columns]: put all headings of the table there")
         tables[COLUMNS_TABLE] = tables[COLUMNS_TABLE] or form
         for name in KNOWN:
             _look_at(name, tables[name])
-        _look_at_stated(tables[CHECK_TABLE])
+        for name, keys in STATED.items():
+            _look_at_stated(name, tables[name], keys)
     return tables
 
 
@@ -78,13 +94,13 @@ def _parsed(content: bytes) -> Dict[str, Any]:
     return form
 
 
-def _look_at_stated(stated: Any) -> None:
-    """Raises TableError for what is no key of [check]."""
+def _look_at_stated(table: str, stated: Any, keys: Sequence[str]) -> None:
+    """Raises TableError for what is none of these keys."""
     if not isinstance(stated, dict):
-        raise TableError(f"{CHECK_TABLE} is no table: write [{CHECK_TABLE}], and a line for each key below it")
+        raise TableError(f"{table} is no table: write [{table}], and a line for each key below it")
     for name in stated:
-        if name not in STATED:
-            raise TableError(f"[{CHECK_TABLE}] has a key {name}, which is none: {_meant(name, STATED, 'keys')}")
+        if name not in keys:
+            raise TableError(f"[{table}] has a key {name}, which is none: {_meant(name, keys, 'keys')}")
 
 
 def _meant(name: str, known: Sequence[str], what: str) -> str:

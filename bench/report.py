@@ -1,0 +1,145 @@
+#!/usr/bin/env python3
+"""Size, time and memory of the report, and what a browser makes of it.
+
+    bench/report.py [--groups N ..] [--print N] [--open N] [KIT ..]
+
+KIT is the start script of a clone, and ./balisekit without one. The tables are lines like examples/table/line.csv, on
+which little is to be remarked: a signal each 1,500 m with four telegrams, its fixed balise in every aspect and the
+other one in three aspects, 2,500 signals a track. Every fifteenth signal has a finding.
+
+For each number of groups a line has the command, seconds of the processor for balisekit and the program
+together, the peak of memory of the larger process, and the size of the page. With chromium (CHROMIUM names another
+one) there are two more lines: of --print groups the pages, the size and the wall time of the PDF; of --open groups
+the wall time until the page can be scrolled, less the time for an empty page. Measure on an idle processor.
+"""
+from __future__ import annotations
+
+import argparse
+import csv
+import multiprocessing
+import os
+import re
+import shutil
+import subprocess
+import tempfile
+import time
+from pathlib import Path
+from typing import Iterator, List, Sequence, Tuple
+
+import kit
+from kit import line_table
+
+CHROMIUM = os.environ.get("CHROMIUM") or shutil.which("chromium")
+LEAST_ONLY = 10_000
+"""From so many groups on, the report without rules over the meaning is measured too."""
+GRADIENTS = (2, -5, 0, 4, -3, 1)
+"""In per mille, each for 2 km."""
+OPTIONS = ("--headless", "--no-sandbox", "--disable-gpu", "--disable-dev-shm-usage", "--hide-scrollbars")
+
+
+def rows(groups: int) -> Iterator[kit.Row]:
+    """The rows, a form in place of the telegram."""
+    for number in range(groups):
+        track, place = divmod(number, kit.GROUPS_OF_TRACK)
+        nid_c, nid_bg = kit.identity(number)
+        last = min((track + 1) * kit.GROUPS_OF_TRACK, groups) - 1
+        fixed = line_table.telegram(nid_bg, 0, 1, 255, *kit.linking(number, last))
+        forms = [("*", 0, fixed)]
+        for counter, (aspect, packets) in enumerate(aspects(place * kit.APART, number % 15 == 4), 1):
+            forms.append((aspect, 1, line_table.telegram(nid_bg, 1, 1, counter, *packets)))
+        for aspect, balise, form in forms:
+            km = f"{(place * kit.APART + 3 * balise) / 1000:.3f}"
+            yield (f"Signal {number}", f"{number}.{balise}", km, f"T{track}", "rising", aspect, balise,
+                   {**form, "nid_c": nid_c})
+
+
+def aspects(at: int, is_short: bool) -> Iterator[Tuple[str, List[line_table.Form]]]:
+    """Each aspect with the packets of the switched balise, for a signal at this metre of its track.
+
+    At some signals the gradients of green end too soon.
+    """
+    line_table.GRADIENTS = tuple(
+        (block * 2000, GRADIENTS[block % len(GRADIENTS)]) for block in range(at // 2000, at // 2000 + 4)
+    )
+    line_table.SPEEDS = tuple((block * 6000, 100 + 20 * (block % 2)) for block in range(at // 6000, at // 6000 + 3))
+    for aspect, length, speed in (("red", 0, 0), ("yellow", kit.APART, 120), ("green", 2 * kit.APART, 160)):
+        reach = length + line_table.OVERLAP
+        gradients = line_table.gradients(at, reach - 100 * (is_short and aspect == "green"))
+        yield aspect, [line_table.authority(length, speed), gradients, line_table.speeds(at, reach)]
+
+
+def make(path: Path, groups: int, program: kit.Program) -> None:
+    """A table of so many groups."""
+    made = list(rows(groups))
+    texts = program.encode([row[-1] for row in made])
+    with open(path, "w", encoding="utf-8", newline="") as file:
+        table = csv.writer(file)
+        table.writerow(kit.HEADING)
+        table.writerows([*row[:-1], text.line] for row, text in zip(made, texts))
+
+
+def browse(room: Path, page: Path, *words: str) -> float:
+    """Opens the page. The answer is the wall time in seconds."""
+    profile = f"--user-data-dir={room / 'profile'}"
+    begin = time.perf_counter()
+    subprocess.run([str(CHROMIUM), *OPTIONS, profile, *words, page.as_uri()], capture_output=True, check=True)
+    return time.perf_counter() - begin
+
+
+def opened(room: Path, page: Path) -> float:
+    """How long the browser needs for a first screen of this page, the best of three."""
+    shot = f"--screenshot={room / 'page.png'}"
+    return min(browse(room, page, "--window-size=1400,900", shot) for _ in range(3))
+
+
+def printed(room: Path, page: Path) -> str:
+    """Pages, size and time of the print."""
+    pdf = room / "page.pdf"
+    seconds = browse(room, page, "--no-pdf-header-footer", f"--print-to-pdf={pdf}")
+    content = pdf.read_bytes()
+    pages = len(re.findall(rb"/Type ?/Page\b", content))
+    return f"{pages} pages, {len(content) / 1e6:.1f} MB, {seconds:.1f} s"
+
+
+def measured(command: Sequence[str], room: Path, groups: int) -> None:
+    """A line on one report."""
+    seconds, memory = kit.run(command, room)
+    size = (room / "page.html").stat().st_size / 1e6
+    only = " ".join(command[command.index("--only") :]) if "--only" in command else ""
+    figures = f"{seconds:7.2f} s {memory:6.0f} MB, page {size:.2f} MB"
+    print(f"{groups:6} groups {only:11} {figures}   {command[0]}", flush=True)
+
+
+def main() -> None:
+    """Measures what the command line names."""
+    parser = argparse.ArgumentParser(description=__doc__, formatter_class=argparse.RawDescriptionHelpFormatter)
+    parser.add_argument("--groups", type=int, nargs="+", default=[300, 1000, 10_000], help="groups of each table")
+    parser.add_argument("--print", type=int, default=300, help="groups of the page that is printed")
+    parser.add_argument("--open", type=int, default=1000, help="groups of the page that is opened")
+    parser.add_argument("kits", nargs="*", metavar="KIT", default=[str(kit.TOP / "balisekit")])
+    options = parser.parse_args()
+    program = kit.Program.find()
+    with tempfile.TemporaryDirectory(prefix="balisekit-bench-") as name:
+        room = Path(name)
+        (room / "empty.html").write_text("<!DOCTYPE html><title>empty</title>", "utf-8")
+        for groups in options.groups:
+            # In a process of its own: what a child of this one is said to take includes what this one holds.
+            maker = multiprocessing.Process(target=make, args=(room / "table.csv", groups, program))
+            maker.start()
+            maker.join()
+            assert maker.exitcode == 0, "the table could not be made"
+            for path in options.kits:
+                command = [os.path.abspath(path), "report", "table.csv", "--program", program.path]
+                command += ["--html", "page.html", "--force"]
+                if groups >= LEAST_ONLY:
+                    measured([*command, "--only", "F,L"], room, groups)
+                measured(command, room, groups)
+                if CHROMIUM and groups == options.print:
+                    print(f"{groups:6} groups printed: {printed(room, room / 'page.html')}", flush=True)
+                if CHROMIUM and groups == options.open:
+                    seconds = opened(room, room / "page.html") - opened(room, room / "empty.html")
+                    print(f"{groups:6} groups opened: {seconds:.1f} s", flush=True)
+
+
+if __name__ == "__main__":
+    main()

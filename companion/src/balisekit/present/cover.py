@@ -1,0 +1,194 @@
+"""What the first and the last part of a report say: the heading, the verdict, how to repeat it, and checksums."""
+from __future__ import annotations
+
+import hashlib
+from datetime import datetime
+from typing import Iterator, List, NamedTuple, Optional, Sequence, Set, Tuple
+
+from balisekit import __version__
+from balisekit.etcs.raw_layouts import layout_of
+from balisekit.io import clock
+from balisekit.present import NOT_PROVED
+from balisekit.present.accepted_text import fault_lines
+from balisekit.present.links_text import empty_rules, lacking
+from balisekit.present.outcome_text import closing_lines, not_looked_at, unnamed_lines
+from balisekit.present.refusals import RefusedInput, not_looked_at as not_tried, refused
+from balisekit.rules.accepted import Judged
+from balisekit.rules.aspect_counts import aspects_found
+from balisekit.rules.checking import Checked, Place, document
+from balisekit.rules.families import FAMILIES, PLAN, PROVED, Outcome
+from balisekit.rules.remarks import remarks
+from balisekit.tables.names import clean, describe_group, passed_over
+from balisekit.tables.own_headings import ReportHeading
+
+DOCUMENT = "document.json"
+"""The name of the document in the commands that repeat the verdict."""
+
+
+class Verdict(NamedTuple):
+    """The verdict of `check`, as a reader sees it first."""
+
+    tone: str
+    """By which a style sheet chooses the colour: `good`, `open` or `incomplete`."""
+    word: str
+    sentence: str
+    """How many findings and remarks there are, and what is missing."""
+    closing: Sequence[str]
+    """The last lines of `check`."""
+
+
+class Evidence(NamedTuple):
+    """How the verdict is repeated without balisekit."""
+
+    commands: Sequence[str]
+    sha256: str
+    """Of the document that was handed to the program."""
+    answer: str
+    """The first line of what the program says of it."""
+
+
+class Cover(NamedTuple):
+    """What a report says of itself."""
+
+    title: str
+    heading: Sequence[Tuple[str, str]]
+    signatures: Sequence[str]
+    not_looked_at: Sequence[str]
+    verdict: Verdict
+    at_fault: Sequence[str]
+    evidence: Optional[Evidence]
+    """None if nothing was handed to the program."""
+    refused: Sequence[RefusedInput]
+    left_out: Sequence[Tuple[str, str]]
+    said: Sequence[str]
+    """What `check` says of the table beside its verdict."""
+    inputs: Sequence[Tuple[str, str, str]]
+    """Name, SHA-256 and content of each input."""
+    program: Sequence[Tuple[str, str]]
+    version: str
+    not_proved: str
+
+
+def cover(outcome: Outcome, heading: ReportHeading, command: str, now: datetime) -> Cover:
+    """What a report on an outcome says of itself. `command` begins the command that writes the document again."""
+    checked, judged, table = outcome.checked, outcome.judged, outcome.checked.table
+    rows = [("project", heading.project), ("table", table.path), ("revision", heading.revision)]
+    rows += [("date", clock.stamp(now)), ("author", heading.author)]
+    faults = list(fault_lines(judged)) if judged else []
+    return Cover(
+        clean(heading.project or table.path),
+        [(name, clean(value)) for name, value in rows if value],
+        list(map(clean, heading.signatures)),
+        [*not_tried(checked), *not_looked_at(outcome)],
+        _verdict(outcome, closing_lines(outcome)[len(faults) :]),
+        [*faults, *(unnamed_lines(outcome) if judged else ())],
+        _evidence(checked, command),
+        list(refused(checked)),
+        [(describe_group(each.group), clean(each.why)) for each in checked.left_out],
+        [f"{aspects_found(table)}. {LACKING}", *remarks(table), *map(_note, table.notes), *passed_over(table)],
+        list(_inputs(checked, judged)),
+        list(_program(checked)),
+        __version__,
+        NOT_PROVED,
+    )
+
+
+LACKING = "An aspect that the table lacks was not checked, and nothing else here shows that it is missing."
+
+
+def _note(note: str) -> str:
+    return f"Note: {clean(note)}"
+
+
+def _verdict(outcome: Outcome, closing: Sequence[str]) -> Verdict:
+    judged = outcome.judged
+    still_open = judged.open if judged else outcome.items
+    if outcome.status == 2:
+        tone, word = "incomplete", "Incomplete"
+    elif still_open:
+        tone, word = "open", "Findings" if any(isinstance(item, Place) for item in still_open) else "Remarks"
+    elif outcome.status:
+        tone, word = "open", "Entries at fault"
+    else:
+        tone, word = "good", "Nothing open" if outcome.items else "Nothing found"
+    return Verdict(tone, word, "; ".join(_counts(outcome)), closing)
+
+
+def _counts(outcome: Outcome) -> Iterator[str]:
+    """What was found and what is missing, in numbers."""
+    checked, judged = outcome.checked, outcome.judged
+    yield from filter(None, [", ".join(lacking(checked))])
+    yield from (text for part in outcome.parts if part.applied for text in empty_rules(part.applied))
+    if PROVED in outcome.letters:
+        groups = {place.group.name for place in checked.findings if place.group}
+        messages = {place.message.number for place in checked.findings if place.message}
+        where = [f"{len(groups)} of {_many(len(checked.kept), 'group')}"] if groups else []
+        where += [_many(len(messages), "message")] if messages else []
+        findings = _many(len(checked.findings), "finding")
+        yield f"{findings} in {' and '.join(where)}" if where else "no findings"
+    others = {part.family.letter: len(part.items) for part in outcome.parts if part.applied}
+    if others:
+        of_families = ", ".join(f"{letter} {count}" for letter, count in others.items() if count)
+        total = sum(others.values())
+        yield f"{_many(total, 'remark')} ({of_families})" if total else "no remarks"
+    if judged:
+        faults = f", {_many(len(judged.faults), 'entry', 'entries')} at fault" if judged.faults else ""
+        yield f"{len(judged.items) - len(judged.open)} accepted, {len(judged.open)} open{faults}"
+    yield from _lacks(outcome)
+
+
+def _lacks(outcome: Outcome) -> Iterator[str]:
+    """What no rule has looked at."""
+    where = _not_decoded(outcome.checked)
+    if where and PROVED in outcome.letters:
+        yield f"packets not decoded in {_many(len(where), 'telegram or message', 'telegrams or messages')}"
+    if outcome.without_kilometres:
+        yield "rules over the line not applied"
+    elif not set(FAMILIES) <= {PLAN, *outcome.letters}:
+        yield f"only the rules {', '.join(outcome.letters)} applied"
+
+
+def _not_decoded(checked: Checked) -> Set[Tuple[bool, int]]:
+    """The rows, and the lines of messages, with a packet that neither the program nor balisekit has decoded."""
+    places = ((False, checked.accepted.raw_packets()), (True, checked.raw_in_messages))
+    return {
+        (is_message, number)
+        for is_message, raw in places
+        for key, numbers in raw.items()
+        if layout_of(*key) is None
+        for number in numbers
+    }
+
+
+def _many(count: int, thing: str, things: str = "") -> str:
+    return f"{count} {thing if count == 1 else things or f'{thing}s'}"
+
+
+def _evidence(checked: Checked, command: str) -> Optional[Evidence]:
+    """How the program is asked again."""
+    if checked.verdict is None:
+        return None
+    content = hashlib.sha256()
+    for piece in document(checked.kept, [each.message for each in checked.accepted_messages]):
+        content.update(piece.encode("utf-8", "surrogatepass"))
+    again = [f"{command} --document {DOCUMENT}", f"sha256sum {DOCUMENT}", f"balisecheck check < {DOCUMENT}"]
+    return Evidence(again, content.hexdigest(), checked.verdict.line)
+
+
+def _inputs(checked: Checked, judged: Optional[Judged]) -> Iterator[Tuple[str, str, str]]:
+    """Name, SHA-256 and content of each input."""
+    table, messages, entries = checked.table, checked.messages, judged.entries if judged else None
+    content = f"{len(table.rows)} telegrams of {len(table.groups)} groups; {table.encoding}"
+    yield clean(table.path), table.sha256, content
+    if messages:
+        yield clean(messages.path), messages.sha256, f"{len(messages.messages)} radio messages"
+    if entries:
+        yield clean(entries.path), entries.sha256, f"{len(entries.entries)} entries of accepted findings"
+
+
+def _program(checked: Checked) -> List[Tuple[str, str]]:
+    """What is known of the program."""
+    program = checked.program
+    about = [("file", clean(program.path)), ("SHA-256", program.sha256)]
+    about += [(key, value) for key, value in program.about.items() if key != "program"]
+    return about + ([] if program.about else [("version", "not a released program")])

@@ -1,0 +1,74 @@
+"""The page of a report. Its groups are made first, since the list of all groups is before them."""
+from __future__ import annotations
+
+from datetime import datetime
+from functools import partial
+from tempfile import SpooledTemporaryFile
+from typing import Iterable, Iterator, List, Optional
+
+from balisekit.drawing.flags import marks_of
+from balisekit.drawing.track import track_pictures, tracks_of
+from balisekit.present.cover import cover
+from balisekit.present.outcome_text import explained_rules
+from balisekit.present.pages import pieces, premises
+from balisekit.present.report import Block, blocks, listed
+from balisekit.present.telegram_text import LEGEND
+from balisekit.rules.families import Outcome
+from balisekit.rules.links import Links
+from balisekit.tables.names import clean
+from balisekit.tables.own_headings import ReportHeading
+
+IN_MEMORY, PIECE = 1 << 20, 1 << 12
+"""So many characters of the groups are kept in memory, and are copied at once."""
+STYLES = ("palette.css", "dark.css", "page.css", "report.css", "picture.css", "track.css")
+DISTANCE = "one whose distance differs from the kilometres (L2, a rule of balisekit)"
+
+
+def report_page(
+    outcome: Outcome,
+    links: Links,
+    heading: ReportHeading,
+    command: str,
+    now: datetime,
+    aspect: Optional[str] = None,
+    full: bool = False,
+) -> Iterator[str]:
+    """The page in pieces.
+
+    `links` are those that pictures of tracks show. `command` begins the command that writes the document again. A full
+    page has nothing folded.
+    """
+    line, parts = links.line, listed(outcome)
+    names, marks = tracks_of(line), [mark for part in outcome.parts for mark in marks_of(part.open, part.accepted)]
+    rows: List[Block] = []
+    made = _noted(blocks(outcome.checked, line, (each for part in parts for each in part.all)), rows)
+    with SpooledTemporaryFile(IN_MEMORY, "w+", encoding="utf-8") as groups:
+        for piece in pieces("blocks.html", blocks=made, full=full):  # (writelines would keep them all in memory)
+            groups.write(piece)
+        groups.seek(0)
+        yield from pieces(
+            "report.html",
+            STYLES,
+            "report.js",
+            cover=cover(outcome, heading, command, now),
+            found=parts,
+            explained=list(explained_rules(outcome)),
+            rows=rows,
+            pictured={row.id for row in rows if row.has_picture},
+            parts=iter(partial(groups.read, PIECE), ""),
+            legend=LEGEND,
+            premises=premises(),
+            links_rule=DISTANCE,
+            aspect=aspect,
+            full=full,
+            has_tracks=bool(names),
+            has_names=any(names),
+            tracks=((clean(name), track_pictures(line, links, name, aspect, marks)) for name in names),
+        )
+
+
+def _noted(made: Iterable[Block], rows: List[Block]) -> Iterator[Block]:
+    """The blocks. What the list of all groups has of each is noted."""
+    for block in made:
+        rows.append(block._replace(picture=None, telegrams=(), has_picture=block.picture is not None))
+        yield block
