@@ -100,17 +100,23 @@ def _other(letter: str) -> int:
     return OTHER if letter < "\u2e80" else PICTOGRAM
 
 
+@lru_cache(maxsize=1 << 14)
+def _measured(style: str, text: str) -> Tuple[int, int, int]:
+    """The width in tenths of a pixel, how much of it is left of the coordinate, and the size of the font."""
+    font, halves = _look(style)
+    wide = -(-advance(text, font.is_bold) * font.size // 100)
+    return wide, wide * halves // 2, font.size
+
+
 def width(style: str, text: str) -> int:
     """In tenths of a pixel."""
-    font = _look(style)[0]
-    return -(-advance(text, font.is_bold) * font.size // 100)
+    return _measured(style, text)[0]
 
 
 def box(style: str, text: str, x: int, y: int) -> Box:
     """What a text at a coordinate covers. `x` is in tenths of a pixel, `y` in pixels."""
-    (font, halves), wide = _look(style), width(style, text)
-    left = x - wide * halves // 2
-    return Box(left, 10 * y - 8 * font.size, left + wide, 10 * y + 2 * font.size)
+    wide, before, size = _measured(style, text)
+    return Box(x - before, 10 * y - 8 * size, x - before + wide, 10 * y + 2 * size)
 
 
 def shortened(style: str, text: str, room: int) -> str:

@@ -8,7 +8,6 @@ from __future__ import annotations
 from dataclasses import dataclass, field
 from functools import lru_cache
 from heapq import heappop, heappush
-from itertools import chain
 from typing import Dict, Iterable, List, NamedTuple, Optional, Tuple
 
 from balisekit.drawing.letters import Box, box, shortened, width
@@ -157,8 +156,10 @@ class Sheet:
     def text(self, style: str, text: str, x: int, y: int, title: str = "") -> None:
         """A text at a coordinate that nothing else covers, which is rounded down to a pixel."""
         x -= x % 10
-        self.texts.append(Shape("text", style, title, tenths(x), str(y), "", "", "", text))
-        covered = box(style, text, x, y)
+        self._put(Shape("text", style, title, tenths(x), str(y), "", "", "", text), box(style, text, x, y))
+
+    def _put(self, shape: Shape, covered: Box) -> None:
+        self.texts.append(shape)
         for strip in range(covered.top // 160, covered.bottom // 160 + 1):
             self._covered.setdefault(strip, []).append(covered)
 
@@ -169,15 +170,17 @@ class Sheet:
 
     def is_free(self, wanted: Box, within: Tuple[int, int] = EDGES) -> bool:
         """Whether it is between the edges, and no text covers a part of it."""
+        if wanted.left < within[0] or wanted.right > within[1]:
+            return False
         strips = range(wanted.top // 160, wanted.bottom // 160 + 1)
-        others = chain.from_iterable(self._covered.get(strip, ()) for strip in strips)
-        return within[0] <= wanted.left and wanted.right <= within[1] and not any(map(wanted.meets, others))
+        return not any(wanted.meets(other) for strip in strips for other in self._covered.get(strip, ()))
 
     def label(self, style: str, text: str, spots: Iterable[Spot], within: Tuple[int, int] = EDGES) -> Optional[Spot]:
         """A text at the first of these coordinates that is free. If none is, it is left out."""
         for x, y in ((x - x % 10, y) for x, y in spots):
-            if self.is_free(box(style, text, x, y), within):
-                self.text(style, text, x, y)
+            wanted = box(style, text, x, y)
+            if self.is_free(wanted, within):
+                self._put(Shape("text", style, "", tenths(x), str(y), "", "", "", text), wanted)
                 return x, y
         return None
 
