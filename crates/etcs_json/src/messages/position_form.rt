@@ -1,22 +1,44 @@
 //! The form of message 136, the position report.
 
+ghost use Rattle.etcs_json.specs.Fault.{Gives};
+ghost use Rattle.etcs_json.specs.Messages.{is_position, no_packet, position_of};
+ghost use Rattle.etcs_json.specs.Shape.{only};
+
 use crate::error::FormError;
-use crate::members::{ListMember, Member, NumberMember, send_members};
+use crate::members::{
+    ListMember, Listed, Member, NumberMember, ReadMembers, Required, pairs, send_members,
+};
 use crate::node::Node;
-use crate::node::packets_form::read_all_at;
-use crate::node::reading::{read_fixed, read_key};
+use crate::node::reading::read_fixed;
 use crate::record::{InRange, Members, Record, prove_allowed};
 use crate::writing::Sink;
-use etcs_bits::{Memory, are_allowed};
-use etcs_radio::PositionMessage;
+use etcs_bits::{Memory, Plain, are_allowed};
+use etcs_radio::{PositionMessage, TrainPacket};
 use std::alloc::Global;
+
+// The message of these parts. It is refused without packet 0 or 1.
+fn message_of(
+    alloc: Global,
+    time: Plain<32>,
+    engine: Plain<24>,
+    packets: Vec<TrainPacket>,
+) -> Result<PositionMessage, FormError>
+    ensures { Gives (λ m. m) result
+        (only no_packet is_position (position_of (time, (engine, packets.items)))) }
+{
+    match PositionMessage::new(time, engine, packets) {
+        Ok(message) => Ok(message),
+        Err(_) => Err(FormError::range_at(alloc, "packets")),
+    }
+}
 
 impl Record for PositionMessage {
     ghost use Rattle.etcs_json.specs.Chosen.{with_number};
     ghost use Rattle.etcs_json.specs.Messages.{position};
+    ghost use Rattle.etcs_json.specs.Shape.{whole};
     ghost use Rattle.etcs_json.specs.TrainPackets.{train_packet};
 
-    ghost object = { with_number (position train_packet) };
+    ghost object = { whole (with_number (position train_packet)) };
 }
 
 impl InRange for PositionMessage {
@@ -44,12 +66,9 @@ impl Members for PositionMessage {
 
     fn of_members<N: Node>(alloc: Global, node: &N) -> Result<Self, FormError> {
         read_fixed(alloc, node, "nid_message", 136)?;
-        let time = read_key(alloc, node, "t_train")?;
-        let engine = read_key(alloc, node, "nid_engine")?;
-        let packets = read_all_at(alloc, node, "packets")?;
-        match PositionMessage::new(time, engine, packets) {
-            Ok(message) => Ok(message),
-            Err(_) => Err(FormError::range_at(alloc, "packets")),
-        }
+        let found = ReadMembers::read(alloc, node, pairs!("t_train", "nid_engine", "packets"))?;
+        let (Required { value: time }, (Required { value: engine }, Listed { value: packets })) =
+            found;
+        message_of(alloc, time, engine, packets)
     }
 }
