@@ -2,12 +2,11 @@
 -- is named as the standard names its variable, in small letters; `packets` is this project's. NID_LRBG
 -- is two keys, its country and its number there. L_MESSAGE follows from the packets, and is no key. Keys
 -- are in the order in which they are looked for.
-use Rattle.std.specs.Prelude.{ℕ, Bool, List, codes, refl}
+use Rattle.std.specs.Prelude.{Bool, List, codes, refl}
 use Rattle.std.specs.List.{flat_map}
-use Rattle.etcs_bits.specs.declared.variables.identity.Identity.{Identity}
 use Rattle.etcs_bits.specs.layout.Combined.{pair_rows}
 use Rattle.etcs_bits.specs.layout.Rows.{Row}
-use Rattle.etcs_bits.specs.variables.Identity.{identity as identity_layout}
+use Rattle.etcs_bits.specs.variables.VariableFormats.{nid_bg, nid_c}
 use Rattle.etcs_packet.specs.declared.track.TrackPacket.{TrackPacket}
 use Rattle.etcs_radio.specs.Head.{m_ack, nid_engine, t_train}
 use Rattle.etcs_radio.specs.Record.{Movement, Position}
@@ -16,7 +15,6 @@ use Rattle.etcs_radio.specs.declared.train_packet.TrainPacket.{TrainPacket}
 use Rattle.etcs_json.specs.Chosen.{BehindNumber, behind}
 use Rattle.etcs_json.specs.Fault.{Fault, Range, at_once, key as key_step}
 use Rattle.etcs_json.specs.Listed.{holding, listed, rows_holding}
-use Rattle.etcs_json.specs.Report.{identity}
 use Rattle.etcs_json.specs.Shape.{Shape, key, named, ◌then◌}
 use Rattle.etcs_json.specs.Variables.{flag, number}
 
@@ -24,30 +22,24 @@ use Rattle.etcs_json.specs.Variables.{flag, number}
 abbrev pub no_packet : Fault
 no_packet = at_once Range (key_step (codes "packets"))
 
--- message 3 of these parts
-abbrev pub movement_of : ℕ × (Bool × (Identity × List TrackPacket)) → Movement
-movement_of p = record { time = p.0; ack = p.1.0; lrbg = p.1.1.0; packets = p.1.1.1 }
-
 abbrev pub is_movement : Movement → Bool
 is_movement m = has_authority m.packets
 
 -- its rows behind the number, in the order of the keys
 abbrev pub movement_rows : Shape TrackPacket → Movement → List Row
 movement_rows packet =
-    rows_holding is_movement (λ m. pair_rows t_train.rows (pair_rows m_ack.rows (pair_rows identity_layout.rows (flat_map packet.rows))) (m.time, (m.ack, (m.lrbg, m.packets))))
+    rows_holding is_movement (λ m. pair_rows t_train.rows (pair_rows m_ack.rows (pair_rows nid_c.rows (pair_rows nid_bg.rows (flat_map packet.rows))))
+    (m.time, (m.ack, (m.lrbg.country, (m.lrbg.group, m.packets)))))
 
 -- message 3: a packet 15 is among its packets
 unfoldable pub movement : (packet : Shape TrackPacket) → BehindNumber (codes "nid_message") 3 (movement_rows packet)
 movement packet =
-    behind (holding no_packet is_movement (named movement_of
-    (λ m. (m.time, (m.ack, (m.lrbg, m.packets))))
+    behind (holding no_packet is_movement (named
+    (λ p. record { time = p.0; ack = p.1.0; lrbg = record { country = p.1.1.0; group = p.1.1.1.0 }; packets = p.1.1.1.1 })
+    (λ m. (m.time, (m.ack, (m.lrbg.country, (m.lrbg.group, m.packets)))))
     (λ _. refl)
-    (key (codes "t_train") (number t_train.fields) then key (codes "m_ack") flag then identity (codes "nid_c") (codes "nid_bg")
-    then key (codes "packets") (listed packet)))) refl
-
--- message 136 of these parts
-abbrev pub position_of : ℕ × (ℕ × List TrainPacket) → Position
-position_of p = record { time = p.0; engine = p.1.0; packets = p.1.1 }
+    (key (codes "t_train") (number t_train.fields) then key (codes "m_ack") flag then key (codes "nid_c") (number nid_c.fields)
+    then key (codes "nid_bg") (number nid_bg.fields) then key (codes "packets") (listed packet)))) refl
 
 abbrev pub is_position : Position → Bool
 is_position m = has_report m.packets
@@ -58,7 +50,8 @@ position_rows packet = rows_holding is_position (λ m. pair_rows t_train.rows (p
 -- message 136: a packet 0 or 1 is among its packets
 unfoldable pub position : (packet : Shape TrainPacket) → BehindNumber (codes "nid_message") 136 (position_rows packet)
 position packet =
-    behind (holding no_packet is_position (named position_of
+    behind (holding no_packet is_position (named
+    (λ p. record { time = p.0; engine = p.1.0; packets = p.1.1 })
     (λ m. (m.time, (m.engine, m.packets)))
     (λ _. refl)
     (key (codes "t_train") (number t_train.fields) then key (codes "nid_engine") (number nid_engine.fields) then key (codes "packets") (listed packet)))) refl

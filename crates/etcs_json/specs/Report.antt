@@ -6,7 +6,7 @@ use Rattle.std.specs.Prelude.{◌≡◌, ◌+◌, ◌*◌, ◌/◌, ◌<◌, ◌
 use Rattle.std.proofs.Common.{inl, inr, arith}
 use Rattle.etcs_bits.specs.declared.variables.identity.Identity.{Identity}
 use Rattle.etcs_bits.specs.declared.variables.level.Level.{Level}
-use Rattle.etcs_bits.specs.layout.Rows.{AreAllowed}
+use Rattle.etcs_bits.specs.layout.Rows.{AreAllowed, alone}
 use Rattle.etcs_bits.specs.variables.Identity.{identity as identity_layout, identity_struct}
 use Rattle.etcs_bits.specs.variables.Variables.{plain}
 use Rattle.etcs_bits.specs.variables.VariableFormats.{nid_bg, nid_c}

@@ -1,39 +1,16 @@
 //! The form of message 3, the movement authority.
 
-ghost use Rattle.etcs_json.specs.Fault.{Gives};
-ghost use Rattle.etcs_json.specs.Messages.{is_movement, movement_of, no_packet};
-ghost use Rattle.etcs_json.specs.Shape.{only};
-
 use crate::error::FormError;
 use crate::members::{
     ListMember, Listed, Member, NumberMember, ReadMembers, Required, pairs, send_members,
 };
 use crate::node::Node;
 use crate::node::reading::read_fixed;
-use crate::packets::report_form::IdentityMembers;
 use crate::record::{InRange, Members, Record, prove_allowed};
 use crate::writing::Sink;
-use etcs_bits::{Identity, Memory, Plain, are_allowed};
-use etcs_packet::TrackPacket;
+use etcs_bits::{Identity, Memory, are_allowed};
 use etcs_radio::MovementMessage;
 use std::alloc::Global;
-
-// The message of these parts. It is refused without packet 15.
-fn message_of(
-    alloc: Global,
-    time: Plain<32>,
-    ack: bool,
-    lrbg: Identity,
-    packets: Vec<TrackPacket>,
-) -> Result<MovementMessage, FormError>
-    ensures { Gives (λ m. m) result
-        (only no_packet is_movement (movement_of (time, (ack, (lrbg, packets.items))))) }
-{
-    match MovementMessage::new(time, ack, lrbg, packets) {
-        Ok(message) => Ok(message),
-        Err(_) => Err(FormError::range_at(alloc, "packets")),
-    }
-}
 
 impl Record for MovementMessage {
     ghost use Rattle.etcs_json.specs.Chosen.{with_number};
@@ -79,10 +56,14 @@ impl Members for MovementMessage {
 
     fn of_members<N: Node>(alloc: Global, node: &N) -> Result<Self, FormError> {
         read_fixed(alloc, node, "nid_message", 3)?;
-        let keys = pairs!("t_train", "m_ack", ("nid_c", "nid_bg"), "packets");
+        let keys = pairs!("t_train", "m_ack", "nid_c", "nid_bg", "packets");
         let found = ReadMembers::read(alloc, node, keys)?;
         let (Required { value: time }, (Required { value: ack }, rest)) = found;
-        let (IdentityMembers { value: lrbg }, Listed { value: packets }) = rest;
-        message_of(alloc, time, ack, lrbg, packets)
+        let (Required { value: country }, (Required { value: group }, rest)) = rest;
+        let Listed { value: packets } = rest;
+        match MovementMessage::new(time, ack, Identity { country, group }, packets) {
+            Ok(message) => Ok(message),
+            Err(_) => Err(FormError::range_at(alloc, "packets")),
+        }
     }
 }

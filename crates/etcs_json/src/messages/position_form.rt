@@ -1,9 +1,5 @@
 //! The form of message 136, the position report.
 
-ghost use Rattle.etcs_json.specs.Fault.{Gives};
-ghost use Rattle.etcs_json.specs.Messages.{is_position, no_packet, position_of};
-ghost use Rattle.etcs_json.specs.Shape.{only};
-
 use crate::error::FormError;
 use crate::members::{
     ListMember, Listed, Member, NumberMember, ReadMembers, Required, pairs, send_members,
@@ -12,25 +8,9 @@ use crate::node::Node;
 use crate::node::reading::read_fixed;
 use crate::record::{InRange, Members, Record, prove_allowed};
 use crate::writing::Sink;
-use etcs_bits::{Memory, Plain, are_allowed};
-use etcs_radio::{PositionMessage, TrainPacket};
+use etcs_bits::{Memory, are_allowed};
+use etcs_radio::PositionMessage;
 use std::alloc::Global;
-
-// The message of these parts. It is refused without packet 0 or 1.
-fn message_of(
-    alloc: Global,
-    time: Plain<32>,
-    engine: Plain<24>,
-    packets: Vec<TrainPacket>,
-) -> Result<PositionMessage, FormError>
-    ensures { Gives (λ m. m) result
-        (only no_packet is_position (position_of (time, (engine, packets.items)))) }
-{
-    match PositionMessage::new(time, engine, packets) {
-        Ok(message) => Ok(message),
-        Err(_) => Err(FormError::range_at(alloc, "packets")),
-    }
-}
 
 impl Record for PositionMessage {
     ghost use Rattle.etcs_json.specs.Chosen.{with_number};
@@ -69,6 +49,9 @@ impl Members for PositionMessage {
         let found = ReadMembers::read(alloc, node, pairs!("t_train", "nid_engine", "packets"))?;
         let (Required { value: time }, (Required { value: engine }, Listed { value: packets })) =
             found;
-        message_of(alloc, time, engine, packets)
+        match PositionMessage::new(time, engine, packets) {
+            Ok(message) => Ok(message),
+            Err(_) => Err(FormError::range_at(alloc, "packets")),
+        }
     }
 }

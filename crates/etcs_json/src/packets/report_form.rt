@@ -27,7 +27,6 @@ use etcs_radio::{Report, Train3};
 use json::Token;
 use serde_json::Value;
 use std::alloc::Global;
-use std::marker::Model;
 
 // Whether a train is whole, how it runs, and in which mode and level.
 type State = (
@@ -69,35 +68,6 @@ pub(crate) fn read_identity<N: Node>(
     let country: Country = read_key(alloc, node, country)?;
     let group: GroupNumber = read_key(alloc, node, group)?;
     Ok(Identity { country, group })
-}
-
-/// The identity of a group, of the members at the keys of its country and its number.
-#[derive(Drop)]
-pub(crate) struct IdentityMembers {
-    pub(crate) value: Identity,
-}
-
-impl Model for IdentityMembers {
-    ghost use Rattle.etcs_bits.specs.declared.variables.identity.Identity.{Identity};
-
-    ghost Value = { Identity };
-
-    ghost view = { λ m. m.value };
-}
-
-impl ReadMembers for IdentityMembers {
-    type Keys = (&'static str, &'static str);
-
-    ghost reads = { λ keys. (identity keys.0.now keys.1.now).of };
-
-    fn read<N: Node>(
-        alloc: Global,
-        node: &N,
-        keys: (&'static str, &'static str),
-    ) -> Result<Self, FormError> {
-        let value = read_identity(alloc, node, keys.0, keys.1)?;
-        Ok(IdentityMembers { value })
-    }
 }
 
 // Reads the members behind the groups.
