@@ -1,5 +1,5 @@
 -- The rows of each telegram and of each radio message are allowed, if none of its numbers is spare.
-use Rattle.std.proofs.Common.{◌≡◌, ◌<◌, ℕ, Bool, true, false, refl, arith}
+use Rattle.std.proofs.Common.{◌≡◌, Bool, true, false, refl, arith}
 use Rattle.std.specs.List.{flat_map}
 use Rattle.etcs_bits.specs.bits.Number.{worth}
 use Rattle.etcs_bits.specs.layout.Rows.{AreAllowed, IsAllowed, alone, row}

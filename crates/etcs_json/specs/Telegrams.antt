@@ -10,7 +10,6 @@ use Rattle.etcs_packet.specs.Track.{track_packet as track_layout}
 use Rattle.etcs_telegram.specs.Header.{header as header_layout, header_struct, m_mcount, n_pig, n_total}
 use Rattle.etcs_telegram.specs.Record.{Telegram}
 use Rattle.etcs_telegram.specs.Sizes.{user_bits}
-use Rattle.etcs_telegram.specs.declared.header.Header.{Header}
 use Rattle.etcs_telegram.specs.declared.size.Size.{Size}
 use Rattle.etcs_telegram.specs.declared.size.Size.TheVariants.{Short, Long}
 use Rattle.etcs_json.specs.Listed.{listed}
