@@ -95,7 +95,7 @@ impl LayoutRecord for SpeedProfile {
     ghost keeps = { λ x allowed _. allowed (lit< tt) };
 }
 
-#[tactic(auto, using(crate::proofs::ReadLemmas::few_differences), unfolding(crate::specs::Profiles::speed_profile))]
+#[tactic(auto, unfolding(crate::specs::Profiles::speed_profile))]
 impl Members for SpeedProfile {
     fn keys() -> &'static [&'static str] {
         &["elements", "nid_packet", "q_dir", "q_scale"]

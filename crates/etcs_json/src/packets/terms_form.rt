@@ -38,7 +38,6 @@ impl ReadMembers for Sections {
 
     ghost reads = { λ key. at_key (list_of (object section).of 0 31) key.now };
 
-    #[tactic(auto, using(crate::proofs::AuthorityLemmas::few_sections))]
     fn read<N: Node>(alloc: Global, node: &N, key: &'static str) -> Result<Self, FormError> {
         let value = read_list_at(alloc, node, key, 0, 31)?;
         Ok(Sections { value })
