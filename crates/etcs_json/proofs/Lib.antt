@@ -19,6 +19,5 @@ pub mod BodyTextLemmas
 pub mod RawLemmas
 pub mod PathLemmas
 pub mod AnyList
-pub mod PacketRanges
-pub mod RadioRanges
+pub mod LawLemmas
 pub mod PlainLemmas

@@ -1,10 +1,11 @@
 -- Faults as the code finds them, and objects as it makes them.
-use Rattle.std.proofs.Common.{◌≡◌, ◌∙◌, ℕ, Bool, List, true, Option, Some, None, Result, Ok, Err, IfOk, IfSome, IsErrAnd, option_map, ap, sym, refl, subst}
+use Rattle.std.proofs.Common.{◌≡◌, ◌∙◌, ℕ, Bool, List, Option, Some, None, Result, Ok, Err, IfOk, IfSome, IsErrAnd, option_map, ap, sym, refl, subst}
 use Rattle.std.specs.Prelude.{if◌then◌else◌}
 use Rattle.serde_json.specs.View.{view}
 use Rattle.serde_json.specs.declared.value.Value.{Value}
 use Rattle.serde_json.specs.Data.{Data, Members, no_members, object}
 use Rattle.serde_json.specs.Find.{as_object, get}
+use Rattle.etcs_bits.specs.layout.Rows.{AreAllowed}
 use Rattle.etcs_json.specs.Shape.{Object, Shape}
 use Rattle.etcs_json.specs.Entries.{are_apart, are_known, members_onto, object_of}
 use Rattle.etcs_json.specs.Chosen.{any_object, object_or}
@@ -79,11 +80,11 @@ fails_up view (Ok x) e r s passed fails same = absurd passed
 fails_up view (Err y) e r s passed fails same = rw passed (fails_same e r s fails same)
 
 -- what was written is read again
-pub read_again : {X : Type 0} (s : Shape X) (x : X) (d : Data) → d ≡ s.to x → s.fits x ≡ true → s.of d ≡ Ok x
-read_again s x d is fits = ap s.of is ∙ s.again x fits
+pub read_again : {X : Type 0} (s : Shape X) (x : X) (d : Data) → d ≡ s.to x → AreAllowed (s.rows x) → s.of d ≡ Ok x
+read_again s x d is allowed = ap s.of is ∙ s.again x allowed
 
 -- what is read again has a form of its own
-pub own_form : {X : Type 0} (s : Shape X) (x y : X) → s.fits x ≡ true → s.fits y ≡ true → s.to x ≡ s.to y → x ≡ y
+pub own_form : {X : Type 0} (s : Shape X) (x y : X) → AreAllowed (s.rows x) → AreAllowed (s.rows y) → s.to x ≡ s.to y → x ≡ y
 own_form s x y first second same =
     let one = s.again x first in
     let other = s.again y second in
@@ -91,9 +92,9 @@ own_form s x y first second same =
     cc
 
 -- what a call wrote is read again, unless it failed
-pub written_again : {X E : Type 0} → (s : Shape X) (x : X) (result : Result Value E) → s.fits x ≡ true → IfOk result (λ v. view v ≡ s.to x) → IfOk result (λ v. Unit {0} → s.of (view v) ≡ Ok x)
-written_again s x (Ok v) fits is = λ _. read_again s x (view v) is fits
-written_again s x (Err e) fits is = tt
+pub written_again : {X E : Type 0} → (s : Shape X) (x : X) (result : Result Value E) → AreAllowed (s.rows x) → IfOk result (λ v. view v ≡ s.to x) → IfOk result (λ v. Unit {0} → s.of (view v) ≡ Ok x)
+written_again s x (Ok v) allowed is = λ _. read_again s x (view v) is allowed
+written_again s x (Err e) allowed is = tt
 
 -- ---- a member, and what is read of it
 

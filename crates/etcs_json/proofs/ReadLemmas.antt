@@ -9,7 +9,7 @@ use Rattle.serde_json.specs.Find.{as_array, get}
 use Rattle.etcs_json.specs.Fault.{Fault, Range, Step, here, key, list_item, under}
 use Rattle.etcs_json.specs.Reading.{◌>>=◌, at_key, bounded_list_or, data_list, items_at, key_or, list_of, object_with, with_first}
 use Rattle.etcs_json.specs.Profiles.{difference, speed_element}
-use Rattle.etcs_json.specs.Shape.{Shape, both_of, first_and_rest, key as key_part, list, list_from_one, object}
+use Rattle.etcs_json.specs.Shape.{Shape, both_of, first_and_others, first_and_rest, key as key_part, list, object}
 use Rattle.etcs_json.specs.Variables.{flag, number}
 use Rattle.etcs_profile.specs.Built.{IsReason}
 use Rattle.etcs_profile.specs.Speed.{d_static, v_static}
@@ -68,7 +68,7 @@ key_read P read name None has = tt
 key_read P read name (Some d) has = under_read P (key name) (read d) (has d)
 
 one_read : {X : Type 0} (P : X → Type 0) (s : Shape X) (high : ℕ) → EachRead P s.of → (d : Data)
-    → IfOk ((list_from_one high s).of d) (λ p. (P p.0 × AllByRecursion P p.1) × (length p.1 < high))
+    → IfOk (first_and_others s.of high d) (λ p. (P p.0 × AllByRecursion P p.1) × (length p.1 < high))
 unfolding list_of
 one_read P s high has d = first_read P high _ (counted_read P s.of has 1 high (as_array d))
 
@@ -77,10 +77,10 @@ found {A = A} P r x h is = subst (λ (s : Result A Fault). IfOk s P) is h
 
 -- a list of from 1 to `high` items that was read at a key
 pub first_and_read : {X : Type 0} (P : X → Type 0) (s : Shape X) (high : ℕ) (name : List ℕ) (d : Data) (p : X × List X) → ((d : Data) → (x : X) → s.of d ≡ Ok x → P x)
-    → at_key (list_from_one high s).of name d ≡ Ok p → (P p.0 × AllByRecursion P p.1) × (length p.1 < high)
+    → at_key (first_and_others s.of high) name d ≡ Ok p → (P p.0 × AllByRecursion P p.1) × (length p.1 < high)
 unfolding at_key
 first_and_read P s high name d p has is =
-    found (λ q. (P q.0 × AllByRecursion P q.1) × (length q.1 < high)) _ p (key_read _ (list_from_one high s).of name (get name d) (one_read P s high has)) is
+    found (λ q. (P q.0 × AllByRecursion P q.1) × (length q.1 < high)) _ p (key_read _ (first_and_others s.of high) name (get name d) (one_read P s high has)) is
 
 -- ---- members that were read
 
@@ -131,21 +131,21 @@ abbrev Few : List Difference → Type 0
 Few xs = length xs ≤ 31
 
 -- an element of a speed profile has at most 31 differences
-pub few_differences : (d : Data) (e : SpeedElement) → (object speed_element.form).of d ≡ Ok e → length e.differences ≤ 31
+pub few_differences : (d : Data) (e : SpeedElement) → (object speed_element).of d ≡ Ok e → length e.differences ≤ 31
 unfolding speed_element
 few_differences d e is =
-    let several = key_part (codes "differences") (list 0 31 (object difference.form)) in
-    let last = short_list (object difference.form) (codes "differences") 0 31 d in
+    let several = key_part (codes "differences") (list (object difference)) in
+    let last = short_list (object difference) (codes "differences") 0 31 d in
     let third = second Few (at_key flag.of (codes "q_front")) several.of d last in
     let two = second (of_second Few) (at_key (number v_static.fields).of (codes "v_static")) (both_of (at_key flag.of (codes "q_front")) several.of) d third in
     let all = second (of_second (of_second Few)) (at_key (number d_static.fields).of (codes "d_static")) (both_of (at_key (number v_static.fields).of (codes "v_static")) (both_of (at_key flag.of (codes "q_front")) several.of)) d two in
     found (λ (x : SpeedElement). length x.differences ≤ 31) _ e
-    (after (λ (x : SpeedElement). length x.differences ≤ 31) (object_with speed_element.form.part.keys d) (λ u. speed_element.form.part.of d) (λ u.
+    (after (λ (x : SpeedElement). length x.differences ≤ 31) (object_with speed_element.part.keys d) (λ u. speed_element.part.of d) (λ u.
     as_named (λ (x : SpeedElement). length x.differences ≤ 31) _ _ all)) is
 
 -- how many items stand after the first
 pub few_further : {X : Type 0} (s : Shape X) (high : ℕ) (name : List ℕ) (d : Data) (p : X × List X)
-    → at_key (list_from_one high s).of name d ≡ Ok p → length p.1 < high
+    → at_key (first_and_others s.of high) name d ≡ Ok p → length p.1 < high
 few_further s high name d p is = (first_and_read (λ _. Unit {0}) s high name d p (λ _ _ _. tt) is).1
 
 -- a level transition order with so few levels is built

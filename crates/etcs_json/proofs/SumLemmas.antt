@@ -19,7 +19,7 @@ use Rattle.etcs_json.specs.Cover.{cover, cover_marker}
 use Rattle.etcs_json.specs.Entries.{Entry, members_onto}
 use Rattle.etcs_json.specs.Fault.{Fault}
 use Rattle.etcs_json.specs.Reading.{◌>>=◌, as_kind, object_with}
-use Rattle.etcs_json.specs.Report.{either_report, report, situation, state, with_one, with_two}
+use Rattle.etcs_json.specs.Report.{either_report, report, situation, with_one, with_two}
 use Rattle.etcs_json.specs.ReportSending.{first_members as report_first, middle_members as report_middle, last_members as report_last, sent_members as sent_report}
 use Rattle.etcs_json.specs.Sending.{members_of}
 use Rattle.etcs_json.specs.Shape.{object}
@@ -35,10 +35,10 @@ made_of es old new d e in_order same none made is =
 
 -- ---- a movement authority
 
-authority_sent_by : (main : Option ℕ) (a : AuthorityValue) → object_data (members_of (sent_members (authority_value a.dir a.scale main a.terms))) ≡ either_authority.form.to (authority_by main a)
+authority_sent_by : (main : Option ℕ) (a : AuthorityValue) → object_data (members_of (sent_members (authority_value a.dir a.scale main a.terms))) ≡ either_authority.to (authority_by main a)
 unfolding first_members last_members with_main without_main terms end_parts
-authority_sent_by None a = ap object_data (sym (made_members ((with_number without_main.form).part.to (a.dir, (a.scale, a.terms))) refl))
-authority_sent_by (Some v) a = ap object_data (sym (made_members ((with_number with_main.form).part.to (a.dir, (a.scale, (v, a.terms)))) refl))
+authority_sent_by None a = ap object_data (sym (made_members ((with_number without_main).part.to (a.dir, (a.scale, a.terms))) refl))
+authority_sent_by (Some v) a = ap object_data (sym (made_members ((with_number with_main).part.to (a.dir, (a.scale, (v, a.terms)))) refl))
 
 pub authority_sent : (a : AuthorityValue) → object_data (members_of (sent_members a)) ≡ authority.to a
 unfolding authority
@@ -51,7 +51,7 @@ authority_in_order a = made_members (sent_members a) refl
 -- ---- a position report
 
 report_sent_by : (previous : Option Identity) (r : Report) → object_data (members_of (sent_report (report_with previous r.scale r.lrbg (situation_of r)))) ≡ either_report.to (report_by previous r)
-unfolding report_first report_middle report_last with_one with_two situation state alone
+unfolding report_first report_middle report_last with_one with_two situation alone
 report_sent_by None r = ap object_data (sym (made_members ((with_number with_one).part.to (r.scale, (r.lrbg, situation_of r))) refl))
 report_sent_by (Some previous) r = ap object_data (sym (made_members ((with_number with_two).part.to (r.scale, (r.lrbg, (previous, situation_of r)))) refl))
 
@@ -65,7 +65,7 @@ report_in_order r = made_members (sent_report r) refl
 
 -- ---- an authority and a report as one of all packets
 
-authority_to_by : (main : Option ℕ) (a : AuthorityValue) → track_numbered.form.to (authority_in (authority_by main a)) ≡ either_authority.form.to (authority_by main a)
+authority_to_by : (main : Option ℕ) (a : AuthorityValue) → track_numbered.to (authority_in (authority_by main a)) ≡ either_authority.to (authority_by main a)
 authority_to_by None a = refl
 authority_to_by (Some v) a = refl
 
@@ -77,14 +77,14 @@ with_main_as : (r : Result WithMain Fault) → as_kind track_of (as_kind inr (as
 with_main_as (Ok p) = refl
 with_main_as (Err f) = refl
 
-pub with_main_read : (d : Data) → as_kind track_of (track_numbered.form.of 12 d) ≡ as_kind track.Authority (as_kind authority_of_parts (either_authority.form.of 12 d))
+pub with_main_read : (d : Data) → as_kind track_of (track_numbered.of 12 d) ≡ as_kind track.Authority (as_kind authority_of_parts (either_authority.of 12 d))
 with_main_read d = with_main_as _
 
 without_main_as : (r : Result WithoutMain Fault) → as_kind track_of (as_kind inr (as_kind inr (as_kind inr (as_kind inl r)))) ≡ as_kind track.Authority (as_kind authority_of_parts (as_kind inr r))
 without_main_as (Ok p) = refl
 without_main_as (Err f) = refl
 
-pub without_main_read : (d : Data) → as_kind track_of (track_numbered.form.of 15 d) ≡ as_kind track.Authority (as_kind authority_of_parts (either_authority.form.of 15 d))
+pub without_main_read : (d : Data) → as_kind track_of (track_numbered.of 15 d) ≡ as_kind track.Authority (as_kind authority_of_parts (either_authority.of 15 d))
 without_main_read d = without_main_as _
 
 report_to_by : (previous : Option Identity) (r : Report) → train_numbered.to (report_in (report_by previous r)) ≡ either_report.to (report_by previous r)
@@ -119,6 +119,6 @@ cover_as : (r : Result ℕ Fault) → as_kind track_of (as_kind inl r) ≡ as_ki
 cover_as (Ok m) = refl
 cover_as (Err f) = refl
 
-pub cover_read : (d : Data) → as_kind track_of (track_numbered.form.of 0 d) ≡ as_kind track.Cover ((object cover_marker.form).of d)
+pub cover_read : (d : Data) → as_kind track_of (track_numbered.of 0 d) ≡ as_kind track.Cover ((object cover_marker).of d)
 unfolding cover_marker
-cover_read d = cover_as _ ∙ ap (as_kind track.Cover) (sym (cover_to_same (object_with (with_number cover.form).part.keys d) ((with_number cover.form).part.of d) _))
+cover_read d = cover_as _ ∙ ap (as_kind track.Cover) (sym (cover_to_same (object_with (with_number cover).part.keys d) ((with_number cover).part.of d) _))

@@ -1,10 +1,11 @@
 -- The form of a radio message, by its number (SUBSET-026, 8.6 and 8.7).
-use Rattle.std.specs.Prelude.{◌≡◌, ℕ, ◌==◌, ◌||◌, ◌⊎◌, Bool, codes, if◌then◌else◌, refl}
+use Rattle.std.specs.Prelude.{◌≡◌, ℕ, ◌==◌, ◌||◌, ◌⊎◌, Bool, true, codes, if◌then◌else◌, refl}
 use Rattle.std.proofs.Common.{inl, inr}
+use Rattle.etcs_radio.specs.Head.{nid_message}
 use Rattle.etcs_radio.specs.Record.{Movement, Position}
 use Rattle.etcs_radio.specs.declared.message.Message.{Message}
 use Rattle.etcs_radio.specs.declared.message.Message.TheVariants as messages
-use Rattle.etcs_json.specs.Chosen.{by_kind, chosen, either, last}
+use Rattle.etcs_json.specs.Chosen.{Choice, by_kind, chosen, either, last}
 use Rattle.etcs_json.specs.Messages.{movement, position}
 use Rattle.etcs_json.specs.Shape.{Shape, renamed}
 use Rattle.etcs_json.specs.TrackPackets.{track_packet}
@@ -29,8 +30,14 @@ pub message_again : (m : Message) → message_of (kinds_of m) ≡ m
 message_again (messages.Movement m) = refl
 message_again (messages.Position m) = refl
 
+-- message 3 or 136
+abbrev pub numbered : Choice (codes "nid_message") nid_message (Movement ⊎ Position)
+numbered = either (movement track_packet) (last (position train_packet)) refl
+
+pub passes : (v : Movement ⊎ Position) → is_message (numbered.number v) ≡ true
+passes (inl m) = refl
+passes (inr m) = refl
+
 -- NID_MESSAGE is looked at first: 3 or 136
 unfoldable pub message : Shape Message
-message =
-    renamed message_of kinds_of message_again (chosen (codes "nid_message") is_message
-    (either (movement track_packet) (last (position train_packet)) refl))
+message = renamed message_of kinds_of message_again (chosen (codes "nid_message") is_message numbered (λ v _. passes v))

@@ -10,10 +10,10 @@ use Rattle.etcs_json.specs.Variables.{direction, scale}
 -- the members up to NID_PACKET
 unfoldable pub first_members : AuthorityValue → List Entry
 first_members a =
-    (codes "danger_point", optional (object danger_point.form).to a.terms.danger_point)
+    (codes "danger_point", optional (object danger_point).to a.terms.danger_point)
     ∷ (codes "end_speed", Some (number_data a.terms.end_speed))
     ∷ (codes "end_timeout", Some (number_data a.terms.end_timeout))
-    ∷ (codes "end_timer", optional (object end_timer.form).to a.terms.end_timer)
+    ∷ (codes "end_timer", optional (object end_timer).to a.terms.end_timer)
     ∷ (codes "l_endsection", Some (number_data a.terms.l_endsection))
     ∷ (codes "nid_packet", Some (number_data (authority_number a)))
     ∷ []
@@ -21,11 +21,11 @@ first_members a =
 -- the members after NID_PACKET; V_MAIN is there in packet 12 alone
 unfoldable pub last_members : AuthorityValue → List Entry
 last_members a =
-    (codes "overlap", optional (object overlap.form).to a.terms.overlap)
+    (codes "overlap", optional (object overlap).to a.terms.overlap)
     ∷ (codes "q_dir", Some (direction.to a.dir))
     ∷ (codes "q_scale", Some (scale.to a.scale))
-    ∷ (codes "section_timer", optional (object section_timer.form).to a.terms.section_timer)
-    ∷ (codes "sections", Some (array (items_of (object section.form).to a.terms.sections)))
+    ∷ (codes "section_timer", optional (object section_timer).to a.terms.section_timer)
+    ∷ (codes "sections", Some (array (items_of (object section).to a.terms.sections)))
     ∷ (codes "v_main", optional number_data a.main)
     ∷ []
 

@@ -1,13 +1,16 @@
 -- The form of virtual balise cover markers, packet 0 (SUBSET-026, 7.4.2).
 use Rattle.std.specs.Prelude.{codes, refl}
 use Rattle.etcs_packet.specs.Cover.{cover_marker as cover_layout, cover_struct, nid_vbcmk}
-use Rattle.etcs_json.specs.Beside.{ObjectBeside, PacketBeside, behind, closed, key, number, numbered, struct}
+use Rattle.etcs_json.specs.Chosen.{behind}
+use Rattle.etcs_json.specs.Head.{Packet, numbered}
+use Rattle.etcs_json.specs.Shape.{ObjectOf, closed, key, struct}
+use Rattle.etcs_json.specs.Variables.{number}
 
 -- packet 0
-unfoldable pub cover : PacketBeside 0 nid_vbcmk.rows
+unfoldable pub cover : Packet 0 nid_vbcmk.rows
 cover = behind (key (codes "nid_vbcmk") (number nid_vbcmk.fields)) refl
 
 -- a cover marker, packet 0, as a struct
-unfoldable pub cover_marker : ObjectBeside cover_layout.rows
+unfoldable pub cover_marker : ObjectOf cover_layout.rows
 cover_marker =
-    closed (struct cover_struct (numbered cover)) cover.form.apart
+    closed (struct cover_struct (numbered cover)) cover.apart

@@ -11,8 +11,6 @@ pub mod Variables
 pub mod KeyedVariables
 pub mod Chosen
 pub mod Head
-pub mod RangeLemmas
-pub mod Beside
 pub mod Cover
 pub mod Profiles
 pub mod Transition

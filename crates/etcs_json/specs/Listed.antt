@@ -1,13 +1,15 @@
--- Lists of any number of items, and values that may still be refused once they are read.
-use Rattle.std.specs.Prelude.{◌≡◌, ◌&&◌, Bool, true, List, Option, Some, None, Result, Ok, Err, refl}
-use Rattle.std.specs.List.{list_all}
-use Rattle.std.proofs.lemmas.Bool.{and_parts}
+-- Lists of any number of items, and records that may still be refused once they are read.
+use Rattle.std.specs.Prelude.{◌≡◌, ◌++◌, Bool, false, List, Option, Some, None, Result, Ok, Err, refl}
+use Rattle.std.specs.List.{flat_map}
 use Rattle.serde_json.specs.Data.{Data, Items, array}
 use Rattle.serde_json.specs.Find.{as_array}
+use Rattle.etcs_bits.specs.declared.layout.fault.FaultKind.TheVariants.{Spare}
+use Rattle.etcs_bits.specs.layout.Rows.{AreAllowed, Row, alone}
+use Rattle.etcs_json.specs.Entries.{Holds}
 use Rattle.etcs_json.specs.Fault.{Fault, here}
 use Rattle.etcs_json.specs.Fault.{Kind}
 use Rattle.etcs_json.specs.Reading.{◌>>=◌, data_list, items_at}
-use Rattle.etcs_json.specs.Shape.{Shape, items_again, items_of, only}
+use Rattle.etcs_json.specs.Shape.{Part, Shape, items_again, items_of, only}
 
 -- ---- lists
 
@@ -19,30 +21,36 @@ items_or read (Some ds) = items_at read 0 (data_list ds)
 unfoldable pub all_of : {A : Type 0} → (Data → Result A Fault) → Data → Result (List A) Fault
 all_of read d = items_or read (as_array d)
 
-pub listed_again : {X : Type 0} (s : Shape X) (xs : List X) → list_all s.fits xs ≡ true → all_of s.of (array (items_of s.to xs)) ≡ Ok xs
+pub listed_again : {X : Type 0} (s : Shape X) (xs : List X) → AreAllowed (flat_map s.rows xs) → all_of s.of (array (items_of s.to xs)) ≡ Ok xs
 unfolding all_of
-listed_again s xs fits = items_again s 0 xs fits
+listed_again s xs allowed = items_again s 0 xs allowed
 
 -- a list of any number of items
 abbrev pub listed : {X : Type 0} → Shape X → Shape (List X)
 listed s = record {
+  rows = flat_map s.rows;
   to = λ xs. array (items_of s.to xs);
   of = all_of s.of;
-  fits = list_all s.fits;
   again = listed_again s;
 }
 
--- ---- values that are refused after all
+-- ---- records that are refused after all
 
-pub checked_again : {X : Type 0} (holds : X → Bool) (s : Shape X) (x : X) → (s.fits x && holds x) ≡ true → (s.of (s.to x) >>= only holds) ≡ Ok x
-checked_again holds s x fits =
-    let both = and_parts (s.fits x) (holds x) fits in rw (s.again x both.0, both.1) refl
+-- a row of no bits, which is allowed where a test holds, and the other rows of a record
+abbrev pub rows_holding : {X : Type 0} → (X → Bool) → (X → List Row) → X → List Row
+rows_holding holds rows x = alone (record { width = 0; allows = λ _. holds x; refusal = Spare; closes = false }) 0 ++ rows x
 
--- the form of values that have to have a property; a value without it is out of range
-abbrev pub checked : {X : Type 0} → (X → Bool) → Shape X → Shape X
-checked holds s = record {
-  to = s.to;
-  of = λ d. s.of d >>= only holds;
-  fits = λ x. s.fits x && holds x;
-  again = checked_again holds s;
+pub holding_again : {X : Type 0} {rows : X → List Row} (fault : Fault) (holds : X → Bool) (a : Part rows) (x : X) (d : Data) → AreAllowed (rows_holding holds rows x) → Holds (a.to x) d
+    → (a.of d >>= only fault holds) ≡ Ok x
+unfolding alone
+holding_again fault holds a x d allowed there = rw (a.again x d allowed.1 there, allowed.0.1) refl
+
+-- the members of records that have to have a property; one without it has the fault
+abbrev pub holding : {X : Type 0} {rows : X → List Row} → Fault → (holds : X → Bool) → Part rows → Part (rows_holding holds rows)
+holding fault holds a = record {
+  keys = a.keys;
+  to = a.to;
+  of = λ d. a.of d >>= only fault holds;
+  has_keys = a.has_keys;
+  again = holding_again fault holds a;
 }

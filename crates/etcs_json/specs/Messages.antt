@@ -3,37 +3,55 @@
 -- is two keys, its country and its number there. L_MESSAGE follows from the packets, and is no key. Keys
 -- are in the order in which they are looked for.
 use Rattle.std.specs.Prelude.{Bool, List, codes, refl}
+use Rattle.std.specs.List.{flat_map}
+use Rattle.etcs_bits.specs.layout.Combined.{pair_rows}
+use Rattle.etcs_bits.specs.layout.Rows.{Row}
+use Rattle.etcs_bits.specs.variables.VariableFormats.{nid_bg, nid_c}
 use Rattle.etcs_packet.specs.declared.track.TrackPacket.{TrackPacket}
-use Rattle.etcs_radio.specs.Head.{nid_engine, t_train}
+use Rattle.etcs_radio.specs.Head.{m_ack, nid_engine, t_train}
 use Rattle.etcs_radio.specs.Record.{Movement, Position}
 use Rattle.etcs_radio.specs.Required.{has_authority, has_report}
 use Rattle.etcs_radio.specs.declared.train_packet.TrainPacket.{TrainPacket}
 use Rattle.etcs_json.specs.Chosen.{BehindNumber, behind}
-use Rattle.etcs_json.specs.Listed.{checked, listed}
-use Rattle.etcs_json.specs.Report.{identity}
-use Rattle.etcs_json.specs.Shape.{Part, Shape, key, named, ◌then◌}
+use Rattle.etcs_json.specs.Fault.{Fault, Range, at_once, key as key_step}
+use Rattle.etcs_json.specs.Listed.{holding, listed, rows_holding}
+use Rattle.etcs_json.specs.Shape.{Shape, key, named, ◌then◌}
 use Rattle.etcs_json.specs.Variables.{flag, number}
 
--- the packets of a message, any number of them; without the packet that its kind has to hold they are
--- refused
-abbrev pub packets : {X : Type 0} → (List X → Bool) → Shape X → Part (List X)
-packets has packet = key (codes "packets") (checked has (listed packet))
+-- a message without the packet that its kind has to hold is refused
+abbrev pub no_packet : Fault
+no_packet = at_once Range (key_step (codes "packets"))
+
+abbrev pub is_movement : Movement → Bool
+is_movement m = has_authority m.packets
+
+-- its rows behind the number, in the order of the keys
+abbrev pub movement_rows : Shape TrackPacket → Movement → List Row
+movement_rows packet =
+    rows_holding is_movement (λ m. pair_rows t_train.rows (pair_rows m_ack.rows (pair_rows nid_c.rows (pair_rows nid_bg.rows (flat_map packet.rows))))
+    (m.time, (m.ack, (m.lrbg.country, (m.lrbg.group, m.packets)))))
 
 -- message 3: a packet 15 is among its packets
-unfoldable pub movement : Shape TrackPacket → BehindNumber (codes "nid_message") 3 Movement
+unfoldable pub movement : (packet : Shape TrackPacket) → BehindNumber (codes "nid_message") 3 (movement_rows packet)
 movement packet =
-    behind (named
-    (λ p. record { time = p.0; ack = p.1.0; lrbg = p.1.1.0; packets = p.1.1.1 })
-    (λ m. (m.time, (m.ack, (m.lrbg, m.packets))))
+    behind (holding no_packet is_movement (named
+    (λ p. record { time = p.0; ack = p.1.0; lrbg = record { country = p.1.1.0; group = p.1.1.1.0 }; packets = p.1.1.1.1 })
+    (λ m. (m.time, (m.ack, (m.lrbg.country, (m.lrbg.group, m.packets)))))
     (λ _. refl)
-    (key (codes "t_train") (number t_train.fields) then key (codes "m_ack") flag then identity (codes "nid_c") (codes "nid_bg")
-    then packets has_authority packet)) refl
+    (key (codes "t_train") (number t_train.fields) then key (codes "m_ack") flag then key (codes "nid_c") (number nid_c.fields)
+    then key (codes "nid_bg") (number nid_bg.fields) then key (codes "packets") (listed packet)))) refl
+
+abbrev pub is_position : Position → Bool
+is_position m = has_report m.packets
+
+abbrev pub position_rows : Shape TrainPacket → Position → List Row
+position_rows packet = rows_holding is_position (λ m. pair_rows t_train.rows (pair_rows nid_engine.rows (flat_map packet.rows)) (m.time, (m.engine, m.packets)))
 
 -- message 136: a packet 0 or 1 is among its packets
-unfoldable pub position : Shape TrainPacket → BehindNumber (codes "nid_message") 136 Position
+unfoldable pub position : (packet : Shape TrainPacket) → BehindNumber (codes "nid_message") 136 (position_rows packet)
 position packet =
-    behind (named
+    behind (holding no_packet is_position (named
     (λ p. record { time = p.0; engine = p.1.0; packets = p.1.1 })
     (λ m. (m.time, (m.engine, m.packets)))
     (λ _. refl)
-    (key (codes "t_train") (number t_train.fields) then key (codes "nid_engine") (number nid_engine.fields) then packets has_report packet)) refl
+    (key (codes "t_train") (number t_train.fields) then key (codes "nid_engine") (number nid_engine.fields) then key (codes "packets") (listed packet)))) refl

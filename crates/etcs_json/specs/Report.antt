@@ -2,29 +2,41 @@
 -- standard names its variable, in small letters. The standard has the identity of a group as one
 -- variable, NID_LRBG or NID_PRVLRBG. Here its country and its number are two keys. Keys are in the order
 -- in which they are looked for.
-use Rattle.std.specs.Prelude.{◌==◌, ◌⊎◌, ℕ, List, [], ◌∷◌, codes, refl}
+use Rattle.std.specs.Prelude.{◌≡◌, ◌+◌, ◌*◌, ◌/◌, ◌<◌, ◌==◌, ◌⊎◌, ℕ, true, List, [], ◌∷◌, codes, refl}
+use Rattle.std.proofs.Common.{inl, inr, arith}
 use Rattle.etcs_bits.specs.declared.variables.identity.Identity.{Identity}
-use Rattle.etcs_bits.specs.declared.variables.level.Level.{Level}
-use Rattle.etcs_bits.specs.variables.Identity.{identity_struct}
+use Rattle.etcs_bits.specs.layout.Rows.{AreAllowed, alone}
+use Rattle.etcs_bits.specs.variables.Identity.{identity as identity_layout, identity_struct}
 use Rattle.etcs_bits.specs.variables.Variables.{plain}
 use Rattle.etcs_bits.specs.variables.VariableFormats.{nid_bg, nid_c}
 use Rattle.etcs_radio.specs.Integrity.{length_numbered, q_length}
-use Rattle.etcs_radio.specs.Report.{Situation, WithOne, WithTwo, again, d_lrbg, l_doubtover, l_doubtunder, m_mode, numbered_of, report_of, v_train}
+use Rattle.etcs_radio.specs.Lrbg.{lrbg_rows}
+use Rattle.etcs_radio.specs.Report.{WithOne, WithTwo, again, d_lrbg, l_doubtover, l_doubtunder, m_mode, numbered_of, report_of, report_variable, situation as situation_layout, v_train, with_one as with_one_layout, with_two as with_two_layout}
 use Rattle.etcs_radio.specs.Train3.{train3_names, train3_number, train3_of, train3_variable}
-use Rattle.etcs_radio.specs.declared.integrity.Integrity.{Integrity}
 use Rattle.etcs_radio.specs.declared.report.Report.{Report}
 use Rattle.etcs_radio.specs.declared.train3.Train3.{Train3}
-use Rattle.etcs_json.specs.Beside.{PartBeside, variables_at}
 use Rattle.etcs_json.specs.Chosen.{Choice, behind, chosen, either, last}
 use Rattle.etcs_json.specs.Head.{Packet}
-use Rattle.etcs_json.specs.KeyedVariables.{HasKeys, keys_by}
-use Rattle.etcs_json.specs.Shape.{Part, Shape, key, renamed, struct, ◌then◌}
+use Rattle.etcs_json.specs.KeyedVariables.{HasKeys, keys_by, variables_at}
+use Rattle.etcs_json.specs.Shape.{Part, Shape, key, renamed, sized, struct, with_bits, ◌then◌}
 use Rattle.etcs_json.specs.Transition.{level}
 use Rattle.etcs_json.specs.Variables.{is_allowed, named_numbers, number, scale}
 
 -- the identity of a group, as its country and its number there
-abbrev pub identity : List ℕ → List ℕ → Part Identity
+abbrev pub identity : List ℕ → List ℕ → Part identity_layout.rows
 identity country group = struct identity_struct (key country (number nid_c.fields) then key group (number nid_bg.fields))
+
+-- a group whose bits are one number of 24 bits
+pub lrbg_allowed : (i : Identity) → AreAllowed (lrbg_rows i) → AreAllowed (identity_layout.rows i)
+unfolding alone
+lrbg_allowed i allowed =
+    let whole : i.country * 16384 + i.group < 16777216 = allowed.0.0 in
+    let rest : i.group / 16384 < 1 = allowed.1.0.0 in
+    ((omega (arith, whole), refl), ((omega (arith, rest), refl), tt))
+
+-- NID_LRBG or NID_PRVLRBG, as its country and its number there
+abbrev pub lrbg : List ℕ → List ℕ → Part lrbg_rows
+lrbg country group = with_bits lrbg_rows lrbg_allowed (identity country group)
 
 -- Q_DIRLRBG, Q_DLRBG and Q_DIRTRAIN: a direction or a side, as seen from the group
 abbrev pub side : Shape Train3
@@ -34,41 +46,40 @@ pub length_keys : (n : ℕ) → HasKeys (length_numbered.next n) (codes "l_train
 length_keys n = keys_by _ _ _ (n == 0) tt (keys_by _ _ _ (n == 1) (λ _. tt) (keys_by _ _ _ (n == 2) (λ _. tt) tt))
 
 -- Q_LENGTH and L_TRAININT, which is there exactly at 1 and 2: whether the train is whole, and its length
-abbrev pub integrity : PartBeside q_length.rows
+abbrev pub integrity : Part q_length.rows
 integrity = variables_at (codes "q_length" ∷ codes "l_trainint" ∷ []) q_length length_keys
 
 -- ---- the members behind the groups
 
--- whether the train is whole, how it runs, and in which mode and level
-unfoldable pub state : Part (Integrity × (ℕ × (Train3 × (ℕ × Level))))
-state =
-    integrity.form then key (codes "v_train") (number v_train.fields) then key (codes "q_dirtrain") side then key (codes "m_mode") (number m_mode.fields)
-    then (level (codes "m_level")).form
-
--- where the train is, as seen from the group, and its state
-unfoldable pub situation : Part Situation
+-- where the train is, as seen from the group; whether it is whole, how it runs, and in which mode and level
+unfoldable pub situation : Part situation_layout.rows
 situation =
     key (codes "d_lrbg") (number d_lrbg.fields) then key (codes "q_dirlrbg") side then key (codes "q_dlrbg") side
-    then key (codes "l_doubtover") (number l_doubtover.fields) then key (codes "l_doubtunder") (number l_doubtunder.fields) then state
+    then key (codes "l_doubtover") (number l_doubtover.fields) then key (codes "l_doubtunder") (number l_doubtunder.fields) then integrity then key (codes "v_train") (number v_train.fields)
+    then key (codes "q_dirtrain") side then key (codes "m_mode") (number m_mode.fields) then level (codes "m_level")
 
 -- ---- the packets
 
 -- packet 0
-unfoldable pub with_one : Packet 0 WithOne
-unfolding situation state
-with_one = behind (key (codes "q_scale") scale then identity (codes "nid_c") (codes "nid_bg") then situation) refl
+unfoldable pub with_one : Packet 0 with_one_layout.rows
+unfolding situation
+with_one = behind (sized 8 (key (codes "q_scale") scale then lrbg (codes "nid_c") (codes "nid_bg") then situation)) refl
 
 -- packet 1: the group before stands behind the group
-unfoldable pub with_two : Packet 1 WithTwo
-unfolding situation state
+unfoldable pub with_two : Packet 1 with_two_layout.rows
+unfolding situation
 with_two =
-    behind (key (codes "q_scale") scale then identity (codes "nid_c") (codes "nid_bg")
-    then identity (codes "prv_nid_c") (codes "prv_nid_bg") then situation) refl
+    behind (sized 8 (key (codes "q_scale") scale then lrbg (codes "nid_c") (codes "nid_bg")
+    then lrbg (codes "prv_nid_c") (codes "prv_nid_bg") then situation)) refl
 
 -- packet 0 or 1
-abbrev pub either_report : Choice (codes "nid_packet") (WithOne ⊎ WithTwo)
+abbrev pub either_report : Choice (codes "nid_packet") report_variable (WithOne ⊎ WithTwo)
 either_report = either with_one (last with_two) refl
+
+pub either_nid : (v : WithOne ⊎ WithTwo) → is_allowed (plain 1) (either_report.number v) ≡ true
+either_nid (inl p) = refl
+either_nid (inr p) = refl
 
 -- a position report; NID_PACKET is looked at first
 unfoldable pub report : Shape Report
-report = renamed report_of numbered_of again (chosen (codes "nid_packet") (is_allowed (plain 1)) either_report)
+report = renamed report_of numbered_of again (chosen (codes "nid_packet") (is_allowed (plain 1)) either_report (λ v _. either_nid v))

@@ -1,16 +1,20 @@
 -- The form of a telegram (SUBSET-026, 8.4.2). Each key is named as the standard names its variable, in
 -- small letters. NID_C and NID_BG are the identity of the balise's group. `user_bits` and `packets` are
 -- this project's. Keys are in the order in which they are looked for.
-use Rattle.std.specs.Prelude.{◌≡◌, ℕ, ◌==◌, ◌||◌, Bool, true, codes, if◌then◌else◌, refl}
-use Rattle.etcs_telegram.specs.Header.{header_struct, m_mcount, n_pig, n_total}
+use Rattle.std.specs.Prelude.{◌≡◌, ◌++◌, ℕ, ◌==◌, ◌||◌, Bool, true, List, [], codes, if◌then◌else◌, refl}
+use Rattle.std.specs.List.{flat_map}
+use Rattle.etcs_bits.specs.layout.Rows.{Row}
+use Rattle.etcs_bits.specs.declared.layout.fault.FaultKind.TheVariants.{Downlink, Loop}
+use Rattle.etcs_bits.specs.variables.Variables.{only as only_number}
+use Rattle.etcs_packet.specs.Track.{track_packet as track_layout}
+use Rattle.etcs_telegram.specs.Header.{header as header_layout, header_struct, m_mcount, n_pig, n_total}
 use Rattle.etcs_telegram.specs.Record.{Telegram}
 use Rattle.etcs_telegram.specs.Sizes.{user_bits}
-use Rattle.etcs_telegram.specs.declared.header.Header.{Header}
 use Rattle.etcs_telegram.specs.declared.size.Size.{Size}
 use Rattle.etcs_telegram.specs.declared.size.Size.TheVariants.{Short, Long}
 use Rattle.etcs_json.specs.Listed.{listed}
 use Rattle.etcs_json.specs.Report.{identity}
-use Rattle.etcs_json.specs.Shape.{Object, Part, Shape, closed, key, named, names, struct, ◌then◌}
+use Rattle.etcs_json.specs.Shape.{ObjectOf, Part, Shape, closed, key, named, names, struct, unstated, ◌then◌}
 use Rattle.etcs_json.specs.TrackPackets.{track_packet}
 use Rattle.etcs_json.specs.Variables.{duplicate, flag, number, version}
 
@@ -32,18 +36,22 @@ size_again Long = refl
 
 -- a size, as its number of user bits (SUBSET-036, 4.3)
 abbrev pub size : Shape Size
-size = names is_size user_bits size_with is_one size_again
+size = names (λ _. []) is_size user_bits size_with is_one size_again
 
--- the header
-unfoldable pub header : Part Header
+-- the header; the bits have Q_UPDOWN and Q_MEDIA too
+unfoldable pub header : Part header_layout.rows
 header =
     struct header_struct
-    (key (codes "m_version") version then key (codes "n_pig") (number n_pig.fields) then key (codes "n_total") (number n_total.fields)
+    (unstated (only_number 1 1 Downlink) 1 (key (codes "m_version") version
+    then unstated (only_number 1 0 Loop) 0 (key (codes "n_pig") (number n_pig.fields) then key (codes "n_total") (number n_total.fields)
     then key (codes "m_dup") duplicate then key (codes "m_mcount") (number m_mcount.fields)
-    then identity (codes "nid_c") (codes "nid_bg") then key (codes "q_link") flag)
+    then identity (codes "nid_c") (codes "nid_bg") then key (codes "q_link") flag)))
+
+abbrev pub telegram_rows : Telegram → List Row
+telegram_rows t = header_layout.rows t.header ++ flat_map track_layout.rows t.packets
 
 -- a telegram, with any number of packets: whether they fit its size is not asked here
-unfoldable pub telegram : Object Telegram
+unfoldable pub telegram : ObjectOf telegram_rows
 unfolding header
 telegram =
     closed (named

@@ -1,19 +1,18 @@
 -- The form of a packet from track to train, by its number (SUBSET-026, 7.4.2).
 use Rattle.std.specs.Prelude.{◌++◌, codes, length, refl}
-use Rattle.etcs_bits.specs.layout.Rows.{alone}
+use Rattle.etcs_bits.specs.layout.Rows.{AreAllowed, alone}
 use Rattle.etcs_bits.specs.variables.Variables.{ranged}
 use Rattle.etcs_packet.specs.PacketNumbers.{is_kept_number, nid_track}
-use Rattle.etcs_packet.specs.Raw.{other_of, others as other_bits}
-use Rattle.etcs_packet.specs.Track.{again, parts_of, track_numbered as track_bits, track_of}
+use Rattle.etcs_packet.specs.Raw.{other_of, others as other_bits, raw_packet as raw_layout}
+use Rattle.etcs_packet.specs.Track.{NumberedTrackPacket, again, parts_of, track_of}
 use Rattle.etcs_packet.specs.declared.raw.RawPacket.{RawPacket}
 use Rattle.etcs_packet.specs.declared.track.TrackPacket.{TrackPacket}
 use Rattle.etcs_json.specs.Authority.{with_main, without_main}
-use Rattle.etcs_json.specs.Beside.{ChoiceBeside, either}
-use Rattle.etcs_json.specs.Chosen.{HasNumber, begins_with, chosen, others}
+use Rattle.etcs_json.specs.Chosen.{Choice, HasNumber, begins_with, chosen, either, others}
 use Rattle.etcs_json.specs.Cover.{cover}
 use Rattle.etcs_json.specs.Profiles.{gradient, linking, speed_profile}
-use Rattle.etcs_json.specs.RangeLemmas.{Keeps}
-use Rattle.etcs_json.specs.Raw.{raw_fits, raw_packet}
+use Rattle.etcs_json.specs.Head.{nid_range}
+use Rattle.etcs_json.specs.Raw.{raw_packet}
 use Rattle.etcs_json.specs.Shape.{Shape, object, renamed}
 use Rattle.etcs_json.specs.Transition.{transition}
 use Rattle.etcs_json.specs.Variables.{is_allowed}
@@ -22,18 +21,15 @@ pub raw_has : (p : RawPacket) → HasNumber (codes "nid_packet") p.number ((obje
 unfolding raw_packet
 raw_has p = begins_with (codes "nid_packet") p.number raw_packet p _ refl
 
-pub raw_keeps : Keeps (λ p. alone nid_track p.number ++ other_bits.rows p) raw_packet.part.fits
+pub raw_allowed : (p : RawPacket) → AreAllowed (alone nid_track p.number ++ other_bits.rows p) → AreAllowed (raw_layout.rows p)
 unfolding alone
-raw_keeps = record { range = λ p allowed. raw_fits p allowed.0.0 }
+raw_allowed p allowed = ((allowed.0.0, other_of p.number (length p.body) p.kept), allowed.1)
 
 -- a packet whose layout is not known
-abbrev pub raw : ChoiceBeside nid_track other_bits.rows
-raw = record {
-  form = others is_kept_number (λ p. p.number) raw_packet (λ p. other_of p.number (length p.body) p.kept) raw_has;
-  keeps = raw_keeps;
-}
+abbrev pub raw : Choice (codes "nid_packet") nid_track RawPacket
+raw = others is_kept_number (λ p. p.number) other_bits.rows raw_packet (λ p. other_of p.number (length p.body) p.kept) raw_has raw_allowed
 
-abbrev pub track_numbered : ChoiceBeside nid_track track_bits.rows
+abbrev pub track_numbered : Choice (codes "nid_packet") nid_track NumberedTrackPacket
 track_numbered =
     either cover (
     either linking (
@@ -46,4 +42,4 @@ track_numbered =
 
 -- NID_PACKET is looked at first; 255, the end mark, is the number of no packet
 abbrev pub track_packet : Shape TrackPacket
-track_packet = renamed track_of parts_of again (chosen (codes "nid_packet") (is_allowed (ranged 8 254 256)) track_numbered.form)
+track_packet = renamed track_of parts_of again (chosen (codes "nid_packet") (is_allowed (ranged 8 254 256)) track_numbered (λ v nid. nid_range (track_numbered.number v) nid.0 nid.1))

@@ -1,12 +1,15 @@
 -- The form of a packet from train to track (SUBSET-026, 7.4.3). NID_PACKET decides it.
-use Rattle.std.specs.Prelude.{codes, length, refl}
+use Rattle.std.specs.Prelude.{◌++◌, codes, length, refl}
+use Rattle.etcs_bits.specs.layout.Rows.{AreAllowed, alone}
 use Rattle.etcs_bits.specs.variables.Variables.{ranged}
-use Rattle.etcs_radio.specs.RawTrain.{other_of}
+use Rattle.etcs_packet.specs.PacketNumbers.{nid_track as nid_train}
+use Rattle.etcs_radio.specs.RawTrain.{other_of, others as other_bits, raw_train_packet as raw_layout}
 use Rattle.etcs_radio.specs.TrainNumbers.{is_kept_number}
 use Rattle.etcs_radio.specs.TrainPacket.{NumberedTrainPacket, again, parts_of, train_of}
 use Rattle.etcs_radio.specs.declared.raw_train.RawTrainPacket.{RawTrainPacket}
 use Rattle.etcs_radio.specs.declared.train_packet.TrainPacket.{TrainPacket}
 use Rattle.etcs_json.specs.Chosen.{Choice, HasNumber, begins_with, chosen, either, others}
+use Rattle.etcs_json.specs.Head.{nid_range}
 use Rattle.etcs_json.specs.RawTrain.{raw_train_packet}
 use Rattle.etcs_json.specs.Report.{with_one, with_two}
 use Rattle.etcs_json.specs.Shape.{Shape, object, renamed}
@@ -16,13 +19,17 @@ pub raw_has : (p : RawTrainPacket) → HasNumber (codes "nid_packet") p.number (
 unfolding raw_train_packet
 raw_has p = begins_with (codes "nid_packet") p.number raw_train_packet p _ refl
 
--- a packet whose layout is not known
-abbrev pub raw : Choice (codes "nid_packet") RawTrainPacket
-raw = others is_kept_number (λ p. p.number) raw_train_packet (λ p. other_of p.number (length p.body) p.kept) raw_has
+pub raw_allowed : (p : RawTrainPacket) → AreAllowed (alone nid_train p.number ++ other_bits.rows p) → AreAllowed (raw_layout.rows p)
+unfolding alone
+raw_allowed p allowed = ((allowed.0.0, other_of p.number (length p.body) p.kept), allowed.1)
 
-abbrev pub train_numbered : Choice (codes "nid_packet") NumberedTrainPacket
+-- a packet whose layout is not known
+abbrev pub raw : Choice (codes "nid_packet") nid_train RawTrainPacket
+raw = others is_kept_number (λ p. p.number) other_bits.rows raw_train_packet (λ p. other_of p.number (length p.body) p.kept) raw_has raw_allowed
+
+abbrev pub train_numbered : Choice (codes "nid_packet") nid_train NumberedTrainPacket
 train_numbered = either with_one (either with_two raw refl) refl
 
 -- NID_PACKET is looked at first; 255, the end mark, is the number of no packet
 abbrev pub train_packet : Shape TrainPacket
-train_packet = renamed train_of parts_of again (chosen (codes "nid_packet") (is_allowed (ranged 8 254 256)) train_numbered)
+train_packet = renamed train_of parts_of again (chosen (codes "nid_packet") (is_allowed (ranged 8 254 256)) train_numbered (λ v nid. nid_range (train_numbered.number v) nid.0 nid.1))

@@ -4,24 +4,27 @@ use Rattle.std.specs.Prelude.{ℕ, ◌==◌, List, [], ◌∷◌, codes, refl}
 use Rattle.etcs_bits.specs.variables.Level.{level_numbered, m_level}
 use Rattle.etcs_profile.specs.Packet.{rest}
 use Rattle.etcs_profile.specs.Transition.{d_leveltr, l_ackleveltr, level_order as level_order_layout, level_order_struct, level_orders, orders_struct}
-use Rattle.etcs_json.specs.Beside.{ObjectBeside, PacketBeside, PartBeside, behind, closed, headed, key, list_from_one, number, object, scaled, struct, variables_at, ◌then◌}
-use Rattle.etcs_json.specs.KeyedVariables.{HasKeys, keys_by}
+use Rattle.etcs_json.specs.Chosen.{behind}
+use Rattle.etcs_json.specs.Head.{Packet, headed, scaled}
+use Rattle.etcs_json.specs.KeyedVariables.{HasKeys, keys_by, variables_at}
+use Rattle.etcs_json.specs.Shape.{ObjectOf, Part, closed, key, list_from_one, object, struct, ◌then◌}
+use Rattle.etcs_json.specs.Variables.{number}
 
 pub level_keys : (n : ℕ) → HasKeys (level_numbered.next n) (codes "nid_ntc" ∷ [])
 level_keys n = keys_by _ _ _ (n == 0) tt (keys_by _ _ _ (n == 1) (λ _. tt) (keys_by _ _ _ (n == 2) tt (keys_by _ _ _ (n == 3) tt tt)))
 
 -- the number of a level at this key, and NID_NTC
-abbrev pub level : List ℕ → PartBeside m_level.rows
+abbrev pub level : List ℕ → Part m_level.rows
 level name = variables_at (name ∷ codes "nid_ntc" ∷ []) m_level level_keys
 
 -- one level of the order
-unfoldable pub level_order : ObjectBeside level_order_layout.rows
+unfoldable pub level_order : ObjectOf level_order_layout.rows
 level_order =
     closed (struct level_order_struct
     (level (codes "m_leveltr") then key (codes "l_ackleveltr") (number l_ackleveltr.fields))) refl
 
 -- packet 41
-unfoldable pub transition : PacketBeside 41 (rest level_orders).rows
+unfoldable pub transition : Packet 41 (rest level_orders).rows
 transition =
     behind (headed (struct orders_struct (scaled
     (key (codes "d_leveltr") (number d_leveltr.fields) then key (codes "transitions") (list_from_one (object level_order)))))) refl

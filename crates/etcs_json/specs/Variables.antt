@@ -1,9 +1,10 @@
 -- The variables of the standard as whole numbers of JSON (SUBSET-026, 7.5.1).
-use Rattle.std.specs.Prelude.{ℕ, ◌^◌, ◌&&◌, Bool, true, false, ltb, refl}
+use Rattle.std.specs.Prelude.{◌≡◌, ℕ, ◌^◌, ◌&&◌, Bool, true, false, Ok, ltb, refl}
+use Rattle.std.proofs.lemmas.Bool.{and_from, lt-ltb}
 use Rattle.etcs_bits.specs.bits.Number.{worth}
 use Rattle.etcs_bits.specs.declared.layout.fault.FaultKind.TheVariants.{Spare}
 use Rattle.etcs_bits.specs.layout.Fields.{Fields, field}
-use Rattle.etcs_bits.specs.layout.Rows.{Variable}
+use Rattle.etcs_bits.specs.layout.Rows.{AreAllowed, IsAllowed, Variable, alone, row}
 use Rattle.etcs_bits.specs.declared.variables.direction.Dir.{Dir}
 use Rattle.etcs_bits.specs.declared.variables.duplicate.Dup.{Dup}
 use Rattle.etcs_bits.specs.declared.variables.scale.Scale.{Scale}
@@ -11,15 +12,23 @@ use Rattle.etcs_bits.specs.declared.variables.version.Version.{Version}
 use Rattle.etcs_bits.specs.variables.Variables.{dir_number, dir_variable, dup_number, duplicate_variable, plain, scale_number, scale_variable, version_number, version_variable}
 use Rattle.etcs_bits.specs.variables.VariableLemmas.{AreNames, dir_names, dup_names, scale_names, version_names}
 use Rattle.etcs_bits.specs.variables.VariableValues.{dir_of, dup_of, flag_of, scale_of, version_of}
-use Rattle.etcs_json.specs.Shape.{Shape, names, numbers}
+use Rattle.etcs_json.specs.Reading.{allowed_number}
+use Rattle.etcs_json.specs.Shape.{Shape, names, number_again, number_data}
 
 -- whether a number fits in the bits of a variable and is allowed
 abbrev pub is_allowed : Variable → ℕ → Bool
 is_allowed x n = ltb n (2 ^ x.width) && x.allows n
 
+pub number_allowed : (x : Variable) (n : ℕ) → IsAllowed (row x n) → is_allowed x n ≡ true
+number_allowed x n allowed = and_from _ _ (lt-ltb n (2 ^ x.width) allowed.0) allowed.1
+
+pub variable_again : (x : Variable) (n : ℕ) → AreAllowed (alone x n) → allowed_number (is_allowed x) (number_data n) ≡ Ok n
+unfolding alone
+variable_again x n allowed = number_again (is_allowed x) n (number_allowed x n allowed.0)
+
 -- a variable, seen as its number
 abbrev pub variable : Variable → Shape ℕ
-variable x = numbers (is_allowed x)
+variable x = record { rows = alone x; to = number_data; of = allowed_number (is_allowed x); again = variable_again x }
 
 -- the variable that fields of bits begin with; where they begin with none, no number is allowed
 abbrev pub variable_of : Fields → Variable
@@ -31,7 +40,7 @@ number f = variable (variable_of f)
 
 -- a variable whose numbers have names
 abbrev pub named_numbers : {X : Type 0} (x : Variable) (tag : X → ℕ) (of : ℕ → X) → AreNames x tag of → Shape X
-named_numbers x tag of are = names (is_allowed x) tag of (λ v. (are v).1) (λ v. (are v).0)
+named_numbers x tag of are = names (λ v. alone x (tag v)) (is_allowed x) tag of (λ v. (are v).1) (λ v. (are v).0)
 
 pub flag_names : AreNames (plain 1) worth flag_of
 flag_names true = (refl, refl)

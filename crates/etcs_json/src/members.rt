@@ -5,12 +5,14 @@ ghost use Rattle.std.specs.Prelude.{◌≡◌, ◌∷◌, ◌++◌, [], List, So
 ghost use Rattle.serde_json.specs.Data.{Data, array};
 ghost use Rattle.etcs_json.specs.Entries.{Entry};
 ghost use Rattle.etcs_json.specs.Fault.{Fault, Gives};
+ghost use Rattle.etcs_json.specs.Listed.{all_of};
 ghost use Rattle.etcs_json.specs.Reading.{at_key, at_key_if, list_of};
-ghost use Rattle.etcs_json.specs.Shape.{both_of, items_of, list_from_one, number_data, optional as data_if};
+ghost use Rattle.etcs_json.specs.Shape.{both_of, first_and_others, items_of, number_data, optional as data_if};
 
 use crate::error::FormError;
 use crate::form::{Form, InPieces};
 use crate::node::Node;
+use crate::node::packets_form::read_all_at;
 use crate::node::reading::{read_first_and_at, read_items_at, read_key, read_key_if};
 use crate::writing::Sink;
 use etcs_bits::{Items, Memory};
@@ -207,6 +209,30 @@ impl<T: Form> ReadMembers for Repeated<T> {
     }
 }
 
+/// A list of any number of items.
+#[derive(Drop)]
+pub(crate) struct Listed<T> {
+    pub(crate) value: Vec<T>,
+}
+
+impl<T> Model for Listed<T> {
+    ghost Value = { List T };
+
+    ghost view = { λ m. m.value.items };
+}
+
+impl<T: Form> ReadMembers for Listed<T> {
+    type Keys = &'static str;
+
+    ghost reads = { λ key. at_key (all_of T.shape.of) key.now };
+
+    #[inline(always)]
+    fn read<N: Node>(alloc: Global, node: &N, key: &'static str) -> Result<Listed<T>, FormError> {
+        let value = read_all_at(alloc, node, key)?;
+        Ok(Listed { value })
+    }
+}
+
 /// A list of from 1 to 32 items: the first, and the further ones.
 #[derive(Drop)]
 pub(crate) struct NonEmpty<T> {
@@ -227,7 +253,7 @@ impl<T> Model for NonEmpty<T> {
 impl<T: Form> ReadMembers for NonEmpty<T> {
     type Keys = &'static str;
 
-    ghost reads = { λ key. at_key (list_from_one 32 T.shape).of key.now };
+    ghost reads = { λ key. at_key (first_and_others T.shape.of 32) key.now };
 
     #[inline(always)]
     fn read<N: Node>(alloc: Global, node: &N, key: &'static str) -> Result<NonEmpty<T>, FormError> {

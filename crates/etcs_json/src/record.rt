@@ -1,10 +1,10 @@
 //! Records whose forms are objects.
 
-ghost use Rattle.std.specs.Prelude.{◌≡◌, true, map, IsOk, OnOk};
+ghost use Rattle.std.specs.Prelude.{◌≡◌, map, IsOk, OnOk};
 ghost use Rattle.etcs_bits.specs.layout.Rows.{AreAllowed};
 ghost use Rattle.etcs_json.specs.Fault.{Gives, IfMemory};
 ghost use Rattle.etcs_json.specs.Reading.{object_with};
-ghost use Rattle.etcs_json.specs.Shape.{Object, object as shape_of};
+ghost use Rattle.etcs_json.specs.Shape.{Object, shape_of};
 ghost use Rattle.etcs_json.specs.Sending.{sorted, sorted_keys};
 
 use crate::error::FormError;
@@ -21,26 +21,26 @@ use std::alloc::Global;
 
 /// A record whose form is an object.
 pub trait Record: Drop {
-    /// Its members, in the order in which they are looked for.
+    /// The rows of its bits, and its members, in the order in which they are looked for.
     ghost object: { Object Self };
 
-    /// The condition, in the record's own terms, that its members are in range. It always holds if
+    /// The condition, in the record's own terms, that these rows are allowed. It always holds if
     /// the record's types keep their numbers and lists in range.
     ghost bounded: { Self → Type 0 } = { λ _. Unit {0} };
 }
 
-/// A record of which can be proved that its members are in range.
+/// A record of which can be proved that its rows are allowed.
 pub(crate) trait InRange: Record {
-    /// Does nothing when it runs; its contract is the proof that the members are in range.
+    /// Does nothing when it runs; its contract is the proof that the rows are allowed.
     fn prove_in_range(&self)
-        ensures { Self.bounded self.now → Self.object.part.fits self.now ≡ true };
+        ensures { Self.bounded self.now → AreAllowed (Self.object.rows self.now) };
 }
 
-/// A record whose bits have a layout. So its members are in range if the layout allows its numbers.
+/// A record whose bits have a layout.
 pub(crate) trait LayoutRecord: Record + Layout {
-    /// Where the rows are allowed, the members are in range.
+    /// The rows of the record are those of the layout.
     ghost keeps: { (x : Self) → (Self.Layout.fit x → AreAllowed (Self.Layout.format.rows x))
-        → Self.Record.bounded x → Self.Record.object.part.fits x ≡ true };
+        → Self.Record.bounded x → AreAllowed (Self.Record.object.rows x) };
 }
 
 impl<T: LayoutRecord> InRange for T {

@@ -1,23 +1,24 @@
 //! The form of message 3, the movement authority.
 
 use crate::error::FormError;
-use crate::members::{ListMember, Member, NumberMember, send_members};
+use crate::members::{
+    ListMember, Listed, Member, NumberMember, ReadMembers, Required, pairs, send_members,
+};
 use crate::node::Node;
-use crate::node::packets_form::read_all_at;
-use crate::node::reading::{read_fixed, read_key};
-use crate::packets::report_form::read_identity;
+use crate::node::reading::read_fixed;
 use crate::record::{InRange, Members, Record, prove_allowed};
 use crate::writing::Sink;
-use etcs_bits::{Memory, are_allowed};
+use etcs_bits::{Identity, Memory, are_allowed};
 use etcs_radio::MovementMessage;
 use std::alloc::Global;
 
 impl Record for MovementMessage {
     ghost use Rattle.etcs_json.specs.Chosen.{with_number};
     ghost use Rattle.etcs_json.specs.Messages.{movement};
+    ghost use Rattle.etcs_json.specs.Shape.{whole};
     ghost use Rattle.etcs_json.specs.TrackPackets.{track_packet};
 
-    ghost object = { with_number (movement track_packet) };
+    ghost object = { whole (with_number (movement track_packet)) };
 }
 
 impl InRange for MovementMessage {
@@ -55,11 +56,12 @@ impl Members for MovementMessage {
 
     fn of_members<N: Node>(alloc: Global, node: &N) -> Result<Self, FormError> {
         read_fixed(alloc, node, "nid_message", 3)?;
-        let time = read_key(alloc, node, "t_train")?;
-        let ack = read_key(alloc, node, "m_ack")?;
-        let lrbg = read_identity(alloc, node, "nid_c", "nid_bg")?;
-        let packets = read_all_at(alloc, node, "packets")?;
-        match MovementMessage::new(time, ack, lrbg, packets) {
+        let keys = pairs!("t_train", "m_ack", "nid_c", "nid_bg", "packets");
+        let found = ReadMembers::read(alloc, node, keys)?;
+        let (Required { value: time }, (Required { value: ack }, rest)) = found;
+        let (Required { value: country }, (Required { value: group }, rest)) = rest;
+        let Listed { value: packets } = rest;
+        match MovementMessage::new(time, ack, Identity { country, group }, packets) {
             Ok(message) => Ok(message),
             Err(_) => Err(FormError::range_at(alloc, "packets")),
         }

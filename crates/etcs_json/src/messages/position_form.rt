@@ -1,10 +1,11 @@
 //! The form of message 136, the position report.
 
 use crate::error::FormError;
-use crate::members::{ListMember, Member, NumberMember, send_members};
+use crate::members::{
+    ListMember, Listed, Member, NumberMember, ReadMembers, Required, pairs, send_members,
+};
 use crate::node::Node;
-use crate::node::packets_form::read_all_at;
-use crate::node::reading::{read_fixed, read_key};
+use crate::node::reading::read_fixed;
 use crate::record::{InRange, Members, Record, prove_allowed};
 use crate::writing::Sink;
 use etcs_bits::{Memory, are_allowed};
@@ -14,9 +15,10 @@ use std::alloc::Global;
 impl Record for PositionMessage {
     ghost use Rattle.etcs_json.specs.Chosen.{with_number};
     ghost use Rattle.etcs_json.specs.Messages.{position};
+    ghost use Rattle.etcs_json.specs.Shape.{whole};
     ghost use Rattle.etcs_json.specs.TrainPackets.{train_packet};
 
-    ghost object = { with_number (position train_packet) };
+    ghost object = { whole (with_number (position train_packet)) };
 }
 
 impl InRange for PositionMessage {
@@ -44,9 +46,9 @@ impl Members for PositionMessage {
 
     fn of_members<N: Node>(alloc: Global, node: &N) -> Result<Self, FormError> {
         read_fixed(alloc, node, "nid_message", 136)?;
-        let time = read_key(alloc, node, "t_train")?;
-        let engine = read_key(alloc, node, "nid_engine")?;
-        let packets = read_all_at(alloc, node, "packets")?;
+        let found = ReadMembers::read(alloc, node, pairs!("t_train", "nid_engine", "packets"))?;
+        let (Required { value: time }, (Required { value: engine }, Listed { value: packets })) =
+            found;
         match PositionMessage::new(time, engine, packets) {
             Ok(message) => Ok(message),
             Err(_) => Err(FormError::range_at(alloc, "packets")),

@@ -83,9 +83,10 @@ fn read_header<N: Node>(alloc: Global, node: &N) -> Result<Header, FormError>
 }
 
 impl Record for Telegram {
+    ghost use Rattle.etcs_json.specs.Shape.{whole};
     ghost use Rattle.etcs_json.specs.Telegrams.{telegram};
 
-    ghost object = { telegram };
+    ghost object = { whole telegram };
 }
 
 impl InRange for Telegram {

@@ -4,7 +4,7 @@ ghost use Rattle.std.specs.Prelude.{◌==◌, IsOk};
 ghost use Rattle.etcs_json.specs.Chosen.{any_object, first_at};
 ghost use Rattle.etcs_json.specs.Fault.{Gives, IfMemory, IsUnder, key};
 ghost use Rattle.etcs_json.specs.Reading.{at_key, at_key_if, items_at, list_of, member_at, no_key, allowed_number};
-ghost use Rattle.etcs_json.specs.Shape.{fixed, list_from_one};
+ghost use Rattle.etcs_json.specs.Shape.{first_and_others, fixed};
 
 use crate::error::{FormError, Step};
 use crate::form::Form;
@@ -175,7 +175,7 @@ fn read_first_and<T: Form, N: Node>(
     high: usize,
 ) -> Result<(T, Vec<T>), FormError>
     ensures { Gives (λ p. (p.0, p.1.items)) result
-        ((list_from_one high T.shape).of (N.shows node.now)) }
+        (first_and_others T.shape.of high (N.shows node.now)) }
 {
     let mut items = read_list(alloc, node, 1, high)?;
     if items.is_empty() {
@@ -194,7 +194,7 @@ pub(crate) fn read_first_and_at<T: Form, N: Node>(
     high: usize,
 ) -> Result<(T, Vec<T>), FormError>
     ensures { Gives (λ p. (p.0, p.1.items)) result
-        (at_key (list_from_one high T.shape).of name.now (N.shows node.now)) }
+        (at_key (first_and_others T.shape.of high) name.now (N.shows node.now)) }
 {
     let found = member(alloc, node, name)?;
     under(name, read_first_and(alloc, &found, high))

@@ -96,14 +96,14 @@ fn send_authority<S: Sink>(out: &mut S, authority: &Authority) -> Result<(), Mem
 
 // Refuses what is no object, and an object with a key that packet 12 does not have.
 fn check_keys_with_main<N: Node>(alloc: Global, node: &N) -> Result<(), FormError>
-    ensures { Gives (λ u. u) result (object_with (with_number with_main.form).part.keys (N.shows node.now)) }
+    ensures { Gives (λ u. u) result (object_with (with_number with_main).part.keys (N.shows node.now)) }
 {
     check_keys(alloc, node, &KEYS)
 }
 
 // Refuses what is no object, and an object with a key that packet 15 does not have.
 fn check_keys_without_main<N: Node>(alloc: Global, node: &N) -> Result<(), FormError>
-    ensures { Gives (λ u. u) result (object_with (with_number without_main.form).part.keys (N.shows node.now)) }
+    ensures { Gives (λ u. u) result (object_with (with_number without_main).part.keys (N.shows node.now)) }
 {
     check_keys(alloc, node, &KEYS[..11])
 }
@@ -111,7 +111,7 @@ fn check_keys_without_main<N: Node>(alloc: Global, node: &N) -> Result<(), FormE
 // Reads the members of packet 12.
 #[tactic(auto, unfolding(crate::specs::Authority::with_main))]
 fn read_main_and_terms<N: Node>(alloc: Global, node: &N) -> Result<WithMain, FormError>
-    ensures { Gives (λ p. p) result ((with_number with_main.form).part.of (N.shows node.now)) }
+    ensures { Gives (λ p. p) result ((with_number with_main).part.of (N.shows node.now)) }
 {
     read_fixed(alloc, node, "nid_packet", 12)?;
     let dir = read_key(alloc, node, "q_dir")?;
@@ -124,7 +124,7 @@ fn read_main_and_terms<N: Node>(alloc: Global, node: &N) -> Result<WithMain, For
 // Reads the members of packet 15.
 #[tactic(auto, unfolding(crate::specs::Authority::without_main))]
 fn read_terms_alone<N: Node>(alloc: Global, node: &N) -> Result<WithoutMain, FormError>
-    ensures { Gives (λ p. p) result ((with_number without_main.form).part.of (N.shows node.now)) }
+    ensures { Gives (λ p. p) result ((with_number without_main).part.of (N.shows node.now)) }
 {
     read_fixed(alloc, node, "nid_packet", 15)?;
     let dir = read_key(alloc, node, "q_dir")?;
@@ -136,7 +136,7 @@ fn read_terms_alone<N: Node>(alloc: Global, node: &N) -> Result<WithoutMain, For
 /// Reads packet 12.
 pub(crate) fn read_with_main<N: Node>(alloc: Global, node: &N) -> Result<Authority, FormError>
     ensures { Gives (λ a. a) result
-        (as_kind authority_of_parts (either_authority.form.of 12 (N.shows node.now))) }
+        (as_kind authority_of_parts (either_authority.of 12 (N.shows node.now))) }
 {
     check_keys_with_main(alloc, node)?;
     let (dir, (scale, (main, terms))) = read_main_and_terms(alloc, node)?;
@@ -146,7 +146,7 @@ pub(crate) fn read_with_main<N: Node>(alloc: Global, node: &N) -> Result<Authori
 /// Reads packet 15.
 pub(crate) fn read_without_main<N: Node>(alloc: Global, node: &N) -> Result<Authority, FormError>
     ensures { Gives (λ a. a) result
-        (as_kind authority_of_parts (either_authority.form.of 15 (N.shows node.now))) }
+        (as_kind authority_of_parts (either_authority.of 15 (N.shows node.now))) }
 {
     check_keys_without_main(alloc, node)?;
     let (dir, (scale, terms)) = read_terms_alone(alloc, node)?;

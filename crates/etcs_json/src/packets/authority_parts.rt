@@ -1,6 +1,7 @@
 //! The forms of the parts of movement authorities: sections and timers, danger point and overlap.
 
 ghost use Rattle.etcs_json.specs.Authority.{danger_point, end_timer, overlap, section, section_timer};
+ghost use Rattle.etcs_json.specs.Shape.{whole};
 
 use crate::error::FormError;
 use crate::members::{Member, Optional, OptionalMember, Required, read_record, send_members};
@@ -12,11 +13,11 @@ use etcs_profile::{DangerPoint, EndTimer, Overlap, Section, SectionTimer};
 use std::alloc::Global;
 
 impl Record for SectionTimer {
-    ghost object = { section_timer.form };
+    ghost object = { whole section_timer };
 }
 
 impl LayoutRecord for SectionTimer {
-    ghost keeps = { λ x allowed _. section_timer.keeps.range x (allowed tt) };
+    ghost keeps = { λ x allowed _. allowed tt };
 }
 
 #[tactic(auto, unfolding(crate::specs::Authority::section_timer))]
@@ -41,11 +42,11 @@ impl Members for SectionTimer {
 }
 
 impl Record for Section {
-    ghost object = { section.form };
+    ghost object = { whole section };
 }
 
 impl LayoutRecord for Section {
-    ghost keeps = { λ x allowed _. section.keeps.range x (allowed tt) };
+    ghost keeps = { λ x allowed _. allowed tt };
 }
 
 #[tactic(auto, unfolding(crate::specs::Authority::section))]
@@ -70,11 +71,11 @@ impl Members for Section {
 }
 
 impl Record for EndTimer {
-    ghost object = { end_timer.form };
+    ghost object = { whole end_timer };
 }
 
 impl LayoutRecord for EndTimer {
-    ghost keeps = { λ x allowed _. end_timer.keeps.range x (allowed tt) };
+    ghost keeps = { λ x allowed _. allowed tt };
 }
 
 #[tactic(auto, unfolding(crate::specs::Authority::end_timer))]
@@ -99,11 +100,11 @@ impl Members for EndTimer {
 }
 
 impl Record for DangerPoint {
-    ghost object = { danger_point.form };
+    ghost object = { whole danger_point };
 }
 
 impl LayoutRecord for DangerPoint {
-    ghost keeps = { λ x allowed _. danger_point.keeps.range x (allowed tt) };
+    ghost keeps = { λ x allowed _. allowed tt };
 }
 
 #[tactic(auto, unfolding(crate::specs::Authority::danger_point))]
@@ -128,11 +129,11 @@ impl Members for DangerPoint {
 }
 
 impl Record for Overlap {
-    ghost object = { overlap.form };
+    ghost object = { whole overlap };
 }
 
 impl LayoutRecord for Overlap {
-    ghost keeps = { λ x allowed _. overlap.keeps.range x (allowed tt) };
+    ghost keeps = { λ x allowed _. allowed tt };
 }
 
 #[tactic(auto, unfolding(crate::specs::Authority::overlap))]

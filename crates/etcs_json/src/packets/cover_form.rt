@@ -1,6 +1,7 @@
 //! The form of virtual balise cover markers, packet 0.
 
 ghost use Rattle.etcs_json.specs.Cover.{cover_marker};
+ghost use Rattle.etcs_json.specs.Shape.{whole};
 
 use crate::error::FormError;
 use crate::members::{Member, NumberMember, send_members};
@@ -13,11 +14,11 @@ use etcs_packet::CoverMarker;
 use std::alloc::Global;
 
 impl Record for CoverMarker {
-    ghost object = { cover_marker.form };
+    ghost object = { whole cover_marker };
 }
 
 impl LayoutRecord for CoverMarker {
-    ghost keeps = { λ x allowed _. cover_marker.keeps.range x (allowed tt) };
+    ghost keeps = { λ x allowed _. allowed tt };
 }
 
 #[tactic(auto, unfolding(crate::specs::Cover::cover_marker, crate::specs::Cover::cover))]

@@ -1,8 +1,9 @@
 //! The form of gradient profiles, packet 21.
 
 ghost use Rattle.std.proofs.Common.{lit<};
-ghost use Rattle.etcs_json.specs.Beside.{packet};
+ghost use Rattle.etcs_json.specs.Head.{packet};
 ghost use Rattle.etcs_json.specs.Profiles.{gradient, gradient_element};
+ghost use Rattle.etcs_json.specs.Shape.{whole};
 
 use crate::error::FormError;
 use crate::members::{Member, Required, read_record, send_members};
@@ -16,11 +17,11 @@ use etcs_profile::{Gradient, GradientElement};
 use std::alloc::Global;
 
 impl Record for GradientElement {
-    ghost object = { gradient_element.form };
+    ghost object = { whole gradient_element };
 }
 
 impl LayoutRecord for GradientElement {
-    ghost keeps = { λ x allowed _. gradient_element.keeps.range x (allowed tt) };
+    ghost keeps = { λ x allowed _. allowed tt };
 }
 
 #[tactic(auto, unfolding(crate::specs::Profiles::gradient_element))]
@@ -47,11 +48,11 @@ impl Members for GradientElement {
 }
 
 impl Record for Gradient {
-    ghost object = { (packet gradient).form };
+    ghost object = { packet gradient };
 }
 
 impl LayoutRecord for Gradient {
-    ghost keeps = { λ x allowed _. (packet gradient).keeps.range x (allowed (lit< tt)) };
+    ghost keeps = { λ x allowed _. allowed (lit< tt) };
 }
 
 #[tactic(auto, unfolding(crate::specs::Profiles::gradient))]

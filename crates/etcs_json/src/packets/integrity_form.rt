@@ -47,7 +47,7 @@ pub(crate) fn confirmed_length(integrity: Integrity) -> Option<Distance>
 // Reads Q_LENGTH and L_TRAININT. L_TRAININT has to be there at 1 and 2, and nowhere else.
 #[tactic(auto, using(crate::proofs::KeyedLemmas::length_numbers))]
 fn read_integrity<N: Node>(alloc: Global, node: &N) -> Result<Integrity, FormError>
-    ensures { Gives (λ v. v) result (integrity.form.of (N.shows node.now)) }
+    ensures { Gives (λ v. v) result (integrity.of (N.shows node.now)) }
 {
     let number: Plain<2> = read_key(alloc, node, "q_length")?;
     if number.number() == 1 {
@@ -80,7 +80,7 @@ impl Model for IntegrityMembers {
 impl ReadMembers for IntegrityMembers {
     type Keys = ();
 
-    ghost reads = { λ _. integrity.form.of };
+    ghost reads = { λ _. integrity.of };
 
     fn read<N: Node>(alloc: Global, node: &N, _keys: ()) -> Result<Self, FormError> {
         let value = read_integrity(alloc, node)?;

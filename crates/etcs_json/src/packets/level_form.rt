@@ -33,7 +33,7 @@ pub(crate) fn read_level<N: Node>(
     node: &N,
     name: &'static str,
 ) -> Result<Level, FormError>
-    ensures { Gives (λ v. v) result ((level name.now).form.of (N.shows node.now)) }
+    ensures { Gives (λ v. v) result ((level name.now).of (N.shows node.now)) }
 {
     let number: Ranged<3, 4, 8> = read_key(alloc, node, name)?;
     if number.number() == 1 {
@@ -66,7 +66,7 @@ impl Model for LevelMembers {
 impl ReadMembers for LevelMembers {
     type Keys = &'static str;
 
-    ghost reads = { λ key. (level key.now).form.of };
+    ghost reads = { λ key. (level key.now).of };
 
     fn read<N: Node>(alloc: Global, node: &N, key: &'static str) -> Result<Self, FormError> {
         let value = read_level(alloc, node, key)?;

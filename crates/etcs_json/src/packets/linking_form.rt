@@ -1,8 +1,9 @@
 //! The form of linking, packet 5.
 
 ghost use Rattle.std.proofs.Common.{lit<};
-ghost use Rattle.etcs_json.specs.Beside.{packet};
+ghost use Rattle.etcs_json.specs.Head.{packet};
 ghost use Rattle.etcs_json.specs.Profiles.{link, linking};
+ghost use Rattle.etcs_json.specs.Shape.{whole};
 
 use crate::error::FormError;
 use crate::members::{Member, Optional, OptionalMember, Required, read_record, send_members};
@@ -16,11 +17,11 @@ use etcs_profile::{Link, Linking};
 use std::alloc::Global;
 
 impl Record for Link {
-    ghost object = { link.form };
+    ghost object = { whole link };
 }
 
 impl LayoutRecord for Link {
-    ghost keeps = { λ x allowed _. link.keeps.range x (allowed tt) };
+    ghost keeps = { λ x allowed _. allowed tt };
 }
 
 #[tactic(auto, unfolding(crate::specs::Profiles::link))]
@@ -60,11 +61,11 @@ impl Members for Link {
 }
 
 impl Record for Linking {
-    ghost object = { (packet linking).form };
+    ghost object = { packet linking };
 }
 
 impl LayoutRecord for Linking {
-    ghost keeps = { λ x allowed _. (packet linking).keeps.range x (allowed (lit< tt)) };
+    ghost keeps = { λ x allowed _. allowed (lit< tt) };
 }
 
 #[tactic(auto, unfolding(crate::specs::Profiles::linking))]

@@ -1,12 +1,11 @@
 //! The parts of the form that linking and the profiles of the track have in common.
 
-ghost use Rattle.std.specs.Prelude.{◌≡◌, ◌+◌, ◌<◌, ◌∷◌, [], codes, length, nat_le, Some, Ok, OnOk};
+ghost use Rattle.std.specs.Prelude.{◌≡◌, ◌<◌, ◌∷◌, [], codes, length, Some, Ok, OnOk};
 ghost use Rattle.std.specs.List.{AllByRecursion};
-ghost use Rattle.etcs_bits.specs.layout.Rows.{width};
-ghost use Rattle.etcs_profile.specs.Elements.{elements, profile as profile_of};
+ghost use Rattle.etcs_profile.specs.Elements.{profile as made_of};
 ghost use Rattle.serde_json.specs.Data.{Data, array};
-ghost use Rattle.etcs_json.specs.Fault.{Gives};
-ghost use Rattle.etcs_json.specs.Profiles.{profile};
+ghost use Rattle.etcs_json.specs.Fault.{Gives, Range, here};
+ghost use Rattle.etcs_json.specs.Profiles.{is_short, profile_of};
 ghost use Rattle.etcs_json.specs.Shape.{items_of, only, number_data};
 ghost use Rattle.etcs_json.specs.Variables.{direction, scale};
 
@@ -51,8 +50,7 @@ fn packet_of<const N: u32, T: Form + Layout>(
     further: Vec<T>,
 ) -> Result<Packet<N, Elements<T>>, FormError>
     ensures { length further.items < 32 → T.fit first × AllByRecursion T.fit further.items
-        → Gives (λ p. p) result (only (λ p. nat_le (23 + width ((elements T.format).rows p.1)) 8191)
-        (dir, profile_of scale first further.items)) }
+        → Gives (λ p. p) result (only (here Range) (is_short T.format) (dir, made_of scale first further.items)) }
 {
     match Elements::new(scale, first, further) {
         Ok(body) => match Packet::of(dir, body) {
@@ -70,7 +68,7 @@ pub(crate) fn read_profile<const K: u32, T: Form + Layout, N: Node>(
     name: &'static str,
 ) -> Result<Packet<K, Elements<T>>, FormError>
     requires { (d : Data) → (x : T) → T.shape.of d ≡ Ok x → T.fit x }
-    ensures { Gives (λ p. p) result ((profile name.now T.format T.shape).of (N.shows node.now)) }
+    ensures { Gives (λ p. p) result (profile_of name.now T.format T.shape.of (N.shows node.now)) }
 {
     let found = ReadMembers::read(alloc, node, pairs!("q_dir", "q_scale", name))?;
     let (Required { value: dir }, (Required { value: scale }, NonEmpty { first, further })) = found;

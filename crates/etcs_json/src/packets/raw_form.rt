@@ -5,6 +5,7 @@ ghost use Rattle.etcs_packet.specs.PacketNumbers.{is_kept_number, nid_raw};
 ghost use Rattle.etcs_json.specs.Fault.{Gives};
 ghost use Rattle.etcs_json.specs.Raw.{raw_packet};
 ghost use Rattle.etcs_json.specs.Reading.{at_key, allowed_number};
+ghost use Rattle.etcs_json.specs.Shape.{whole};
 ghost use Rattle.etcs_json.specs.Variables.{is_allowed};
 
 use crate::error::FormError;
@@ -13,7 +14,7 @@ use crate::node::Node;
 use crate::node::reading::{member, read_key, under};
 use crate::packets::body_form::{packet_length, read_measured};
 use crate::packets::body_text::BodyMember;
-use crate::record::{InRange, Members, Record};
+use crate::record::{InRange, Members, Record, prove_allowed};
 use crate::writing::Sink;
 use etcs_bits::Memory;
 use etcs_packet::RawPacket;
@@ -47,12 +48,12 @@ fn read_number<N: Node>(alloc: Global, node: &N) -> Result<u8, FormError>
 }
 
 impl Record for RawPacket {
-    ghost object = { raw_packet };
+    ghost object = { whole raw_packet };
 }
 
 impl InRange for RawPacket {
     fn prove_in_range(&self) {
-        let _number = self.number();
+        prove_allowed(self);
     }
 }
 

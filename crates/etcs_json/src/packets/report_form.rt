@@ -71,7 +71,7 @@ pub(crate) fn read_identity<N: Node>(
 }
 
 // Reads the members behind the groups.
-#[tactic(auto, unfolding(crate::specs::Report::situation, crate::specs::Report::state))]
+#[tactic(auto, unfolding(crate::specs::Report::situation))]
 fn read_situation<N: Node>(alloc: Global, node: &N) -> Result<Situation, FormError>
     ensures { Gives (λ s. s) result (situation.of (N.shows node.now)) }
 {

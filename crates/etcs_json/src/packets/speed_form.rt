@@ -1,8 +1,9 @@
 //! The form of static speed profiles, packet 27.
 
 ghost use Rattle.std.proofs.Common.{lit<};
-ghost use Rattle.etcs_json.specs.Beside.{packet};
+ghost use Rattle.etcs_json.specs.Head.{packet};
 ghost use Rattle.etcs_json.specs.Profiles.{difference, speed_element, speed_profile};
+ghost use Rattle.etcs_json.specs.Shape.{whole};
 
 use crate::error::FormError;
 use crate::members::{ListMember, Member, Repeated, Required, read_record, send_members};
@@ -16,11 +17,11 @@ use etcs_profile::{Difference, SpeedElement, SpeedProfile};
 use std::alloc::Global;
 
 impl Record for Difference {
-    ghost object = { difference.form };
+    ghost object = { whole difference };
 }
 
 impl LayoutRecord for Difference {
-    ghost keeps = { λ x allowed _. difference.keeps.range x (allowed tt) };
+    ghost keeps = { λ x allowed _. allowed tt };
 }
 
 #[tactic(auto, unfolding(crate::specs::Profiles::difference))]
@@ -49,7 +50,7 @@ impl Members for Difference {
 impl Record for SpeedElement {
     ghost use Rattle.std.specs.Prelude.{◌≤◌, length};
 
-    ghost object = { speed_element.form };
+    ghost object = { whole speed_element };
 
     // The types keep the numbers in range, except the count of differences.
     ghost bounded = { λ e. length e.differences ≤ 31 };
@@ -87,14 +88,14 @@ impl Members for SpeedElement {
 }
 
 impl Record for SpeedProfile {
-    ghost object = { (packet speed_profile).form };
+    ghost object = { packet speed_profile };
 }
 
 impl LayoutRecord for SpeedProfile {
-    ghost keeps = { λ x allowed _. (packet speed_profile).keeps.range x (allowed (lit< tt)) };
+    ghost keeps = { λ x allowed _. allowed (lit< tt) };
 }
 
-#[tactic(auto, using(crate::proofs::ReadLemmas::few_differences), unfolding(crate::specs::Profiles::speed_profile))]
+#[tactic(auto, unfolding(crate::specs::Profiles::speed_profile))]
 impl Members for SpeedProfile {
     fn keys() -> &'static [&'static str] {
         &["elements", "nid_packet", "q_dir", "q_scale"]

@@ -36,9 +36,8 @@ impl Model for Sections {
 impl ReadMembers for Sections {
     type Keys = &'static str;
 
-    ghost reads = { λ key. at_key (list_of (object section.form).of 0 31) key.now };
+    ghost reads = { λ key. at_key (list_of (object section).of 0 31) key.now };
 
-    #[tactic(auto, using(crate::proofs::AuthorityLemmas::few_sections))]
     fn read<N: Node>(alloc: Global, node: &N, key: &'static str) -> Result<Self, FormError> {
         let value = read_list_at(alloc, node, key, 0, 31)?;
         Ok(Sections { value })
@@ -73,7 +72,7 @@ impl Model for Terms {
 /// Reads the conditions.
 #[tactic(auto, unfolding(crate::specs::Authority::terms, crate::specs::Authority::end_parts))]
 pub(crate) fn read_terms<N: Node>(alloc: Global, node: &N) -> Result<Terms, FormError>
-    ensures { Gives (λ t. t) result (terms.form.of (N.shows node.now)) }
+    ensures { Gives (λ t. t) result (terms.of (N.shows node.now)) }
 {
     read_record!(Terms, alloc, node;
         Required end_speed "end_speed",

@@ -1,7 +1,8 @@
 //! The form of level transition orders, packet 41.
 
 ghost use Rattle.std.proofs.Common.{lit<};
-ghost use Rattle.etcs_json.specs.Beside.{packet};
+ghost use Rattle.etcs_json.specs.Head.{packet};
+ghost use Rattle.etcs_json.specs.Shape.{whole};
 ghost use Rattle.etcs_json.specs.Transition.{level_order, transition};
 
 use crate::error::FormError;
@@ -19,11 +20,11 @@ use etcs_profile::{LevelOrder, Transition};
 use std::alloc::Global;
 
 impl Record for LevelOrder {
-    ghost object = { level_order.form };
+    ghost object = { whole level_order };
 }
 
 impl LayoutRecord for LevelOrder {
-    ghost keeps = { λ x allowed _. level_order.keeps.range x (allowed tt) };
+    ghost keeps = { λ x allowed _. allowed tt };
 }
 
 #[tactic(auto, unfolding(crate::specs::Transition::level_order))]
@@ -52,11 +53,11 @@ impl Members for LevelOrder {
 }
 
 impl Record for Transition {
-    ghost object = { (packet transition).form };
+    ghost object = { packet transition };
 }
 
 impl LayoutRecord for Transition {
-    ghost keeps = { λ x allowed _. (packet transition).keeps.range x (allowed (lit< tt)) };
+    ghost keeps = { λ x allowed _. allowed (lit< tt) };
 }
 
 #[tactic(auto, unfolding(crate::specs::Transition::transition))]

@@ -6,4 +6,4 @@ use Rattle.etcs_json.proofs.packets.authority_form.check_keys_without_main.Goals
 
 pub returns : goal.returns
 unfolding without_main terms end_parts
-returns g c = sorted_gives (with_number without_main.form).part.keys _ _ _ c.check_keys.ensures.keys refl
+returns g c = sorted_gives (with_number without_main).part.keys _ _ _ c.check_keys.ensures.keys refl

@@ -1,6 +1,6 @@
 use Rattle.std.specs.Prelude.{codes}
 use Rattle.etcs_json.specs.Reading.{at_key}
-use Rattle.etcs_json.specs.Shape.{both_of, list_from_one}
+use Rattle.etcs_json.specs.Shape.{both_of, first_and_others}
 use Rattle.etcs_json.specs.Variables.{direction, scale}
 use Rattle.etcs_json.proofs.ReadLemmas.{both_read, first_and_read}
 use Rattle.etcs_json.proofs.packets.profile_form.read_profile.Goals as goal
@@ -9,7 +9,7 @@ use Rattle.etcs_json.proofs.packets.profile_form.read_profile.Goals as goal
 pub returns : goal.returns
 returns g c =
     let d = g.N.Node.shows c.args.node.now in
-    let list = at_key (list_from_one 32 g.T.Form.shape).of c.args.name.now in
+    let list = at_key (first_and_others g.T.Form.shape.of 32) c.args.name.now in
     let scaled = at_key scale.of (codes "q_scale") in
     let first = both_read (at_key direction.of (codes "q_dir")) (both_of scaled list) d _ (rw (← c.found.view_is) at c.in_ok-found.ensures) in
     let second = both_read scaled list d _ first.1 in

@@ -1,4 +1,4 @@
-use Rattle.etcs_json.specs.Shape.{object as shape_of}
+use Rattle.etcs_json.specs.Shape.{shape_of}
 use Rattle.etcs_json.proofs.Objects.{made_object, read_again}
 use Rattle.etcs_json.proofs.record.AnyForm.to_form.Goals as goal
 
