@@ -5,6 +5,7 @@ Pictures of groups and of tracks are both drawn by it.
 from __future__ import annotations
 
 from dataclasses import dataclass
+from functools import lru_cache
 from typing import Iterator, NamedTuple, Optional, Sequence, Tuple
 
 from balisekit.drawing.letters import width
@@ -93,6 +94,12 @@ class Sizes(NamedTuple):
     """Whether there is room for the words of lines: V_MAIN, and speeds of categories."""
 
 
+@lru_cache(maxsize=1 << 9)
+def _gradient_words(value: int, rises: int) -> str:
+    """G_A and Q_GDIR. Its minus is as wide as a plus, and so is seen."""
+    return value_words("g_a", value, Around({}, {"q_gdir": rises})).replace("-", "\u2212")
+
+
 @dataclass(frozen=True)
 class WayDrawing:
     """A way, and where it is on a sheet."""
@@ -116,7 +123,9 @@ class WayDrawing:
         return f"{title}, {self.whose}" if self.whose else title
 
     def _rect(self, style: str, title: str, begin: int, end: int, lane: Lane) -> Edges:
-        return self.sheet.rect(style, self._titled(title), (self.at(begin), self.at(end)), *lane)
+        origin, sign = self.origin, self.sign
+        titled = f"{title}, {self.whose}" if self.whose else title
+        return self.sheet.rect(style, titled, (origin + sign * begin, origin + sign * end), *lane)
 
     def _hatched(self, style: str, title: str, begin: int, end: int, lane: Lane) -> Edges:
         edges = self._rect(style, title, begin, end, lane)
@@ -125,30 +134,31 @@ class WayDrawing:
         return edges
 
     def _mark(self, style: str, title: str, place: int, lane: Lane) -> None:
-        self.sheet.mark(style, self._titled(title), self.at(place), *lane)
+        titled = f"{title}, {self.whose}" if self.whose else title
+        self.sheet.mark(style, titled, self.origin + self.sign * place, *lane)
 
     def profile(self, profile: Profile, lane: Lane, top_speed: int) -> None:
         """A profile in its lane: its elements, the track before it, its end mark, and the elements behind that."""
-        name = "speed profile" if profile.number == SPEED_PROFILE else "gradient profile"
-        steps = []
+        is_speed, describe, steps = profile.number == SPEED_PROFILE, self.describe, []
+        name = "speed profile" if is_speed else "gradient profile"
         for element in profile.elements:
             end = open_end(self.way) if element.end is None else element.end
-            to = " on: an open profile" if element.end is None else f" to {self.describe(end)}"
-            where = f"from {self.describe(element.begin)}{to}"
-            if profile.number == SPEED_PROFILE:
+            to = " on: an open profile" if element.end is None else f" to {describe(end)}"
+            where = f"from {describe(element.begin)}{to}"
+            if is_speed:
                 steps.append(self._speed(element, where, end, lane, top_speed))
             else:
                 self._gradient(element, where, end, lane)
         if any(steps):
             self.sheet.path("step", "", "".join(steps))
         if profile.first > 0 and profile.elements:
-            self._hatched("none", f"not given here: up to {self.describe(profile.first)}", 0, profile.first, lane)
+            self._hatched("none", f"not given here: up to {describe(profile.first)}", 0, profile.first, lane)
         if profile.reach is None:
             self._arrow(f"the {name} has no end mark: it is open", lane)
         else:
-            self._mark("endmark", f"end mark: the {name} reaches {self.describe(profile.reach)}", profile.reach, lane)
+            self._mark("endmark", f"end mark: the {name} reaches {describe(profile.reach)}", profile.reach, lane)
         for element in profile.beyond:
-            title = f"behind the end mark: an element at {self.describe(element.begin)}"
+            title = f"behind the end mark: an element at {describe(element.begin)}"
             self._mark("pale", title, element.begin, lane)
 
     def _level(self, speed: int, lane: Lane, top_speed: int) -> int:
@@ -157,15 +167,15 @@ class WayDrawing:
 
     def _speed(self, element: Element, where: str, end: int, lane: Lane, top_speed: int) -> str:
         """A speed. The answer is the path of its step; that of an open one is drawn here."""
-        speed = element.value * 5
+        speed, bottom = element.value * 5, lane.bottom
         y = self._level(speed, lane, top_speed)
-        edges = self._rect("speed", f"{speed} km/h {where}", element.begin, end, Lane(y, lane.bottom - y))
+        edges = self._rect("speed", f"{speed} km/h {where}", element.begin, end, Lane(y, bottom - y))
         if edges is None:
             return ""
         step = f"M{tenths(edges[0])} {y}H{tenths(edges[1])}"
         if element.end is None:
             self.sheet.path("step open", self._titled(f"{speed} km/h {where}"), step)
-        self.sheet.inside("middle", str(speed), edges, y + 10 if lane.bottom - y > 10 else y - 2)
+        self.sheet.inside("middle", str(speed), edges, y + 10 if bottom - y > 10 else y - 2)
         for difference in element.form["differences"]:
             self._category(difference, where, edges, lane, top_speed)
         return step if element.end is not None else ""
@@ -198,9 +208,10 @@ class WayDrawing:
             self._along(words, edges, y)
 
     def _gradient(self, element: Element, where: str, end: int, lane: Lane) -> None:
-        """A gradient. Its minus is as wide as a plus, and so is seen."""
-        value = value_words("g_a", element.value, Around({}, element.form)).replace("-", "\u2212")
-        style = "level" if element.value == 0 else "up" if element.form["q_gdir"] else "down"
+        """A gradient."""
+        rises = element.form["q_gdir"]
+        value = _gradient_words(element.value, rises)
+        style = "level" if element.value == 0 else "up" if rises else "down"
         edges = self._rect(style, f"{value} {where}", element.begin, end, lane)
         if edges:
             self.sheet.inside("middle", value, edges, lane.top + lane.height // 2 + 4)
