@@ -15,8 +15,8 @@ not used.
 
 How to correct it. Remove the packet that is too many, or put packet 0 at the beginning.
 
-Correct data that gets it. None is known of the part that is always on. The other part names packets of the same kind
-that have different contents on purpose.
+Correct data that gets it. None, unless a project gives one direction a fixed and a switched packet 5 on purpose. The
+part that is off by default names packets of the same kind that have different contents on purpose.
 
 Example. Both balises of Signal B have a packet 5 for the nominal direction.
 
