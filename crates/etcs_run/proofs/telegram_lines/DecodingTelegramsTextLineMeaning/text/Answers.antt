@@ -1,7 +1,7 @@
-use Rattle.std.proofs.Common.{◌≡◌, Err, subst}
+use Rattle.std.proofs.Common.{◌≡◌, ◌∙◌, Ok, Err, ap, subst, sym}
 use Rattle.etcs_telegram.specs.TextMeaning.{telegram_of_text}
 use Rattle.etcs_telegram.specs.declared.error.TextError.TheVariants as texts
-use Rattle.etcs_run.specs.TelegramLines.{IsEarly, decoded_of}
+use Rattle.etcs_run.specs.TelegramLines.{IsEarly, decoded_of, line_for}
 use Rattle.etcs_run.proofs.FormLemmas.{refused_early, text_refused}
 use Rattle.etcs_run.proofs.telegram_lines.DecodingTelegramsTextLineMeaning.text.Goals as goal
 
@@ -28,3 +28,8 @@ returns-in-Memory-clause-early c why early =
     said.header in
     let memory : why ≡ texts.Memory = cc (same, c.in-Memory.is) in
     absurd (subst (λ w. IsEarly w c.args.line.now) memory early)
+
+-- a telegram that was read becomes its line
+pub returns-in-Ok-clause-means : goal.returns-in-Ok-clause-means
+unfolding decoded_of
+returns-in-Ok-clause-means c = ap line_for c.in-Ok.ensures.exact ∙ ap Ok (sym c.in_ok-json_line-in-Ok.ensures)
