@@ -18,6 +18,7 @@ from balisekit.rules.line import Line
 from balisekit.rules.rule import ALL, Options
 from balisekit.tables import reader
 
+pytestmark = pytest.mark.random
 ASKED = Options(asked=frozenset({ALL}))
 NOT_MODELLED = 9
 """The rule that names packets that the program keeps as bits."""
@@ -42,9 +43,12 @@ def is_named(change: Changed, entries: List[Any]) -> bool:
     )
 
 
-@pytest.mark.parametrize("most, seeds", [(12, range(100)), pytest.param(30, range(1000), marks=pytest.mark.slow)])
+QUARTERS = [pytest.param(30, range(at, at + 250), marks=pytest.mark.slow) for at in range(0, 1000, 250)]
+
+
+@pytest.mark.parametrize("most, seeds", [*QUARTERS, (12, range(100))])
 def test_changes(run: Run, program: Program, tmp_path: Path, most: int, seeds: range) -> None:
-    """At least 95 % are named, and of each kind at least half. (The longest test of this file, so the first one.)"""
+    """At least 95 % are named, and of each kind at least half. (The longest tests of this file, so the first ones.)"""
     path, answer = tmp_path / "t.csv", tmp_path / "t.json"
     kinds: Counter[str] = Counter()
     missed: Counter[str] = Counter()
