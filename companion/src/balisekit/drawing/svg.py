@@ -1,19 +1,22 @@
 """Shapes as SVG. Pages have hundreds of thousands of them, and a template would take most of the time for that."""
 from __future__ import annotations
 
+import re
 from functools import lru_cache
-from itertools import groupby
-from typing import Iterable, List
+from typing import Iterable, List, Sequence
 
 from markupsafe import Markup, escape
 
 from balisekit.drawing.sheet import Shape
 
+SPECIAL = re.compile("[&<>'\"]").search
+"""Finds a character that has to be escaped. Most texts have none."""
+
 
 @lru_cache(maxsize=1 << 16)
 def _escaped(text: str) -> str:
     """A title or text as a page may have it. Most of them come again and again."""
-    return str(escape(text))
+    return str(escape(text)) if SPECIAL(text) else text
 
 
 def _svg(shape: Shape) -> str:
@@ -31,15 +34,23 @@ def _svg(shape: Shape) -> str:
     return f'<text{look} x="{x}" y="{y}">{_escaped(text)}{inside}</text>\n'
 
 
-def _ticks(y: str, shapes: Iterable[Shape]) -> str:
-    """The texts of ticks in one line, which share what they have in common."""
+def _ticks(shapes: Sequence[Shape]) -> str:
+    """The texts of ticks of one height in one line, which share what they have in common."""
     inside = "".join(f'<tspan x="{shape.x}">{_escaped(shape.text)}</tspan>' for shape in shapes)
-    return f'<text class="tick" y="{y}">{inside}</text>\n'
+    return f'<text class="tick" y="{shapes[0].y}">{inside}</text>\n'
 
 
 def svg(shapes: Iterable[Shape]) -> Markup:
     """The shapes of a picture, a line each."""
     lines: List[str] = []
-    for y, some in groupby(shapes, lambda shape: shape.y if shape.style == "tick" else ""):
-        lines += [_ticks(y, some)] if y else map(_svg, some)
-    return Markup("".join(lines))
+    ticks: List[Shape] = []
+    for shape in shapes:
+        is_tick = shape[1] == "tick"
+        if ticks and not (is_tick and shape.y == ticks[0].y):
+            lines.append(_ticks(ticks))
+            ticks = []
+        if is_tick:
+            ticks.append(shape)
+        else:
+            lines.append(_svg(shape))
+    return Markup("".join(lines) + (_ticks(ticks) if ticks else ""))
