@@ -61,18 +61,8 @@ class Font(NamedTuple):
     is_bold: bool = False
 
 
-class Box(NamedTuple):
-    """What a text covers, in tenths of a pixel."""
-
-    left: int
-    top: int
-    right: int
-    bottom: int
-
-    def meets(self, other: Box) -> bool:
-        """Whether they overlap."""
-        across = self.left < other.right and other.left < self.right
-        return across and self.top < other.bottom and other.top < self.bottom
+Box = Tuple[int, int, int, int]
+"""What a text covers, in tenths of a pixel: its left, upper, right and lower edge."""
 
 
 FONTS = {"title": Font(14, True), "head": Font(12, True), **dict.fromkeys(("name", "red"), Font(10, True))}
@@ -116,7 +106,7 @@ def width(style: str, text: str) -> int:
 def box(style: str, text: str, x: int, y: int) -> Box:
     """What a text at a coordinate covers. `x` is in tenths of a pixel, `y` in pixels."""
     wide, before, size = _measured(style, text)
-    return Box(x - before, 10 * y - 8 * size, x - before + wide, 10 * y + 2 * size)
+    return x - before, 10 * y - 8 * size, x - before + wide, 10 * y + 2 * size
 
 
 def shortened(style: str, text: str, room: int) -> str:

@@ -5,6 +5,7 @@ picture is over another one: a sheet knows what its texts cover.
 """
 from __future__ import annotations
 
+from collections import defaultdict
 from dataclasses import dataclass, field
 from functools import lru_cache
 from heapq import heappop, heappush
@@ -101,7 +102,7 @@ class Sheet:
     shapes: List[Shape] = field(default_factory=list)
     texts: List[Shape] = field(default_factory=list)
     """The texts, which are above all else."""
-    _covered: Dict[int, List[Box]] = field(default_factory=dict)
+    _covered: Dict[int, List[Box]] = field(default_factory=lambda: defaultdict(list))
     """What texts cover, by strips of 16 pixels."""
 
     def x(self, place: int) -> int:
@@ -118,8 +119,9 @@ class Sheet:
 
     def rect(self, style: str, title: str, places: Tuple[int, int], y: int, height: int) -> Optional[Tuple[int, int]]:
         """The part of a rectangle that is on the sheet, at least a pixel wide, and from where to where it is."""
-        near, far = min(places), max(places)
-        begin, end = max(near, self.least), min(far, self.greatest)
+        near, far = places if places[0] <= places[1] else places[::-1]
+        begin = near if near > self.least else self.least
+        end = far if far < self.greatest else self.greatest
         if begin > end or begin == end and near != far:
             return None
         left, right = self.x(begin), self.x(end)
@@ -160,8 +162,8 @@ class Sheet:
 
     def _put(self, shape: Shape, covered: Box) -> None:
         self.texts.append(shape)
-        for strip in range(covered.top // 160, covered.bottom // 160 + 1):
-            self._covered.setdefault(strip, []).append(covered)
+        for strip in range(covered[1] // 160, covered[3] // 160 + 1):
+            self._covered[strip].append(covered)
 
     def short(self, style: str, text: str, x: int, y: int, room: int) -> None:
         """A text of which only as much is written as fits into the room. Its title has all of it."""
@@ -170,14 +172,19 @@ class Sheet:
 
     def is_free(self, wanted: Box, within: Tuple[int, int] = EDGES) -> bool:
         """Whether it is between the edges, and no text covers a part of it."""
-        if wanted.left < within[0] or wanted.right > within[1]:
+        left, top, right, bottom = wanted
+        if left < within[0] or right > within[1]:
             return False
-        strips = range(wanted.top // 160, wanted.bottom // 160 + 1)
-        return not any(wanted.meets(other) for strip in strips for other in self._covered.get(strip, ()))
+        for strip in range(top // 160, bottom // 160 + 1):
+            for begin, upper, end, lower in self._covered[strip]:
+                if begin < right and left < end and upper < bottom and top < lower:
+                    return False
+        return True
 
     def label(self, style: str, text: str, spots: Iterable[Spot], within: Tuple[int, int] = EDGES) -> Optional[Spot]:
         """A text at the first of these coordinates that is free. If none is, it is left out."""
-        for x, y in ((x - x % 10, y) for x, y in spots):
+        for place, y in spots:
+            x = place - place % 10
             wanted = box(style, text, x, y)
             if self.is_free(wanted, within):
                 self._put(Shape("text", style, "", tenths(x), str(y), "", "", "", text), wanted)
@@ -187,7 +194,7 @@ class Sheet:
     def inside(self, style: str, text: str, edges: Tuple[int, int], y: int) -> None:
         """A text in the middle between two coordinates, if it fits there."""
         if width(style, text) <= edges[1] - edges[0]:
-            self.label(style, text, [(sum(edges) // 2, y)])
+            self.label(style, text, [((edges[0] + edges[1]) // 2, y)])
 
     def axis(self, title: str, places: Iterable[int]) -> None:
         """A line from the least place to the greatest, with a tick at each of these places."""
