@@ -83,7 +83,10 @@ def _look(style: str) -> Tuple[Font, int]:
 def advance(text: str, is_bold: bool) -> int:
     """In thousandths of the font's size."""
     known = WIDTHS[is_bold]
-    return sum(known.get(letter) or known.get(normalize("NFD", letter)[0]) or _other(letter) for letter in text)
+    try:
+        return sum(map(known.__getitem__, text))
+    except KeyError:
+        return sum(known.get(letter) or known.get(normalize("NFD", letter)[0]) or _other(letter) for letter in text)
 
 
 def _other(letter: str) -> int:

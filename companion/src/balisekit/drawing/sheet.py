@@ -14,8 +14,8 @@ from typing import Dict, Iterable, List, NamedTuple, Optional, Tuple
 from balisekit.drawing.letters import Box, box, shortened, width
 
 WIDTH, LEFT, RIGHT = 800, 84, 34
-ROOM = (WIDTH - LEFT - RIGHT) * 10
-"""How much of the width is for places, in tenths of a pixel."""
+BEGIN, ROOM = LEFT * 10, (WIDTH - LEFT - RIGHT) * 10
+"""Where the least place is, and how much of the width is for places, in tenths of a pixel."""
 EDGE = 40
 """How far texts are from the edges, in tenths of a pixel."""
 EDGES = EDGE, WIDTH * 10 - EDGE
@@ -107,7 +107,8 @@ class Sheet:
 
     def x(self, place: int) -> int:
         """Where a place is, in tenths of a pixel."""
-        return LEFT * 10 + (place - self.least) * ROOM // (self.greatest - self.least)
+        least = self.least
+        return BEGIN + (place - least) * ROOM // (self.greatest - least)
 
     def shows(self, place: int) -> bool:
         """Whether a place is on the sheet."""
@@ -152,8 +153,9 @@ class Sheet:
 
     def mark(self, style: str, title: str, place: int, y: int, height: int) -> None:
         """An upright line at a place, if that is on the sheet."""
-        if self.shows(place):
-            self.path(style, title, f"M{tenths(self.x(place))} {y}v{height}")
+        if self.least <= place <= self.greatest:
+            path = f"M{tenths(self.x(place))} {y}v{height}"
+            self.shapes.append(Shape("path", style, title, "", "", "", "", path))
 
     def text(self, style: str, text: str, x: int, y: int, title: str = "") -> None:
         """A text at a coordinate that nothing else covers, which is rounded down to a pixel."""

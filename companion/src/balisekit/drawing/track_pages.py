@@ -14,7 +14,7 @@ from typing import Dict, Iterator, List, Optional, Sequence, Set, Tuple
 from balisekit.drawing.flags import Flag
 from balisekit.drawing.profiles import gap, gap_label, places, short_profiles
 from balisekit.engine.grammar import Finding
-from balisekit.etcs.geometry import DIRECTIONS, Way, authority, infill, kilometre_of, passed, way
+from balisekit.etcs.geometry import DIRECTIONS, Way, end_of, infill, kilometre_of, passed, way
 from balisekit.etcs.variables import Around, value_words
 from balisekit.rules.line import Line
 from balisekit.rules.links import Links
@@ -166,7 +166,7 @@ def _farthest(line: Line, aspect: Aspect) -> int:
     for direction in DIRECTIONS:
         elsewhere = infill(forms, direction)
         ends += [
-            authority(site, packet).end
+            end_of(packet)
             for site, packet in passed(forms, direction)
             if packet["nid_packet"] in (12, 15) and site not in elsewhere
         ]

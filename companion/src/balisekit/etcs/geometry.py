@@ -154,6 +154,12 @@ def kilometres(group: Group) -> Kilometres:
     return Kilometres(known.get(0), rising)
 
 
+def end_of(packet: Form) -> int:
+    """Where the authority of a packet 12 or 15 ends."""
+    cuts = sum(section["l_section"] for section in packet["sections"])
+    return (cuts + packet["l_endsection"]) * unit_dm(packet)
+
+
 def authority(site: Site, packet: Form) -> Authority:
     """The places of a packet 12 or 15."""
     unit, sections = unit_dm(packet), packet["sections"]
@@ -266,12 +272,17 @@ def has_infill(forms: Sequence[Form]) -> bool:
 def way(forms: Sequence[Form], direction: str, of_infill: bool = False) -> Way:
     """What the telegrams of a group say in one direction: of the group's own places, or of the infill's."""
     elsewhere = infill(forms, direction)
-    packets = [packet for packet in passed(forms, direction) if (packet[0] in elsewhere) == of_infill]
-    profiles = [profile(site, packet) for site, packet in packets if packet["nid_packet"] in ELEMENT_KEYS]
-    return Way(
-        direction,
-        tuple(authority(site, packet) for site, packet in packets if packet["nid_packet"] in (12, 15)),
-        tuple(profile for profile in profiles if profile.number == 21),
-        tuple(profile for profile in profiles if profile.number == 27),
-        tuple(area for _, packet in packets for area in areas(packet)),
-    )
+    authorities: List[Authority] = []
+    profiles: Dict[int, List[Profile]] = {21: [], 27: []}
+    found: List[Area] = []
+    for site, packet in passed(forms, direction):
+        number = packet["nid_packet"]
+        if (site in elsewhere) != of_infill:
+            continue
+        if number in profiles:
+            profiles[number].append(profile(site, packet))
+        elif number in (12, 15):
+            authorities.append(authority(site, packet))
+        else:
+            found += areas(packet)
+    return Way(direction, tuple(authorities), tuple(profiles[21]), tuple(profiles[27]), tuple(found))
