@@ -25,7 +25,18 @@ from balisekit.drawing.sheet import EDGE, EDGES, LEFT, ROOM, WIDTH, Lane, Pictur
 from balisekit.drawing.words import Describe, area_words, ends, place_words, speed_words, summary
 from balisekit.engine.grammar import Finding
 from balisekit.etcs.areas import Area
-from balisekit.etcs.geometry import DIRECTIONS, NOMINAL, REVERSE, Authority, Kilometres, Way, infill, kilometres, way
+from balisekit.etcs.geometry import (
+    DIRECTIONS,
+    NOMINAL,
+    REVERSE,
+    Authority,
+    Kilometres,
+    Way,
+    has_infill,
+    infill,
+    kilometres,
+    way,
+)
 from balisekit.etcs.variables import Form, metres
 from balisekit.tables.model import Aspect, Group
 from balisekit.tables.names import NAMED, clean, listed, quoted
@@ -110,7 +121,7 @@ def picture_of_message(
 def _contents(title: str, forms: Sequence[Form], short: Sequence[Finding]) -> List[Content]:
     """What these telegrams say of places from their own group, and from the group of a packet 136."""
     contents = [Content(title, forms, short)]
-    if any(infill(forms, direction) for direction in DIRECTIONS):
+    if has_infill(forms) and any(infill(forms, direction) for direction in DIRECTIONS):
         contents.append(Content(f"{title}, infill: metres from the group of packet 136", forms, infill=True))
     return contents
 

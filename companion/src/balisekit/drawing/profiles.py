@@ -5,6 +5,7 @@ Pictures of groups and of tracks are both drawn by it.
 from __future__ import annotations
 
 from dataclasses import dataclass
+from functools import lru_cache
 from typing import Iterator, NamedTuple, Optional, Sequence, Tuple
 
 from balisekit.drawing.letters import width
@@ -93,6 +94,12 @@ class Sizes(NamedTuple):
     """Whether there is room for the words of lines: V_MAIN, and speeds of categories."""
 
 
+@lru_cache(maxsize=1 << 9)
+def _gradient_words(value: int, rises: int) -> str:
+    """G_A and Q_GDIR. Its minus is as wide as a plus, and so is seen."""
+    return value_words("g_a", value, Around({}, {"q_gdir": rises})).replace("-", "\u2212")
+
+
 @dataclass(frozen=True)
 class WayDrawing:
     """A way, and where it is on a sheet."""
@@ -116,7 +123,9 @@ class WayDrawing:
         return f"{title}, {self.whose}" if self.whose else title
 
     def _rect(self, style: str, title: str, begin: int, end: int, lane: Lane) -> Edges:
-        return self.sheet.rect(style, self._titled(title), (self.at(begin), self.at(end)), *lane)
+        origin, sign = self.origin, self.sign
+        titled = f"{title}, {self.whose}" if self.whose else title
+        return self.sheet.rect(style, titled, (origin + sign * begin, origin + sign * end), *lane)
 
     def _hatched(self, style: str, title: str, begin: int, end: int, lane: Lane) -> Edges:
         edges = self._rect(style, title, begin, end, lane)
@@ -125,7 +134,8 @@ class WayDrawing:
         return edges
 
     def _mark(self, style: str, title: str, place: int, lane: Lane) -> None:
-        self.sheet.mark(style, self._titled(title), self.at(place), *lane)
+        titled = f"{title}, {self.whose}" if self.whose else title
+        self.sheet.mark(style, titled, self.origin + self.sign * place, *lane)
 
     def profile(self, profile: Profile, lane: Lane, top_speed: int) -> None:
         """A profile in its lane: its elements, the track before it, its end mark, and the elements behind that."""
@@ -198,9 +208,10 @@ class WayDrawing:
             self._along(words, edges, y)
 
     def _gradient(self, element: Element, where: str, end: int, lane: Lane) -> None:
-        """A gradient. Its minus is as wide as a plus, and so is seen."""
-        value = value_words("g_a", element.value, Around({}, element.form)).replace("-", "\u2212")
-        style = "level" if element.value == 0 else "up" if element.form["q_gdir"] else "down"
+        """A gradient."""
+        rises = element.form["q_gdir"]
+        value = _gradient_words(element.value, rises)
+        style = "level" if element.value == 0 else "up" if rises else "down"
         edges = self._rect(style, f"{value} {where}", element.begin, end, lane)
         if edges:
             self.sheet.inside("middle", value, edges, lane.top + lane.height // 2 + 4)

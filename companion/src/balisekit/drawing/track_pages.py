@@ -8,14 +8,14 @@ from __future__ import annotations
 from bisect import bisect_left
 from dataclasses import dataclass, field
 from decimal import Decimal
-from functools import cached_property
-from typing import Dict, Iterator, List, Optional, Sequence, Set, Tuple
+from functools import cached_property, lru_cache
+from typing import Callable, Dict, Iterator, List, Optional, Sequence, Set, Tuple
 
 from balisekit.drawing.flags import Flag
 from balisekit.drawing.profiles import gap, gap_label, places, short_profiles
 from balisekit.engine.grammar import Finding
 from balisekit.etcs.geometry import DIRECTIONS, Way, end_of, infill, kilometre_of, passed, way
-from balisekit.etcs.variables import Around, value_words
+from balisekit.etcs.variables import Around, Form, value_words
 from balisekit.rules.line import Line
 from balisekit.rules.links import Links
 from balisekit.rules.location import BaliseGroup
@@ -26,6 +26,10 @@ from balisekit.tables.names import clean, quoted
 
 PAGE = 50_000
 """The length of a page."""
+FormOf = Callable[[int], Optional[Form]]
+"""The telegram of a row, if the program has read it."""
+KEPT = 64
+"""So many telegrams are kept as objects, which takes time to make of their lines, and much memory to keep."""
 
 
 @dataclass(frozen=True)
@@ -146,7 +150,7 @@ def _read_aspects(station: BaliseGroup) -> Sequence[Aspect]:
     return [one for one in aspects if not any(row.number in station.unread for row in one.rows)]
 
 
-def chosen(line: Line, station: BaliseGroup, aspect: Optional[str]) -> Optional[Aspect]:
+def chosen(form_of: FormOf, station: BaliseGroup, aspect: Optional[str]) -> Optional[Aspect]:
     """The aspect of this name, the only one, or if no name is given the one with the farthest end of authority.
 
     An aspect of which a telegram is refused has no known end.
@@ -156,12 +160,16 @@ def chosen(line: Line, station: BaliseGroup, aspect: Optional[str]) -> Optional[
         return aspects[0]
     if aspect is not None:
         return next((known for known in aspects if known.name == aspect), None)
-    return max(_read_aspects(station) or aspects[:1], key=lambda one: _farthest(line, one))
+    return max(_read_aspects(station) or aspects[:1], key=lambda one: _farthest(_forms(form_of, one)))
 
 
-def _farthest(line: Line, aspect: Aspect) -> int:
+def _forms(form_of: FormOf, aspect: Aspect) -> List[Form]:
+    """The telegrams of an aspect that the program has read."""
+    return [form for form in (form_of(row.number) for row in aspect.rows) if form is not None]
+
+
+def _farthest(forms: Sequence[Form]) -> int:
     """The farthest end of authority of an aspect in either direction; -1 if it has none."""
-    forms = [line.forms[row.number] for row in aspect.rows if row.number in line.forms]
     ends = [-1]
     for direction in DIRECTIONS:
         elsewhere = infill(forms, direction)
@@ -188,8 +196,14 @@ def undrawn(station: BaliseGroup, aspect: Optional[str]) -> str:
 def pages(line: Line, links: Links, track: str, aspect: Optional[str], flags: Sequence[Flag] = ()) -> Sequence[Page]:
     """The pages of a track on which anything begins or ends, and one between two of them that anything crosses."""
     stations = line.along.get(track, ())
-    shown = {station.number: chosen(line, station, aspect) for station in stations}
-    bands = [band for station in stations for band in _bands(line, station, shown[station.number], aspect)]
+    form_of: FormOf = lru_cache(maxsize=KEPT)(line.forms.get)
+    shown: Dict[int, Optional[Aspect]] = {}
+    bands: List[Band] = []
+    for station in stations:
+        one = shown[station.number] = chosen(form_of, station, aspect)
+        if one and not undrawn(station, aspect):
+            found = line.findings.get(station.group.name, ())
+            bands += _bands(station, one, _forms(form_of, one), found)
     arcs = list(_arcs(links, track, shown))
     known = _pages({place_of(each) for each in stations} | {flag.place for flag in flags}, bands)
     begins = [page.begin for page in known]
@@ -227,13 +241,10 @@ def _pages(at: Set[int], bands: Sequence[Band]) -> Sequence[Page]:
     ]
 
 
-def _bands(line: Line, station: BaliseGroup, shown: Optional[Aspect], aspect: Optional[str]) -> Iterator[Band]:
+def _bands(station: BaliseGroup, shown: Aspect, forms: Sequence[Form], findings: Sequence[Finding]) -> Iterator[Band]:
     """A band for each direction of a group whose direction is known, and that has an authority or a profile."""
-    if shown is None or undrawn(station, aspect):
-        return
-    forms = [line.forms[row.number] for row in shown.rows]
     ways = [way(forms, direction) for direction in DIRECTIONS]
-    short = short_profiles(line.findings.get(station.group.name, ()), station.group.aspects.index(shown))
+    short = short_profiles(findings, station.group.aspects.index(shown))
     for each in filter(None, ways):
         found = [finding for finding in short if finding.direction == each.direction]
         yield Band(station, shown.name, each, all(ways), found)

@@ -266,7 +266,11 @@ def infill(forms: Sequence[Form], direction: str) -> FrozenSet[Site]:
 
 def has_infill(forms: Sequence[Form]) -> bool:
     """Whether there is a packet 136 at all. Most groups have none."""
-    return any(packet["nid_packet"] == INFILL for form in forms for packet in form["packets"])
+    for form in forms:
+        for packet in form["packets"]:
+            if packet["nid_packet"] == INFILL:
+                return True
+    return False
 
 
 def way(forms: Sequence[Form], direction: str, of_infill: bool = False) -> Way:
