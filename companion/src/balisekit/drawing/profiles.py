@@ -139,26 +139,26 @@ class WayDrawing:
 
     def profile(self, profile: Profile, lane: Lane, top_speed: int) -> None:
         """A profile in its lane: its elements, the track before it, its end mark, and the elements behind that."""
-        name = "speed profile" if profile.number == SPEED_PROFILE else "gradient profile"
-        steps = []
+        is_speed, describe, steps = profile.number == SPEED_PROFILE, self.describe, []
+        name = "speed profile" if is_speed else "gradient profile"
         for element in profile.elements:
             end = open_end(self.way) if element.end is None else element.end
-            to = " on: an open profile" if element.end is None else f" to {self.describe(end)}"
-            where = f"from {self.describe(element.begin)}{to}"
-            if profile.number == SPEED_PROFILE:
+            to = " on: an open profile" if element.end is None else f" to {describe(end)}"
+            where = f"from {describe(element.begin)}{to}"
+            if is_speed:
                 steps.append(self._speed(element, where, end, lane, top_speed))
             else:
                 self._gradient(element, where, end, lane)
         if any(steps):
             self.sheet.path("step", "", "".join(steps))
         if profile.first > 0 and profile.elements:
-            self._hatched("none", f"not given here: up to {self.describe(profile.first)}", 0, profile.first, lane)
+            self._hatched("none", f"not given here: up to {describe(profile.first)}", 0, profile.first, lane)
         if profile.reach is None:
             self._arrow(f"the {name} has no end mark: it is open", lane)
         else:
-            self._mark("endmark", f"end mark: the {name} reaches {self.describe(profile.reach)}", profile.reach, lane)
+            self._mark("endmark", f"end mark: the {name} reaches {describe(profile.reach)}", profile.reach, lane)
         for element in profile.beyond:
-            title = f"behind the end mark: an element at {self.describe(element.begin)}"
+            title = f"behind the end mark: an element at {describe(element.begin)}"
             self._mark("pale", title, element.begin, lane)
 
     def _level(self, speed: int, lane: Lane, top_speed: int) -> int:
@@ -167,15 +167,15 @@ class WayDrawing:
 
     def _speed(self, element: Element, where: str, end: int, lane: Lane, top_speed: int) -> str:
         """A speed. The answer is the path of its step; that of an open one is drawn here."""
-        speed = element.value * 5
+        speed, bottom = element.value * 5, lane.bottom
         y = self._level(speed, lane, top_speed)
-        edges = self._rect("speed", f"{speed} km/h {where}", element.begin, end, Lane(y, lane.bottom - y))
+        edges = self._rect("speed", f"{speed} km/h {where}", element.begin, end, Lane(y, bottom - y))
         if edges is None:
             return ""
         step = f"M{tenths(edges[0])} {y}H{tenths(edges[1])}"
         if element.end is None:
             self.sheet.path("step open", self._titled(f"{speed} km/h {where}"), step)
-        self.sheet.inside("middle", str(speed), edges, y + 10 if lane.bottom - y > 10 else y - 2)
+        self.sheet.inside("middle", str(speed), edges, y + 10 if bottom - y > 10 else y - 2)
         for difference in element.form["differences"]:
             self._category(difference, where, edges, lane, top_speed)
         return step if element.end is not None else ""

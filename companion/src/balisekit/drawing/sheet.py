@@ -120,13 +120,16 @@ class Sheet:
 
     def rect(self, style: str, title: str, places: Tuple[int, int], y: int, height: int) -> Optional[Tuple[int, int]]:
         """The part of a rectangle that is on the sheet, at least a pixel wide, and from where to where it is."""
-        near, far = places if places[0] <= places[1] else places[::-1]
+        near, far = places
+        if near > far:
+            near, far = far, near
         begin = near if near > self.least else self.least
         end = far if far < self.greatest else self.greatest
         if begin > end or begin == end and near != far:
             return None
-        left, right = self.x(begin), self.x(end)
-        right = max(right, left + 10)
+        length = self.greatest - self.least
+        left = BEGIN + (begin - self.least) * ROOM // length
+        right = max(BEGIN + (end - self.least) * ROOM // length, left + 10)
         self.shapes.append(Shape("rect", style, title, tenths(left), str(y), tenths(right - left), str(height)))
         return left, right
 
@@ -195,8 +198,9 @@ class Sheet:
 
     def inside(self, style: str, text: str, edges: Tuple[int, int], y: int) -> None:
         """A text in the middle between two coordinates, if it fits there."""
-        if width(style, text) <= edges[1] - edges[0]:
-            self.label(style, text, [((edges[0] + edges[1]) // 2, y)])
+        left, right = edges
+        if width(style, text) <= right - left:
+            self.label(style, text, (((left + right) // 2, y),))
 
     def axis(self, title: str, places: Iterable[int]) -> None:
         """A line from the least place to the greatest, with a tick at each of these places."""
