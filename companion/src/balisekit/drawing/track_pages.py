@@ -57,7 +57,8 @@ class Band:
     @cached_property
     def places(self) -> Sequence[int]:
         """Where anything of it begins or ends, in order."""
-        return sorted({self.at, *(self.at + self.sign * place for place in places(self.way))})
+        at, sign = self.at, self.sign
+        return sorted({at, *(at + sign * place for place in places(self.way))})
 
     @property
     def begin(self) -> int:
