@@ -14,7 +14,7 @@ from balisekit.present import headings
 from balisekit.present.accepted_text import accepted_words
 from balisekit.present.outcome_text import behind
 from balisekit.present.refusals import RefusedInput, refused
-from balisekit.present.telegram_text import form_lines, text_of
+from balisekit.present.telegram_text import form_lines, text, text_of
 from balisekit.rules.accepted import Acceptance
 from balisekit.rules.checking import AcceptedMessage, Checked
 from balisekit.rules.entries import Entry, track_of
@@ -297,6 +297,8 @@ def _texts(form: Form, here: Here, id: str, marked: Set[str]) -> List[Text]:
         packet = path.split("/")[2] if path.startswith("/packets/") else ""
         return packet_id(id, int(packet)) if packet else ""
 
-    lines = ((mark(line.path) if marked else "", text_of(line)) for line in form_lines(form, here))
+    if not marked:
+        return [Text(f"{text(form, here)}\n")]
+    lines = ((mark(line.path), text_of(line)) for line in form_lines(form, here))
     of_packets = groupby(lines, lambda each: each[0] if each[0] in marked else "")
     return [Text("".join(f"{text}\n" for _, text in some), name) for name, some in of_packets]

@@ -7,7 +7,7 @@ from __future__ import annotations
 
 import textwrap
 from functools import lru_cache
-from typing import Iterator, List, Mapping, NamedTuple, Sequence, Tuple, Union
+from typing import List, Mapping, NamedTuple, Sequence, Tuple, Union
 
 from balisekit.etcs.places import Here, place_notes
 from balisekit.etcs.raw_packets import content_notes, with_contents
@@ -57,7 +57,9 @@ def form_lines(form: Form, here: Here = Here()) -> List[Line]:
     around = Around(from_track=form.get("nid_message") != 136)
     notes = {**(place_notes(form, here) if around.from_track else {}), **content_notes(form)}
     label = "message" if "nid_message" in form else "header"
-    return list(_lines(label, 0, with_contents(form), "", around, notes))
+    lines = _Lines(notes)
+    lines.add(label, 0, with_contents(form), "", around)
+    return lines.found
 
 
 @lru_cache(maxsize=1024)
@@ -77,44 +79,64 @@ def _steps(keys: Tuple[str, ...]) -> List[Tuple[Tuple[str, ...], str]]:
     return steps
 
 
-def _lines(label: str, depth: int, form: Values, path: str, around: Around, notes: Mapping[str, str]) -> Iterator[Line]:
-    """The lines of an object: its values up to its first part, that part, and so on."""
-    inner, anchor = around.inside(form), path
-    for keys, part in _steps(tuple(form)):
-        if keys:
+class _Lines:
+    """Goes through the objects of a telegram or message. One list is faster than generators within each other."""
+
+    def __init__(self, notes: Mapping[str, str]) -> None:
+        self.notes = notes
+        self.found: List[Line] = []
+
+    def add(self, label: str, depth: int, form: Values, path: str, around: Around) -> None:
+        """The lines of an object: its values up to its first part, that part, and so on."""
+        inner, anchor = around.inside(form), path
+        for keys, part in _steps(tuple(form)):
+            if not keys:
+                self.part(part, depth + 1, form, path, inner)
+                continue
             if keys[0] == END_SECTION:
                 label, anchor, depth = "end section", f"{path}/{END_SECTION}", depth + 1
-            yield Line(depth, label, path, keys, form, value_texts(keys, form, inner), notes.get(anchor, ""))
+            note = self.notes.get(anchor, "")
+            self.found.append(Line(depth, label, path, keys, form, value_texts(keys, form, inner), note))
             label, anchor = "", ""
-            continue
-        name, value = LABELS.get(part, part), form[part]
+
+    def part(self, part: str, depth: int, form: Values, path: str, around: Around) -> None:
+        """The lines of a part of an object."""
+        name, value, where = LABELS.get(part, part), form[part], f"{path}/{part}"
         if isinstance(value, list):
             for place, item in enumerate(value):
                 item = item if isinstance(item, dict) else {name: item}
-                yield from _lines(f"{name} {place}", depth + 1, item, f"{path}/{part}/{place}", inner, notes)
+                self.add(f"{name} {place}", depth, item, f"{where}/{place}", around)
         elif isinstance(value, dict):
-            yield from _lines(name, depth + 1, value, f"{path}/{part}", inner, notes)
+            self.add(name, depth, value, where, around)
         else:
-            note = notes.get(f"{path}/{part}", "")
-            yield Line(depth + 1, "", path, (part,), form, value_texts((part,), form, inner), note)
+            texts = value_texts((part,), form, around)
+            self.found.append(Line(depth, "", path, (part,), form, texts, self.notes.get(where, "")))
 
 
 def text_of(line: Line) -> str:
     """The line as text, broken where it is too long. A break never parts a name from its raw value."""
-    lines, indent = [_label(line.depth, line.label) + "".join(line.texts[:1])], " " * LABEL_WIDTH
-    for value in line.texts[1:]:
+    words, length = _broken(line.depth, line.label, tuple(line.texts))
+    if not line.note:
+        return words
+    note, indent = f"= {line.note}", " " * LABEL_WIDTH
+    if length + 2 + len(note) <= WIDTH:
+        return f"{words}  {note}"
+    if LABEL_WIDTH + len(note) <= WIDTH:  # (textwrap is slow, and most notes need one line)
+        return f"{words}\n{indent}{note}"
+    lines = textwrap.wrap(note, WIDTH, initial_indent=indent, subsequent_indent=indent + "  ")
+    return "\n".join([words, *lines])
+
+
+@lru_cache(maxsize=1 << 12)
+def _broken(depth: int, label: str, texts: Tuple[str, ...]) -> Tuple[str, int]:
+    """Values under their label, and how long their last line is. Most come again and again, so they are kept."""
+    lines, indent = [_label(depth, label) + "".join(texts[:1])], " " * LABEL_WIDTH
+    for value in texts[1:]:
         if len(lines[-1]) + 2 + len(value) > WIDTH:
             lines.append(indent + value)
         else:
             lines[-1] += f"  {value}"
-    note = f"= {line.note}"
-    if line.note and len(lines[-1]) + 2 + len(note) <= WIDTH:
-        lines[-1] += f"  {note}"
-    elif line.note and LABEL_WIDTH + len(note) <= WIDTH:  # (textwrap is slow, and most notes need one line)
-        lines.append(indent + note)
-    elif line.note:
-        lines += textwrap.wrap(note, WIDTH, initial_indent=indent, subsequent_indent=indent + "  ")
-    return "\n".join(lines)
+    return "\n".join(lines), len(lines[-1])
 
 
 @lru_cache(maxsize=1024)
