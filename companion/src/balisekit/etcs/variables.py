@@ -252,31 +252,15 @@ BESIDE: Mapping[str, str] = {
 """The keys whose words need the value of another key beside them. `body` needs its packet."""
 
 
-def value_texts(keys: Sequence[str], form: Values, around: Around) -> Sequence[str]:
+def value_texts(keys: Sequence[str], form: Values, around: Around) -> List[str]:
     """Values of an object with their names, as "Q_DIR nominal [1]". Most come again and again, so they are kept."""
-    if "body" in keys:
-        return [_text(key, form[key], around) for key in keys]
-    known = tuple(keys)
-    values, beside = tuple([form[key] for key in known]), tuple([form.get(key) for key in _beside(known)])
-    return _kept_texts(known, values, beside, around.packet.get("q_scale", 0), around.from_track)
-
-
-@lru_cache(maxsize=1 << 10)
-def _beside(keys: Tuple[str, ...]) -> List[str]:
-    """The keys whose values these need beside them."""
-    return [BESIDE[key] for key in keys if key in BESIDE]
-
-
-@lru_cache(maxsize=1 << 12)
-def _kept_texts(
-    keys: Tuple[str, ...],
-    values: Tuple[Union[int, str], ...],
-    beside: Tuple[Optional[int], ...],
-    scale: int,
-    from_track: bool,
-) -> List[str]:
-    known = dict(zip(_beside(keys), beside))
-    return [_kept(key, value, scale, from_track, known.get(BESIDE.get(key, ""))) for key, value in zip(keys, values)]
+    scale, from_track = around.packet.get("q_scale", 0), around.from_track
+    return [
+        _text(key, form[key], around)
+        if key == "body"
+        else _kept(key, form[key], scale, from_track, form.get(BESIDE[key]) if key in BESIDE else None)
+        for key in keys
+    ]
 
 
 @lru_cache(maxsize=1 << 14)

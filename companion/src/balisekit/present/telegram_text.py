@@ -5,9 +5,10 @@ and so are the variables of packets that the program keeps as bits.
 """
 from __future__ import annotations
 
+import marshal
 import textwrap
 from functools import lru_cache
-from typing import List, Mapping, NamedTuple, Sequence, Tuple, Union
+from typing import List, NamedTuple, Sequence, Tuple, Union
 
 from balisekit.etcs.places import Here, place_notes
 from balisekit.etcs.raw_packets import content_notes, with_contents
@@ -17,6 +18,8 @@ WIDTH = 118
 LABEL_WIDTH = 22
 END_SECTION = "l_endsection"
 """What follows it in an authority belongs to its end section."""
+MARSHAL = 2
+"""The last format of `marshal` in which equal objects always have the same bytes."""
 LEGEND = (
     "Raw values are in square brackets. Packets and their items are counted from 0, as in the program's lines. "
     "What follows a = is worked out by balisekit: places are sums of distances, counted from the group."
@@ -44,6 +47,8 @@ class Line(NamedTuple):
     form: Values
     """The object."""
     texts: Sequence[str]
+    anchor: str = ""
+    """Where the JSON has what its note is about."""
     note: str = ""
 
     @property
@@ -57,9 +62,9 @@ def form_lines(form: Form, here: Here = Here()) -> List[Line]:
     around = Around(from_track=form.get("nid_message") != 136)
     notes = {**(place_notes(form, here) if around.from_track else {}), **content_notes(form)}
     label = "message" if "nid_message" in form else "header"
-    lines = _Lines(notes)
+    lines = _Lines()
     lines.add(label, 0, with_contents(form), "", around)
-    return lines.found
+    return [Line(*line[:-1], notes[line.anchor]) if line.anchor in notes else line for line in lines.found]
 
 
 @lru_cache(maxsize=1024)
@@ -82,8 +87,7 @@ def _steps(keys: Tuple[str, ...]) -> List[Tuple[Tuple[str, ...], str]]:
 class _Lines:
     """Goes through the objects of a telegram or message. One list is faster than generators within each other."""
 
-    def __init__(self, notes: Mapping[str, str]) -> None:
-        self.notes = notes
+    def __init__(self) -> None:
         self.found: List[Line] = []
 
     def add(self, label: str, depth: int, form: Values, path: str, around: Around) -> None:
@@ -95,8 +99,7 @@ class _Lines:
                 continue
             if keys[0] == END_SECTION:
                 label, anchor, depth = "end section", f"{path}/{END_SECTION}", depth + 1
-            note = self.notes.get(anchor, "")
-            self.found.append(Line(depth, label, path, keys, form, value_texts(keys, form, inner), note))
+            self.found.append(Line(depth, label, path, keys, form, value_texts(keys, form, inner), anchor))
             label, anchor = "", ""
 
     def part(self, part: str, depth: int, form: Values, path: str, around: Around) -> None:
@@ -105,12 +108,24 @@ class _Lines:
         if isinstance(value, list):
             for place, item in enumerate(value):
                 item = item if isinstance(item, dict) else {name: item}
+                if where == "/packets":
+                    self.found += _packet_lines(place, marshal.dumps(item, MARSHAL), around.from_track)
+                    continue
                 self.add(f"{name} {place}", depth, item, f"{where}/{place}", around)
         elif isinstance(value, dict):
             self.add(name, depth, value, where, around)
         else:
-            texts = value_texts((part,), form, around)
-            self.found.append(Line(depth, "", path, (part,), form, texts, self.notes.get(where, "")))
+            self.found.append(Line(depth, "", path, (part,), form, value_texts((part,), form, around), where))
+
+
+@lru_cache(maxsize=1 << 11)
+def _packet_lines(place: int, packet: bytes, from_track: bool) -> List[Line]:
+    """The lines of a packet, without notes. Many telegrams of a line have the same packets, so they are kept."""
+    lines = _Lines()
+    lines.add(
+        f"{LABELS['packets']} {place}", 1, marshal.loads(packet), f"/packets/{place}", Around(from_track=from_track)
+    )
+    return lines.found
 
 
 def text_of(line: Line) -> str:
