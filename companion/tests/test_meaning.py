@@ -164,7 +164,7 @@ def test_report(run: Run, program: Program, tmp_path: Path) -> None:
     path = written(program, tmp_path / "t.csv", Line(), _copied)
     page = tmp_path / "r.html"
     assert run("report", path, "--html", page)[0] == 1
-    assert page.read_text("utf-8").count("have the same packets in every balise") == 2
+    assert page.read_text("utf-8").count("have the same packets in every balise") == 3  # (its flag has it, too)
     signed = _signed(run, path, tmp_path)
     assert run("report", path, "--html", page, "--force", "--accepted", signed)[0] == 0
     assert "accepted: one aspect (J. Doe, 2026-01-02)" in page.read_text("utf-8")

@@ -261,13 +261,13 @@ def test_names_do_no_harm(run: Run, table: Write, tmp_path: Path) -> None:
     assert tags <= {"svg", "title", "desc", "style", "rect", "path", "text", "tspan"}
     run("report", path, "--html", tmp_path / "r.html")
     page = (tmp_path / "r.html").read_text("utf-8")
-    assert "<script" not in page and "\u202e" not in page and "links L2: " in page
+    assert page.count("<script") == 1 and "\u202e" not in page and "links L2: " in page
 
 
 def test_the_report_has_the_track(run: Run, tmp_path: Path) -> None:
     assert run("report", LINE, "--aspect", "green", "--html", tmp_path / "r.html")[0] == 2
     page = (tmp_path / "r.html").read_text("utf-8")
-    assert page.count('class="strip"') == 4 and "Signal A links Signal B: 1550 m by D_LINK" in page
+    assert page.count('class="strip wide"') == 4 and "Signal A links Signal B: 1550 m by D_LINK" in page
     assert "L2, a rule of balisekit" in page and "km 10 to 15" in page
 
 

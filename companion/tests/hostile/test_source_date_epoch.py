@@ -41,4 +41,4 @@ def test_a_time_that_is_one(value: str, wanted: str, run: Run, tmp_path: Path, m
     pytest.importorskip("jinja2")
     monkeypatch.setenv("SOURCE_DATE_EPOCH", value)
     run("report", LINE, "--html", tmp_path / "r.html")
-    assert f"<td>{wanted}</td>" in (tmp_path / "r.html").read_text("utf-8")
+    assert f"<bdi>{wanted}</bdi></td>" in (tmp_path / "r.html").read_text("utf-8")

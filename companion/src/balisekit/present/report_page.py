@@ -4,9 +4,10 @@ from __future__ import annotations
 from datetime import datetime
 from functools import partial
 from tempfile import SpooledTemporaryFile
-from typing import Iterable, Iterator, List, Optional
+from typing import Iterable, Iterator, List, Optional, Tuple
 
 from balisekit.drawing.flags import marks_of
+from balisekit.drawing.sheet import Picture
 from balisekit.drawing.track import track_pictures, tracks_of
 from balisekit.present.cover import cover
 from balisekit.present.outcome_text import explained_rules
@@ -33,13 +34,11 @@ def report_page(
     aspect: Optional[str] = None,
     full: bool = False,
 ) -> Iterator[str]:
-    """The page in pieces.
+    """The page in pieces. A full one has nothing folded.
 
-    `links` are those that pictures of tracks show. `command` begins the command that writes the document again. A full
-    page has nothing folded.
+    `links` are those that pictures of tracks show. `command` begins the command that writes the document again.
     """
-    line, parts = links.line, listed(outcome)
-    names, marks = tracks_of(line), [mark for part in outcome.parts for mark in marks_of(part.open, part.accepted)]
+    line, parts, names = links.line, listed(outcome), tracks_of(links.line)
     rows: List[Block] = []
     made = _noted(blocks(outcome.checked, line, (each for part in parts for each in part.all)), rows)
     with SpooledTemporaryFile(IN_MEMORY, "w+", encoding="utf-8") as groups:
@@ -63,8 +62,15 @@ def report_page(
             full=full,
             has_tracks=bool(names),
             has_names=any(names),
-            tracks=((clean(name), track_pictures(line, links, name, aspect, marks)) for name in names),
+            tracks=_tracks(links, outcome, aspect),
         )
+
+
+def _tracks(links: Links, outcome: Outcome, aspect: Optional[str]) -> Iterator[Tuple[str, Iterable[Picture]]]:
+    """The name and the pictures of each track."""
+    marks = [mark for part in outcome.parts for mark in marks_of(part.open, part.accepted)]
+    for name in tracks_of(links.line):
+        yield clean(name), track_pictures(links.line, links, name, aspect, marks)
 
 
 def _noted(made: Iterable[Block], rows: List[Block]) -> Iterator[Block]:

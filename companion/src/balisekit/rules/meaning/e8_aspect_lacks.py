@@ -58,7 +58,7 @@ def find(line: Line, options: Options) -> Result:
 def _siblings(data: GroupData) -> Iterator[Remark]:
     """The aspect that has packets for the other direction, or that lacks packets."""
     said, go = said_of(data)
-    turned = {aspect: numbers for aspect, numbers in ((each, turned_in(said, each)) for each in said) if numbers}
+    turned = turned_in(said)
     for aspect, numbers in turned.items():
         words = f"has {_packets(numbers)} only for the other direction than all other aspects with them"
         yield _remark(data, aspect, words, numbers)

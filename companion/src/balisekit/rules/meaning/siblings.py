@@ -1,6 +1,7 @@
 """Which packets the aspects of a group have in each direction, beside each other: for the rule E8."""
 from __future__ import annotations
 
+from collections import Counter
 from typing import Dict, FrozenSet, List, Sequence, Set, Tuple
 
 from balisekit.etcs.geometry import DIRECTIONS
@@ -29,16 +30,16 @@ def said_of(data: GroupData) -> Tuple[Said, Moving]:
     return said, moving
 
 
-def turned_in(said: Said, aspect: str) -> List[int]:
-    """The packets that an aspect has only for one direction, and all others, two at least, only for the other one."""
-    found = []
+def turned_in(said: Said) -> Dict[str, List[int]]:
+    """The aspects with packets only for one direction that all others, two at least, have only for the other one."""
+    found: Dict[str, List[int]] = {}
     for number in sorted(NUMBERS):
-        has = {name: tuple(number in own for own in directions) for name, directions in said.items()}
-        mine = has.pop(aspect)
-        others = [each for each in has.values() if any(each)]
-        if sum(mine) == 1 and len(others) >= SIBLINGS - 1 and all(each == mine[::-1] for each in others):
-            found.append(number)
-    return found
+        has = {aspect: tuple(number in own for own in directions) for aspect, directions in said.items()}
+        counts = Counter(has.values())
+        for mine in ((True, False), (False, True)):
+            if counts[mine] == 1 and counts[mine[::-1]] >= SIBLINGS - 1 and not counts[True, True]:
+                found.setdefault(next(aspect for aspect in has if has[aspect] == mine), []).append(number)
+    return {aspect: found[aspect] for aspect in said if aspect in found}
 
 
 def lacking_in(said: Said, moving: Moving) -> Dict[Tuple[str, str, str], List[int]]:
