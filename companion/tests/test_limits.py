@@ -129,7 +129,7 @@ def releases(tmp_path_factory: pytest.TempPathFactory, program: Program) -> Call
     [
         (2000, 10_000, 15, ["links", "OLD"], "links: "),
         (500, 2000, 15, ["draw", "OLD", "--track", "--svg", "OUT"], ""),
-        (500, 2000, 22, ["report", "OLD", "--only", "F", "--html", "OUT"], 'program: "no: findings '),
+        (500, 2000, 28, ["report", "OLD", "--only", "F", "--html", "OUT"], 'program: "no: findings '),
         (500, 2000, 40, ["report", "OLD", "--html", "OUT"], 'program: "no: findings '),
         (500, 2000, 22, ["diff", "OLD", "NEW", "--html", "OUT"], "groups added 0, removed 0; "),
     ],
@@ -187,7 +187,7 @@ def test_a_report_of_1000_groups(reported: Tuple[Path, int, List[str], float]) -
 @pytest.mark.slow
 @pytest.mark.skipif(CHROMIUM is None, reason="there is no chromium (Debian: chromium)")
 def test_a_browser_opens_a_report_of_1000_groups(reported: Tuple[Path, int, List[str], float], tmp_path: Path) -> None:
-    """Without a pause: in less than 10 seconds. It lays out what is seen; all of the page takes three times as long.
+    """Without a pause: in less than 13 seconds. It lays out what is seen; all of the page takes three times as long.
 
     The browser is one process here, as the others of it are not waited for and would not be counted.
     """
@@ -196,7 +196,7 @@ def test_a_browser_opens_a_report_of_1000_groups(reported: Tuple[Path, int, List
     def measure() -> float:
         before = _spent()
         browse(tmp_path, reported[0], "--single-process", "--window-size=1100,1400", f"--screenshot={picture}")
-        return (_spent() - before) / 10
+        return (_spent() - before) / 13
 
     assert _is_quick(measure) and picture.stat().st_size > 50_000
 
