@@ -1,26 +1,20 @@
-"""Great tables in the time that is promised, and an interrupt in the middle of the work.
-
-Times are those of the processor, of balisekit and the program together: those of the clock depend on what else runs.
-What else runs makes the processor slower too, by its use of memory. So the limit of a command is compared with the time
-that a fixed piece of work takes just before it and just behind it. What takes too long is measured again, because that
-load may change in between: only what takes too long each of three times is slow.
-"""
+"""Great tables in the time that is promised, and an interrupt in the middle of the work."""
 from __future__ import annotations
 
 import csv
-import json
 import os
-import resource
 import signal
 import subprocess
 import sys
 import time
+from functools import partial
 from pathlib import Path
 from typing import Any, Callable, Dict, List, Tuple
 
 import line_table
 import pytest
 from cases_of_program import TOP
+from limits import PLAIN, is_quick, is_within, seconds
 from telegrams import ALONE, SPARE
 from test_browser import CHROMIUM, browse
 
@@ -30,8 +24,7 @@ from balisekit.rules import checking
 Write = Callable[..., Path]
 GROUPS = 1000
 OF = 10_000
-"""The limits are seconds for so many groups, where the piece of work takes a quarter of a second."""
-QUARTER = 0.25
+"""The limits are seconds for so many groups."""
 STAND = """#!/bin/sh
 case "$*" in
 check) echo 'yes: groups 0, messages 0'; exit 0 ;;
@@ -46,36 +39,10 @@ def _words(program: Program, *words: object) -> List[str]:
     return [str(TOP / "balisekit"), *map(str, words), "--program", program.path]
 
 
-def _spent() -> float:
-    """The processor's time of all processes that were waited for, in seconds."""
-    used = resource.getrusage(resource.RUSAGE_CHILDREN)
-    return used.ru_utime + used.ru_stime
-
-
-def _timed(command: List[str]) -> Tuple[int, List[str], float]:
-    """The status, the lines of standard output, and the processor's time in seconds."""
-    before = _spent()
-    plain = {name: value for name, value in os.environ.items() if not name.startswith("COV_CORE_")}
-    done = subprocess.run(command, stdout=subprocess.PIPE, check=False, env=plain)  # (coverage would take its time too)
-    return done.returncode, done.stdout.decode().splitlines(), _spent() - before
-
-
-def _work() -> float:
-    """The processor's time for a piece of work of the same kind, in seconds."""
-    before = time.process_time()
-    forms = [{"number": number, "packets": [{"place": place} for place in range(4)]} for number in range(30_000)]
-    said = [f"{form['number']} {form['packets']}" for form in json.loads(json.dumps(forms))]
-    assert len(said) == 30_000
-    return time.process_time() - before
-
-
-def _is_quick(measure: Callable[[], float]) -> bool:
-    """Whether one of at most three measurements is at most 1, the limit."""
-    measured: List[float] = []
-    while len(measured) < 3 and (not measured or measured[-1] > 1):
-        measured.append(measure())
-    print("of the limit:", measured)  # (shown if the test fails)
-    return measured[-1] <= 1
+def _run(command: List[str]) -> Tuple[int, List[str]]:
+    """The status, and the lines of standard output."""
+    done = subprocess.run(command, stdout=subprocess.PIPE, check=False, env=PLAIN)
+    return done.returncode, done.stdout.decode().splitlines()
 
 
 def _table(path: Path, program: Program, groups: int, other: bool = False) -> Path:
@@ -149,68 +116,73 @@ def test_10000_groups(
     if "--html" in words:
         pytest.importorskip("jinja2")
 
+    def run(command: List[str]) -> None:
+        status, out = _run(command)
+        assert status == (0 if words[0] == "draw" else 1) and (not wanted or out[-1].startswith(wanted))
+
     def measure() -> float:
         """The greatest part of a limit that is used up."""
         times = []
         for count in (few, many):
             old, new = releases(count)
             names = {"OLD": old, "NEW": new, "OUT": tmp_path / str(count)}
-            before = _work()
-            status, out, seconds = _timed(_words(program, *[names.get(word, word) for word in words], *force))
-            times.append(seconds / (before + _work()) * 2)
-            assert status == (0 if words[0] == "draw" else 1) and (not wanted or out[-1].startswith(wanted))
+            command = _words(program, *[names.get(word, word) for word in words], *force)
+            times.append(seconds(partial(run, command)))
         force[:] = ["--force"] if "OUT" in words else []
         growth = times[1] / times[0] / (2 * many / few)
-        return max(growth, *(spent * QUARTER * OF / count / limit for spent, count in zip(times, (few, many))))
+        return max(growth, *(spent * OF / count / limit for spent, count in zip(times, (few, many))))
 
     force: List[str] = []
-    assert _is_quick(measure)
+    assert is_quick(measure)
 
 
 @pytest.fixture(scope="module")
-def reported(great: Path, program: Program) -> Tuple[Path, int, List[str], float]:
-    """The report on it: the page, the status, what was said, and the processor's time."""
+def reported(great: Path, program: Program) -> Tuple[Path, bool]:
+    """The report on it, and whether it is made in less than 20 seconds."""
     pytest.importorskip("jinja2")
     page = great.with_name("report.html")
-    return (page, *_timed(_words(program, "report", great, "--html", page)))
+
+    def report() -> None:
+        status, out = _run(_words(program, "report", great, "--force", "--html", page))
+        assert status == 1 and out[-1].startswith('program: "no: findings ')
+
+    return page, is_within(20, report)
 
 
 @pytest.mark.slow
-def test_a_report_of_1000_groups(reported: Tuple[Path, int, List[str], float]) -> None:
+def test_a_report_of_1000_groups(reported: Tuple[Path, bool]) -> None:
     """In less than 20 seconds, with a picture for each group."""
-    page, status, out, seconds = reported
-    assert status == 1 and out[-1].startswith('program: "no: findings ')
+    page, is_made_in_time = reported
     assert page.read_text("utf-8").count('<svg class="picture"') == GROUPS
-    assert seconds < 20
+    assert is_made_in_time
 
 
 @pytest.mark.slow
 @pytest.mark.skipif(CHROMIUM is None, reason="there is no chromium (Debian: chromium)")
-def test_a_browser_opens_a_report_of_1000_groups(reported: Tuple[Path, int, List[str], float], tmp_path: Path) -> None:
+def test_a_browser_opens_a_report_of_1000_groups(reported: Tuple[Path, bool], tmp_path: Path) -> None:
     """Without a pause: in less than 13 seconds. It lays out what is seen; all of the page takes three times as long.
 
     The browser is one process here, as the others of it are not waited for and would not be counted.
     """
     picture = tmp_path / "page.png"
-
-    def measure() -> float:
-        before = _spent()
-        browse(tmp_path, reported[0], "--single-process", "--window-size=1100,1400", f"--screenshot={picture}")
-        return (_spent() - before) / 13
-
-    assert _is_quick(measure) and picture.stat().st_size > 50_000
+    words = ("--single-process", "--window-size=1100,1400", f"--screenshot={picture}")
+    assert is_within(13, lambda: browse(tmp_path, reported[0], *words))
+    assert picture.stat().st_size > 50_000
 
 
 @pytest.mark.slow
 def test_100000_rows_with_1000_bad_ones(table: Write, program: Program) -> None:
     """In less than a minute, and each of them is named."""
-    rows = [f"G{place},{ALONE if place % 100 else SPARE}" for place in range(100_000)]
-    status, out, seconds = _timed(_words(program, "check", table("group,telegram", *rows)))
-    assert status == 2 and out.count("    program: spare at 15 end 17") == 1000
-    assert out[-1] == (
-        "INCOMPLETE: 1000 of 100000 telegrams refused, 1000 of 100000 groups left out; findings in the " "rest: 98999"
-    )
-    assert seconds < 60
+    path = table("group,telegram", *(f"G{place},{ALONE if place % 100 else SPARE}" for place in range(100_000)))
+
+    def check() -> None:
+        status, out = _run(_words(program, "check", path))
+        assert status == 2 and out.count("    program: spare at 15 end 17") == 1000
+        assert out[-1] == (
+            "INCOMPLETE: 1000 of 100000 telegrams refused, 1000 of 100000 groups left out; findings in the rest: 98999"
+        )
+
+    assert is_within(60, check)
 
 
 def test_the_limit_is_10000() -> None:

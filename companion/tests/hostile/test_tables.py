@@ -4,13 +4,13 @@ from __future__ import annotations
 
 import os
 import random
-import time
 from decimal import Decimal
 from pathlib import Path
 from typing import Callable, Dict, Iterator, List, Tuple
 
 import pytest
 from conftest import Run
+from limits import is_within
 from telegrams import ALONE, MESSAGE, OTHER
 
 from balisekit.errors import KitError
@@ -61,11 +61,15 @@ def test_refusals_in_proportion_to_the_table(table: Write, name: str) -> None:
     """A refusal takes a few seconds at most, and its lines are short."""
     make, count, wanted = QUADRATIC[name]
     path = table(*make(count))
-    begin = time.process_time()
-    with pytest.raises(KitError) as raised:
-        reader.read(str(path))
-    assert time.process_time() - begin < 4
-    lines = [line.replace(f"{path}: ", "") for line in raised.value.lines()]
+
+    def refused() -> None:
+        with pytest.raises(KitError) as raised:
+            reader.read(str(path))
+        errors.append(raised.value)
+
+    errors: List[KitError] = []
+    assert is_within(4, refused)
+    lines = [line.replace(f"{path}: ", "") for line in errors[0].lines()]
     assert lines[0].startswith(wanted) and len(lines) <= 21 and max(map(len, lines)) < 1000
 
 
@@ -83,10 +87,13 @@ def test_many_aspects(table: Write) -> None:
     """10,000 aspects of a group are read, and each row is described, in a few seconds."""
     count = 10_000
     path = table("group,aspect,telegram", *(f"A,{number},{ALONE}" for number in range(count)))
-    begin = time.process_time()
-    group = reader.read(str(path)).groups[0]
-    described = [describe_balise(group, row) for row in group.rows()]
-    assert time.process_time() - begin < 4
+    described: List[str] = []
+
+    def describe() -> None:
+        group = reader.read(str(path)).groups[0]
+        described[:] = [describe_balise(group, row) for row in group.rows()]
+
+    assert is_within(4, describe)
     assert len(described) == count and described[-1] == 'row 10001  A  aspect "9999"  balise (first of its group)'
 
 
@@ -203,10 +210,10 @@ def test_files_that_are_too_large(run: Run, tmp_path: Path) -> None:
     path = tmp_path / "t.csv"
     path.touch()
     os.truncate(path, 2 * 10**9 + 1)
-    begin = time.process_time()
+    answers = []
+    assert is_within(1, lambda: answers.append(run("check", path)))
     why = "it has 2,000,000,001 bytes, more than 2,000,000,000: divide it into several files"
-    assert run("check", path) == (2, [], [f"balisekit: {path}: {why}"])
-    assert time.process_time() - begin < 1
+    assert answers[-1] == (2, [], [f"balisekit: {path}: {why}"])
 
 
 def test_many_columns_that_are_passed_over(run: Run, table: Write) -> None:

@@ -1,0 +1,77 @@
+"""Limits of processor time that hold on any machine, and beside whatever else runs.
+
+Times are those of the processor, of balisekit and the program together: those of the clock depend on what else runs.
+What else runs makes the processor slower too, by its use of memory. So while a task runs, a process beside it does a
+fixed piece of work of the same kind again and again, with pauses. Limits are seconds of a machine on which a piece takes
+UNIT. What takes too long is measured once more, because load changes.
+"""
+from __future__ import annotations
+
+import json
+import os
+import resource
+import select
+import statistics
+import subprocess
+import sys
+import time
+from typing import Callable, List
+
+UNIT, PAUSE = 0.036, 0.1
+PLAIN = {name: value for name, value in os.environ.items() if not name.startswith("COV_CORE_")}
+"""The environment without that of coverage, which would take its time too."""
+
+
+def _spent() -> float:
+    """The processor's time of this process, and of those that it has waited for."""
+    used = [resource.getrusage(who) for who in (resource.RUSAGE_SELF, resource.RUSAGE_CHILDREN)]
+    return sum(one.ru_utime + one.ru_stime for one in used)
+
+
+def _piece() -> float:
+    """The processor's time for a piece of work."""
+    before = time.process_time()
+    forms = [{"number": number, "packets": [{"place": place} for place in range(4)]} for number in range(6000)]
+    said = [f"{form['number']} {form['packets']}" for form in json.loads(json.dumps(forms))]
+    assert len(said) == 6000
+    return time.process_time() - before
+
+
+def _work_beside() -> None:
+    """Pieces of work until standard input ends: a line once it has begun, and the mean of their times."""
+    times = [_piece() for _ in range(3)]
+    print("begun", flush=True)
+    while not select.select([sys.stdin], [], [], PAUSE)[0]:
+        times.append(_piece())
+    print(statistics.mean(times), flush=True)
+
+
+def seconds(task: Callable[[], object]) -> float:
+    """The processor's time of a task and of the processes that it waits for, in seconds of the machine of the limits."""
+    command = [sys.executable, __file__]
+    with subprocess.Popen(command, stdin=subprocess.PIPE, stdout=subprocess.PIPE, env=PLAIN) as beside:
+        assert beside.stdin and beside.stdout
+        beside.stdout.readline()
+        before = _spent()
+        task()
+        used = _spent() - before
+        beside.stdin.close()
+        return used * UNIT / float(beside.stdout.readline())
+
+
+def is_quick(measure: Callable[[], float]) -> bool:
+    """Whether one of at most two measurements, each a part of its limit, is at most 1."""
+    measured: List[float] = []
+    while len(measured) < 2 and (not measured or measured[-1] > 1):
+        measured.append(measure())
+    print("of the limit:", measured)  # (shown if the test fails, and by pytest -rP)
+    return measured[-1] <= 1
+
+
+def is_within(limit: float, task: Callable[[], object]) -> bool:
+    """Whether a task takes at most so many seconds."""
+    return is_quick(lambda: seconds(task) / limit)
+
+
+if __name__ == "__main__":
+    _work_beside()
