@@ -2,8 +2,8 @@
 
 Times are those of the processor, of balisekit and the program together: those of the clock depend on what else runs.
 What else runs makes the processor slower too, by its use of memory. So while a task runs, a process beside it does a
-fixed piece of work of the same kind again and again, with pauses. Limits are seconds of a machine on which a piece takes
-UNIT. What takes too long is measured once more, because load changes.
+fixed piece of work of the same kind again and again, with pauses. Limits are seconds of a machine on which a piece
+takes UNIT. What takes too long is measured once more, because load changes.
 """
 from __future__ import annotations
 
@@ -47,7 +47,7 @@ def _work_beside() -> None:
 
 
 def seconds(task: Callable[[], object]) -> float:
-    """The processor's time of a task and of the processes that it waits for, in seconds of the machine of the limits."""
+    """The processor's time of a task and of processes that it waits for, in seconds of the machine of the limits."""
     command = [sys.executable, __file__]
     with subprocess.Popen(command, stdin=subprocess.PIPE, stdout=subprocess.PIPE, env=PLAIN) as beside:
         assert beside.stdin and beside.stdout
