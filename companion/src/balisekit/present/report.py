@@ -223,7 +223,7 @@ def _decoded(checked: Checked, line: Line) -> Iterator[Tuple[Group, BaliseGroup,
         known = {row.number: record for row, record in records}
         for group, station in some:
             own = dict.fromkeys(row.number for row in group.rows())
-            yield group, station, {number: known[number].form for number in own if number in known}
+            yield group, station, {number: known[number].shared for number in own if number in known}
 
 
 def _block(

@@ -1,0 +1,47 @@
+"""Objects of records of which equal packets are one, so that what is made of a packet is made once.
+
+Nobody changes these objects. `Record.form` makes one of its own.
+"""
+from __future__ import annotations
+
+import json
+import re
+from functools import lru_cache
+from typing import Iterator, cast
+
+from balisekit.engine.records import FROM_TRACK, Form
+
+RAW = "q_dir l_packet body"
+"""The keys of a packet that the program keeps as bits, beside its number."""
+KEPT = 1 << 12
+"""So many packets are kept with their objects."""
+
+
+def _first_keys() -> Iterator[str]:
+    """The keys with which a packet from track to train can begin: `decode` writes keys in byte order."""
+    for keys in (*FROM_TRACK.values(), RAW):
+        for key in sorted(f"nid_packet {keys}".split()):
+            yield key.rstrip("?")
+            if not key.endswith("?"):
+                break
+
+
+BETWEEN = re.compile(rf',(?={{"(?:{"|".join(sorted(set(_first_keys())))})":)')
+"""What is between two packets. No other object of a record begins with one of these keys."""
+TELEGRAM = re.compile(r'(\{.*"packets":\[)(.*)(\].*)')
+"""The packets of a telegram, and what is before and behind them: no other list is outside of them."""
+
+
+@lru_cache(maxsize=KEPT)
+def _packet(text: str) -> Form:
+    return cast(Form, json.loads(text))
+
+
+def shared(line: str) -> Form:
+    """The object of the record of a telegram, which the program has written."""
+    match = TELEGRAM.fullmatch(line)
+    assert match is not None, "the record of a telegram has packets"
+    before, packets, behind = match.groups()
+    form: Form = json.loads(before + behind)
+    form["packets"] = list(map(_packet, BETWEEN.split(packets))) if packets else []
+    return form
