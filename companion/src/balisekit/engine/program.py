@@ -59,7 +59,7 @@ class Record(NamedTuple):
 
     @property
     def shared(self) -> Form:
-        """The object of the line, of a telegram. Nobody changes it: equal packets of telegrams are one object."""
+        """The object of the line, which nobody changes: equal packets of several records are one object."""
         return shared(self.line)
 
 

@@ -9,7 +9,7 @@ import re
 from functools import lru_cache
 from typing import Iterator, cast
 
-from balisekit.engine.records import FROM_TRACK, Form
+from balisekit.engine.records import FROM_TRACK, FROM_TRAIN, Form
 
 RAW = "q_dir l_packet body"
 """The keys of a packet that the program keeps as bits, beside its number."""
@@ -18,8 +18,8 @@ KEPT = 1 << 12
 
 
 def _first_keys() -> Iterator[str]:
-    """The keys with which a packet from track to train can begin: `decode` writes keys in byte order."""
-    for keys in (*FROM_TRACK.values(), RAW):
+    """The keys with which a packet can begin: `decode` writes keys in byte order."""
+    for keys in (*FROM_TRACK.values(), *FROM_TRAIN.values(), RAW):
         for key in sorted(f"nid_packet {keys}".split()):
             yield key.rstrip("?")
             if not key.endswith("?"):
@@ -28,8 +28,8 @@ def _first_keys() -> Iterator[str]:
 
 BETWEEN = re.compile(rf',(?={{"(?:{"|".join(sorted(set(_first_keys())))})":)')
 """What is between two packets. No other object of a record begins with one of these keys."""
-TELEGRAM = re.compile(r'(\{.*"packets":\[)(.*)(\].*)')
-"""The packets of a telegram, and what is before and behind them: no other list is outside of them."""
+PACKETS = re.compile(r'(\{.*"packets":\[)(.*)(\].*)')
+"""The packets of a record, and what is before and behind them: no other list is outside of them."""
 
 
 @lru_cache(maxsize=KEPT)
@@ -38,9 +38,9 @@ def _packet(text: str) -> Form:
 
 
 def shared(line: str) -> Form:
-    """The object of the record of a telegram, which the program has written."""
-    match = TELEGRAM.fullmatch(line)
-    assert match is not None, "the record of a telegram has packets"
+    """The object of a record that the program has written."""
+    match = PACKETS.fullmatch(line)
+    assert match is not None, "a record has packets"
     before, packets, behind = match.groups()
     form: Form = json.loads(before + behind)
     form["packets"] = list(map(_packet, BETWEEN.split(packets))) if packets else []

@@ -114,15 +114,6 @@ def here_alone(form: Form, where: Kilometres = Kilometres()) -> Here:
     return Here(where, _passages([("", [(0, form)])]).get(0, {}))
 
 
-def place_notes(form: Form, here: Here) -> Dict[str, str]:
-    """What balisekit works out of a telegram or a message 3, by the path of the object that it is about."""
-    return {
-        f"/packets/{index}{path}": note
-        for index, packet in enumerate(form["packets"])
-        for path, note in here.notes(index, packet).items()
-    }
-
-
 def _notes(packet: Form, origin: Origin, place: Place) -> Dict[str, str]:
     """The notes of a packet whose distances have this origin. A raw packet needs a certain layout that it fits."""
     packet = fields_of(packet) or packet

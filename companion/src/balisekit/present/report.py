@@ -1,7 +1,6 @@
 """What the body of a report is made of: what each family of rules finds, and a block for each group and message."""
 from __future__ import annotations
 
-from itertools import groupby
 from typing import Dict, Iterable, Iterator, List, Mapping, NamedTuple, Optional, Sequence, Set, Tuple
 
 from balisekit.drawing.group import picture_of, picture_of_message
@@ -14,7 +13,7 @@ from balisekit.present import headings
 from balisekit.present.accepted_text import accepted_words
 from balisekit.present.outcome_text import behind
 from balisekit.present.refusals import RefusedInput, refused
-from balisekit.present.telegram_text import form_lines, text, text_of
+from balisekit.present.telegram_text import parts
 from balisekit.rules.accepted import Acceptance
 from balisekit.rules.checking import AcceptedMessage, Checked
 from balisekit.rules.entries import Entry, track_of
@@ -292,13 +291,13 @@ def _telegrams(
 
 def _texts(form: Form, here: Here, id: str, marked: Set[str]) -> List[Text]:
     """A telegram or message in words, the packets apart that are marked."""
-
-    def mark(path: str) -> str:
-        packet = path.split("/")[2] if path.startswith("/packets/") else ""
-        return packet_id(id, int(packet)) if packet else ""
-
-    if not marked:
-        return [Text(f"{text(form, here)}\n")]
-    lines = ((mark(line.path), text_of(line)) for line in form_lines(form, here))
-    of_packets = groupby(lines, lambda each: each[0] if each[0] in marked else "")
-    return [Text("".join(f"{text}\n" for _, text in some), name) for name, some in of_packets]
+    found = [Text("")]
+    for place, words in enumerate(parts(form, here), -1):  # (the head is before packet 0)
+        name = packet_id(id, place)
+        if name in marked:
+            found.append(Text(words, name))
+        elif found[-1].id:
+            found.append(Text(words))
+        else:
+            found[-1] = Text(found[-1].text + words)
+    return found
