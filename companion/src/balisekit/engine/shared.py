@@ -28,8 +28,6 @@ def _first_keys() -> Iterator[str]:
 
 BETWEEN = re.compile(rf',(?={{"(?:{"|".join(sorted(set(_first_keys())))})":)')
 """What is between two packets. No other object of a record begins with one of these keys."""
-PACKETS = re.compile(r'(\{.*"packets":\[)(.*)(\].*)')
-"""The packets of a record, and what is before and behind them: no other list is outside of them."""
 
 
 @lru_cache(maxsize=KEPT)
@@ -38,10 +36,10 @@ def _packet(text: str) -> Form:
 
 
 def shared(line: str) -> Form:
-    """The object of a record that the program has written."""
-    match = PACKETS.fullmatch(line)
-    assert match is not None, "a record has packets"
-    before, packets, behind = match.groups()
-    form: Form = json.loads(before + behind)
+    """The object of a record that the program has written. It has no list outside of its packets, and keys around."""
+    before, list_of_packets, rest = line.partition('"packets":[')
+    packets, end, behind = rest.rpartition("]")
+    assert list_of_packets and end, "a record has packets"
+    form: Form = json.loads(before + behind[1:])
     form["packets"] = list(map(_packet, BETWEEN.split(packets))) if packets else []
     return form

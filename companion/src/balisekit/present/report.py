@@ -23,8 +23,6 @@ from balisekit.rules.location import BaliseGroup
 from balisekit.tables.model import Group
 from balisekit.tables.names import clean, describe_balise, describe_group, describe_message, describe_rows, rows_words
 
-AT_ONCE = 250
-"""So many groups are decoded at once."""
 LINKED = 8
 """So many rows of an entry have a link."""
 
@@ -197,32 +195,19 @@ def blocks(checked: Checked, line: Line, found: Iterable[Listed]) -> Iterator[Bl
         by_block.setdefault(each.block, []).append(each)
     left_out = {left_out.group.name: clean(left_out.why) for left_out in checked.left_out}
     items = {item.id: item for item in refused(checked)}
-    for group, station, forms in _decoded(checked, line):
+    for group, station in zip(line.directed, line.groups):
+        numbers = dict.fromkeys(row.number for row in group.rows())
+        forms = {number: checked.accepted[number] for number in numbers if number in checked.accepted}
         entries, why = by_block.get(f"g{station.number}", []), left_out.get(group.name, "")
         yield _block(group, station, forms, entries, items)._replace(left_out=why)
     if checked.accepted_messages:
-        heads = [group.aspects[0].rows[0].number for group in line.directed]
-        known = checked.accepted.decoded([number for number in heads if number in checked.accepted])
-        identities = Identities(line.directed, {row.number: record.form for row, record in known})
+        identities = Identities(line.directed, checked.accepted)
     for message in checked.accepted_messages:
         yield _message(message, by_block.get(f"m{message.message.number}", []), identities)
     for bad in checked.refused_messages:
         item, heading = items[f"m{bad.message.number}"], f"message of {describe_message(bad.message)}"
         telegram = Telegram("", item.sentence, clean(bad.message.text), refused=item.program)
         yield Block(item.id, heading, "", "", "", "", "refused", "", (), None, (), [telegram])
-
-
-def _decoded(checked: Checked, line: Line) -> Iterator[Tuple[Group, BaliseGroup, Mapping[int, Form]]]:
-    """Each group with its telegrams. Only some groups are decoded at once, since all telegrams take much memory."""
-    pairs = list(zip(line.directed, line.groups))
-    for begin in range(0, len(pairs), AT_ONCE):
-        some = pairs[begin : begin + AT_ONCE]
-        numbers = {row.number for group, _ in some for row in group.rows()}
-        records = checked.accepted.decoded(sorted(number for number in numbers if number in checked.accepted))
-        known = {row.number: record for row, record in records}
-        for group, station in some:
-            own = dict.fromkeys(row.number for row in group.rows())
-            yield group, station, {number: known[number].shared for number in own if number in known}
 
 
 def _block(

@@ -50,7 +50,6 @@ class Telegrams(Mapping[int, Form]):
     def __init__(self, program: Program, rows: Sequence[Row]) -> None:
         self._program = program
         self._rows = {row.number: row for row in rows}
-        self._kept: Optional[Mapping[int, Record]] = None
         self.raw: Optional[Raw] = None
         """The packets that are kept as bits, once all telegrams have been decoded."""
 
@@ -59,14 +58,14 @@ class Telegrams(Mapping[int, Form]):
         return {row.number: record for row, record in self.decoded()}
 
     def keep(self) -> None:
-        """Decodes all telegrams for those that ask for them several times."""
-        self._kept = self._records
+        """Decodes all telegrams now, for those that ask for them several times."""
+        assert len(self._records) == len(self)
 
     def decoded(self, numbers: Optional[Iterable[int]] = None) -> Iterator[Tuple[Row, Record]]:
         """The records of these rows, or of all rows. Unless they are kept they are decoded now."""
         rows = list(self._rows.values()) if numbers is None else [self._rows[number] for number in numbers]
-        if self._kept is not None:
-            yield from ((row, self._kept[row.number]) for row in rows)
+        if "_records" in self.__dict__:
+            yield from ((row, self._records[row.number]) for row in rows)
             return
         raw: Raw = {}
         for row, answer in zip(rows, self._program.decode([row.telegram for row in rows])):
