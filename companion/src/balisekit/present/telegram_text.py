@@ -7,7 +7,7 @@ from __future__ import annotations
 
 import textwrap
 from functools import lru_cache
-from typing import Iterator, List, NamedTuple, Sequence, Tuple, Union
+from typing import Callable, Iterator, List, NamedTuple, Sequence, Tuple, Union
 
 from balisekit.etcs.geometry import Kilometres
 from balisekit.etcs.holes import Kept, Pattern
@@ -167,19 +167,22 @@ def _label(depth: int, label: str) -> str:
     return f"{text:<{LABEL_WIDTH}}" if len(text) < LABEL_WIDTH else f"{text} "
 
 
-def parts(form: Form, here: Here = Here()) -> Iterator[str]:
-    """The head of a telegram or radio message in words, and each packet. Packets that are one object are made once."""
+def parts(form: Form, here: Here = Here(), finish: Callable[[str], str] = str) -> Iterator[str]:
+    """The head of a telegram or radio message in words, and each packet. Packets that are one object are made once.
+
+    What `finish` makes of the words is kept: it may not change what is between the words of a line.
+    """
     from_track = form.get("nid_message") != 136
-    yield _text(_head_lines(form))
+    yield finish(_text(_head_lines(form)))
     for place, packet in enumerate(form["packets"]):
         if place in here.passages:
-            yield _text(_packet_lines(place, packet, here, from_track))
+            yield finish(_text(_packet_lines(place, packet, here, from_track)))
             continue
 
         def make(holes: Kilometres) -> Pattern:
-            return Pattern(_text(_packet_lines(place, packet, Here(holes), from_track)))
+            return Pattern(finish(_text(_packet_lines(place, packet, Here(holes), from_track))))
 
-        pattern, kilometres = KEPT.of((place, id(packet), from_track), packet, here.kilometres, make)
+        pattern, kilometres = KEPT.of((place, id(packet), from_track, finish), packet, here.kilometres, make)
         yield pattern.filled(kilometres)
 
 
