@@ -77,17 +77,18 @@ def picture_of(
     findings: Sequence[Finding],
     titled: bool = False,
     only: Optional[str] = None,
+    where: Optional[Kilometres] = None,
 ) -> Picture:
     """The picture of a group whose telegrams the program has read, in all aspects or only one.
 
-    A picture by itself has a title.
+    A picture by itself has a title. `where` has the kilometres of the group, if they are known already.
     """
     shown = [
         (aspect, short_profiles(findings, index))
         for index, aspect in enumerate(group.aspects)
         if only in (None, aspect.name)
     ]
-    where, title = kilometres(group), group.name if titled else ""
+    where, title = where or kilometres(group), group.name if titled else ""
     own = {number: forms[number] for number in dict.fromkeys(row.number for aspect, _ in shown for row in aspect.rows)}
 
     def make(holes: Kilometres) -> Picture:

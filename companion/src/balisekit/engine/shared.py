@@ -29,6 +29,9 @@ def _first_keys() -> Iterator[str]:
 BETWEEN = re.compile(rf',(?={{"(?:{"|".join(sorted(set(_first_keys())))})":)')
 """What is between two packets. No other object of a record begins with one of these keys."""
 
+NUMBER = re.compile('"([a-z_]+)":([0-9]+)')
+"""A key of a record and its number: all that is not in its packets are numbers."""
+
 
 @lru_cache(maxsize=KEPT)
 def _packet(text: str) -> Form:
@@ -37,9 +40,9 @@ def _packet(text: str) -> Form:
 
 def shared(line: str) -> Form:
     """The object of a record that the program has written. It has no list outside of its packets, and keys around."""
-    before, list_of_packets, rest = line.partition('"packets":[')
-    packets, end, behind = rest.rpartition("]")
-    assert list_of_packets and end, "a record has packets"
-    form: Form = json.loads(before + behind[1:])
+    before, _, rest = line.partition('"packets":[')
+    packets, _, behind = rest.rpartition("]")
+    numbers = NUMBER.findall(before + behind)
+    form = cast(Form, {key: int(number) for key, number in numbers})
     form["packets"] = list(map(_packet, BETWEEN.split(packets))) if packets else []
     return form

@@ -7,7 +7,7 @@ from __future__ import annotations
 
 import re
 from dataclasses import dataclass, field
-from typing import Callable, Dict, Generic, Hashable, List, Match, Sequence, Tuple, TypeVar
+from typing import Callable, Dict, Generic, Hashable, List, Match, Optional, Sequence, Tuple, TypeVar
 
 from balisekit.etcs.geometry import Kilometres, kilometre_of
 
@@ -50,13 +50,21 @@ class Pattern:
         return "".join(parts)
 
 
+class _Known(Generic[Made]):
+    """What was made of one key."""
+
+    def __init__(self, places: Sequence[int], held: object) -> None:
+        self.places, self.held = places, held
+        self.made: Dict[Tuple[int, ...], Tuple[Made, Sequence[int]]] = {}
+        """By how long the kilometres of these places are: what was made, and the places of its holes."""
+
+
 class Kept(Generic[Made]):
     """What was made for groups, by what decides it: a key, and how long each kilometre is that it has."""
 
     def __init__(self, most: int) -> None:
         self._most = most
-        self._places: Dict[Hashable, Tuple[List[int], object]] = {}
-        self._made: Dict[Tuple[Hashable, Tuple[int, ...]], Tuple[Made, List[int]]] = {}
+        self._known: Dict[Hashable, _Known[Made]] = {}
 
     def of(
         self, key: Hashable, held: object, where: Kilometres, make: Callable[[Kilometres], Made]
@@ -69,33 +77,31 @@ class Kept(Generic[Made]):
         if whole is None and where.group is not None:
             return make(where), ()
         key = key, whole is None, where.rising
-        known = self._places.get(key)
+        known = self._known.get(key)
         if known is None:
             return self._new(key, held, where, make)
-        texts = _texts(whole, known[0])
-        found = self._made.get((key, tuple(map(len, texts))))
+        texts = _texts(whole, known.places)
+        found = known.made.get(tuple(map(len, texts)))
         if found is None or texts and min(texts)[0] == "-":
             return self._new(key, held, where, make)
         made, places = found
-        return made, texts if places is known[0] else _texts(whole, places)
+        return made, texts if places is known.places else _texts(whole, places)
 
     def _new(
         self, key: Hashable, held: object, where: Kilometres, make: Callable[[Kilometres], Made]
     ) -> Tuple[Made, Sequence[str]]:
         """What is made, and kept. With a kilometre below 0 there are no holes: its sign is no digit."""
         holes = Holes(where.group, where.rising)
-        made = make(holes)
-        places = list(holes.places)
+        made, places = make(holes), list(holes.places)
         texts = _texts(where.whole, places)
         if len(places) > MOST or texts and min(texts)[0] == "-":
             return make(where), ()
-        if len(self._made) >= self._most:
-            self._places.clear()
-            self._made.clear()
-        first = self._places.setdefault(key, (places, held))[0]
-        self._made[key, tuple(map(len, _texts(where.whole, first)))] = made, places
+        if len(self._known) >= self._most:
+            self._known.clear()
+        known = self._known.setdefault(key, _Known(places, held))
+        known.made[tuple(map(len, _texts(where.whole, known.places)))] = made, places
         return made, texts
 
 
-def _texts(whole: object, places: Sequence[int]) -> List[str]:
-    return [kilometre_of(whole + place) for place in places] if isinstance(whole, int) else []
+def _texts(whole: Optional[int], places: Sequence[int]) -> List[str]:
+    return [] if whole is None else [kilometre_of(whole + place) for place in places]

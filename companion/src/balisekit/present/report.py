@@ -7,7 +7,7 @@ from balisekit.drawing.group import picture_of, picture_of_message
 from balisekit.drawing.sheet import Picture
 from balisekit.engine.grammar import Finding
 from balisekit.engine.records import Form
-from balisekit.etcs.geometry import kilometre
+from balisekit.etcs.geometry import Kilometres, kilometre
 from balisekit.etcs.places import Here, Identities, places_of_rows
 from balisekit.present import headings
 from balisekit.present.accepted_text import accepted_words
@@ -218,7 +218,8 @@ def _block(
     items: Mapping[str, RefusedInput],
 ) -> Block:
     """The block of a group."""
-    picture = None if station.unread else picture_of(group, forms, _findings(entries))
+    where = Kilometres(station.km, station.rising)
+    picture = None if station.unread else picture_of(group, forms, _findings(entries), where=where)
     packets = sorted({packet["nid_packet"] for form in forms.values() for packet in form["packets"]})
     return Block(
         f"g{station.number}",
@@ -232,7 +233,7 @@ def _block(
         [clean(aspect.name) for aspect in group.aspects],
         picture,
         entries,
-        list(_telegrams(group, forms, items, _marked(entries))),
+        list(_telegrams(group, forms, places_of_rows(group, forms, where), items, _marked(entries))),
         packets,
     )
 
@@ -258,11 +259,15 @@ def _message(item: AcceptedMessage, entries: Sequence[Listed], identities: Ident
 
 
 def _telegrams(
-    group: Group, forms: Mapping[int, Form], items: Mapping[str, RefusedInput], marked: Set[str]
+    group: Group,
+    forms: Mapping[int, Form],
+    places: Mapping[int, Here],
+    items: Mapping[str, RefusedInput],
+    marked: Set[str],
 ) -> Iterator[Telegram]:
     """Each row once, in the order of the table."""
     rows = {row.number: row for row in group.rows()}
-    for number, here in places_of_rows(group, forms).items():
+    for number, here in places.items():
         row, id = rows[number], f"r{number}"
         n_pig = forms[number]["n_pig"] if number in forms else None
         heading, digits = describe_balise(group, row, n_pig), clean(row.telegram)
@@ -276,13 +281,15 @@ def _telegrams(
 
 def _texts(form: Form, here: Here, id: str, marked: Set[str]) -> List[Text]:
     """A telegram or message in words, the packets apart that are marked."""
-    found = [Text("")]
+    if not marked:
+        return [Text("".join(parts(form, here)))]
+    found: List[Text] = []
     for place, words in enumerate(parts(form, here), -1):  # (the head is before packet 0)
         name = packet_id(id, place)
         if name in marked:
             found.append(Text(words, name))
-        elif found[-1].id:
-            found.append(Text(words))
-        else:
+        elif found and not found[-1].id:
             found[-1] = Text(found[-1].text + words)
+        else:
+            found.append(Text(words))
     return found

@@ -7,7 +7,7 @@ from __future__ import annotations
 
 import textwrap
 from functools import lru_cache
-from typing import Callable, Iterator, List, NamedTuple, Sequence, Tuple, Union
+from typing import Callable, Dict, Iterator, List, Mapping, NamedTuple, Sequence, Tuple, Union
 
 from balisekit.etcs.geometry import Kilometres
 from balisekit.etcs.holes import Kept, Pattern
@@ -62,7 +62,8 @@ def form_lines(form: Form, here: Here = Here()) -> List[Line]:
     """The lines of a telegram, or of a radio message."""
     lines, from_track = _head_lines(form), form.get("nid_message") != 136
     for place, packet in enumerate(form["packets"]):
-        lines += _packet_lines(place, packet, here, from_track)
+        found, notes = _packet_lines(place, packet, here, from_track)
+        lines += [line._replace(note=notes[line.anchor]) if line.anchor in notes else line for line in found]
     return lines
 
 
@@ -74,16 +75,15 @@ def _head_lines(form: Form) -> List[Line]:
     return lines.found
 
 
-def _packet_lines(place: int, packet: Form, here: Here, from_track: bool) -> List[Line]:
-    """The lines of a packet. Distances from train to track count from no group."""
+def _packet_lines(place: int, packet: Form, here: Here, from_track: bool) -> Tuple[List[Line], Dict[str, str]]:
+    """The lines of a packet, and notes by their anchors. Distances from train to track count from no group."""
     content, path = content_of(packet, from_track), f"/packets/{place}"
     notes = here.notes(place, packet) if from_track else {}
     notes.update({"/body": content.words} if content else {})
     lines = _Lines()
-    around = Around(from_track=from_track)
-    lines.add(f"{LABELS['packets']} {place}", 1, with_content(packet, from_track), path, around)
-    known = {f"{path}{own}": note for own, note in notes.items()}
-    return [line._replace(note=known[line.anchor]) if line.anchor in known else line for line in lines.found]
+    label, around = f"{LABELS['packets']} {place}", Around(from_track=from_track)
+    lines.add(label, 1, with_content(packet, from_track), path, around)
+    return lines.found, {f"{path}{own}": note for own, note in notes.items()}
 
 
 @lru_cache(maxsize=1024)
@@ -134,12 +134,12 @@ class _Lines:
             self.found.append(Line(depth, "", path, (part,), form, value_texts((part,), form, around), where))
 
 
-def text_of(line: Line) -> str:
+def _text_of(line: Line, note: str) -> str:
     """The line as text, broken where it is too long. A break never parts a name from its raw value."""
     words, length = _broken(line.depth, line.label, tuple(line.texts))
-    if not line.note:
+    if not note:
         return words
-    note, indent = f"= {line.note}", " " * LABEL_WIDTH
+    note, indent = f"= {note}", " " * LABEL_WIDTH
     if length + 2 + len(note) <= WIDTH:
         return f"{words}  {note}"
     if LABEL_WIDTH + len(note) <= WIDTH:  # (textwrap is slow, and most notes need one line)
@@ -176,18 +176,18 @@ def parts(form: Form, here: Here = Here(), finish: Callable[[str], str] = str) -
     yield finish(_text(_head_lines(form)))
     for place, packet in enumerate(form["packets"]):
         if place in here.passages:
-            yield finish(_text(_packet_lines(place, packet, here, from_track)))
+            yield finish(_text(*_packet_lines(place, packet, here, from_track)))
             continue
 
         def make(holes: Kilometres) -> Pattern:
-            return Pattern(finish(_text(_packet_lines(place, packet, Here(holes), from_track))))
+            return Pattern(finish(_text(*_packet_lines(place, packet, Here(holes), from_track))))
 
         pattern, kilometres = KEPT.of((place, id(packet), from_track, finish), packet, here.kilometres, make)
         yield pattern.filled(kilometres)
 
 
-def _text(lines: Sequence[Line]) -> str:
-    return "".join([f"{text_of(line)}\n" for line in lines])
+def _text(lines: Sequence[Line], notes: Mapping[str, str] = {}) -> str:
+    return "".join([f"{_text_of(line, notes.get(line.anchor, ''))}\n" for line in lines])
 
 
 def text(form: Form, here: Here = Here()) -> str:
