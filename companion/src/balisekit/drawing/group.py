@@ -97,9 +97,9 @@ def picture_of(
         return replace(drawn, shapes=Shared(drawn.shapes))
 
     said = {number: _said(form) for number, form in own.items()}
-    key = [(aspect.name, *[said[row.number] for row in aspect.rows], *map(_of_finding, short)) for aspect, short in shown]
+    aspects = [(one.name, *[said[row.number] for row in one.rows], *map(_of_finding, short)) for one, short in shown]
     held = [form["packets"] for form in own.values()]
-    return _named(group.name, where, *KEPT.of((title, *key), held, where, make))
+    return _named(group.name, where, *KEPT.of((title, *aspects), held, where, make))
 
 
 def _said(form: Form) -> Tuple[object, ...]:

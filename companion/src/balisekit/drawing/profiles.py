@@ -120,7 +120,7 @@ class WayDrawing:
         return self.origin + self.sign * place
 
     def _is_beyond(self, *places: int) -> bool:
-        """Whether the sheet shows nothing of what is between these places. (Most pages of a track have parts of bands.)"""
+        """Whether the sheet shows nothing of what is between these places: a page of a track has parts of bands."""
         near, far = map(self.at, places)
         return max(near, far) < self.sheet.least or min(near, far) > self.sheet.greatest
 
