@@ -129,8 +129,8 @@ def releases(tmp_path_factory: pytest.TempPathFactory, program: Program) -> Call
     [
         (2000, 10_000, 15, ["links", "OLD"], "links: "),
         (500, 2000, 15, ["draw", "OLD", "--track", "--svg", "OUT"], ""),
-        (500, 2000, 28, ["report", "OLD", "--only", "F", "--html", "OUT"], 'program: "no: findings '),
-        (500, 2000, 40, ["report", "OLD", "--html", "OUT"], 'program: "no: findings '),
+        (500, 2000, 20, ["report", "OLD", "--only", "F", "--html", "OUT"], 'program: "no: findings '),
+        (500, 2000, 24, ["report", "OLD", "--html", "OUT"], 'program: "no: findings '),
         (500, 2000, 22, ["diff", "OLD", "NEW", "--html", "OUT"], "groups added 0, removed 0; "),
     ],
     ids=["links", "draw", "report of findings", "report", "diff"],
@@ -177,11 +177,11 @@ def reported(great: Path, program: Program) -> Tuple[Path, int, List[str], float
 
 @pytest.mark.slow
 def test_a_report_of_1000_groups(reported: Tuple[Path, int, List[str], float]) -> None:
-    """In less than 20 seconds, with a picture for each group."""
+    """In less than 10 seconds, with a picture for each group."""
     page, status, out, seconds = reported
     assert status == 1 and out[-1].startswith('program: "no: findings ')
     assert page.read_text("utf-8").count('<svg class="picture"') == GROUPS
-    assert seconds < 20
+    assert seconds < 10
 
 
 @pytest.mark.slow
