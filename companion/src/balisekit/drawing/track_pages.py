@@ -148,6 +148,8 @@ def shown_words(aspect: Optional[str], each: str = "each group") -> str:
 def _read_aspects(station: BaliseGroup) -> Sequence[Aspect]:
     """The aspects of a group whose telegrams the program has read."""
     aspects = station.group.aspects
+    if not station.unread:
+        return aspects
     return [one for one in aspects if not any(row.number in station.unread for row in one.rows)]
 
 
