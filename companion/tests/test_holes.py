@@ -16,6 +16,7 @@ from balisekit.drawing.repeated import Repeated, Shared
 from balisekit.drawing.sheet import Shape
 from balisekit.engine.program import Program, Record
 from balisekit.etcs.geometry import NOMINAL, REVERSE, Kilometres
+from balisekit.etcs import holes
 from balisekit.etcs.holes import FIRST, MOST, Holes, Kept, Pattern
 
 SHIFTS = ("0", "0.0005", "7.25", "7.2505", "87.4", "987.65", "-12.55", "0.00005")
@@ -59,7 +60,7 @@ def _words(place: Kilometres) -> Pattern:
 
 
 def test_it_is_made_once_for_each_length() -> None:
-    """Of one key. Another key, or kilometres that go the other way, are made by themselves."""
+    """Of one key, from the second time on. Another key, or kilometres that go the other way, are made by themselves."""
     kept: Kept[Pattern] = Kept(8)
     made = []
 
@@ -71,23 +72,32 @@ def test_it_is_made_once_for_each_length() -> None:
         pattern, kilometres = kept.of(key, None, Kilometres(Decimal(km), rising), make)
         return pattern.filled(kilometres)
 
-    assert said("a", "3.5") == "to 4.500, 3.500; 4.500" and said("a", "7.25") == "to 8.250, 7.250; 8.250"
-    assert len(made) == 1
-    assert said("a", "9.5") == "to 10.500, 9.500; 10.500" and len(made) == 2
+    assert said("a", "3.5") == said("a", "3.5") == "to 4.500, 3.500; 4.500"
+    assert len(made) == 2 and said("a", "7.25") == "to 8.250, 7.250; 8.250" and len(made) == 2
+    assert said("a", "9.5") == "to 10.500, 9.500; 10.500" and len(made) == 3
     assert said("a", "9.5", -1) == "to 8.500, 9.500; 8.500" and said("b", "3.5") == "to 4.500, 3.500; 4.500"
-    assert len(made) == 4
+    assert len(made) == 5
     assert (
         said("a", "0.25", -1) == "to -0.750, 0.250; -0.750" and said("a", "3.25005") == "to 4.25005, 3.25005; 4.25005"
     )
-    assert kept.of("c", None, Kilometres(), lambda place: [place.words(0, NOMINAL)]) == ([""], [])
+    assert [said_of_no_place(kept) for _ in range(3)] == ["to , ; "] * 3
 
 
-def test_it_forgets() -> None:
+def said_of_no_place(kept: Kept[Pattern]) -> str:
+    """What is made where no kilometres are known."""
+    pattern, kilometres = kept.of("c", None, Kilometres(), _words)
+    return pattern.filled(kilometres)
+
+
+def test_it_forgets(monkeypatch: pytest.MonkeyPatch) -> None:
     """It keeps so many keys at most, and has no more holes than there are letters for them."""
     kept: Kept[Pattern] = Kept(2)
-    for key in "abcabc":
+    monkeypatch.setattr(holes, "ASKED", 8)
+    for key in "abcabcabcdefghijk":
         pattern, kilometres = kept.of(key, None, PLACE, _words)
         assert pattern.filled(kilometres) == "to 8.500, 9.500; 8.500" and len(vars(kept)["_known"]) <= 2
+        assert len(vars(kept)["_once"]) <= 8
+    kept.of("d", None, PLACE, _words)
     many, none = kept.of("d", None, PLACE, lambda place: [place.words(at, NOMINAL) for at in range(MOST + 1)])
     assert not none and many[1:3] == ["9.4999", "9.4998"]
 

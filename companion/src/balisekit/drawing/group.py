@@ -40,7 +40,7 @@ from balisekit.etcs.geometry import (
     kilometres,
     way,
 )
-from balisekit.etcs.holes import Kept
+from balisekit.etcs.holes import Holes, Kept
 from balisekit.etcs.variables import Form, metres
 from balisekit.tables.model import Aspect, Group
 from balisekit.tables.names import NAMED, clean, listed, quoted
@@ -57,7 +57,7 @@ NOTHING = "no authority, gradient or speed profile"
 DRAWN = frozenset((INFILL, 12, 15, 21, 27, 41, *areas.DRAWN))
 """The packets on which a picture depends."""
 Drawn = Sequence[Tuple[WayDrawing, Authority]]
-KEPT: Kept[Picture] = Kept(1 << 8)
+KEPT: Kept[Picture] = Kept(1 << 7)
 """Pictures of groups: on a line many say the same, but for their kilometres."""
 
 
@@ -88,18 +88,20 @@ def picture_of(
         for index, aspect in enumerate(group.aspects)
         if only in (None, aspect.name)
     ]
-    where, title = where or kilometres(group), group.name if titled else ""
+    where = where or kilometres(group)
     own = {number: forms[number] for number in dict.fromkeys(row.number for aspect, _ in shown for row in aspect.rows)}
 
-    def make(holes: Kilometres) -> Picture:
-        rows = [each for aspect, short in shown for each in _aspect(aspect, [aspect.name], own, short)]
-        drawn = _drawn(title, rows, holes)
-        return replace(drawn, shapes=Shared(drawn.shapes))
+    def make(place: Kilometres) -> Picture:
+        contents = [each for aspect, short in shown for each in _aspect(aspect, [aspect.name], own, short)]
+        drawn = _drawn(group.name if titled else "", contents, place)
+        return replace(drawn, shapes=Shared(drawn.shapes)) if isinstance(place, Holes) else drawn
 
+    if titled:  # (no other group has the same picture)
+        return _named(group.name, where, make(where))
     said = {number: _said(form) for number, form in own.items()}
-    aspects = [(one.name, *[said[row.number] for row in one.rows], *map(_of_finding, short)) for one, short in shown]
+    key = tuple((one.name, *[said[row.number] for row in one.rows], *map(_of_finding, short)) for one, short in shown)
     held = [form["packets"] for form in own.values()]
-    return _named(group.name, where, *KEPT.of((title, *aspects), held, where, make))
+    return _named(group.name, where, *KEPT.of(key, held, where, make))
 
 
 def _said(form: Form) -> Tuple[object, ...]:

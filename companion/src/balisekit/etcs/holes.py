@@ -7,12 +7,14 @@ from __future__ import annotations
 
 import re
 from dataclasses import dataclass, field
-from typing import Callable, Dict, Generic, Hashable, List, Match, Optional, Sequence, Tuple, TypeVar
+from typing import Callable, Dict, Generic, Hashable, List, Match, Optional, Sequence, Set, Tuple, TypeVar
 
 from balisekit.etcs.geometry import Kilometres, kilometre_of
 
 FIRST, MOST = 0xF0000, 0xFFFE
 """The letter of the first hole, and how many there are."""
+ASKED = 1 << 16
+"""So many keys are remembered that were asked for."""
 HOLE = re.compile("([\U000f0000-\U000ffffd])\\1*")
 Made = TypeVar("Made")
 
@@ -38,7 +40,7 @@ class Pattern:
     """A text with holes."""
 
     def __init__(self, text: str) -> None:
-        self._parts = HOLE.split(text)
+        self._parts = [text] if text.isascii() else HOLE.split(text)
         self._numbers = [ord(letter) - FIRST for letter in self._parts[1::2]]
 
     def filled(self, kilometres: Sequence[str]) -> str:
@@ -60,10 +62,15 @@ class _Known(Generic[Made]):
 
 
 class Kept(Generic[Made]):
-    """What was made for groups, by what decides it: a key, and how long each kilometre is that it has."""
+    """What was made for groups, by what decides it: a key, and how long each kilometre is that it has.
+
+    It is kept from the second time on that a key is asked for: on some lines none comes twice.
+    """
 
     def __init__(self, most: int) -> None:
         self._most = most
+        self._once: Set[int] = set()
+        """The hashes of keys that were asked for: if two are equal by chance, one is kept too early."""
         self._known: Dict[Hashable, _Known[Made]] = {}
 
     def of(
@@ -78,6 +85,8 @@ class Kept(Generic[Made]):
             return make(where), ()
         key = key, whole is None, where.rising
         known = self._known.get(key)
+        if known is None and self._is_first(hash(key)):
+            return make(where), ()
         if known is None:
             return self._new(key, held, where, make)
         texts = _texts(whole, known.places)
@@ -86,6 +95,15 @@ class Kept(Generic[Made]):
             return self._new(key, held, where, make)
         made, places = found
         return made, texts if places is known.places else _texts(whole, places)
+
+    def _is_first(self, number: int) -> bool:
+        """Whether a key of this hash is asked for the first time."""
+        if number in self._once:
+            return False
+        if len(self._once) >= ASKED:
+            self._once.clear()
+        self._once.add(number)
+        return True
 
     def _new(
         self, key: Hashable, held: object, where: Kilometres, make: Callable[[Kilometres], Made]
