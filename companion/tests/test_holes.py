@@ -4,7 +4,7 @@ from __future__ import annotations
 import json
 from decimal import Decimal
 from pathlib import Path
-from typing import Callable, Iterable, Iterator
+from typing import Any, Callable, Iterable, Iterator, List
 
 import picture_lines
 import pytest
@@ -31,7 +31,7 @@ def pages_of(program: Program, tmp_path: Path, monkeypatch: pytest.MonkeyPatch) 
     monkeypatch.setenv("SOURCE_DATE_EPOCH", "1700000000")
 
     def written(name: str) -> Iterator[str]:
-        rows = [
+        rows: List[Any] = [
             (f"{group} {place}", balise, f"{Decimal(str(km)) + Decimal(shift)}", *rest)
             for place, shift in enumerate(SHIFTS)
             for group, balise, km, *rest in picture_lines.LINES[name]()
@@ -97,9 +97,10 @@ def test_it_forgets(monkeypatch: pytest.MonkeyPatch) -> None:
         pattern, kilometres = kept.of(key, None, PLACE, _words)
         assert pattern.filled(kilometres) == "to 8.500, 9.500; 8.500" and len(vars(kept)["_known"]) <= 2
         assert len(vars(kept)["_once"]) <= 8
-    kept.of("d", None, PLACE, _words)
-    many, none = kept.of("d", None, PLACE, lambda place: [place.words(at, NOMINAL) for at in range(MOST + 1)])
-    assert not none and many[1:3] == ["9.4999", "9.4998"]
+    several: Kept[List[str]] = Kept(2)
+    for _ in range(3):
+        many, none = several.of("a", None, PLACE, lambda place: [place.words(at, NOMINAL) for at in range(MOST + 1)])
+        assert not none and many[1:3] == ["9.4999", "9.4998"]
 
 
 def test_a_hole_is_as_wide_as_a_kilometre() -> None:
