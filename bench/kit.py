@@ -11,8 +11,9 @@ gradients and speeds, 2,500 groups a track. The new release differs from the old
 Two commands check another table, whatever --rows is: sound lines of the tests, 10,000 groups in about 38,000 rows. The
 difference between these two is what the rules E take.
 
-All kits run with the Python that runs this script. Each line has the medians of all runs: seconds of the processor for balisekit and the program together, and the peak of
-memory of the larger process. Measure on an idle processor: other work makes both slower.
+All kits run with the Python that runs this script. Each line has the medians of all runs: seconds of the processor for
+balisekit and the program together, and the peak of memory of the larger process. Measure on an idle processor: other
+work makes both slower.
 """
 from __future__ import annotations
 
@@ -41,6 +42,8 @@ GROUPS = 10_000
 """Of the sound lines, at least."""
 APART = 1500
 """Metres from a group to the next one."""
+GRADIENTS = (2, -5, 0, 4, -3, 1)
+"""In per mille, each for 2 km."""
 COMMANDS: Dict[str, Sequence[str]] = {
     "--version": ["--version"],
     "check": ["check", "OLD.csv"],
@@ -78,16 +81,30 @@ def rows(groups: int, is_new: bool) -> Iterator[Row]:
     for number in range(groups):
         track, place = divmod(number, GROUPS_OF_TRACK)
         nid_c, nid_bg = identity(number)
-        signal = number % 6
         last = min((track + 1) * GROUPS_OF_TRACK, groups) - 1
-        for counter, (aspect, packets) in enumerate(line_table.aspects(signal, "ABDFGH"[signal]), 1):
+        for counter, (aspect, packets) in enumerate(aspects(place * APART), 1):
             faster = is_new and number % 20 == 0
-            packets = [{**one, "v_main": one["v_main"] + 1} if faster and "v_main" in one else one for one in packets]
+            packets = [{**one, "v_main": one["v_main"] + 1} if faster and one.get("v_main") else one for one in packets]
             for balise, content in enumerate((linking(number, last), packets)):
                 form = line_table.telegram(nid_bg, balise, 1, counter, *content)
                 km = f"{(place * APART + 3 * balise) / 1000:.3f}"
                 yield (f"Signal {number}", f"{number}.{balise}", km, f"T{track}", "rising", aspect, balise,
                        {**form, "nid_c": nid_c})
+
+
+def aspects(at: int, missing: int = 0) -> Iterator[Tuple[str, List[line_table.Form]]]:
+    """Each aspect with the packets of the switched balise, for a signal at this metre of its track.
+
+    Signals agree on gradients, speeds and ends. The gradients of green may end so many metres too soon.
+    """
+    line_table.GRADIENTS = tuple(
+        (block * 2000, GRADIENTS[block % len(GRADIENTS)]) for block in range(at // 2000, at // 2000 + 4)
+    )
+    line_table.SPEEDS = tuple((block * 6000, 100 + 20 * (block % 2)) for block in range(at // 6000, at // 6000 + 3))
+    for aspect, length, speed in (("red", 0, 0), ("yellow", APART, 120), ("green", 2 * APART, 160)):
+        reach = length + line_table.OVERLAP
+        gradients = line_table.gradients(at, reach - missing * (aspect == "green"))
+        yield aspect, [line_table.authority(length, speed), gradients, line_table.speeds(at, reach)]
 
 
 def sound_rows() -> Iterator[Row]:

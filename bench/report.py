@@ -24,7 +24,7 @@ import subprocess
 import tempfile
 import time
 from pathlib import Path
-from typing import Iterator, List, Sequence, Tuple
+from typing import Iterator, Sequence
 
 import kit
 from kit import line_table
@@ -32,8 +32,6 @@ from kit import line_table
 CHROMIUM = os.environ.get("CHROMIUM") or shutil.which("chromium")
 LEAST_ONLY = 10_000
 """From so many groups on, the report without rules over the meaning is measured too."""
-GRADIENTS = (2, -5, 0, 4, -3, 1)
-"""In per mille, each for 2 km."""
 OPTIONS = ("--headless", "--no-sandbox", "--disable-gpu", "--disable-dev-shm-usage", "--hide-scrollbars")
 
 
@@ -45,27 +43,13 @@ def rows(groups: int) -> Iterator[kit.Row]:
         last = min((track + 1) * kit.GROUPS_OF_TRACK, groups) - 1
         fixed = line_table.telegram(nid_bg, 0, 1, 255, *kit.linking(number, last))
         forms = [("*", 0, fixed)]
-        for counter, (aspect, packets) in enumerate(aspects(place * kit.APART, number % 15 == 4), 1):
+        aspects = kit.aspects(place * kit.APART, 100 * (number % 15 == 4))
+        for counter, (aspect, packets) in enumerate(aspects, 1):
             forms.append((aspect, 1, line_table.telegram(nid_bg, 1, 1, counter, *packets)))
         for aspect, balise, form in forms:
             km = f"{(place * kit.APART + 3 * balise) / 1000:.3f}"
             yield (f"Signal {number}", f"{number}.{balise}", km, f"T{track}", "rising", aspect, balise,
                    {**form, "nid_c": nid_c})
-
-
-def aspects(at: int, is_short: bool) -> Iterator[Tuple[str, List[line_table.Form]]]:
-    """Each aspect with the packets of the switched balise, for a signal at this metre of its track.
-
-    At some signals the gradients of green end too soon.
-    """
-    line_table.GRADIENTS = tuple(
-        (block * 2000, GRADIENTS[block % len(GRADIENTS)]) for block in range(at // 2000, at // 2000 + 4)
-    )
-    line_table.SPEEDS = tuple((block * 6000, 100 + 20 * (block % 2)) for block in range(at // 6000, at // 6000 + 3))
-    for aspect, length, speed in (("red", 0, 0), ("yellow", kit.APART, 120), ("green", 2 * kit.APART, 160)):
-        reach = length + line_table.OVERLAP
-        gradients = line_table.gradients(at, reach - 100 * (is_short and aspect == "green"))
-        yield aspect, [line_table.authority(length, speed), gradients, line_table.speeds(at, reach)]
 
 
 def make(path: Path, groups: int, program: kit.Program) -> None:

@@ -2,7 +2,10 @@
 from __future__ import annotations
 
 import hashlib
-from typing import Sequence
+from typing import Sequence, cast
+
+from balisekit.etcs.raw_packets import with_content
+from balisekit.etcs.variables import Form
 
 ONES = "f" * 38
 ALONE = f"a1007f802000ff{ONES}c0"
@@ -23,3 +26,9 @@ def digest(*findings: Sequence[str]) -> str:
     """The checksum of an entry about findings, each of them about these telegrams."""
     blocks = sorted("".join(f"{text.lower()}\n" for text in texts) for texts in findings)
     return hashlib.sha256("".join(blocks).encode()).hexdigest()
+
+
+def with_contents(form: Form) -> Form:
+    """A telegram or message in which each packet whose layout is known has its variables."""
+    from_track = form.get("nid_message") != 136
+    return cast(Form, {**form, "packets": [with_content(packet, from_track) for packet in form["packets"]]})

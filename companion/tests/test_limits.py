@@ -96,8 +96,8 @@ def releases(tmp_path_factory: pytest.TempPathFactory, program: Program) -> Call
     [
         (2000, 10_000, 15, ["links", "OLD"], "links: "),
         (500, 2000, 15, ["draw", "OLD", "--track", "--svg", "OUT"], ""),
-        (500, 2000, 28, ["report", "OLD", "--only", "F", "--html", "OUT"], 'program: "no: findings '),
-        (500, 2000, 40, ["report", "OLD", "--html", "OUT"], 'program: "no: findings '),
+        (500, 2000, 20, ["report", "OLD", "--only", "F", "--html", "OUT"], 'program: "no: findings '),
+        (500, 2000, 24, ["report", "OLD", "--html", "OUT"], 'program: "no: findings '),
         (500, 2000, 22, ["diff", "OLD", "NEW", "--html", "OUT"], "groups added 0, removed 0; "),
     ],
     ids=["links", "draw", "report of findings", "report", "diff"],
@@ -138,7 +138,7 @@ def test_10000_groups(
 
 @pytest.fixture(scope="module")
 def reported(great: Path, program: Program) -> Tuple[Path, bool]:
-    """The report on it, and whether it is made in less than 20 seconds."""
+    """The report on it, and whether it is made in less than 10 seconds."""
     pytest.importorskip("jinja2")
     page = great.with_name("report.html")
 
@@ -146,12 +146,12 @@ def reported(great: Path, program: Program) -> Tuple[Path, bool]:
         status, out = _run(_words(program, "report", great, "--force", "--html", page))
         assert status == 1 and out[-1].startswith('program: "no: findings ')
 
-    return page, is_within(20, report)
+    return page, is_within(10, report)
 
 
 @pytest.mark.slow
 def test_a_report_of_1000_groups(reported: Tuple[Path, bool]) -> None:
-    """In less than 20 seconds, with a picture for each group."""
+    """In less than 10 seconds, with a picture for each group."""
     page, is_made_in_time = reported
     assert page.read_text("utf-8").count('<svg class="picture"') == GROUPS
     assert is_made_in_time

@@ -16,7 +16,7 @@ from balisekit.etcs.flat import Variable, variables
 from balisekit.etcs.geometry import Kilometres
 from balisekit.etcs.places import Here, here_alone
 from balisekit.etcs.raw_layouts import CERTAIN, Layout, layout_of, layouts, objects
-from balisekit.etcs.raw_packets import content_of, fault_of, fields_of, with_contents
+from balisekit.etcs.raw_packets import content_of, fault_of, fields_of, with_content
 from balisekit.etcs.variables import Around, Form, in_order, value_words, variable_name
 from balisekit.present.telegram_text import text
 
@@ -574,11 +574,11 @@ def test_packets_that_come_and_go() -> None:
     ]
 
 
-def test_forms_without_raw_packets_are_as_they_were() -> None:
-    form = telegram()
-    assert with_contents(form) is form
-    raw = telegram(packet(66, spelled("3/8")))
-    assert with_contents(raw, False)["packets"] == [{"nid_packet": 66, "q_dir": 1, "l_packet": 31, "nid_tsr": 3}]
+def test_packets_that_the_program_reads_are_as_they_were() -> None:
+    own: Form = {"nid_packet": 0, "nid_vbcmk": 1}
+    assert with_content(own) is own
+    raw = with_content(packet(66, spelled("3/8")), keeps_body=False)
+    assert raw == {"nid_packet": 66, "q_dir": 1, "l_packet": 31, "nid_tsr": 3}
 
 
 TSR = "1/2 3/8 500/15 300/15 0/1 {}/7"

@@ -12,13 +12,12 @@ from typing import Any, List
 import pytest
 from cases_of_program import CASES, EXAMPLES, TOP, value_at
 from conftest import Run
-from telegrams import ALONE, OTHER, SPARE
+from telegrams import ALONE, OTHER, SPARE, with_contents
 
 from balisekit.cli import main as cli
 from balisekit.errors import NoAnswer
 from balisekit.etcs.geometry import Kilometres
 from balisekit.etcs.places import Here
-from balisekit.etcs.raw_packets import with_contents
 from balisekit.present.bit_table import bit_lines
 from balisekit.present.telegram_text import WIDTH, form_lines, text
 from balisekit.rules import checking

@@ -10,11 +10,10 @@ from typing import Any, Callable, Dict, List, Tuple
 import pytest
 from cases_of_program import CASES, EXAMPLES, TOP, value_at
 from conftest import Run
-from telegrams import ALONE, FAULTY, FIRST, OTHER, SECOND
+from telegrams import ALONE, FAULTY, FIRST, OTHER, SECOND, with_contents
 
 from balisekit.compare.sheet import COLUMNS, same
 from balisekit.etcs.flat import variables
-from balisekit.etcs.raw_packets import with_contents
 
 Write = Callable[..., Path]
 LINE = TOP / "examples" / "links" / "line.csv"

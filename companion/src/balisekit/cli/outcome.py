@@ -43,8 +43,11 @@ def stated(options: argparse.Namespace) -> Options:
     return line
 
 
-def outcome(options: argparse.Namespace, line: Options, now: datetime) -> Outcome:
-    """What the rules find in such a line, and what was accepted on this day if there is a file of entries."""
+def outcome(options: argparse.Namespace, line: Options, now: datetime, keep: bool = False) -> Outcome:
+    """What the rules find in such a line, and what was accepted on this day if there is a file of entries.
+
+    `keep` is for those who need all telegrams themselves.
+    """
     began = time.perf_counter()
     entries = accepted.read(options.accepted) if options.accepted else None
     program, table, messages = shared.inputs(options)
@@ -52,5 +55,7 @@ def outcome(options: argparse.Namespace, line: Options, now: datetime) -> Outcom
     if all(FAMILIES[letter].needs_kilometres for letter in asked):
         shared.refuse_without_kilometres(table)
     checked = checking.check(program, table, messages, options.by_position, options.all)
+    if keep:
+        checked.accepted.keep()
     signed = (entries, now.date()) if entries else None
     return apply(checked, asked, line, signed, began)

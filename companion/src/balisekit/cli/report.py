@@ -35,7 +35,7 @@ def add_options(parser: argparse.ArgumentParser) -> None:
 def run(options: argparse.Namespace) -> int:
     """Does it. The answer is the exit status."""
     now, of_line, heading = clock.now(), stated(options), settings.heading(options)
-    outcome = outcome_of(options, of_line, now)
+    outcome = outcome_of(options, of_line, now, keep=True)
     check_aspect(outcome.checked.table, options.aspect)
     command = clean(shlex.join(_command(options)))
     page = report_page(outcome, _links(outcome, of_line), heading, command, now, options.aspect, options.full)

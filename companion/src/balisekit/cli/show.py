@@ -156,7 +156,7 @@ class _Shown:
         """The lines of a telegram or message. Those of a refused one end with the program's words."""
         if isinstance(answer, Refusal):
             return [f"{heading}: {sentence(digits, answer)}", f"    program: {answer.text}"]
-        form = answer.form
+        form = answer.shared
         lines = bit_lines(digits, form) if self.options.bits else text(form, here(form)).split("\n")
         return [heading, *lines]
 

@@ -4,7 +4,7 @@ Metres from the group lead to the right in nominal direction, and to the left in
 """
 from __future__ import annotations
 
-from dataclasses import dataclass
+from dataclasses import dataclass, replace
 from functools import lru_cache
 from itertools import chain, count, zip_longest
 from typing import Dict, Iterator, List, Mapping, Optional, Sequence, Tuple
@@ -21,12 +21,15 @@ from balisekit.drawing.profiles import (
     short_profiles,
     speed_top,
 )
+from balisekit.drawing.repeated import Repeated, Shared
 from balisekit.drawing.sheet import EDGE, EDGES, LEFT, ROOM, WIDTH, Lane, Picture, Rows, Shape, Sheet, tenths
 from balisekit.drawing.words import Describe, area_words, ends, place_words, speed_words, summary
 from balisekit.engine.grammar import Finding
+from balisekit.etcs import areas
 from balisekit.etcs.areas import Area
 from balisekit.etcs.geometry import (
     DIRECTIONS,
+    INFILL,
     NOMINAL,
     REVERSE,
     Authority,
@@ -37,6 +40,7 @@ from balisekit.etcs.geometry import (
     kilometres,
     way,
 )
+from balisekit.etcs.holes import Holes, Kept
 from balisekit.etcs.variables import Form, metres
 from balisekit.tables.model import Aspect, Group
 from balisekit.tables.names import NAMED, clean, listed, quoted
@@ -50,7 +54,11 @@ PROFILES = ((27, "speed, km/h", 58), (21, "gradient, ‰", 20))
 MISSING_HEIGHT, BAR = 20, Lane(12, 14)
 SIZES = Sizes(speed=46, end=4, supervised=10, has_words=True)
 NOTHING = "no authority, gradient or speed profile"
+DRAWN = frozenset((INFILL, 12, 15, 21, 27, 41, *areas.DRAWN))
+"""The packets on which a picture depends."""
 Drawn = Sequence[Tuple[WayDrawing, Authority]]
+KEPT: Kept[Picture] = Kept(1 << 7)
+"""Pictures of groups: on a line many say the same, but for their kilometres."""
 
 
 @dataclass(frozen=True)
@@ -69,16 +77,43 @@ def picture_of(
     findings: Sequence[Finding],
     titled: bool = False,
     only: Optional[str] = None,
+    where: Optional[Kilometres] = None,
 ) -> Picture:
     """The picture of a group whose telegrams the program has read, in all aspects or only one.
 
-    A picture by itself has a title.
+    A picture by itself has a title. `where` has the kilometres of the group, if they are known already.
     """
-    contents: List[Content] = []
-    for index, aspect in enumerate(group.aspects):
-        if only in (None, aspect.name):
-            contents += _aspect(aspect, [aspect.name], forms, short_profiles(findings, index))
-    return draw(group.name, contents, kilometres(group), titled)
+    shown = [
+        (aspect, short_profiles(findings, index))
+        for index, aspect in enumerate(group.aspects)
+        if only in (None, aspect.name)
+    ]
+    where = where or kilometres(group)
+    own = {number: forms[number] for number in dict.fromkeys(row.number for aspect, _ in shown for row in aspect.rows)}
+
+    def make(place: Kilometres) -> Picture:
+        contents = [each for aspect, short in shown for each in _aspect(aspect, [aspect.name], own, short)]
+        drawn = _drawn(group.name if titled else "", contents, place)
+        return replace(drawn, shapes=Shared(drawn.shapes)) if isinstance(place, Holes) else drawn
+
+    if titled:  # (no other group has the same picture)
+        return _named(group.name, where, make(where))
+    said = {number: _said(form) for number, form in own.items()}
+    key = tuple((one.name, *[said[row.number] for row in one.rows], *map(_of_finding, short)) for one, short in shown)
+    held = [form["packets"] for form in own.values()]
+    return _named(group.name, where, *KEPT.of(key, held, where, make))
+
+
+def _said(form: Form) -> Tuple[object, ...]:
+    """What a picture has of a telegram."""
+    packets = form["packets"]
+    own = [(place, id(packet)) for place, packet in enumerate(packets) if packet["nid_packet"] in DRAWN]
+    return (form.get("m_dup"), *own)
+
+
+def _of_finding(short: Finding) -> Tuple[object, ...]:
+    """What a picture has of a finding."""
+    return short.rule, short.direction, short.balise, short.packet
 
 
 def pictures_of(
@@ -128,12 +163,25 @@ def _contents(title: str, forms: Sequence[Form], short: Sequence[Finding]) -> Li
 
 def draw(title: str, contents: Sequence[Content], where: Kilometres, titled: bool = False) -> Picture:
     """The picture of a group: a row for each content, below the title if it is to be seen."""
+    return _named(title, where, _drawn(title if titled else "", contents, where))
+
+
+def _named(title: str, where: Kilometres, drawn: Picture, texts: Sequence[str] = ()) -> Picture:
+    """The picture of a group of this name and kilometre, with the texts for its holes."""
+    km, name, shapes = where.words(0, NOMINAL), clean(title), drawn.shapes
+    description = ". ".join(filter(None, [f"{name}, km {km}" if km else name, drawn.description]))
+    shapes = Repeated(shapes, texts) if isinstance(shapes, Shared) else shapes
+    return Picture(name, drawn.height, shapes, drawn.width, description)
+
+
+def _drawn(title: str, contents: Sequence[Content], where: Kilometres) -> Picture:
+    """What draws a picture without its name: its title is to be seen if there is one."""
     rows = [(content, [way(content.forms, each, content.infill) for each in DIRECTIONS]) for content in contents]
     nominal, reverse = (
         max((place for _, ways in rows for place in places(ways[index])), default=0) for index in range(2)
     )
     sheet = Sheet(-reverse, max(nominal, 1000 - reverse))
-    if titled:
+    if title:
         sheet.short("title", clean(title), EDGE, 20, WIDTH * 10 - 2 * EDGE)
         sheet.y = 28
     own, elsewhere = ([_describing(known, each) for each in DIRECTIONS] for known in (where, Kilometres()))
@@ -151,15 +199,14 @@ def draw(title: str, contents: Sequence[Content], where: Kilometres, titled: boo
         sheet.path("group", "the infill's group" * content.infill, f"M{tenths(sheet.x(0))} {begin}V{sheet.y + 4}")
         if content.infill or index == last:
             _axis(sheet, Kilometres() if content.infill else where)
-    return sheet.picture(clean(title), 6, _description(title, rows, where))
+    return sheet.picture("", 6, _description(rows))
 
 
-def _description(title: str, rows: Sequence[Tuple[Content, Sequence[Way]]], where: Kilometres) -> str:
+def _description(rows: Sequence[Tuple[Content, Sequence[Way]]]) -> str:
     """What the picture shows, for those who do not see it: authorities by row, and what all rows have together."""
-    km = where.words(0, NOMINAL)
     authorities = [f"{clean(content.title)}: {_authority_words(content, ways)}" for content, ways in rows]
     whole = summary([each for _, ways in rows for each in ways], metres)
-    return ". ".join(filter(None, [clean(title) + (f", km {km}" if km else ""), *authorities, whole]))
+    return ". ".join(filter(None, [*authorities, whole]))
 
 
 def _authority_words(content: Content, ways: Sequence[Way]) -> str:

@@ -5,6 +5,8 @@ from functools import lru_cache
 from typing import Dict, Mapping, NamedTuple, Tuple
 from unicodedata import normalize
 
+from balisekit.etcs.holes import HOLE, as_kilometre
+
 PRINTABLE = "".join(map(chr, range(32, 127)))
 
 
@@ -86,6 +88,7 @@ def advance(text: str, is_bold: bool) -> int:
     try:
         return sum(map(known.__getitem__, text))
     except KeyError:
+        text = HOLE.sub(as_kilometre, text)
         return sum(known.get(letter) or known.get(normalize("NFD", letter)[0]) or _other(letter) for letter in text)
 
 

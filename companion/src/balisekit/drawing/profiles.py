@@ -119,6 +119,11 @@ class WayDrawing:
         """Where a place of the way is on the sheet."""
         return self.origin + self.sign * place
 
+    def _is_beyond(self, *places: int) -> bool:
+        """Whether the sheet shows nothing of what is between these places: a page of a track has parts of bands."""
+        near, far = map(self.at, places)
+        return max(near, far) < self.sheet.least or min(near, far) > self.sheet.greatest
+
     def _titled(self, title: str) -> str:
         return f"{title}, {self.whose}" if self.whose else title
 
@@ -143,6 +148,8 @@ class WayDrawing:
         name = "speed profile" if is_speed else "gradient profile"
         for element in profile.elements:
             end = open_end(self.way) if element.end is None else element.end
+            if self._is_beyond(element.begin, end):
+                continue
             to = " on: an open profile" if element.end is None else f" to {describe(end)}"
             where = f"from {describe(element.begin)}{to}"
             if is_speed:

@@ -45,7 +45,7 @@ class Picture:
 
     title: str
     height: int
-    shapes: Tuple[Shape, ...]
+    shapes: Iterable[Shape]
     width: int = WIDTH
     description: str = ""
     """What the picture shows, in a few sentences, for those who do not see it."""

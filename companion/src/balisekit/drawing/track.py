@@ -60,7 +60,8 @@ def track_pictures(
     places: those of other tracks are passed over.
     """
     for page in pages(line, links, track, aspect, flags(marks, track)):
-        placed = [_placed(page, band) for band in page.bands]
+        scale = Sheet(page.begin, page.end)
+        placed = [_placed(scale, band) for band in page.bands]
         parts, top_speed = _parts(_lanes(placed)), speed_top([band.way for band in page.bands])
         for number, part in enumerate(parts, 1):
             title = f"track {clean(track)}, " * bool(track) + f"km {page.begin // 10_000} to {page.end // 10_000}"
@@ -114,9 +115,8 @@ class Placed(NamedTuple):
     band: Band
 
 
-def _placed(page: Page, band: Band) -> Placed:
+def _placed(scale: Sheet, band: Band) -> Placed:
     """The room of a band. Its name begins at the group, on the side to which it runs, or at the edge of the page."""
-    scale = Sheet(page.begin, page.end)
     words = shortened("", band.label, NAME) + ("" if scale.shows(band.at) else f", from {at_km(band.at)}")
     findings = width("red", band.findings) + SPACE if band.findings else 0
     wide = ARROW + width("", words) + findings
@@ -126,7 +126,7 @@ def _placed(page: Page, band: Band) -> Placed:
     for area in band.way.areas:
         end = open_end(band.way) if area.end is None else area.end
         far = band.at + band.sign * end
-        if page.begin <= far <= page.end:
+        if scale.shows(far):
             room = width("", area.words) + 60
             left, right = min(left, scale.x(far) - room * (band.sign < 0)), max(
                 right, scale.x(far) + room * (band.sign > 0)
@@ -172,8 +172,9 @@ def _groups(sheet: Sheet, page: Page, first: bool) -> None:
     sheet.y += max(highest + 24, 32 * bool(page.flags), 18) if first else 18
     written: Set[Tuple[Tuple[int, int], str]] = set()
     for arc in page.arcs if first else ():
-        _arc(sheet, arc, (arc.edges, _distance(arc)) not in written)
-        written.add((arc.edges, _distance(arc)))
+        said = arc.edges, _distance(arc)
+        _arc(sheet, arc, said not in written)
+        written.add(said)
     places = range(sheet.least, sheet.greatest + 1, TICK)
     sheet.axis("kilometres", places)
     for x, is_broken in (

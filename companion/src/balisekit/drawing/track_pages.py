@@ -14,7 +14,7 @@ from typing import Callable, Dict, Iterator, List, Optional, Sequence, Set, Tupl
 from balisekit.drawing.flags import Flag
 from balisekit.drawing.profiles import gap, gap_label, places, short_profiles
 from balisekit.engine.grammar import Finding
-from balisekit.etcs.geometry import DIRECTIONS, Way, end_of, infill, kilometre_of, passed, way
+from balisekit.etcs.geometry import DIRECTIONS, Way, end_of, has_infill, infill, kilometre_of, passed, way
 from balisekit.etcs.variables import Around, Form, value_words
 from balisekit.rules.line import Line
 from balisekit.rules.links import Links
@@ -148,6 +148,8 @@ def shown_words(aspect: Optional[str], each: str = "each group") -> str:
 def _read_aspects(station: BaliseGroup) -> Sequence[Aspect]:
     """The aspects of a group whose telegrams the program has read."""
     aspects = station.group.aspects
+    if not station.unread:
+        return aspects
     return [one for one in aspects if not any(row.number in station.unread for row in one.rows)]
 
 
@@ -172,6 +174,9 @@ def _forms(form_of: FormOf, aspect: Aspect) -> List[Form]:
 def _farthest(forms: Sequence[Form]) -> int:
     """The farthest end of authority of an aspect in either direction; -1 if it has none."""
     ends = [-1]
+    if not has_infill(forms) and not any(form["m_dup"] for form in forms):  # (as most are: then each packet counts)
+        packets = (packet for form in forms for packet in form["packets"] if packet["nid_packet"] in (12, 15))
+        return max(map(end_of, packets), default=-1)
     for direction in DIRECTIONS:
         elsewhere = infill(forms, direction)
         ends += [

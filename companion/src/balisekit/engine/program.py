@@ -17,6 +17,7 @@ from balisekit.engine import find_program, grammar, records
 from balisekit.engine.grammar import Finding, Refusal, Verdict
 from balisekit.engine.records import Form
 from balisekit.engine.run import HANDSHAKE_LIMIT, Limit, Run
+from balisekit.engine.shared import shared
 from balisekit.errors import NoAnswer
 
 FEW = 16
@@ -55,6 +56,11 @@ class Record(NamedTuple):
         """The object of the line."""
         form: Form = json.loads(self.line)
         return form
+
+    @property
+    def shared(self) -> Form:
+        """The object of the line, which nobody changes: equal packets of several records are one object."""
+        return shared(self.line)
 
 
 class Text(NamedTuple):

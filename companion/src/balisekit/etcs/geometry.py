@@ -121,12 +121,23 @@ class Kilometres:
         place = Decimal() if self.group is None else self.group.scaleb(4)
         return int(place) if abs(place) < GREATEST and place == int(place) else None
 
+    @property
+    def whole(self) -> Optional[int]:
+        """The kilometre of the group in decimetres, if it is known and that is a whole number."""
+        return None if self.group is None else self._whole
+
     def words(self, place_dm: int, direction: str) -> str:
         """The kilometre of a place as it is written, or nothing if it is not known."""
         if self.group is None or (self.rising is None and place_dm != 0):
             return ""
-        whole, along = self._whole, place_dm if (self.rising != -1) == (direction == NOMINAL) else -place_dm
-        return kilometre(self.group + Decimal(along).scaleb(-4)) if whole is None else kilometre_of(whole + along)
+        return self.at(place_dm if (self.rising != -1) == (direction == NOMINAL) else -place_dm)
+
+    def at(self, along: int) -> str:
+        """The kilometre of a place so far up the kilometres from the group, whose kilometre is known."""
+        whole = self._whole
+        if whole is None:
+            return kilometre((self.group or Decimal()) + Decimal(along).scaleb(-4))
+        return kilometre_of(whole + along)
 
 
 @lru_cache(maxsize=1 << 14)

@@ -114,15 +114,6 @@ def here_alone(form: Form, where: Kilometres = Kilometres()) -> Here:
     return Here(where, _passages([("", [(0, form)])]).get(0, {}))
 
 
-def place_notes(form: Form, here: Here) -> Dict[str, str]:
-    """What balisekit works out of a telegram or a message 3, by the path of the object that it is about."""
-    return {
-        f"/packets/{index}{path}": note
-        for index, packet in enumerate(form["packets"])
-        for path, note in here.notes(index, packet).items()
-    }
-
-
 def _notes(packet: Form, origin: Origin, place: Place) -> Dict[str, str]:
     """The notes of a packet whose distances have this origin. A raw packet needs a certain layout that it fits."""
     packet = fields_of(packet) or packet
@@ -300,14 +291,19 @@ PLACES: Mapping[int, Callable[[Form], Iterator[Tuple[str, int]]]] = {
 """The places of each kind of packet in decimetres from the group, by the path of what is there."""
 
 
-def places_of_rows(group: Group, forms: Mapping[int, Form]) -> Dict[int, Here]:
-    """From where the distances of each row count, by the row's number, in the order of the table."""
-    where, numbers = kilometres(group), sorted({row.number for row in group.rows()})
+def places_of_rows(group: Group, forms: Mapping[int, Form], where: Optional[Kilometres] = None) -> Dict[int, Here]:
+    """From where the distances of each row count, by the row's number, in the order of the table.
+
+    `where` has the kilometres of the group, if they are known already.
+    """
+    where, numbers = where or kilometres(group), sorted(group.places)
     passages: Mapping[int, Mapping[int, Sequence[Passage]]] = {}
     if not all(number in forms and not geometry.has_infill([forms[number]]) for number in numbers):
         passages = _passages(
             [(aspect.name, [(row.number, forms.get(row.number)) for row in aspect.rows]) for aspect in group.aspects]
         )
+    if not passages:
+        return dict.fromkeys(numbers, Here(where))
     return {number: Here(where, passages.get(number, {})) for number in numbers}
 
 

@@ -90,25 +90,6 @@ def layout_words(packet: Form, from_track: bool = True) -> str:
     return "" if layout is None else "balisekit's own layout" if layout.is_certain else "layout not certain"
 
 
-def content_notes(form: Form) -> Dict[str, str]:
-    """By which layout each body was read, and how far it fits, by the path of the body."""
-    from_track = form.get("nid_message") != 136
-    contents = (content_of(packet, from_track) for packet in form["packets"])
-    return {f"/packets/{place}/body": content.words for place, content in enumerate(contents) if content}
-
-
-def with_contents(form: Form, keeps_bodies: bool = True) -> Form:
-    """A telegram or message in which each packet whose layout is known has its variables.
-
-    Without `keeps_bodies`, a body is left out if each of its bits belongs to a variable.
-    """
-    if not any("body" in packet for packet in form["packets"]):
-        return form
-    from_track = form.get("nid_message") != 136
-    packets = [with_content(packet, from_track, keeps_bodies) for packet in form["packets"]]
-    return cast(Form, {**form, "packets": packets})
-
-
 def with_content(packet: Form, from_track: bool = True, keeps_body: bool = True) -> Form:
     """The packet with the variables of its body, if its layout is known."""
     content = content_of(packet, from_track)

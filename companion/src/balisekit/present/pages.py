@@ -44,6 +44,9 @@ def _read(name: str) -> str:
 @lru_cache(maxsize=None)
 def _environment(jinja2: Any) -> Any:
     """The templates. Each is compiled once, since a folder may have thousands of pictures."""
+    from markupsafe import Markup
+
+    from balisekit.drawing.repeated import written
     from balisekit.drawing.svg import svg
 
     environment = jinja2.Environment(
@@ -53,7 +56,7 @@ def _environment(jinja2: Any) -> Any:
         trim_blocks=True,
         lstrip_blocks=True,
     )
-    environment.filters.update(svg=svg, clean=clean)
+    environment.filters.update(svg=lambda shapes, *how: Markup(written(shapes, svg, *how)), clean=clean)
     return environment
 
 

@@ -1,20 +1,19 @@
 """What the body of a report is made of: what each family of rules finds, and a block for each group and message."""
 from __future__ import annotations
 
-from itertools import groupby
 from typing import Dict, Iterable, Iterator, List, Mapping, NamedTuple, Optional, Sequence, Set, Tuple
 
 from balisekit.drawing.group import picture_of, picture_of_message
 from balisekit.drawing.sheet import Picture
 from balisekit.engine.grammar import Finding
 from balisekit.engine.records import Form
-from balisekit.etcs.geometry import kilometre
+from balisekit.etcs.geometry import Kilometres, kilometre
 from balisekit.etcs.places import Here, Identities, places_of_rows
 from balisekit.present import headings
 from balisekit.present.accepted_text import accepted_words
 from balisekit.present.outcome_text import behind
 from balisekit.present.refusals import RefusedInput, refused
-from balisekit.present.telegram_text import form_lines, text, text_of
+from balisekit.present.telegram_text import parts
 from balisekit.rules.accepted import Acceptance
 from balisekit.rules.checking import AcceptedMessage, Checked
 from balisekit.rules.entries import Entry, track_of
@@ -24,8 +23,6 @@ from balisekit.rules.location import BaliseGroup
 from balisekit.tables.model import Group
 from balisekit.tables.names import clean, describe_balise, describe_group, describe_message, describe_rows, rows_words
 
-AT_ONCE = 250
-"""So many groups are decoded at once."""
 LINKED = 8
 """So many rows of an entry have a link."""
 
@@ -198,32 +195,19 @@ def blocks(checked: Checked, line: Line, found: Iterable[Listed]) -> Iterator[Bl
         by_block.setdefault(each.block, []).append(each)
     left_out = {left_out.group.name: clean(left_out.why) for left_out in checked.left_out}
     items = {item.id: item for item in refused(checked)}
-    for group, station, forms in _decoded(checked, line):
+    for group, station in zip(line.directed, line.groups):
+        numbers = dict.fromkeys(row.number for row in group.rows())
+        forms = {number: checked.accepted[number] for number in numbers if number in checked.accepted}
         entries, why = by_block.get(f"g{station.number}", []), left_out.get(group.name, "")
         yield _block(group, station, forms, entries, items)._replace(left_out=why)
     if checked.accepted_messages:
-        heads = [group.aspects[0].rows[0].number for group in line.directed]
-        known = checked.accepted.decoded([number for number in heads if number in checked.accepted])
-        identities = Identities(line.directed, {row.number: record.form for row, record in known})
+        identities = Identities(line.directed, checked.accepted)
     for message in checked.accepted_messages:
         yield _message(message, by_block.get(f"m{message.message.number}", []), identities)
     for bad in checked.refused_messages:
         item, heading = items[f"m{bad.message.number}"], f"message of {describe_message(bad.message)}"
         telegram = Telegram("", item.sentence, clean(bad.message.text), refused=item.program)
         yield Block(item.id, heading, "", "", "", "", "refused", "", (), None, (), [telegram])
-
-
-def _decoded(checked: Checked, line: Line) -> Iterator[Tuple[Group, BaliseGroup, Mapping[int, Form]]]:
-    """Each group with its telegrams. Only some groups are decoded at once, since all telegrams take much memory."""
-    pairs = list(zip(line.directed, line.groups))
-    for begin in range(0, len(pairs), AT_ONCE):
-        some = pairs[begin : begin + AT_ONCE]
-        numbers = {row.number for group, _ in some for row in group.rows()}
-        records = checked.accepted.decoded(sorted(number for number in numbers if number in checked.accepted))
-        known = {row.number: record for row, record in records}
-        for group, station in some:
-            own = dict.fromkeys(row.number for row in group.rows())
-            yield group, station, {number: known[number].form for number in own if number in known}
 
 
 def _block(
@@ -234,7 +218,8 @@ def _block(
     items: Mapping[str, RefusedInput],
 ) -> Block:
     """The block of a group."""
-    picture = None if station.unread else picture_of(group, forms, _findings(entries))
+    where = Kilometres(station.km, station.rising)
+    picture = None if station.unread else picture_of(group, forms, _findings(entries), where=where)
     packets = sorted({packet["nid_packet"] for form in forms.values() for packet in form["packets"]})
     return Block(
         f"g{station.number}",
@@ -248,7 +233,7 @@ def _block(
         [clean(aspect.name) for aspect in group.aspects],
         picture,
         entries,
-        list(_telegrams(group, forms, items, _marked(entries))),
+        list(_telegrams(group, forms, places_of_rows(group, forms, where), items, _marked(entries))),
         packets,
     )
 
@@ -274,11 +259,15 @@ def _message(item: AcceptedMessage, entries: Sequence[Listed], identities: Ident
 
 
 def _telegrams(
-    group: Group, forms: Mapping[int, Form], items: Mapping[str, RefusedInput], marked: Set[str]
+    group: Group,
+    forms: Mapping[int, Form],
+    places: Mapping[int, Here],
+    items: Mapping[str, RefusedInput],
+    marked: Set[str],
 ) -> Iterator[Telegram]:
     """Each row once, in the order of the table."""
     rows = {row.number: row for row in group.rows()}
-    for number, here in places_of_rows(group, forms).items():
+    for number, here in places.items():
         row, id = rows[number], f"r{number}"
         n_pig = forms[number]["n_pig"] if number in forms else None
         heading, digits = describe_balise(group, row, n_pig), clean(row.telegram)
@@ -292,13 +281,15 @@ def _telegrams(
 
 def _texts(form: Form, here: Here, id: str, marked: Set[str]) -> List[Text]:
     """A telegram or message in words, the packets apart that are marked."""
-
-    def mark(path: str) -> str:
-        packet = path.split("/")[2] if path.startswith("/packets/") else ""
-        return packet_id(id, int(packet)) if packet else ""
-
     if not marked:
-        return [Text(f"{text(form, here)}\n")]
-    lines = ((mark(line.path), text_of(line)) for line in form_lines(form, here))
-    of_packets = groupby(lines, lambda each: each[0] if each[0] in marked else "")
-    return [Text("".join(f"{text}\n" for _, text in some), name) for name, some in of_packets]
+        return [Text("".join(parts(form, here)))]
+    found: List[Text] = []
+    for place, words in enumerate(parts(form, here), -1):  # (the head is before packet 0)
+        name = packet_id(id, place)
+        if name in marked:
+            found.append(Text(words, name))
+        elif found and not found[-1].id:
+            found[-1] = Text(found[-1].text + words)
+        else:
+            found.append(Text(words))
+    return found

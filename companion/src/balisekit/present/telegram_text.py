@@ -5,21 +5,22 @@ and so are the variables of packets that the program keeps as bits.
 """
 from __future__ import annotations
 
-import marshal
 import textwrap
 from functools import lru_cache
-from typing import List, NamedTuple, Sequence, Tuple, Union
+from typing import Callable, Dict, Iterator, List, Mapping, NamedTuple, Sequence, Tuple, Union
 
-from balisekit.etcs.places import Here, place_notes
-from balisekit.etcs.raw_packets import content_notes, with_contents
+from balisekit.etcs.geometry import Kilometres
+from balisekit.etcs.holes import Kept, Pattern
+from balisekit.etcs.places import Here
+from balisekit.etcs.raw_packets import content_of, with_content
 from balisekit.etcs.variables import LABELS, WORDS, Around, Form, Values, in_order, value_texts
 
 WIDTH = 118
 LABEL_WIDTH = 22
 END_SECTION = "l_endsection"
 """What follows it in an authority belongs to its end section."""
-MARSHAL = 2
-"""The last format of `marshal` in which equal objects always have the same bytes."""
+KEPT: Kept[Pattern] = Kept(1 << 12)
+"""Packets in words: many telegrams of a line have the same ones."""
 LEGEND = (
     "Raw values are in square brackets. Packets and their items are counted from 0, as in the program's lines. "
     "What follows a = is worked out by balisekit: places are sums of distances, counted from the group."
@@ -59,12 +60,30 @@ class Line(NamedTuple):
 
 def form_lines(form: Form, here: Here = Here()) -> List[Line]:
     """The lines of a telegram, or of a radio message."""
-    around = Around(from_track=form.get("nid_message") != 136)
-    notes = {**(place_notes(form, here) if around.from_track else {}), **content_notes(form)}
-    label = "message" if "nid_message" in form else "header"
+    lines, from_track = _head_lines(form), form.get("nid_message") != 136
+    for place, packet in enumerate(form["packets"]):
+        found, notes = _packet_lines(place, packet, here, from_track)
+        lines += [line._replace(note=notes[line.anchor]) if line.anchor in notes else line for line in found]
+    return lines
+
+
+def _head_lines(form: Form) -> List[Line]:
+    """The lines of what is before the packets."""
+    head = {key: value for key, value in form.items() if key != "packets"}
     lines = _Lines()
-    lines.add(label, 0, with_contents(form), "", around)
-    return [Line(*line[:-1], notes[line.anchor]) if line.anchor in notes else line for line in lines.found]
+    lines.add("message" if "nid_message" in form else "header", 0, head, "", Around())
+    return lines.found
+
+
+def _packet_lines(place: int, packet: Form, here: Here, from_track: bool) -> Tuple[List[Line], Dict[str, str]]:
+    """The lines of a packet, and notes by their anchors. Distances from train to track count from no group."""
+    content, path = content_of(packet, from_track), f"/packets/{place}"
+    notes = here.notes(place, packet) if from_track else {}
+    notes.update({"/body": content.words} if content else {})
+    lines = _Lines()
+    label, around = f"{LABELS['packets']} {place}", Around(from_track=from_track)
+    lines.add(label, 1, with_content(packet, from_track), path, around)
+    return lines.found, {f"{path}{own}": note for own, note in notes.items()}
 
 
 @lru_cache(maxsize=1024)
@@ -108,9 +127,6 @@ class _Lines:
         if isinstance(value, list):
             for place, item in enumerate(value):
                 item = item if isinstance(item, dict) else {name: item}
-                if where == "/packets":
-                    self.found += _packet_lines(place, marshal.dumps(item, MARSHAL), around.from_track)
-                    continue
                 self.add(f"{name} {place}", depth, item, f"{where}/{place}", around)
         elif isinstance(value, dict):
             self.add(name, depth, value, where, around)
@@ -118,22 +134,12 @@ class _Lines:
             self.found.append(Line(depth, "", path, (part,), form, value_texts((part,), form, around), where))
 
 
-@lru_cache(maxsize=1 << 11)
-def _packet_lines(place: int, packet: bytes, from_track: bool) -> List[Line]:
-    """The lines of a packet, without notes. Many telegrams of a line have the same packets, so they are kept."""
-    lines = _Lines()
-    lines.add(
-        f"{LABELS['packets']} {place}", 1, marshal.loads(packet), f"/packets/{place}", Around(from_track=from_track)
-    )
-    return lines.found
-
-
-def text_of(line: Line) -> str:
+def _text_of(line: Line, note: str) -> str:
     """The line as text, broken where it is too long. A break never parts a name from its raw value."""
     words, length = _broken(line.depth, line.label, tuple(line.texts))
-    if not line.note:
+    if not note:
         return words
-    note, indent = f"= {line.note}", " " * LABEL_WIDTH
+    note, indent = f"= {note}", " " * LABEL_WIDTH
     if length + 2 + len(note) <= WIDTH:
         return f"{words}  {note}"
     if LABEL_WIDTH + len(note) <= WIDTH:  # (textwrap is slow, and most notes need one line)
@@ -161,6 +167,29 @@ def _label(depth: int, label: str) -> str:
     return f"{text:<{LABEL_WIDTH}}" if len(text) < LABEL_WIDTH else f"{text} "
 
 
+def parts(form: Form, here: Here = Here(), finish: Callable[[str], str] = str) -> Iterator[str]:
+    """The head of a telegram or radio message in words, and each packet. Packets that are one object are made once.
+
+    What `finish` makes of the words is kept: it may not change what is between the words of a line.
+    """
+    from_track = form.get("nid_message") != 136
+    yield finish(_text(_head_lines(form)))
+    for place, packet in enumerate(form["packets"]):
+        if place in here.passages:
+            yield finish(_text(*_packet_lines(place, packet, here, from_track)))
+            continue
+
+        def make(holes: Kilometres) -> Pattern:
+            return Pattern(finish(_text(*_packet_lines(place, packet, Here(holes), from_track))))
+
+        pattern, kilometres = KEPT.of((place, id(packet), from_track, finish), packet, here.kilometres, make)
+        yield pattern.filled(kilometres)
+
+
+def _text(lines: Sequence[Line], notes: Mapping[str, str] = {}) -> str:
+    return "".join([f"{_text_of(line, notes.get(line.anchor, ''))}\n" for line in lines])
+
+
 def text(form: Form, here: Here = Here()) -> str:
     """A telegram, or a radio message, as text of several lines."""
-    return "\n".join(map(text_of, form_lines(form, here)))
+    return "".join(parts(form, here))[:-1]

@@ -43,8 +43,8 @@ def note_raw(raw: Raw, number: int, record: Record) -> None:
 class Telegrams(Mapping[int, Form]):
     """The records of the telegrams that the program can read, by the number of their rows.
 
-    `check` needs no record for its verdict. So the telegrams are decoded when the first record is asked for, and their
-    lines of JSON are kept: the objects of them all take much memory.
+    `check` needs no record for its verdict. So the telegrams are decoded when the first record is asked for, or when
+    they are to be kept, and their lines of JSON are kept: the objects of them all take much memory.
     """
 
     def __init__(self, program: Program, rows: Sequence[Row]) -> None:
@@ -57,9 +57,16 @@ class Telegrams(Mapping[int, Form]):
     def _records(self) -> Mapping[int, Record]:
         return {row.number: record for row, record in self.decoded()}
 
+    def keep(self) -> None:
+        """Decodes all telegrams now, for those that ask for them several times."""
+        assert len(self._records) == len(self)
+
     def decoded(self, numbers: Optional[Iterable[int]] = None) -> Iterator[Tuple[Row, Record]]:
-        """The records of these rows, or of all rows. They are decoded now, and not kept."""
+        """The records of these rows, or of all rows. Unless they are kept they are decoded now."""
         rows = list(self._rows.values()) if numbers is None else [self._rows[number] for number in numbers]
+        if "_records" in self.__dict__:
+            yield from ((row, self._records[row.number]) for row in rows)
+            return
         raw: Raw = {}
         for row, answer in zip(rows, self._program.decode([row.telegram for row in rows])):
             if isinstance(answer, Refusal):
@@ -75,7 +82,7 @@ class Telegrams(Mapping[int, Form]):
         return self.raw or {}
 
     def __getitem__(self, number: int) -> Form:
-        return self._records[number].form
+        return self._records[number].shared
 
     def __iter__(self) -> Iterator[int]:
         return iter(self._rows)

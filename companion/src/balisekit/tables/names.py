@@ -76,6 +76,9 @@ def passed_over(table: Table) -> List[str]:
 
 def kilometre(km: Decimal) -> str:
     """A kilometre with three places behind the point, and more if it has more."""
+    text = f"{km:.3f}"
+    if Decimal(text) == km:  # (as most are: it takes a third of the time)
+        return text
     return f"{km:.{max(3, -int(km.normalize().as_tuple().exponent))}f}"
 
 

@@ -1,0 +1,48 @@
+"""Objects of records of which equal packets are one, so that what is made of a packet is made once.
+
+Nobody changes these objects. `Record.form` makes one of its own.
+"""
+from __future__ import annotations
+
+import json
+import re
+from functools import lru_cache
+from typing import Iterator, cast
+
+from balisekit.engine.records import FROM_TRACK, FROM_TRAIN, Form
+
+RAW = "q_dir l_packet body"
+"""The keys of a packet that the program keeps as bits, beside its number."""
+KEPT = 1 << 12
+"""So many packets are kept with their objects."""
+
+
+def _first_keys() -> Iterator[str]:
+    """The keys with which a packet can begin: `decode` writes keys in byte order."""
+    for keys in (*FROM_TRACK.values(), *FROM_TRAIN.values(), RAW):
+        for key in sorted(f"nid_packet {keys}".split()):
+            yield key.rstrip("?")
+            if not key.endswith("?"):
+                break
+
+
+BETWEEN = re.compile(rf',(?={{"(?:{"|".join(sorted(set(_first_keys())))})":)')
+"""What is between two packets. No other object of a record begins with one of these keys."""
+
+NUMBER = re.compile('"([a-z_]+)":([0-9]+)')
+"""A key of a record and its number: all that is not in its packets are numbers."""
+
+
+@lru_cache(maxsize=KEPT)
+def _packet(text: str) -> Form:
+    return cast(Form, json.loads(text))
+
+
+def shared(line: str) -> Form:
+    """The object of a record that the program has written. It has no list outside of its packets, and keys around."""
+    before, _, rest = line.partition('"packets":[')
+    packets, _, behind = rest.rpartition("]")
+    numbers = NUMBER.findall(before + behind)
+    form = cast(Form, {key: int(number) for key, number in numbers})
+    form["packets"] = list(map(_packet, BETWEEN.split(packets))) if packets else []
+    return form
