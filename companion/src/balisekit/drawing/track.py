@@ -175,7 +175,7 @@ def _groups(sheet: Sheet, page: Page, first: bool) -> None:
         _arc(sheet, arc, (arc.edges, _distance(arc)) not in written)
         written.add((arc.edges, _distance(arc)))
     places = range(sheet.least, sheet.greatest + 1, TICK)
-    sheet.axis("kilometres", places)
+    sheet.axis("", places)
     for x, is_broken in (
         (sheet.x(sheet.least) - 100, page.before < page.begin),
         (sheet.x(sheet.greatest) + 100, page.is_broken_behind),
@@ -225,7 +225,7 @@ def _band(sheet: Sheet, one: Placed, top_speed: int) -> None:
     lanes = {27: lane, 21: Lane(lane.bottom + 2, LOW)}
     whose = f"{band.way.direction}, {clean(band.station.group.name)}"
     drawing = WayDrawing(sheet, band.way, SIZES, partial(_describe, band.at, band.sign), whose, band.sign, band.at)
-    _name(sheet, one, whose)
+    _name(sheet, one)
     for profile in (*band.way.speeds, *band.way.gradients):
         drawing.profile(profile, lanes[profile.number], top_speed)
     for authority in band.way.authorities:
@@ -242,7 +242,7 @@ def _band(sheet: Sheet, one: Placed, top_speed: int) -> None:
     sheet.mark("group", "", band.at, sheet.y + 14, _areas_top(band) + AREA * len(kinds) - 18)
 
 
-def _name(sheet: Sheet, one: Placed, whose: str) -> None:
+def _name(sheet: Sheet, one: Placed) -> None:
     """The name of a band, an arrow to where it runs, and what is missing: the arrow is at the group."""
     band, y = one.band, sheet.y + 10
     parts = [("red", band.findings, width("red", band.findings) + SPACE)] if band.findings else []
@@ -252,8 +252,7 @@ def _name(sheet: Sheet, one: Placed, whose: str) -> None:
         sheet.text(style, words, left, y, band.label if words != band.label and not style else "")
         left += wide
     tail = one.name if band.sign > 0 else left - SPACE + ARROW
-    title = f"runs {'up' if band.sign > 0 else 'down'} the kilometres, {whose}"
-    sheet.path("run", title, f"M{tenths(tail)} {y - 8}l{8 * band.sign} 4l{-8 * band.sign} 4z")
+    sheet.path("run", "", f"M{tenths(tail)} {y - 8}l{8 * band.sign} 4l{-8 * band.sign} 4z")
 
 
 def _kinds(band: Band) -> List[int]:

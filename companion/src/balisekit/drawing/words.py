@@ -29,12 +29,12 @@ def release(authority: Authority, part: str) -> str:
     return f"release speed {value_words('v_releasedp', authority.form['danger_point']['v_releasedp'], Around())}"
 
 
-def end_words(authority: Authority, place: str) -> str:
-    """What the end of an authority is, with its place."""
-    if is_limit(authority):
-        speed = value_words("end_speed", authority.form["end_speed"], Around())
-        return f"limit of authority: {place}, V_LOA {speed}, {LIMIT}"
-    return f"end of the authority: {place}"
+def limit_words(authority: Authority, place: str) -> str:
+    """The end of an authority at which the train need not stop. Of another end, its section says where it is."""
+    if not is_limit(authority):
+        return ""
+    speed = value_words("end_speed", authority.form["end_speed"], Around())
+    return f"limit of authority: {place}, V_LOA {speed}, {LIMIT}"
 
 
 def place_words(authority: Authority) -> List[Tuple[int, str]]:

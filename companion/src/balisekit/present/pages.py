@@ -44,7 +44,7 @@ def _read(name: str) -> str:
 @lru_cache(maxsize=None)
 def _environment(jinja2: Any) -> Any:
     """The templates. Each is compiled once, since a folder may have thousands of pictures."""
-    from balisekit.drawing.svg import svg
+    from balisekit.drawing.svg import svg, text
 
     environment = jinja2.Environment(
         loader=jinja2.FileSystemLoader(str(TEMPLATES)),
@@ -53,7 +53,7 @@ def _environment(jinja2: Any) -> Any:
         trim_blocks=True,
         lstrip_blocks=True,
     )
-    environment.filters.update(svg=svg, clean=clean)
+    environment.filters.update(svg=svg, text=text, clean=clean)
     return environment
 
 

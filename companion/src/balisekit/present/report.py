@@ -14,7 +14,7 @@ from balisekit.present import headings
 from balisekit.present.accepted_text import accepted_words
 from balisekit.present.outcome_text import behind
 from balisekit.present.refusals import RefusedInput, refused
-from balisekit.present.telegram_text import form_lines, text, text_of
+from balisekit.present.telegram_text import LABEL_WIDTH, form_lines, text, text_of
 from balisekit.rules.accepted import Acceptance
 from balisekit.rules.checking import AcceptedMessage, Checked
 from balisekit.rules.entries import Entry, track_of
@@ -298,7 +298,15 @@ def _texts(form: Form, here: Here, id: str, marked: Set[str]) -> List[Text]:
         return packet_id(id, int(packet)) if packet else ""
 
     if not marked:
-        return [Text(f"{text(form, here)}\n")]
+        return [Text(_tabbed(f"{text(form, here)}\n"))]
     lines = ((mark(line.path), text_of(line)) for line in form_lines(form, here))
     of_packets = groupby(lines, lambda each: each[0] if each[0] in marked else "")
-    return [Text("".join(f"{text}\n" for _, text in some), name) for name, some in of_packets]
+    return [Text(_tabbed("".join(f"{text}\n" for _, text in some)), name) for name, some in of_packets]
+
+
+def _tabbed(words: str) -> str:
+    """Words with a tab before the values of each line, in place of a sixth of the page that would be blanks."""
+    return "\n".join(
+        f"{line[:LABEL_WIDTH].rstrip()}\t{line[LABEL_WIDTH:]}" if line[LABEL_WIDTH - 1 : LABEL_WIDTH] == " " else line
+        for line in words.split("\n")
+    )
