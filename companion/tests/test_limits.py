@@ -180,7 +180,7 @@ def test_a_report_of_1000_groups(reported: Tuple[Path, int, List[str], float]) -
     """In less than 20 seconds, with a picture for each group."""
     page, status, out, seconds = reported
     assert status == 1 and out[-1].startswith('program: "no: findings ')
-    assert page.read_text("utf-8").count('<svg class="picture"') == GROUPS
+    assert page.read_text("utf-8").count('<figure class="wide"') == GROUPS
     assert seconds < 20
 
 

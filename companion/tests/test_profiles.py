@@ -137,7 +137,7 @@ def test_speeds_of_categories_are_thin_lines() -> None:
     profile = picture_lines.speeds(1, (0, 80), reach=1000, cd100=100, cd130=110, freight=60)
     picture = pictured(picture_lines.authority(1, 1000, 120), profile)
     assert [shape.title for shape in of(picture, "category")] == [
-        f"{speed} km/h for {who}, from 0 m, km 10.000 to 1000 m, km 11.000"
+        f"{speed} km/h for {who}, from 0 m, km 10.000 to 1000 m, km 11.000: end mark"
         for speed, who in (
             (100, "cant deficiency 100 mm (by cant deficiency)"),
             (110, "cant deficiency 130 mm (by cant deficiency)"),
@@ -153,7 +153,7 @@ def test_v_main_is_a_line_to_the_end_of_the_authority() -> None:
     profile = picture_lines.speeds(1, (0, 80), reach=1000)
     (line,) = of(pictured(picture_lines.authority(1, 500, 120), profile), "vmain")
     begin, end = (float(number) for number in re.findall(r"[0-9.]+", line.path)[::2])
-    assert abs((end - begin) / 682 - 0.5) < 0.01 and line.title == "V_MAIN 120 km/h"
+    assert abs((end - begin) / 682 - 0.5) < 0.01 and not line.title
     assert not of(pictured(picture_lines.authority(1, 0, 0), profile), "vmain")
 
 
@@ -206,5 +206,5 @@ def test_pictures_of_300_groups_are_small(program: Program, tmp_path: Path) -> N
     path, page = tmp_path / "t.csv", tmp_path / "r.html"
     path.write_text(picture_lines.table(program, list(picture_lines.signals(300, 1.4))), "utf-8")
     assert cli.main(["report", str(path), "--only", "F", "--html", str(page)]) == 0
-    found = re.findall(r'<svg class="picture".*?</svg>', page.read_text("utf-8"), re.DOTALL)
+    found = re.findall(r'<figure class="wide".*?</figure>', page.read_text("utf-8"), re.DOTALL)
     assert len(found) == 300 and sum(len(one.encode()) for one in found) < 2_000_000

@@ -282,7 +282,9 @@ class Curve(NamedTuple):
         (x, y), (to_x, to_y) = self.point(first), self.point(last)
         slope = -4 * self.high * (1 - 2 * first)
         middle = x + (to_x - x) / 2, y + slope * (last - first) / 2
-        return f"M{x / 10:.1f} {y:.1f}Q{middle[0] / 10:.1f} {middle[1]:.1f} {to_x / 10:.1f} {to_y:.1f}"
+        points = ((x, y), middle, (to_x, to_y))
+        at, by, to = (f"{tenths(round(across))} {tenths(round(down * 10))}" for across, down in points)
+        return f"M{at}Q{by} {to}"
 
     def arrow(self, at: float) -> str:
         """A triangle along the way of the link."""
@@ -290,7 +292,8 @@ class Curve(NamedTuple):
         along = (self.end - self.begin) / 10, -4 * self.high * (1 - 2 * at)
         dx, dy = (4 * each / (hypot(*along) or 1) for each in along)
         corners = ((dx, dy), (-dx - dy * 0.7, -dy + dx * 0.7), (-dx + dy * 0.7, -dy - dx * 0.7))
-        return "M" + "L".join(f"{x / 10 + right:.1f} {y + down:.1f}" for right, down in corners) + "z"
+        points = ((round(x + 10 * right), round(10 * (y + down))) for right, down in corners)
+        return "M" + "L".join(f"{tenths(across)} {tenths(down)}" for across, down in points) + "z"
 
 
 def _arc(sheet: Sheet, arc: Arc, has_label: bool) -> None:
