@@ -33,7 +33,7 @@ HEADER = "a1007f802000" + "f" * 40 + "c0"
 HOSTILE = "<script>alert(1)</script>&\"'\x07\x1b[2J\u202e=1+1"
 TAGS = set(
     (
-        "html head meta title desc style body svg rect path text tspan div h1 h2 h3 h4 p table thead tbody tr th td "
+        "html head meta title desc style body svg g rect path text tspan div h1 h2 h3 h4 p table thead tbody tr th td "
         "script br bdi a b span section pre ul li header nav main figure details summary label input output "
     ).split()
 )

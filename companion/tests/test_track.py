@@ -300,8 +300,9 @@ def test_falling_lines_are_whole() -> None:
 
 
 def _is_beside(arrow: Shape, text: Shape) -> bool:
-    """Whether an arrow and a text are of one height."""
-    return int(arrow.path.split()[1].split("l")[0]) + 8 == int(text.y)
+    """Whether a text is of the height of an arrow, and on the side to which it points."""
+    x, y = re.findall("[0-9.]+", arrow.path)[:2]
+    return int(y) + 8 == int(text.y) and (float(text.x) > float(x)) == ("l8 4l-8" in arrow.path)
 
 
 def test_directions_have_labels_of_their_own() -> None:
