@@ -95,7 +95,7 @@ def test_a_wrong_form_is_found(run: Run, tmp_path: Path) -> None:
     """An element that is not closed, and an attribute without the quotation marks that it needs."""
     run("report", LINE, "--html", tmp_path / "r.html")
     text = (tmp_path / "r.html").read_text("utf-8")
-    for right, wrong in (("</main>", ""), ('class="skip"', "class=\"skip\"'"), ("</header>", "</header></div>")):
+    for right, wrong in (("</main>", ""), ('class="skip"', 'class="skip"\''), ("</header>", "</header></div>")):
         (tmp_path / "wrong.html").write_text(text.replace(right, wrong, 1), "utf-8")
         with pytest.raises(AssertionError):
             parsed(tmp_path / "wrong.html")

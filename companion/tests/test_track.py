@@ -393,6 +393,22 @@ def _titles(path: Path, look_wanted: str) -> List[str]:
     return [path.findtext(f"{SVG}title") or "" for one in some for path in one]
 
 
+def test_links_have_a_flag_of_their_own() -> None:
+    """A ring, if only rules L have found something in a group; quiet as any other flag."""
+    some = [(group(name, str(at), nominal="rising"), [header(at, *authority())]) for at, name in enumerate("ABC", 1)]
+    marks = [
+        Mark("", Decimal(1), "L2", "far", group="A"),
+        Mark("", Decimal(2), "L2", "far", group="B"),
+        Mark("", Decimal(2), "F11", "short", group="B"),
+        Mark("", Decimal(3), "L5", "late", group="C", is_quiet=True),
+    ]
+    line = line_with(*some)
+    (picture,) = track_pictures(line, compare(line), "", None, marks)
+    found = [(one.style, one.path.split("v")[1]) for one in picture.shapes if one.style.startswith("flag")]
+    ring, flag = "-16a4 4 0 1 1 .1 0", "-24l9 4l-9 4"
+    assert found == [("flag links", ring), ("flag", flag), ("flag links quiet", ring)]
+
+
 def test_gaps_and_end_marks(run: Run, tmp_path: Path) -> None:
     """F10 to F13 of the aspect that is shown, where a profile is missing, and beside the group's name; end marks."""
     for aspect, gaps, said in (
@@ -413,8 +429,8 @@ def test_gaps_and_end_marks(run: Run, tmp_path: Path) -> None:
         assert sorted({text for text in texts if re.match("F[0-9]+: ", text)}) == said
         speeds = _titles(tmp_path / "t.svg", "speed")
         assert any(one.endswith(" to km 15.500: end mark, nominal, Signal A") for one in speeds) or aspect != "green"
-        marks = [one.get("d", "") for one in ElementTree.parse(tmp_path / "t.svg").iter() if one.get("class") == "endmark"]
-        assert "".join(marks).count("M") == {"green": 16, "yellow": 14, "red": 14}[aspect]
+        found = (one for one in ElementTree.parse(tmp_path / "t.svg").iter() if one.get("class") == "endmark")
+        assert "".join(one.get("d", "") for one in found).count("M") == {"green": 16, "yellow": 14, "red": 14}[aspect]
 
 
 @pytest.mark.parametrize(

@@ -48,4 +48,3 @@ def _command(options: argparse.Namespace) -> Iterator[str]:
         if value:
             yield f"--{name.replace('_', '-')}"
             yield from () if value is True else (str(value),)
-

@@ -10,7 +10,7 @@ from typing import Iterator, NamedTuple, Optional, Sequence, Tuple
 
 from balisekit.drawing.letters import width
 from balisekit.drawing.sheet import Lane, Sheet, Spot, tenths
-from balisekit.drawing.words import Describe, category_words, is_limit, limit_words, release
+from balisekit.drawing.words import Describe, category_words, is_limit, limit_words, release, timers
 from balisekit.engine.grammar import Finding
 from balisekit.etcs.areas import Area
 from balisekit.etcs.geometry import Authority, Element, Profile, Way
@@ -246,6 +246,18 @@ class WayDrawing:
         if not is_limit(authority):
             above = self.sizes.supervised
             self._mark("supervised", "", supervised, Lane(bar.top - above, bar.height + above + out))
+        for place, timer in timers(authority):
+            self._timer(place, timer, bar)
+
+    def _timer(self, place: int, words: str, bar: Lane) -> None:
+        """A flag over the place where a timer of a section stops or starts, with its seconds if there is room."""
+        if self.sheet.shows(self.at(place)):
+            x = self.sheet.x(self.at(place))
+            title = self._titled(f"{words} {self.describe(place)}")
+            self.sheet.path("timer", title, f"M{tenths(x)} {bar.bottom}V{bar.top - 7}l5 2l-5 2")
+            if self.sizes.has_words:
+                short = " ".join(words.split()[1:3])
+                self.sheet.label("", short, [(x + 70, bar.top - 2), (x - 20 - width("", short), bar.top - 2)])
 
     def _end_words(self, authority: Authority, place: int) -> str:
         """A place of an authority in words: also whether it is the supervised location."""

@@ -63,7 +63,8 @@ def svg(shapes: Iterable[Shape], in_page: bool = False) -> Markup:
     Titles and texts are escaped; all else is numbers and words of balisekit.
     """
     quote = "" if in_page else '"'
-    areas, bare_areas, lines, bare_lines, texts, ticks = (defaultdict(list) for _ in range(6))
+    layers: List[Written] = [defaultdict(list) for _ in range(6)]
+    areas, bare_areas, lines, bare_lines, texts, ticks = layers
     for tag, style, title, x, y, width, height, path, text in shapes:
         if style == "tick":
             ticks[y].append(f"<tspan x={quote}{x}{quote}>{_escaped(text)}</tspan>")

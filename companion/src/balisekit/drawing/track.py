@@ -35,6 +35,8 @@ LANES = 12
 TICK = 5000
 ARROW, SPACE, NAME = 110, 70, 3400
 """The room of the arrow before a name, of a space, and the greatest one of a name, in tenths of a pixel."""
+FLAGS = "-24l9 4l-9 4", "-16a4 4 0 1 1 .1 0"
+"""A flag, and the ring of one that only rules L have: the pole, and what is at its top."""
 NAMED = 5
 """So many groups of a page are named in words."""
 
@@ -205,7 +207,8 @@ def _names(sheet: Sheet, stations: Sequence[BaliseGroup], found: Sequence[Flag])
         sheet.path("leader", "", f"M{tenths(sheet.x(place))} {base + 4}V{y + 2}")
         sheet.short(style, name, begin + wide // 2, y + 11, NAME)
     for flag in found:
-        sheet.path(f"flag{' quiet' * flag.is_quiet}", flag.title, f"M{tenths(sheet.x(flag.place))} {base}v-24l9 4l-9 4")
+        style, top = f"flag{' links' * flag.is_of_links}{' quiet' * flag.is_quiet}", FLAGS[flag.is_of_links]
+        sheet.path(style, flag.title, f"M{tenths(sheet.x(flag.place))} {base}v{top}")
     for station in stations:
         _station(sheet, station, base)
     sheet.y = base + 32 + 13 * rows.count

@@ -52,6 +52,18 @@ def place_words(authority: Authority) -> List[Tuple[int, str]]:
     return found
 
 
+def timers(authority: Authority) -> Iterator[Tuple[int, str]]:
+    """Where the timers of sections stop, and where that of the end section starts, each with its seconds."""
+    form, stops = authority.form, list(authority.timer_stops)
+    for part in (*form["sections"], form):
+        if "section_timer" in part:
+            seconds = value_words("t_sectiontimer", part["section_timer"]["t_sectiontimer"], Around())
+            yield stops.pop(0), f"T_SECTIONTIMER {seconds} stops at"
+    if authority.end_timer is not None:
+        seconds = value_words("t_endtimer", form["end_timer"]["t_endtimer"], Around())
+        yield authority.end_timer, f"T_ENDTIMER {seconds} starts at"
+
+
 def speed_words(authority: Authority) -> str:
     """V_MAIN and V_LOA."""
     form = authority.form
