@@ -21,8 +21,8 @@ from balisekit.present.pages import TEMPLATES
 
 Form = Dict[str, Any]
 STYLES = {
-    *("speed", "step", "step open", "up", "down", "level", "none", "endmark", "arrow", "pale"),
-    *("section0", "section1", "overlap", "end", "danger", "supervised", "timer", "vmain", "category", "acknowledged", "area41"),
+    *("speed", "step", "step open", "up", "down", "level", "none", "endmark", "arrow", "pale", "timer"),
+    *("section0", "section1", "overlap", "end", "danger", "supervised", "vmain", "category", "acknowledged", "area41"),
 }
 
 
