@@ -488,6 +488,15 @@ def test_an_authority_has_all_its_places() -> None:
         assert texts.count(words) == 2
 
 
+def test_a_link_with_a_remark_has_a_mark_in_the_picture_of_its_group(tmp_path: Path) -> None:
+    """A ring with the rule and the sum of D_LINK, in the group that sends it. Accepted ones have none."""
+    table = TOP / "examples" / "links" / "distance-differs.csv"
+    _, page = _report(table, tmp_path / "r.html")
+    (figure,) = [one for one in page.split("<figure")[1:] if "<g class=links>" in one]
+    assert figure.startswith(' class="wide" id="pg0">') and ">L2: 1010 m by D_LINK</text>" in figure
+    assert figure.count("B (km 11.000) is 1010 m from A (km 10.000) by D_LINK") == 1
+
+
 @pytest.mark.parametrize("length", [1, 300, 2000, 9000])
 @pytest.mark.parametrize("direction", [0, 1, 2])
 def test_texts_are_within_the_picture(length: int, direction: int, tmp_path: Path) -> None:

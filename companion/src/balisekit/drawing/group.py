@@ -4,10 +4,10 @@ Metres from the group lead to the right in nominal direction, and to the left in
 """
 from __future__ import annotations
 
-from dataclasses import dataclass
+from dataclasses import dataclass, replace
 from functools import lru_cache
 from itertools import chain, count, zip_longest
-from typing import Dict, Iterator, List, Mapping, Optional, Sequence, Tuple
+from typing import Dict, Iterator, List, Mapping, NamedTuple, Optional, Sequence, Tuple
 
 from balisekit.drawing.letters import width
 from balisekit.drawing.profiles import (
@@ -53,6 +53,18 @@ NOTHING = "no authority, gradient or speed profile"
 Drawn = Sequence[Tuple[WayDrawing, Authority]]
 
 
+class LinkMark(NamedTuple):
+    """A link of which a rule L has found something."""
+
+    row: int
+    """That of the telegram."""
+    direction: str
+    place: int
+    """The sum of D_LINK."""
+    rule: str
+    title: str
+
+
 @dataclass(frozen=True)
 class Content:
     """A row of the picture: the telegrams of an aspect in nominal order, or a message, and their findings."""
@@ -61,6 +73,7 @@ class Content:
     forms: Sequence[Form]
     short: Sequence[Finding] = ()
     infill: bool = False
+    links: Sequence[LinkMark] = ()
 
 
 def picture_of(
@@ -69,15 +82,19 @@ def picture_of(
     findings: Sequence[Finding],
     titled: bool = False,
     only: Optional[str] = None,
+    links: Sequence[LinkMark] = (),
 ) -> Picture:
     """The picture of a group whose telegrams the program has read, in all aspects or only one.
 
-    A picture by itself has a title.
+    A picture by itself has a title. The marks of links are in the first aspect that has their row.
     """
     contents: List[Content] = []
     for index, aspect in enumerate(group.aspects):
         if only in (None, aspect.name):
-            contents += _aspect(aspect, [aspect.name], forms, short_profiles(findings, index))
+            rows = {row.number for row in aspect.rows}
+            own, *infill_of_it = _aspect(aspect, [aspect.name], forms, short_profiles(findings, index))
+            contents += [replace(own, links=[mark for mark in links if mark.row in rows]), *infill_of_it]
+            links = [mark for mark in links if mark.row not in rows]
     return draw(group.name, contents, kilometres(group), titled)
 
 
@@ -201,6 +218,18 @@ def _row(sheet: Sheet, content: Content, ways: Sequence[Way], describe: Sequence
         areas = [(drawing, area) for drawing in drawings for area in drawing.way.areas if area.number == number]
         if areas:
             _areas(sheet, name, areas)
+    for drawing in drawings:
+        _links(drawing, [mark for mark in content.links if mark.direction == drawing.way.direction])
+
+
+def _links(drawing: WayDrawing, marks: Sequence[LinkMark]) -> None:
+    """A ring at the end of each link of which a rule has found something, or at the edge behind which it ends."""
+    sheet = drawing.sheet
+    for mark in marks:
+        lane, words = _lane(sheet, "link", LINE), f"{mark.rule}: {metres(mark.place)} by D_LINK"
+        x, wide = sheet.nearest(drawing.at(mark.place)), width("red", words)
+        sheet.path("links", mark.title, f"M{tenths(x)} {lane.bottom}v-3a4 4 0 1 1 .1 0")
+        sheet.text("red", words, x + 70 if x + 70 + wide < EDGES[1] else x - 70 - wide, lane.bottom - 3)
 
 
 def _directions(sheet: Sheet, has_nominal: bool) -> None:

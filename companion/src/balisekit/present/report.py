@@ -4,12 +4,13 @@ from __future__ import annotations
 from itertools import groupby
 from typing import Dict, Iterable, Iterator, List, Mapping, NamedTuple, Optional, Sequence, Set, Tuple
 
-from balisekit.drawing.group import picture_of, picture_of_message
+from balisekit.drawing.group import LinkMark, picture_of, picture_of_message
 from balisekit.drawing.sheet import Picture
 from balisekit.engine.grammar import Finding
 from balisekit.engine.records import Form
 from balisekit.etcs.geometry import kilometre
 from balisekit.etcs.places import Here, Identities, places_of_rows
+from balisekit.etcs.variables import unit_dm
 from balisekit.present import headings
 from balisekit.present.accepted_text import accepted_words
 from balisekit.present.outcome_text import behind
@@ -234,7 +235,8 @@ def _block(
     items: Mapping[str, RefusedInput],
 ) -> Block:
     """The block of a group."""
-    picture = None if station.unread else picture_of(group, forms, _findings(entries))
+    links = list(_link_marks(entries, forms))
+    picture = None if station.unread else picture_of(group, forms, _findings(entries), links=links)
     packets = sorted({packet["nid_packet"] for form in forms.values() for packet in form["packets"]})
     return Block(
         f"g{station.number}",
@@ -256,6 +258,16 @@ def _block(
 def _marked(entries: Sequence[Listed]) -> Set[str]:
     """The places in the page of the packets that these are about."""
     return {packet_id(*place) for each in entries for place in packets_of(each.entry)}
+
+
+def _link_marks(entries: Sequence[Listed], forms: Mapping[int, Form]) -> Iterator[LinkMark]:
+    """The links of a group of which rules L have found something that is not accepted."""
+    for remark in (each.entry.remark for each in entries if each.entry.remark and not each.accepted):
+        where = remark.location
+        if remark.rule[0] == "L" and where.row and where.link is not None and where.row.number in forms:
+            packet = forms[where.row.number]["packets"][where.packet or 0]
+            place = sum(link["d_link"] for link in packet["links"][: where.link + 1]) * unit_dm(packet)
+            yield LinkMark(where.row.number, where.direction, place, remark.rule, clean(remark.sentence))
 
 
 def _findings(some: Iterable[Listed]) -> List[Finding]:
