@@ -218,9 +218,9 @@ def test_colours_are_those_of_the_palette() -> None:
 
 
 def test_pictures_of_300_groups_are_small(program: Program, tmp_path: Path) -> None:
-    """Less than 2 MB of a report, for signals of three aspects."""
+    """Less than 1.6 MB of a report, for signals of three aspects."""
     path, page = tmp_path / "t.csv", tmp_path / "r.html"
     path.write_text(picture_lines.table(program, list(picture_lines.signals(300, 1.4))), "utf-8")
     assert cli.main(["report", str(path), "--only", "F", "--html", str(page)]) == 0
     found = re.findall(r'<figure class="wide".*?</figure>', page.read_text("utf-8"), re.DOTALL)
-    assert len(found) == 300 and sum(len(one.encode()) for one in found) < 2_000_000
+    assert len(found) == 300 and sum(len(one.encode()) for one in found) < 1_600_000
