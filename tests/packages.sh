@@ -18,6 +18,7 @@ python3-pytest-cov    python:pytest_cov      coverage of balisekit
 python3-hypothesis    python:hypothesis      made tables
 python3-junitparser   python:junitparser     JUnit
 python3-jinja2        python:jinja2          pages and pictures
+python3-html5lib      python:html5lib        the form of pages
 python3-openpyxl      python:openpyxl        .xlsx
 python3-defusedxml    python:defusedxml      .xlsx
 python3-rich          python:rich            colours on a terminal

@@ -82,12 +82,12 @@ def test_a_print(page: Path, tmp_path: Path) -> None:
 
 def test_what_is_folded_is_opened_at_its_place(page: Path, tmp_path: Path) -> None:
     """A link to a row, or to a packet within it, opens its telegram, and a button to copy the digits appears."""
-    folded = '<details class="telegram" id="r3">'
+    folded = '<details id="r3">'
     assert folded in browse(tmp_path, page, "--dump-dom").stdout
     for place in ("#r3", "#r23p1"):
         seen = browse(tmp_path, page, "--dump-dom", "--virtual-time-budget=2000", place=place).stdout
         row = place.split("p", maxsplit=1)[0][1:]
-        opened = seen[seen.index(f'<details class="telegram" id="{row}" open="">') :]
+        opened = seen[seen.index(f'<details id="{row}" open="">') :]
         assert '<button type="button">copy the digits</button><pre class="digits">' in opened[:400]
         assert seen.count("copy the digits</button>") == 2, "of this row, and of the refused one"
 

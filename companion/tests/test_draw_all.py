@@ -6,6 +6,7 @@ import re
 import signal
 import subprocess
 import sys
+import xml.etree.ElementTree as ElementTree
 from pathlib import Path
 from typing import Callable, Dict, Iterator, List, Set, Tuple
 
@@ -71,10 +72,10 @@ def test_aspects_with_one_picture_share_it(run: Run, table: Write, program: Prog
         f'written: {tmp_path}/out/group-A-2.svg: row 4  A  aspect "2"',
     ]
     heads = [
-        re.findall(r'class="head"[^>]*>([^<]*)<', text.decode())
+        [one.text for head in ElementTree.fromstring(text).findall(".//*[@class='head']") for one in head]
         for _, text in sorted(_contents(tmp_path / "out").items())
     ]
-    assert heads == [["aspects &#34;0&#34;, &#34;1&#34;, &#34;3&#34;"], ["aspect &#34;2&#34;"]]
+    assert heads == [['aspects "0", "1", "3"'], ['aspect "2"']]
 
 
 def test_names_of_files_are_safe_and_unique(run: Run, table: Write, tmp_path: Path) -> None:

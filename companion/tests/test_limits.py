@@ -153,7 +153,7 @@ def reported(great: Path, program: Program) -> Tuple[Path, bool]:
 def test_a_report_of_1000_groups(reported: Tuple[Path, bool]) -> None:
     """In less than 10 seconds, with a picture for each group."""
     page, is_made_in_time = reported
-    assert page.read_text("utf-8").count('<svg class="picture"') == GROUPS
+    assert page.read_text("utf-8").count('<figure class="wide"') == GROUPS
     assert is_made_in_time
 
 

@@ -21,7 +21,7 @@ from balisekit.present.pages import TEMPLATES
 
 Form = Dict[str, Any]
 STYLES = {
-    *("speed", "step", "step open", "up", "down", "level", "none", "endmark", "arrow", "pale"),
+    *("speed", "step", "step open", "up", "down", "level", "none", "endmark", "arrow", "pale", "timer"),
     *("section0", "section1", "overlap", "end", "danger", "supervised", "vmain", "category", "acknowledged", "area41"),
 }
 
@@ -46,7 +46,10 @@ def authority(end: int, *sections: int, **parts: Form) -> Form:
 
 DANGER_POINT = {"d_dp": 60, "v_releasedp": 5}
 OVERLAP = {"d_startol": 100, "t_ol": 30, "d_ol": 120, "v_releaseol": 126}
+TIMER = {"t_sectiontimer": 40, "d_sectiontimerstoploc": 200}
+END_TIMER = {"t_endtimer": 1023, "d_endtimerstartloc": 300}
 WAYS: Dict[str, Sequence[Form]] = {
+    "timers of sections": [authority(900, 300, section_timer=TIMER, end_timer=END_TIMER)],
     "an authority by itself": [authority(900)],
     "sections, danger point and overlap": [authority(900, 300, 0, 200, danger_point=DANGER_POINT, overlap=OVERLAP)],
     "a danger point without an overlap": [authority(700, danger_point=DANGER_POINT)],
@@ -137,7 +140,7 @@ def test_speeds_of_categories_are_thin_lines() -> None:
     profile = picture_lines.speeds(1, (0, 80), reach=1000, cd100=100, cd130=110, freight=60)
     picture = pictured(picture_lines.authority(1, 1000, 120), profile)
     assert [shape.title for shape in of(picture, "category")] == [
-        f"{speed} km/h for {who}, from 0 m, km 10.000 to 1000 m, km 11.000"
+        f"{speed} km/h for {who}, from 0 m, km 10.000 to 1000 m, km 11.000: end mark"
         for speed, who in (
             (100, "cant deficiency 100 mm (by cant deficiency)"),
             (110, "cant deficiency 130 mm (by cant deficiency)"),
@@ -153,8 +156,21 @@ def test_v_main_is_a_line_to_the_end_of_the_authority() -> None:
     profile = picture_lines.speeds(1, (0, 80), reach=1000)
     (line,) = of(pictured(picture_lines.authority(1, 500, 120), profile), "vmain")
     begin, end = (float(number) for number in re.findall(r"[0-9.]+", line.path)[::2])
-    assert abs((end - begin) / 682 - 0.5) < 0.01 and line.title == "V_MAIN 120 km/h"
+    assert abs((end - begin) / 682 - 0.5) < 0.01 and not line.title
     assert not of(pictured(picture_lines.authority(1, 0, 0), profile), "vmain")
+
+
+def test_timers_of_sections_are_flags() -> None:
+    """At the places where they stop, that of the end section also where it starts, with their seconds."""
+    form = authority(900, 300, 400, section_timer=TIMER, end_timer=END_TIMER)
+    form["sections"][1]["section_timer"] = {**TIMER, "t_sectiontimer": 25}
+    picture = pictured({**form, "q_dir": 1})
+    assert [shape.title for shape in of(picture, "timer")] == [
+        "T_SECTIONTIMER 25 s stops at 500 m, km 10.500",
+        "T_SECTIONTIMER 40 s stops at 900 m, km 10.900",
+        "T_ENDTIMER no time-out starts at 1300 m, km 11.300",
+    ]
+    assert {"25 s", "40 s", "no time-out"} <= set(words(picture))
 
 
 def test_a_limit_of_authority_has_no_supervised_location() -> None:
@@ -202,9 +218,9 @@ def test_colours_are_those_of_the_palette() -> None:
 
 
 def test_pictures_of_300_groups_are_small(program: Program, tmp_path: Path) -> None:
-    """Less than 2 MB of a report, for signals of three aspects."""
+    """Less than 1.6 MB of a report, for signals of three aspects."""
     path, page = tmp_path / "t.csv", tmp_path / "r.html"
     path.write_text(picture_lines.table(program, list(picture_lines.signals(300, 1.4))), "utf-8")
     assert cli.main(["report", str(path), "--only", "F", "--html", str(page)]) == 0
-    found = re.findall(r'<svg class="picture".*?</svg>', page.read_text("utf-8"), re.DOTALL)
-    assert len(found) == 300 and sum(len(one.encode()) for one in found) < 2_000_000
+    found = re.findall(r'<figure class="wide".*?</figure>', page.read_text("utf-8"), re.DOTALL)
+    assert len(found) == 300 and sum(len(one.encode()) for one in found) < 1_600_000

@@ -33,7 +33,7 @@ HEADER = "a1007f802000" + "f" * 40 + "c0"
 HOSTILE = "<script>alert(1)</script>&\"'\x07\x1b[2J\u202e=1+1"
 TAGS = set(
     (
-        "html head meta title desc style body svg rect path text tspan div h1 h2 h3 h4 p table thead tbody tr th td "
+        "html head meta title desc style body svg g rect path text tspan div h1 h2 h3 h4 p table thead tbody tr th td "
         "script br bdi a b span section pre ul li header nav main figure details summary label input output "
     ).split()
 )
@@ -474,10 +474,8 @@ def test_an_authority_has_all_its_places() -> None:
         assert titles >= {
             f"section 0: 800 m, to {km(800)}",
             f"end section: 900 m, to {km(1700)}",
-            f"end of the authority: {km(1700)}",
             f"danger point: {km(1760, ', release speed 25 km/h')}",
-            f"overlap: 120 m, to {km(1820, ', release speed calculated on board')}",
-            f"supervised location: {km(1820)}",
+            f"overlap: 120 m, to {km(1820, ' (SvL), release speed calculated on board')}",
         }
     texts = [one.text for one in picture.shapes]
     said = "V_MAIN 120 km/h; V_LOA 0 km/h, stop"
@@ -488,6 +486,15 @@ def test_an_authority_has_all_its_places() -> None:
         "overlap to 1820 m, release speed calculated on board; SvL",
     ):
         assert texts.count(words) == 2
+
+
+def test_a_link_with_a_remark_has_a_mark_in_the_picture_of_its_group(tmp_path: Path) -> None:
+    """A ring with the rule and the sum of D_LINK, in the group that sends it. Accepted ones have none."""
+    table = TOP / "examples" / "links" / "distance-differs.csv"
+    _, page = _report(table, tmp_path / "r.html")
+    (figure,) = [one for one in page.split("<figure")[1:] if "<g class=links>" in one]
+    assert figure.startswith(' class="wide" id="pg0">') and ">L2: 1010 m by D_LINK</text>" in figure
+    assert figure.count("B (km 11.000) is 1010 m from A (km 10.000) by D_LINK") == 1
 
 
 @pytest.mark.parametrize("length", [1, 300, 2000, 9000])

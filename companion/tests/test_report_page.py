@@ -310,13 +310,15 @@ def test_an_entry_leads_to_its_places(run: Run, line: Path) -> None:
     links = re.findall('<a href="#([^"]*)">([^<]*)</a>', entry)
     assert links == [("pg5", "picture"), ("r23", "row 23"), ("r23p1", "packet"), ("F11", "F11")]
     tag, packet = page.of("r23p1")
+    packet = packet.expandtabs(22)
     assert tag == "mark" and packet.lstrip().startswith("packet 1  ") and "gradient profile [21]" in packet
     assert "packet 2" not in packet and page.of("r23")[0] == "details" and page.of("F11")[0] == "details"
     assert page.of("pg5")[0] == "figure"
     marked = [str(attributes["id"]) for _, attributes, _ in page.all("mark")]
     assert sorted(marked) == ["r14p0", "r15p0", "r15p1", "r23p1"]
     shown = "\n".join(run("show", line)[1])
-    assert all(packet in shown for _, _, packet in page.all("mark"))
+    assert all(packet.expandtabs(22) in shown for _, _, packet in page.all("mark"))
+    assert "tab-size: 22;" in text
 
 
 def test_what_is_folded(run: Run, line: Path) -> None:

@@ -84,10 +84,12 @@ def pictures(path: Path) -> Iterator[List[Written]]:
     """The texts of each picture of a file. A track has several pictures."""
     for svg in ElementTree.parse(path).iter(f"{SVG}svg"):
         some = [
-            (part.get("x", ""), one.get("y", ""), one.get("class", ""), part.text or "")
-            for one in svg.findall(f"{SVG}text")
+            (part.get("x", ""), one.get("y", ""), around.get("class", ""), part.text or "")
+            for around in (*svg.findall(f"{SVG}g"), *svg.findall(f"{SVG}g/{SVG}g"))
+            for one in around.findall(f"{SVG}text")
             for part in (one.findall(f"{SVG}tspan") or [one])
         ]
+        assert some or svg.find(f"{SVG}g") is None, "a picture without texts"
         yield [written(style, text, float(x), float(y)) for x, y, style, text in some]
 
 

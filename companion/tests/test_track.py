@@ -67,9 +67,9 @@ def test_directions(nominal: str, direction: int, wanted: Tuple[int, int]) -> No
         assert abs(place(one.x) - wanted[0]) < 0.01
         assert abs(place(one.x) + float(one.width) / ROOM * 5 - wanted[1]) < 0.01
     assert looks(picture, "end") and looks(picture, "supervised")
-    whose = f"to km {sum(wanted) - 2}.000, {'nominal' if direction else 'reverse'}, A"
-    assert looks(picture, "section0")[0].title == f"end section: 1000 m, {whose}"
-    assert looks(picture, "speed")[0].title == f"100 km/h from km 2.000 {whose}"
+    to, whose = f"to km {sum(wanted) - 2}.000", f"{'nominal' if direction else 'reverse'}, A"
+    assert looks(picture, "section0")[0].title == f"end section: 1000 m, {to} (SvL), {whose}"
+    assert looks(picture, "speed")[0].title == f"100 km/h from km 2.000 {to}: end mark, {whose}"
 
 
 def test_pages_of_five_kilometres() -> None:
@@ -188,7 +188,7 @@ def test_what_was_written(run: Run, table: Write, tmp_path: Path) -> None:
     texts = [one.text or "" for one in tree.iter(f"{SVG}text")]
     assert texts[0] == "refused telegrams by row: 26; refused messages by line: 2, 3"
     assert "\u25b8 Signal F: refused" in texts and sum("refused" in text for text in texts) == 2
-    (refused,) = [one for one in tree.iter(f"{SVG}path") if one.get("class") == "station refused"]
+    ((refused,),) = [one for one in tree.iter(f"{SVG}g") if one.get("class") == "station refused"]
     assert str(refused.findtext(f"{SVG}title")).endswith("; refused: row 26")
     assert run(*words)[2][-4:] == [out[0].replace(str(tmp_path / "t.svg"), "standard output"), *out[1:]]
 
@@ -258,7 +258,7 @@ def test_names_do_no_harm(run: Run, table: Write, tmp_path: Path) -> None:
         '4 groups of track "<script>&"\'\\u202e", each in the aspect with the farthest end of authority'
     )
     tags = {one.tag.split("}")[1] for one in ElementTree.parse(tmp_path / "t.svg").iter()}
-    assert tags <= {"svg", "title", "desc", "style", "rect", "path", "text", "tspan"}
+    assert tags <= {"svg", "title", "desc", "style", "rect", "g", "path", "text", "tspan"}
     run("report", path, "--html", tmp_path / "r.html")
     page = (tmp_path / "r.html").read_text("utf-8")
     assert page.count("<script") == 1 and "\u202e" not in page and "links L2: " in page
@@ -299,6 +299,12 @@ def test_falling_lines_are_whole() -> None:
     assert [one.text for one in pictures[0].shapes if one.text.startswith("A")] == ["A, V_MAIN 100 km/h, from km 0.400"]
 
 
+def _is_beside(arrow: Shape, text: Shape) -> bool:
+    """Whether a text is of the height of an arrow, and on the side to which it points."""
+    x, y = re.findall("[0-9.]+", arrow.path)[:2]
+    return int(y) + 8 == int(text.y) and (float(text.x) > float(x)) == ("l8 4l-8" in arrow.path)
+
+
 def test_directions_have_labels_of_their_own() -> None:
     """A name is at its group, with an arrow to where its band runs along the kilometres, and each V_MAIN is its own."""
     back = authority(0)
@@ -308,10 +314,9 @@ def test_directions_have_labels_of_their_own() -> None:
         said = {one.text: float(one.x) for one in picture.shapes if "V_MAIN" in one.text}
         assert set(said) == {"G, nominal, V_MAIN 100 km/h", "G, reverse, V_MAIN 80 km/h"}
         for shape in looks(picture, "run"):
-            up = "nominal" in shape.title if sign > 0 else "reverse" in shape.title
-            assert shape.title.startswith(f"runs {'up' if up else 'down'} the kilometres, ")
+            text = next(one.text for one in picture.shapes if one.text in said and _is_beside(shape, one))
+            up = ("nominal" in text) == (sign > 0)
             assert ("l8 4l-8" in shape.path) == up
-            text = next(words for words in said if words.split(", ")[1] in shape.title)
             begin, end = said[text], said[text] + width("", text) / 10
             assert abs(place(str(begin if up else end)) - 2.5) < 0.1
 
@@ -384,8 +389,24 @@ def test_kilometres_are_written_as_elsewhere(place: int) -> None:
 
 def _titles(path: Path, look_wanted: str) -> List[str]:
     """What the shapes of a look say."""
-    some = ElementTree.parse(path).iter()
-    return [one.findtext(f"{SVG}title") or "" for one in some if one.get("class") == look_wanted]
+    some = (one for one in ElementTree.parse(path).iter(f"{SVG}g") if one.get("class") == look_wanted)
+    return [path.findtext(f"{SVG}title") or "" for one in some for path in one]
+
+
+def test_links_have_a_flag_of_their_own() -> None:
+    """A ring, if only rules L have found something in a group; quiet as any other flag."""
+    some = [(group(name, str(at), nominal="rising"), [header(at, *authority())]) for at, name in enumerate("ABC", 1)]
+    marks = [
+        Mark("", Decimal(1), "L2", "far", group="A"),
+        Mark("", Decimal(2), "L2", "far", group="B"),
+        Mark("", Decimal(2), "F11", "short", group="B"),
+        Mark("", Decimal(3), "L5", "late", group="C", is_quiet=True),
+    ]
+    line = line_with(*some)
+    (picture,) = track_pictures(line, compare(line), "", None, marks)
+    found = [(one.style, one.path.split("v")[1]) for one in picture.shapes if one.style.startswith("flag")]
+    ring, flag = "-16a4 4 0 1 1 .1 0", "-24l9 4l-9 4"
+    assert found == [("flag links", ring), ("flag", flag), ("flag links quiet", ring)]
 
 
 def test_gaps_and_end_marks(run: Run, tmp_path: Path) -> None:
@@ -406,9 +427,10 @@ def test_gaps_and_end_marks(run: Run, tmp_path: Path) -> None:
         assert sorted(_titles(tmp_path / "t.svg", "gap")) == gaps
         texts = [one.text or "" for one in ElementTree.parse(tmp_path / "t.svg").iter(f"{SVG}text")]
         assert sorted({text for text in texts if re.match("F[0-9]+: ", text)}) == said
-        marks = _titles(tmp_path / "t.svg", "endmark")
-        assert "end mark: the speed profile reaches km 15.500, nominal, Signal A" in marks or aspect != "green"
-        assert len(marks) == {"green": 16, "yellow": 14, "red": 14}[aspect]
+        speeds = _titles(tmp_path / "t.svg", "speed")
+        assert any(one.endswith(" to km 15.500: end mark, nominal, Signal A") for one in speeds) or aspect != "green"
+        found = (one for one in ElementTree.parse(tmp_path / "t.svg").iter() if one.get("class") == "endmark")
+        assert "".join(one.get("d", "") for one in found).count("M") == {"green": 16, "yellow": 14, "red": 14}[aspect]
 
 
 @pytest.mark.parametrize(
@@ -436,9 +458,9 @@ def test_what_a_profile_does_not_give() -> None:
         "the speed profile has no end mark: it is open, nominal, A"
     ]
     assert [one.title for one in looks(picture, "none")] == ["not given here: up to km 1.100, nominal, A"]
-    assert [one.title for one in looks(picture, "endmark")] == [
-        "end mark: the gradient profile reaches km 2.000, nominal, A"
-    ]
+    (mark,) = looks(picture, "endmark")
+    assert place(mark.path[1:].split()[0]) == 2
+    assert any(one.title.endswith(" to km 2.000: end mark, nominal, A") for one in picture.shapes)
 
 
 def test_a_minus_is_as_wide_as_a_plus(run: Run, tmp_path: Path) -> None:

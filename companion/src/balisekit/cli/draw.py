@@ -6,7 +6,8 @@ import sys
 from dataclasses import replace
 from typing import Optional, Sequence, Tuple
 
-from balisekit.cli import draw_all, options as shared
+from balisekit.cli import draw_all, options as shared, settings
+from balisekit.cli.outcome import links_of
 from balisekit.cli.selection import check_aspect, check_aspect_of, groups_named, meant, with_directions_of
 from balisekit.drawing.group import picture_of
 from balisekit.drawing.sheet import Picture
@@ -20,8 +21,8 @@ from balisekit.present.refusals import not_looked_at, refused
 from balisekit.present.track_text import written
 from balisekit.rules import checking
 from balisekit.rules.checking import Checked
+from balisekit.rules.families import FAMILIES, apply
 from balisekit.rules.line import Line
-from balisekit.rules.links import L2, compare
 from balisekit.rules.rule import Options
 from balisekit.tables.model import Messages, Table
 from balisekit.tables.names import clean, describe_message, passed_over, quoted
@@ -38,7 +39,7 @@ def add_options(parser: argparse.ArgumentParser) -> None:
     text = "every group in each aspect, every track and message, into a folder that is new or empty"
     what.add_argument("--all", **shared.value("DIR", lambda path: OutputFolder(shared.name(path)), text))
     shared.add(parser, "--aspect", help=f"{shared.ASPECT}; with --group which aspect is drawn alone")
-    shared.add(parser, "--tolerance")
+    settings.add_options(parser)
     parser.add_argument("--svg", **shared.output_file("where to write; without it standard output"))
     shared.add(parser, "--force")
 
@@ -46,9 +47,9 @@ def add_options(parser: argparse.ArgumentParser) -> None:
 def run(options: argparse.Namespace) -> int:
     """Does it. The answer is the exit status."""
     if options.message is not None:
-        shared.refuse_unused(options, "with --message", "aspect", "tolerance", "by_position")
+        shared.refuse_unused(options, "with --message", "aspect", "by_position", *settings.KINDS)
     if options.group is not None:
-        shared.refuse_unused(options, "with --group", "messages", "tolerance")
+        shared.refuse_unused(options, "with --group", "messages", *settings.KINDS)
     if options.all is not None:
         shared.refuse_unused(options, "with --all", "svg", "force")
     options.svg = options.svg or Output("-")
@@ -60,8 +61,9 @@ def run(options: argparse.Namespace) -> int:
         picture = _message(checking.check(program, table, _only_message(messages, options.message)))
     else:
         check_aspect(table, options.aspect)
+        of_line = settings.of_line(options)
         checked = checking.check(program, table, messages, options.by_position)
-        return draw_all.run(options, checked) if options.all else _track(options, checked)
+        return draw_all.run(options, checked, of_line) if options.all else _track(options, checked, of_line)
     options.svg.write(picture_page(picture))
     shared.say([f"note: {note}" for note in notes], options.svg)
     return 0
@@ -92,12 +94,13 @@ def _message(checked: Checked) -> Picture:
     return picture
 
 
-def _track(options: argparse.Namespace, checked: Checked) -> int:
+def _track(options: argparse.Namespace, checked: Checked, of_line: Options) -> int:
     """Draws a track. What is refused is named, and the rest is drawn."""
-    line, table = Line.of(checked), checked.table
-    track = _chosen_track(line, table, "" if options.track is True else options.track)
-    links = compare(line, Options(options.tolerance), [L2])
-    options.svg.write(track_page(checked, line, links, track, options.aspect))
+    outcome, table = apply(checked, tuple(FAMILIES), of_line), checked.table
+    links = links_of(outcome, of_line)
+    line, name = links.line, "" if options.track is True else options.track
+    track = _chosen_track(line, table, name)
+    options.svg.write(track_page(outcome, links, track, options.aspect))
     for item in [*refused(checked), *not_looked_at(checked)]:
         print(f"balisekit: {item}", file=sys.stderr)
     lines = [*passed_over(table), *written(line, track, options.aspect, clean(str(options.svg)))]

@@ -4,8 +4,9 @@ from __future__ import annotations
 import argparse
 import os
 import sys
-from typing import Iterator
+from typing import Iterator, Optional
 
+from balisekit.cli.outcome import links_of
 from balisekit.drawing.group import pictures_of
 from balisekit.drawing.track import tracks_of
 from balisekit.io.output_folder import OutputFolder
@@ -13,22 +14,24 @@ from balisekit.present.pictures import FileNames, message_picture, picture_page,
 from balisekit.present.refusals import not_looked_at, refused
 from balisekit.present.track_text import MARK_ALONE, written
 from balisekit.rules.checking import Checked
+from balisekit.rules.families import FAMILIES, Outcome, apply
 from balisekit.rules.line import Line
-from balisekit.rules.links import L2, compare
+from balisekit.rules.links import Links
 from balisekit.rules.rule import Options
 from balisekit.tables.names import NAMED, clean, describe_group, describe_message, listed, passed_over, quoted
 
 
-def run(options: argparse.Namespace, checked: Checked) -> int:
+def run(options: argparse.Namespace, checked: Checked, of_line: Options) -> int:
     """Writes the pictures, and an index of them. What is refused is named, and the rest is drawn."""
     for item in [*refused(checked), *not_looked_at(checked)]:
         print(f"balisekit: {item}", file=sys.stderr)
     for note in passed_over(checked.table):
         print(note)
-    line, folder, names = Line.of(checked), options.all, FileNames()
+    outcome, folder, names = apply(checked, tuple(FAMILIES), of_line), options.all, FileNames()
+    links = links_of(outcome, of_line)
     for lines in (
-        _groups(line, checked, folder, names),
-        _tracks(line, checked, folder, names, options),
+        _groups(links.line, checked, folder, names),
+        _tracks(outcome, links, folder, names, options.aspect),
         _messages(checked, folder, names),
     ):
         for text in lines:
@@ -55,14 +58,13 @@ def _groups(line: Line, checked: Checked, folder: OutputFolder, names: FileNames
 
 
 def _tracks(
-    line: Line, checked: Checked, folder: OutputFolder, names: FileNames, options: argparse.Namespace
+    outcome: Outcome, links: Links, folder: OutputFolder, names: FileNames, aspect: Optional[str]
 ) -> Iterator[str]:
     """Draws each track."""
-    links = compare(line, Options(options.tolerance), [L2])
-    for track in tracks_of(line):
+    for track in tracks_of(links.line):
         name = names.svg("track", track)
-        folder.write(name, track_page(checked, line, links, track, options.aspect))
-        lines = written(line, track, options.aspect, _path(folder, name))
+        folder.write(name, track_page(outcome, links, track, aspect))
+        lines = written(links.line, track, aspect, _path(folder, name))
         yield from (text for text in lines if text.startswith(("written", MARK_ALONE)))
 
 

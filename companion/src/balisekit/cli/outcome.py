@@ -10,6 +10,8 @@ from balisekit.cli import options as shared, settings
 from balisekit.errors import TableError
 from balisekit.rules import accepted, checking
 from balisekit.rules.families import FAMILIES, PLAN, Outcome, apply
+from balisekit.rules.line import Line
+from balisekit.rules.links import L2, Links, compare
 from balisekit.rules.rule import Options
 
 ONLY = f"apply only these families of rules: {'; '.join(f'{each.letter}, {each.things}' for each in FAMILIES.values())}"
@@ -59,3 +61,11 @@ def outcome(options: argparse.Namespace, line: Options, now: datetime, keep: boo
         checked.accepted.keep()
     signed = (entries, now.date()) if entries else None
     return apply(checked, asked, line, signed, began)
+
+
+def links_of(outcome: Outcome, options: Options) -> Links:
+    """The links that pictures of tracks show, whether or not rules over the line are asked for."""
+    for part in outcome.parts:
+        if part.applied is not None and L2 in part.applied.results:
+            return part.applied
+    return compare(Line.of(outcome.checked), options, [L2])

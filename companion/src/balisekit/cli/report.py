@@ -6,15 +6,11 @@ import shlex
 from typing import Iterator
 
 from balisekit.cli import options as shared, settings
-from balisekit.cli.outcome import add_only, outcome as outcome_of, stated
+from balisekit.cli.outcome import add_only, links_of, outcome as outcome_of, stated
 from balisekit.cli.selection import check_aspect
 from balisekit.io import clock
 from balisekit.present.outcome_text import closing_lines
 from balisekit.present.report_page import report_page
-from balisekit.rules.families import Outcome
-from balisekit.rules.line import Line
-from balisekit.rules.links import L2, Links, compare
-from balisekit.rules.rule import Options
 from balisekit.tables.names import clean
 
 FULL = "fold nothing: decoded telegrams and groups without findings are printed too"
@@ -38,7 +34,7 @@ def run(options: argparse.Namespace) -> int:
     outcome = outcome_of(options, of_line, now, keep=True)
     check_aspect(outcome.checked.table, options.aspect)
     command = clean(shlex.join(_command(options)))
-    page = report_page(outcome, _links(outcome, of_line), heading, command, now, options.aspect, options.full)
+    page = report_page(outcome, links_of(outcome, of_line), heading, command, now, options.aspect, options.full)
     options.html.write(page)
     shared.say([f"written: {clean(str(options.html))}", *closing_lines(outcome)], options.html)
     return outcome.status
@@ -52,11 +48,3 @@ def _command(options: argparse.Namespace) -> Iterator[str]:
         if value:
             yield f"--{name.replace('_', '-')}"
             yield from () if value is True else (str(value),)
-
-
-def _links(outcome: Outcome, options: Options) -> Links:
-    """The links that pictures of tracks show, whether or not rules over the line are asked for."""
-    for part in outcome.parts:
-        if part.applied is not None and L2 in part.applied.results:
-            return part.applied
-    return compare(Line.of(outcome.checked), options, [L2])

@@ -34,6 +34,8 @@ class Flag(NamedTuple):
     words: str
     title: str
     is_quiet: bool
+    is_of_links: bool
+    """Whether only rules L have found something there."""
 
 
 def marks_of(entries: Iterable[Entry], accepted: Iterable[Entry] = ()) -> Iterator[Mark]:
@@ -60,7 +62,8 @@ def _flag(marks: Sequence[Mark]) -> Flag:
     rules = list(dict.fromkeys(mark.rule for mark in sorted(marks, key=lambda mark: mark.is_quiet)))
     title = "; ".join(map(_sentence, marks[:NAMED])) + (f"; {len(marks) - NAMED} more" if len(marks) > NAMED else "")
     place = int(min(mark.km for mark in marks) * 10_000)
-    return Flag(place, listed(rules, NAMED), title, all(mark.is_quiet for mark in marks))
+    of_links = all(rule.startswith("L") for rule in rules)
+    return Flag(place, listed(rules, NAMED), title, all(mark.is_quiet for mark in marks), of_links)
 
 
 def _sentence(mark: Mark) -> str:

@@ -7,7 +7,7 @@ from __future__ import annotations
 from dataclasses import dataclass, replace
 from functools import lru_cache
 from itertools import chain, count, zip_longest
-from typing import Dict, Iterator, List, Mapping, Optional, Sequence, Tuple
+from typing import Dict, Iterator, List, Mapping, NamedTuple, Optional, Sequence, Tuple
 
 from balisekit.drawing.letters import width
 from balisekit.drawing.profiles import (
@@ -61,6 +61,18 @@ KEPT: Kept[Picture] = Kept(1 << 7)
 """Pictures of groups: on a line many say the same, but for their kilometres."""
 
 
+class LinkMark(NamedTuple):
+    """A link of which a rule L has found something."""
+
+    row: int
+    """That of the telegram."""
+    direction: str
+    place: int
+    """The sum of D_LINK."""
+    rule: str
+    title: str
+
+
 @dataclass(frozen=True)
 class Content:
     """A row of the picture: the telegrams of an aspect in nominal order, or a message, and their findings."""
@@ -69,6 +81,7 @@ class Content:
     forms: Sequence[Form]
     short: Sequence[Finding] = ()
     infill: bool = False
+    links: Sequence[LinkMark] = ()
 
 
 def picture_of(
@@ -78,10 +91,12 @@ def picture_of(
     titled: bool = False,
     only: Optional[str] = None,
     where: Optional[Kilometres] = None,
+    links: Sequence[LinkMark] = (),
 ) -> Picture:
     """The picture of a group whose telegrams the program has read, in all aspects or only one.
 
-    A picture by itself has a title. `where` has the kilometres of the group, if they are known already.
+    A picture by itself has a title. `where` has the kilometres of the group, if they are known already. The marks of
+    links are in the first aspect that has their row.
     """
     shown = [
         (aspect, short_profiles(findings, index))
@@ -92,16 +107,27 @@ def picture_of(
     own = {number: forms[number] for number in dict.fromkeys(row.number for aspect, _ in shown for row in aspect.rows)}
 
     def make(place: Kilometres) -> Picture:
-        contents = [each for aspect, short in shown for each in _aspect(aspect, [aspect.name], own, short)]
-        drawn = _drawn(group.name if titled else "", contents, place)
+        drawn = _drawn(group.name if titled else "", list(_rows(shown, own, links)), place)
         return replace(drawn, shapes=Shared(drawn.shapes)) if isinstance(place, Holes) else drawn
 
-    if titled:  # (no other group has the same picture)
+    if titled or links:  # (no other group has the same picture)
         return _named(group.name, where, make(where))
     said = {number: _said(form) for number, form in own.items()}
     key = tuple((one.name, *[said[row.number] for row in one.rows], *map(_of_finding, short)) for one, short in shown)
     held = [form["packets"] for form in own.values()]
     return _named(group.name, where, *KEPT.of(key, held, where, make))
+
+
+def _rows(
+    shown: Sequence[Tuple[Aspect, Sequence[Finding]]], forms: Mapping[int, Form], links: Sequence[LinkMark]
+) -> Iterator[Content]:
+    """The rows of the picture: for each aspect its own, and what it says of the group of a packet 136."""
+    for aspect, short in shown:
+        rows = {row.number for row in aspect.rows}
+        own, *infill_of_it = _aspect(aspect, [aspect.name], forms, short)
+        yield replace(own, links=[mark for mark in links if mark.row in rows])
+        yield from infill_of_it
+        links = [mark for mark in links if mark.row not in rows]
 
 
 def _said(form: Form) -> Tuple[object, ...]:
@@ -248,6 +274,18 @@ def _row(sheet: Sheet, content: Content, ways: Sequence[Way], describe: Sequence
         areas = [(drawing, area) for drawing in drawings for area in drawing.way.areas if area.number == number]
         if areas:
             _areas(sheet, name, areas)
+    for drawing in drawings:
+        _links(drawing, [mark for mark in content.links if mark.direction == drawing.way.direction])
+
+
+def _links(drawing: WayDrawing, marks: Sequence[LinkMark]) -> None:
+    """A ring at the end of each link of which a rule has found something, or at the edge behind which it ends."""
+    sheet = drawing.sheet
+    for mark in marks:
+        lane, words = _lane(sheet, "link", LINE), f"{mark.rule}: {metres(mark.place)} by D_LINK"
+        x, wide = sheet.nearest(drawing.at(mark.place)), width("red", words)
+        sheet.path("links", mark.title, f"M{tenths(x)} {lane.bottom}v-3a4 4 0 1 1 .1 0")
+        sheet.text("red", words, x + 70 if x + 70 + wide < EDGES[1] else x - 70 - wide, lane.bottom - 3)
 
 
 def _directions(sheet: Sheet, has_nominal: bool) -> None:

@@ -10,7 +10,7 @@ from typing import Iterator, NamedTuple, Optional, Sequence, Tuple
 
 from balisekit.drawing.letters import width
 from balisekit.drawing.sheet import Lane, Sheet, Spot, tenths
-from balisekit.drawing.words import Describe, category_words, end_words, is_limit, release
+from balisekit.drawing.words import Describe, category_words, is_limit, limit_words, release, timers
 from balisekit.engine.grammar import Finding
 from balisekit.etcs.areas import Area
 from balisekit.etcs.geometry import Authority, Element, Profile, Way
@@ -125,7 +125,7 @@ class WayDrawing:
         return max(near, far) < self.sheet.least or min(near, far) > self.sheet.greatest
 
     def _titled(self, title: str) -> str:
-        return f"{title}, {self.whose}" if self.whose else title
+        return f"{title}, {self.whose}" if self.whose and title else title
 
     def _rect(self, style: str, title: str, begin: int, end: int, lane: Lane) -> Edges:
         origin, sign = self.origin, self.sign
@@ -139,8 +139,7 @@ class WayDrawing:
         return edges
 
     def _mark(self, style: str, title: str, place: int, lane: Lane) -> None:
-        titled = f"{title}, {self.whose}" if self.whose else title
-        self.sheet.mark(style, titled, self.origin + self.sign * place, *lane)
+        self.sheet.mark(style, self._titled(title), self.origin + self.sign * place, *lane)
 
     def profile(self, profile: Profile, lane: Lane, top_speed: int) -> None:
         """A profile in its lane: its elements, the track before it, its end mark, and the elements behind that."""
@@ -151,6 +150,7 @@ class WayDrawing:
             if self._is_beyond(element.begin, end):
                 continue
             to = " on: an open profile" if element.end is None else f" to {describe(end)}"
+            to += ": end mark" * (end == profile.reach)
             where = f"from {describe(element.begin)}{to}"
             if is_speed:
                 steps.append(self._speed(element, where, end, lane, top_speed))
@@ -163,7 +163,7 @@ class WayDrawing:
         if profile.reach is None:
             self._arrow(f"the {name} has no end mark: it is open", lane)
         else:
-            self._mark("endmark", f"end mark: the {name} reaches {describe(profile.reach)}", profile.reach, lane)
+            self._mark("endmark", "", profile.reach, lane)
         for element in profile.beyond:
             title = f"behind the end mark: an element at {describe(element.begin)}"
             self._mark("pale", title, element.begin, lane)
@@ -211,7 +211,7 @@ class WayDrawing:
         if begin < self.sheet.greatest and end > self.sheet.least:
             edges = self.sheet.nearest(begin), self.sheet.nearest(end)
             words = f"V_MAIN {authority.form['v_main'] * 5}"
-            self.sheet.path("vmain", self._titled(f"{words} km/h"), f"M{tenths(edges[0])} {y}H{tenths(edges[1])}")
+            self.sheet.path("vmain", "", f"M{tenths(edges[0])} {y}H{tenths(edges[1])}")
             self._along(words, edges, y)
 
     def _gradient(self, element: Element, where: str, end: int, lane: Lane) -> None:
@@ -238,27 +238,44 @@ class WayDrawing:
         for number, cut in enumerate((*authority.cuts, authority.end)):
             name = "end section" if number == len(authority.cuts) else f"section {number}"
             length = metres(cut - begin)
-            edges = self._rect(f"section{number % 2}", f"{name}: {length}, to {self.describe(cut)}", begin, cut, bar)
+            title = f"{name}: {length}, to {self._end_words(authority, cut)}"
+            edges = self._rect(f"section{number % 2}", title, begin, cut, bar)
             if edges:
                 self.sheet.inside("light", length, edges, bar.top + bar.height // 2 + 4)
             begin = cut
         end, supervised, out = authority.end, authority.supervised, self.sizes.end
         if authority.overlap is not None:
-            title = f"overlap: {metres(authority.overlap - end)}, to {self.describe(authority.overlap)}"
+            title = f"overlap: {metres(authority.overlap - end)}, to {self._end_words(authority, authority.overlap)}"
             title = self._titled(f"{title}, {release(authority, 'overlap')}")
             self.sheet.stripes("overlap", title, (self.at(end), self.at(authority.overlap)), bar)
-        self._mark("end", end_words(authority, self.describe(end)), end, Lane(bar.top - out, bar.height + 2 * out))
+        self._mark("end", limit_words(authority, self.describe(end)), end, Lane(bar.top - out, bar.height + 2 * out))
         self._danger_point(authority, bar)
         if not is_limit(authority):
-            title, above = f"supervised location: {self.describe(supervised)}", self.sizes.supervised
-            self._mark("supervised", title, supervised, Lane(bar.top - above, bar.height + above + out))
+            above = self.sizes.supervised
+            self._mark("supervised", "", supervised, Lane(bar.top - above, bar.height + above + out))
+        for place, timer in timers(authority):
+            self._timer(place, timer, bar)
+
+    def _timer(self, place: int, words: str, bar: Lane) -> None:
+        """A flag over the place where a timer of a section stops or starts, with its seconds if there is room."""
+        if self.sheet.shows(self.at(place)):
+            x = self.sheet.x(self.at(place))
+            title = self._titled(f"{words} {self.describe(place)}")
+            self.sheet.path("timer", title, f"M{tenths(x)} {bar.bottom}V{bar.top - 7}l5 2l-5 2")
+            if self.sizes.has_words:
+                short = " ".join(words.split()[1:3])
+                self.sheet.label("", short, [(x + 70, bar.top - 2), (x - 20 - width("", short), bar.top - 2)])
+
+    def _end_words(self, authority: Authority, place: int) -> str:
+        """A place of an authority in words: also whether it is the supervised location."""
+        return self.describe(place) + " (SvL)" * (place == authority.supervised and not is_limit(authority))
 
     def _danger_point(self, authority: Authority, bar: Lane) -> None:
         place = authority.danger_point
         if place is not None and self.sheet.shows(self.at(place)):
             half, x = bar.height // 2 + 1, tenths(self.sheet.x(self.at(place)))
-            title = self._titled(f"danger point: {self.describe(place)}, {release(authority, 'danger_point')}")
-            self.sheet.path("danger", title, f"M{x} {bar.top - 1}l5 {half}l-5 {half}l-5 -{half}z")
+            words = f"danger point: {self._end_words(authority, place)}, {release(authority, 'danger_point')}"
+            self.sheet.path("danger", self._titled(words), f"M{x} {bar.top - 1}l5 {half}l-5 {half}l-5 -{half}z")
 
     def area(self, area: Area, lane: Lane) -> Edges:
         """A restriction, condition or mode, or the place at which the level changes, and where it is acknowledged."""

@@ -1,56 +1,83 @@
-"""Shapes as SVG. Pages have hundreds of thousands of them, and a template would take most of the time for that."""
+"""Shapes as SVG. Pages have hundreds of thousands of them, and a template would take most of the time for that.
+
+What has one style is together, so that its class is written once: first areas, then lines over them, then texts. Lines
+without a title are one path. So a browser has fewer elements.
+"""
 from __future__ import annotations
 
-import re
+from collections import defaultdict
 from functools import lru_cache
-from typing import Iterable, List, Sequence
+from html import escape
+from typing import Dict, Iterable, List
 
-from markupsafe import Markup, escape
+from markupsafe import Markup
 
 from balisekit.drawing.sheet import Shape
 
-SPECIAL = re.compile("[&<>'\"]").search
-"""Finds a character that has to be escaped. Most texts have none."""
+Written = Dict[str, List[str]]
+"""What is written of each style, or of each height."""
+
+
+def text(content: str) -> Markup:
+    """A text between elements, where quotation marks need no escape."""
+    return Markup(escape(content, quote=False))
 
 
 @lru_cache(maxsize=1 << 16)
 def _escaped(text: str) -> str:
     """A title or text as a page may have it. Most of them come again and again."""
-    return str(escape(text)) if SPECIAL(text) else text
+    return escape(text, quote=False)
 
 
-def _svg(shape: Shape) -> str:
-    """A line for a shape. Titles and texts are escaped; all else is numbers and words of balisekit.
+def _title(title: str) -> str:
+    return f"<title>{_escaped(title)}</title>" if title else ""
 
-    A rectangle as a path is shorter, and a great page has a hundred thousand of them.
+
+def _look(style: str, quote: str) -> str:
+    quote = '"' if " " in style else quote
+    return f" class={quote}{style}{quote}" if style else ""
+
+
+def _paths(titled: Written, bare: Written, quote: str) -> List[str]:
+    """Areas or lines: those of a style that have no title are one path."""
+    found = []
+    for style in dict.fromkeys((*titled, *bare)):
+        inside, look = "".join(titled.get(style, ())), _look(style, quote)
+        line = f"<path{{}} d={quote}{''.join(bare[style])}{quote}></path>" if style in bare else ""
+        found.append(f"<g{look}>{inside}{line.format('')}</g>\n" if inside else f"{line.format(look)}\n")
+    return found
+
+
+def _texts(texts: Written, ticks: Written, quote: str) -> str:
+    """The usual texts, and the others by style. Ticks of one height share it."""
+    rows = [f"<text y={quote}{y}{quote}>{''.join(row)}</text>" for y, row in ticks.items()]
+    inside = "".join(texts.pop("", ()))
+    for style, some in (*texts.items(), ("tick", rows)):
+        inside += f"\n<g{_look(style, quote)}>{''.join(some)}</g>" if some else ""
+    return f"<g{_look('text', quote)}>{inside}</g>\n" if inside else ""
+
+
+def svg(shapes: Iterable[Shape], in_page: bool = False) -> Markup:
+    """The shapes of a picture: for a file, or for a page, where attributes need no quotation marks.
+
+    Titles and texts are escaped; all else is numbers and words of balisekit.
     """
-    tag, style, title, x, y, width, height, path, text = shape
-    look = f' class="{style}"' if style else ""
-    inside = f"<title>{_escaped(title)}</title>" if title else ""
-    if tag == "rect":
-        return f'<path{look} d="M{x} {y}h{width}v{height}H{x}z">{inside}</path>\n'
-    if tag == "path":
-        return f'<path{look} d="{path}">{inside}</path>\n' if inside else f'<path{look} d="{path}"/>\n'
-    return f'<text{look} x="{x}" y="{y}">{_escaped(text)}{inside}</text>\n'
-
-
-def _ticks(shapes: Sequence[Shape]) -> str:
-    """The texts of ticks of one height in one line, which share what they have in common."""
-    inside = "".join(f'<tspan x="{shape.x}">{_escaped(shape.text)}</tspan>' for shape in shapes)
-    return f'<text class="tick" y="{shapes[0].y}">{inside}</text>\n'
-
-
-def svg(shapes: Iterable[Shape]) -> Markup:
-    """The shapes of a picture, a line each."""
-    lines: List[str] = []
-    ticks: List[Shape] = []
-    for shape in shapes:
-        is_tick = shape[1] == "tick"
-        if ticks and not (is_tick and shape.y == ticks[0].y):
-            lines.append(_ticks(ticks))
-            ticks = []
-        if is_tick:
-            ticks.append(shape)
+    quote = "" if in_page else '"'
+    layers: List[Written] = [defaultdict(list) for _ in range(6)]
+    areas, bare_areas, lines, bare_lines, texts, ticks = layers
+    for tag, style, title, x, y, width, height, path, text in shapes:
+        if style == "tick":
+            ticks[y].append(f"<tspan x={quote}{x}{quote}>{_escaped(text)}</tspan>")
+        elif tag == "text":
+            words = f"<text x={quote}{x}{quote} y={quote}{y}{quote}>{_escaped(text)}{_title(title)}</text>"
+            texts[style].append(words)
         else:
-            lines.append(_svg(shape))
-    return Markup("".join(lines) + (_ticks(ticks) if ticks else ""))
+            is_area = tag == "rect"
+            path = f"M{x},{y}h{width}v{height}H{x}z" if is_area else path.replace(" ", ",")
+            if title:
+                titled = f"<path d={quote}{path}{quote}>{_title(title)}</path>"
+                (areas if is_area else lines)[style].append(titled)
+            elif path:
+                (bare_areas if is_area else bare_lines)[style].append(path)
+    written = (*_paths(areas, bare_areas, quote), *_paths(lines, bare_lines, quote), _texts(texts, ticks, quote))
+    return Markup("".join(written))

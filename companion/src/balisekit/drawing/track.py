@@ -35,6 +35,8 @@ LANES = 12
 TICK = 5000
 ARROW, SPACE, NAME = 110, 70, 3400
 """The room of the arrow before a name, of a space, and the greatest one of a name, in tenths of a pixel."""
+FLAGS = "-24l9 4l-9 4", "-16a4 4 0 1 1 .1 0"
+"""A flag, and the ring of one that only rules L have: the pole, and what is at its top."""
 NAMED = 5
 """So many groups of a page are named in words."""
 
@@ -176,7 +178,7 @@ def _groups(sheet: Sheet, page: Page, first: bool) -> None:
         _arc(sheet, arc, said not in written)
         written.add(said)
     places = range(sheet.least, sheet.greatest + 1, TICK)
-    sheet.axis("kilometres", places)
+    sheet.axis("", places)
     for x, is_broken in (
         (sheet.x(sheet.least) - 100, page.before < page.begin),
         (sheet.x(sheet.greatest) + 100, page.is_broken_behind),
@@ -206,7 +208,8 @@ def _names(sheet: Sheet, stations: Sequence[BaliseGroup], found: Sequence[Flag])
         sheet.path("leader", "", f"M{tenths(sheet.x(place))} {base + 4}V{y + 2}")
         sheet.short(style, name, begin + wide // 2, y + 11, NAME)
     for flag in found:
-        sheet.path(f"flag{' quiet' * flag.is_quiet}", flag.title, f"M{tenths(sheet.x(flag.place))} {base}v-24l9 4l-9 4")
+        style, top = f"flag{' links' * flag.is_of_links}{' quiet' * flag.is_quiet}", FLAGS[flag.is_of_links]
+        sheet.path(style, flag.title, f"M{tenths(sheet.x(flag.place))} {base}v{top}")
     for station in stations:
         _station(sheet, station, base)
     sheet.y = base + 32 + 13 * rows.count
@@ -226,7 +229,7 @@ def _band(sheet: Sheet, one: Placed, top_speed: int) -> None:
     lanes = {27: lane, 21: Lane(lane.bottom + 2, LOW)}
     whose = f"{band.way.direction}, {clean(band.station.group.name)}"
     drawing = WayDrawing(sheet, band.way, SIZES, partial(_describe, band.at, band.sign), whose, band.sign, band.at)
-    _name(sheet, one, whose)
+    _name(sheet, one)
     for profile in (*band.way.speeds, *band.way.gradients):
         drawing.profile(profile, lanes[profile.number], top_speed)
     for authority in band.way.authorities:
@@ -243,7 +246,7 @@ def _band(sheet: Sheet, one: Placed, top_speed: int) -> None:
     sheet.mark("group", "", band.at, sheet.y + 14, _areas_top(band) + AREA * len(kinds) - 18)
 
 
-def _name(sheet: Sheet, one: Placed, whose: str) -> None:
+def _name(sheet: Sheet, one: Placed) -> None:
     """The name of a band, an arrow to where it runs, and what is missing: the arrow is at the group."""
     band, y = one.band, sheet.y + 10
     parts = [("red", band.findings, width("red", band.findings) + SPACE)] if band.findings else []
@@ -253,8 +256,7 @@ def _name(sheet: Sheet, one: Placed, whose: str) -> None:
         sheet.text(style, words, left, y, band.label if words != band.label and not style else "")
         left += wide
     tail = one.name if band.sign > 0 else left - SPACE + ARROW
-    title = f"runs {'up' if band.sign > 0 else 'down'} the kilometres, {whose}"
-    sheet.path("run", title, f"M{tenths(tail)} {y - 8}l{8 * band.sign} 4l{-8 * band.sign} 4z")
+    sheet.path("run", "", f"M{tenths(tail)} {y - 8}l{8 * band.sign} 4l{-8 * band.sign} 4z")
 
 
 def _kinds(band: Band) -> List[int]:
@@ -284,7 +286,9 @@ class Curve(NamedTuple):
         (x, y), (to_x, to_y) = self.point(first), self.point(last)
         slope = -4 * self.high * (1 - 2 * first)
         middle = x + (to_x - x) / 2, y + slope * (last - first) / 2
-        return f"M{x / 10:.1f} {y:.1f}Q{middle[0] / 10:.1f} {middle[1]:.1f} {to_x / 10:.1f} {to_y:.1f}"
+        points = ((x, y), middle, (to_x, to_y))
+        at, by, to = (f"{tenths(round(across))} {tenths(round(down * 10))}" for across, down in points)
+        return f"M{at}Q{by} {to}"
 
     def arrow(self, at: float) -> str:
         """A triangle along the way of the link."""
@@ -292,7 +296,8 @@ class Curve(NamedTuple):
         along = (self.end - self.begin) / 10, -4 * self.high * (1 - 2 * at)
         dx, dy = (4 * each / (hypot(*along) or 1) for each in along)
         corners = ((dx, dy), (-dx - dy * 0.7, -dy + dx * 0.7), (-dx + dy * 0.7, -dy - dx * 0.7))
-        return "M" + "L".join(f"{x / 10 + right:.1f} {y + down:.1f}" for right, down in corners) + "z"
+        points = ((round(x + 10 * right), round(10 * (y + down))) for right, down in corners)
+        return "M" + "L".join(f"{tenths(across)} {tenths(down)}" for across, down in points) + "z"
 
 
 def _arc(sheet: Sheet, arc: Arc, has_label: bool) -> None:

@@ -29,12 +29,12 @@ def release(authority: Authority, part: str) -> str:
     return f"release speed {value_words('v_releasedp', authority.form['danger_point']['v_releasedp'], Around())}"
 
 
-def end_words(authority: Authority, place: str) -> str:
-    """What the end of an authority is, with its place."""
-    if is_limit(authority):
-        speed = value_words("end_speed", authority.form["end_speed"], Around())
-        return f"limit of authority: {place}, V_LOA {speed}, {LIMIT}"
-    return f"end of the authority: {place}"
+def limit_words(authority: Authority, place: str) -> str:
+    """The end of an authority at which the train need not stop. Of another end, its section says where it is."""
+    if not is_limit(authority):
+        return ""
+    speed = value_words("end_speed", authority.form["end_speed"], Around())
+    return f"limit of authority: {place}, V_LOA {speed}, {LIMIT}"
 
 
 def place_words(authority: Authority) -> List[Tuple[int, str]]:
@@ -50,6 +50,18 @@ def place_words(authority: Authority) -> List[Tuple[int, str]]:
         place, words = found[-1]
         found[-1] = place, f"{words}; SvL"
     return found
+
+
+def timers(authority: Authority) -> Iterator[Tuple[int, str]]:
+    """Where the timers of sections stop, and where that of the end section starts, each with its seconds."""
+    form, stops = authority.form, list(authority.timer_stops)
+    for part in (*form["sections"], form):
+        if "section_timer" in part:
+            seconds = value_words("t_sectiontimer", part["section_timer"]["t_sectiontimer"], Around())
+            yield stops.pop(0), f"T_SECTIONTIMER {seconds} stops at"
+    if authority.end_timer is not None:
+        seconds = value_words("t_endtimer", form["end_timer"]["t_endtimer"], Around())
+        yield authority.end_timer, f"T_ENDTIMER {seconds} starts at"
 
 
 def speed_words(authority: Authority) -> str:

@@ -47,7 +47,7 @@ def _environment(jinja2: Any) -> Any:
     from markupsafe import Markup
 
     from balisekit.drawing.repeated import written
-    from balisekit.drawing.svg import svg
+    from balisekit.drawing.svg import svg, text
 
     environment = jinja2.Environment(
         loader=jinja2.FileSystemLoader(str(TEMPLATES)),
@@ -56,7 +56,7 @@ def _environment(jinja2: Any) -> Any:
         trim_blocks=True,
         lstrip_blocks=True,
     )
-    environment.filters.update(svg=lambda shapes, *how: Markup(written(shapes, svg, *how)), clean=clean)
+    environment.filters.update(svg=lambda shapes, *how: Markup(written(shapes, svg, *how)), text=text, clean=clean)
     return environment
 
 

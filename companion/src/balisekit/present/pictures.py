@@ -16,8 +16,7 @@ from balisekit.etcs.places import Identities
 from balisekit.present.pages import pieces
 from balisekit.present.track_text import refused_rows
 from balisekit.rules.checking import AcceptedMessage, Checked
-from balisekit.rules.entries import entries
-from balisekit.rules.line import Line
+from balisekit.rules.families import Outcome
 from balisekit.rules.links import Links
 from balisekit.tables.names import clean, describe_message
 
@@ -32,16 +31,17 @@ def picture_page(picture: Picture) -> Iterator[str]:
     return pieces("group.svg", [*PALETTE, "picture.css"], picture=picture)
 
 
-def track_page(checked: Checked, line: Line, links: Links, track: str, aspect: Optional[str]) -> Iterator[str]:
-    """The pictures of a track below each other, after a note on what was refused."""
-    pictures = list(track_pictures(line, links, track, aspect, list(marks_of(entries(checked)))))
-    pictures[:0] = [] if checked.whole else [note(refused_rows(checked))]
+def track_page(outcome: Outcome, links: Links, track: str, aspect: Optional[str]) -> Iterator[str]:
+    """The pictures of a track below each other, with flags of all rules, after a note on what was refused."""
+    marks = [mark for part in outcome.parts for mark in marks_of(part.open)]
+    pictures = list(track_pictures(links.line, links, track, aspect, marks))
+    pictures[:0] = [] if outcome.checked.whole else [note(refused_rows(outcome.checked))]
     tops = list(accumulate([0, *(picture.height for picture in pictures)]))
     return pieces(
         "track.svg",
         [*PALETTE, "picture.css", "track.css"],
         title=f"track {clean(track)}" if track else "the track",
-        description=f"{len(line.along[track])} groups, {shown_words(aspect, 'each')}, in pictures of 5 km each",
+        description=f"{len(links.line.along[track])} groups, {shown_words(aspect, 'each')}, in pictures of 5 km each",
         width=WIDTH,
         height=tops[-1],
         pictures=list(zip(tops, pictures)),

@@ -1,19 +1,21 @@
 """What the body of a report is made of: what each family of rules finds, and a block for each group and message."""
 from __future__ import annotations
 
+import re
 from typing import Dict, Iterable, Iterator, List, Mapping, NamedTuple, Optional, Sequence, Set, Tuple
 
-from balisekit.drawing.group import picture_of, picture_of_message
+from balisekit.drawing.group import LinkMark, picture_of, picture_of_message
 from balisekit.drawing.sheet import Picture
 from balisekit.engine.grammar import Finding
 from balisekit.engine.records import Form
 from balisekit.etcs.geometry import Kilometres, kilometre
 from balisekit.etcs.places import Here, Identities, places_of_rows
+from balisekit.etcs.variables import unit_dm
 from balisekit.present import headings
 from balisekit.present.accepted_text import accepted_words
 from balisekit.present.outcome_text import behind
 from balisekit.present.refusals import RefusedInput, refused
-from balisekit.present.telegram_text import parts
+from balisekit.present.telegram_text import LABEL_WIDTH, parts
 from balisekit.rules.accepted import Acceptance
 from balisekit.rules.checking import AcceptedMessage, Checked
 from balisekit.rules.entries import Entry, track_of
@@ -23,6 +25,8 @@ from balisekit.rules.location import BaliseGroup
 from balisekit.tables.model import Group
 from balisekit.tables.names import clean, describe_balise, describe_group, describe_message, describe_rows, rows_words
 
+LABELS = re.compile(f"^(.{{{LABEL_WIDTH - 1}}}) ", re.M)
+"""The labels in front of a telegram's values, and the blanks behind them."""
 LINKED = 8
 """So many rows of an entry have a link."""
 
@@ -218,8 +222,8 @@ def _block(
     items: Mapping[str, RefusedInput],
 ) -> Block:
     """The block of a group."""
-    where = Kilometres(station.km, station.rising)
-    picture = None if station.unread else picture_of(group, forms, _findings(entries), where=where)
+    where, links = Kilometres(station.km, station.rising), list(_link_marks(entries, forms))
+    picture = None if station.unread else picture_of(group, forms, _findings(entries), where=where, links=links)
     packets = sorted({packet["nid_packet"] for form in forms.values() for packet in form["packets"]})
     return Block(
         f"g{station.number}",
@@ -241,6 +245,16 @@ def _block(
 def _marked(entries: Sequence[Listed]) -> Set[str]:
     """The places in the page of the packets that these are about."""
     return {packet_id(*place) for each in entries for place in packets_of(each.entry)}
+
+
+def _link_marks(entries: Sequence[Listed], forms: Mapping[int, Form]) -> Iterator[LinkMark]:
+    """The links of a group of which rules L have found something that is not accepted."""
+    for remark in (each.entry.remark for each in entries if each.entry.remark and not each.accepted):
+        where = remark.location
+        if remark.rule[0] == "L" and where.row and where.link is not None and where.row.number in forms:
+            packet = forms[where.row.number]["packets"][where.packet or 0]
+            place = sum(link["d_link"] for link in packet["links"][: where.link + 1]) * unit_dm(packet)
+            yield LinkMark(where.row.number, where.direction, place, remark.rule, clean(remark.sentence))
 
 
 def _findings(some: Iterable[Listed]) -> List[Finding]:
@@ -282,9 +296,9 @@ def _telegrams(
 def _texts(form: Form, here: Here, id: str, marked: Set[str]) -> List[Text]:
     """A telegram or message in words, the packets apart that are marked."""
     if not marked:
-        return [Text("".join(parts(form, here)))]
+        return [Text(_tabbed("".join(parts(form, here))))]
     found: List[Text] = []
-    for place, words in enumerate(parts(form, here), -1):  # (the head is before packet 0)
+    for place, words in enumerate(map(_tabbed, parts(form, here)), -1):  # (the head is before packet 0)
         name = packet_id(id, place)
         if name in marked:
             found.append(Text(words, name))
@@ -293,3 +307,8 @@ def _texts(form: Form, here: Here, id: str, marked: Set[str]) -> List[Text]:
         else:
             found.append(Text(words))
     return found
+
+
+def _tabbed(words: str) -> str:
+    """Words with a tab before the values of each line, in place of a sixth of the page that would be blanks."""
+    return LABELS.sub(lambda label: label[1].rstrip() + "\t", words)

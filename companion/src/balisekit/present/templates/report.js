@@ -73,7 +73,7 @@
   }
 
   document.addEventListener("toggle", (event) => addButton(event.target), true);
-  document.querySelectorAll(".telegram[open]").forEach(addButton);
+  document.querySelectorAll(".group details[open]").forEach(addButton);
   addEventListener("hashchange", reveal);
   reveal();
 })();
