@@ -226,7 +226,8 @@ class Program:
         with self._run(["check"], document, size) as run:
             lines = run.lines()
             first = next(lines, "")
-            verdict, refusal = grammar.verdict(first), grammar.refusal("check", first)
+            verdict = grammar.verdict(first)
+            refusal = None if verdict else grammar.refusal("check", first)
             count = verdict.findings if verdict else 0
             if count > size:  # (a packet has 14 bits at least, and a telegram more digits than findings)
                 raise run.no_answer(f"more findings than the document has bytes: {first}")

@@ -149,12 +149,16 @@ DIGITS = re.compile("(?:[0-9a-f]{2})+")
 """What `encode` writes."""
 
 
+def _digits(count: int) -> str:
+    return f"[0-9]{{{count}}}" if count else ""
+
+
 def _up_to(digits: str, least: int = 0) -> str:
     """An expression for all texts of this many digits up to these, whose first digit is at least this one."""
     first, rest = int(digits[0]), digits[1:]
     if not rest.strip("9"):
-        return f"[{least}-{first}]" + "[0-9]" * len(rest)
-    below = [f"[{least}-{first - 1}]" + "[0-9]" * len(rest)] if first > least else []
+        return f"[{least}-{first}]{_digits(len(rest))}"
+    below = [f"[{least}-{first - 1}]{_digits(len(rest))}"] if first > least else []
     return "|".join([*below, f"{first}(?:{_up_to(rest)})"])
 
 
