@@ -10,7 +10,7 @@ import sys
 import threading
 from contextlib import contextmanager, nullcontext
 from importlib import import_module
-from typing import TYPE_CHECKING, Any, Iterator, List, Optional, Sequence, TextIO
+from typing import TYPE_CHECKING, Any, ContextManager, Iterator, List, Optional, Sequence, TextIO
 
 from balisekit import __version__
 from balisekit.errors import KitError, NoAnswer, Terminated
@@ -44,6 +44,8 @@ exit status:
 
 balisekit is not proved. It presents what balisecheck says, and quotes its lines in full.
 """
+NO_SCRIPT = ("-h", "--help", "--program")
+"""The start script of a clone is not run for a command with these options."""
 TERMINATING = (signal.SIGTERM, signal.SIGHUP)
 
 
@@ -75,7 +77,10 @@ class _Parser(argparse.ArgumentParser):
 
 
 def parser(arguments: Sequence[str]) -> argparse.ArgumentParser:
-    """The options of the command that these arguments name. Only its module is imported."""
+    """The options of the command that these arguments name. Only its module is imported.
+
+    If they begin with a command no parser is made of the others, which no help or error then names.
+    """
     whole = _Parser(
         prog="balisekit",
         description="What balisecheck says of a table of telegrams.",
@@ -86,8 +91,8 @@ def parser(arguments: Sequence[str]) -> argparse.ArgumentParser:
     _add_debug(whole)
     commands = whole.add_subparsers(dest="command", required=True, metavar="COMMAND")
     named = next((argument for argument in arguments if not argument.startswith("-")), None)
-    for name, text in COMMANDS.items():
-        command = commands.add_parser(name, help=text, description=text)
+    for name in [named] if named in COMMANDS and named == arguments[0] else COMMANDS:
+        command = commands.add_parser(name, help=COMMANDS[name], description=COMMANDS[name])
         if name == named:
             module = import_module(f"balisekit.cli.{name}")
             module.add_options(command)
@@ -107,8 +112,8 @@ def main(arguments: Optional[List[str]] = None) -> int:
         return _ended(NoAnswer(CLOSED), False, CLOSED)
     options = argparse.Namespace(debug=False, command=None)
     try:
-        with _process():
-            arguments = sys.argv[1:] if arguments is None else arguments
+        arguments = sys.argv[1:] if arguments is None else arguments
+        with _process(), _script_ahead(arguments):
             try:
                 parser(arguments).parse_args(arguments, options)
             except SystemExit:  # help was written, or the options are wrong
@@ -123,6 +128,15 @@ def main(arguments: Optional[List[str]] = None) -> int:
         return _ended(error, options.debug, *([] if options.command in QUIET else [CLOSED]))
     except (KeyboardInterrupt, Exception) as error:
         return _ended(error, options.debug, _reason(error))
+
+
+def _script_ahead(arguments: Sequence[str]) -> ContextManager[None]:
+    """Runs the start script of a clone meanwhile, if a command needs it."""
+    if not arguments or arguments[0] not in COMMANDS or any(word.startswith(NO_SCRIPT) for word in arguments):
+        return nullcontext()
+    from balisekit.engine.find_program import script_ahead
+
+    return script_ahead()
 
 
 def _run(options: argparse.Namespace) -> int:

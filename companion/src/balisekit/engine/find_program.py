@@ -5,22 +5,49 @@ import hashlib
 import os
 import shutil
 import sys
-from typing import Dict, Optional
+from contextlib import contextmanager
+from typing import TYPE_CHECKING, Dict, Iterator, List, Optional
 
 from balisekit.engine import about
 from balisekit.errors import NoAnswer
+
+if TYPE_CHECKING:
+    from subprocess import Popen
 
 TOP = about.TOP
 """The top of the repository, if this is a clone."""
 SECONDS = 60
 """For how long the start script of the clone may take, which sums up its sources."""
+_STARTED: List[Popen[bytes]] = []
+"""The start script that runs ahead."""
+
+
+@contextmanager
+def script_ahead() -> Iterator[None]:
+    """Within this, the start script of a clone runs while balisekit imports what its command needs."""
+    if not os.environ.get("BALISECHECK") and _is_clone() and not _is_program(_script()):
+        _STARTED.append(_start(_script()))
+    try:
+        yield
+    finally:
+        while _STARTED:
+            with _STARTED.pop() as unused:
+                unused.kill()
+
+
+def _script() -> str:
+    """Where a clone has its start script, and a release the program itself."""
+    return os.path.join(TOP, "balisecheck")
+
+
+def _is_clone() -> bool:
+    return os.path.isfile(os.path.join(TOP, "companion", "pyproject.toml")) and os.path.isfile(_script())
 
 
 def find(named: Optional[str]) -> str:
     """Where the program is. The start script of the clone stands for the program that it would run."""
     named = named or os.environ.get("BALISECHECK")
-    script = os.path.join(TOP, "balisecheck")
-    is_clone = os.path.isfile(os.path.join(TOP, "companion", "pyproject.toml")) and os.path.isfile(script)
+    script, is_clone = _script(), _is_clone()
     if named:
         path = shutil.which(named)
         if path is None or not os.path.isfile(path):
@@ -44,21 +71,32 @@ def _is_program(path: str) -> bool:
         return file.read(4) == b"\x7fELF"
 
 
-def _stored(script: str) -> str:
-    """The program that the start script would run."""
-    import subprocess  # (only a clone needs it)
+def _start(script: str) -> Popen[bytes]:
+    """Starts the start script, which writes the path of the program that it would run."""
+    from subprocess import DEVNULL, PIPE, Popen  # (only a clone needs it)
 
+    environment = {**os.environ, "BALISECHECK_PATH": "1"}
+    words = ["/bin/sh", script]  # (a tree from a zip may have lost the modes, which the script reports)
     try:
-        environment = {**os.environ, "BALISECHECK_PATH": "1"}
-        words = ["/bin/sh", script]  # (a tree from a zip may have lost the modes, which the script reports)
-        run = subprocess.run(words, stdin=subprocess.DEVNULL, capture_output=True, env=environment, timeout=SECONDS)
+        return Popen(words, stdin=DEVNULL, stdout=PIPE, stderr=PIPE, env=environment)
     except OSError as error:
         raise NoAnswer(f"{script}: {error.strerror}") from error
-    except subprocess.TimeoutExpired as error:
-        raise NoAnswer(f"{script}: it has not ended within {SECONDS} s") from error
-    path = os.fsdecode(run.stdout.rstrip(b"\n"))
+
+
+def _stored(script: str) -> str:
+    """The program that the start script would run."""
+    from subprocess import TimeoutExpired
+
+    with _STARTED.pop() if _STARTED else _start(script) as run:
+        try:
+            output, errors = run.communicate(timeout=SECONDS)
+        except TimeoutExpired as error:
+            raise NoAnswer(f"{script}: it has not ended within {SECONDS} s") from error
+        finally:
+            run.kill()
+    path = os.fsdecode(output.rstrip(b"\n"))
     if run.returncode != 0 or not os.path.isfile(path):
-        said = run.stderr.decode("utf-8", "backslashreplace").strip().split("\n")[-1]
+        said = errors.decode("utf-8", "backslashreplace").strip().split("\n")[-1]
         raise NoAnswer(f"{script} names no program: {said or 'it says nothing'}")
     return path
 

@@ -9,6 +9,7 @@ import json
 import os
 import tempfile
 from collections.abc import Callable, Iterable, Iterator, Mapping, Sequence
+from contextlib import ExitStack
 from dataclasses import dataclass, field, replace
 from threading import Event
 from typing import IO, Any, Dict, List, NamedTuple, Optional, Tuple, TypeVar, Union
@@ -232,7 +233,8 @@ class Program:
         with self._run(["check"], document, size) as run:
             lines = run.lines()
             first = next(lines, "")
-            verdict, refusal = grammar.verdict(first), grammar.refusal("check", first)
+            verdict = grammar.verdict(first)
+            refusal = None if verdict else grammar.refusal("check", first)
             count = verdict.findings if verdict else 0
             if count > size:  # (a packet has 14 bits at least, and a telegram more digits than findings)
                 raise run.no_answer(f"more findings than the document has bytes: {first}")
@@ -252,18 +254,21 @@ class Program:
         return Run(self.path, words, stdin, Limit.of(size, self.timeout, self._stop))
 
     def _shake_hands(self) -> None:
-        """Raises NoAnswer if it is not the program whose words this version knows."""
+        """Raises NoAnswer if it is not the program whose words this version knows. The runs are side by side."""
         limit = HANDSHAKE_LIMIT if self.timeout is None else replace(HANDSHAKE_LIMIT, seconds=self.timeout)
-        for words, text, status, answer in HANDSHAKE:
-            with tempfile.TemporaryFile() as file:
+        with ExitStack() as stack:
+            runs = []
+            for words, text, _, _ in HANDSHAKE:
+                file = stack.enter_context(tempfile.TemporaryFile())
                 file.write(text.encode("ascii"))
                 file.seek(0)
-                with Run(self.path, words, file, limit) as run:
-                    lines = list(run.lines())
-                    if run.status is not None and run.status < 0:
-                        raise run.no_answer(_end(run, 0))
-                    if (run.status, lines) != (status, [answer]):
-                        raise NoAnswer(f"{self.path} is not the program that this version knows")
+                runs.append(stack.enter_context(Run(self.path, words, file, limit)))
+            for run, (_, _, status, answer) in zip(runs, HANDSHAKE):
+                lines = list(run.lines())
+                if run.status is not None and run.status < 0:
+                    raise run.no_answer(_end(run, 0))
+                if (run.status, lines) != (status, [answer]):
+                    raise NoAnswer(f"{self.path} is not the program that this version knows")
 
     def no_answer(self, command: str, why: str) -> NoAnswer:
         return NoAnswer(f"no answer of {self.path}: {command}: {why}")

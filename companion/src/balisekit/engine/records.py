@@ -7,7 +7,7 @@ from __future__ import annotations
 
 import re
 from functools import lru_cache
-from typing import Annotated, Any, Dict, List, Optional, Pattern, Tuple, TypedDict, Union, get_type_hints
+from typing import Annotated, Any, Dict, Iterator, List, Optional, Pattern, Tuple, TypedDict, Union, get_type_hints
 
 Bit = Annotated[int, range(2)]
 UpToTwo = Annotated[int, range(3)]
@@ -149,13 +149,16 @@ DIGITS = re.compile("(?:[0-9a-f]{2})+")
 """What `encode` writes."""
 
 
-def _up_to(digits: str, least: int = 0) -> str:
-    """An expression for all texts of this many digits up to these, whose first digit is at least this one."""
-    first, rest = int(digits[0]), digits[1:]
-    if not rest.strip("9"):
-        return f"[{least}-{first}]" + "[0-9]" * len(rest)
-    below = [f"[{least}-{first - 1}]" + "[0-9]" * len(rest)] if first > least else []
-    return "|".join([*below, f"{first}(?:{_up_to(rest)})"])
+def _up_to(digits: str) -> Iterator[str]:
+    """Expressions for the numbers of this many digits up to these. Flat ones are compiled faster than nested ones."""
+    for place, digit in enumerate(digits):
+        rest = len(digits) - place - 1
+        is_last = digits[place + 1 :] == "9" * rest
+        least, most = int(place == 0), int(digit) - (not is_last)
+        if least <= most:
+            yield f"{digits[:place]}[{least}-{most}]" + (f"[0-9]{{{rest}}}" if rest else "")
+        if is_last:
+            return
 
 
 def _number(allowed: Union[int, range]) -> str:
@@ -164,8 +167,8 @@ def _number(allowed: Union[int, range]) -> str:
         return str(allowed)
     digits = str(allowed[-1])
     least = "|".join(map(str, range(allowed[0])))
-    numbers = [f"[1-9][0-9]{{0,{len(digits) - 2}}}", "0", _up_to(digits, 1)] if digits[1:] else [_up_to(digits)]
-    return (f"(?!(?:{least})(?![0-9]))" if least else "") + f"(?:{'|'.join(numbers)})"
+    several = f"(?:{'|'.join([f'[1-9][0-9]{{0,{len(digits) - 2}}}', '0', *_up_to(digits)])})"
+    return (f"(?!(?:{least})(?![0-9]))" if least else "") + (several if digits[1:] else f"[0-{digits}]")
 
 
 @lru_cache(maxsize=None)

@@ -1,7 +1,6 @@
 """Places in words: in metres from the group, and in kilometres where the table has them."""
 from __future__ import annotations
 
-from dataclasses import dataclass, field
 from itertools import accumulate, chain
 from typing import Callable, Dict, Iterator, List, Mapping, NamedTuple, Optional, Sequence, Tuple
 
@@ -30,12 +29,11 @@ class Passage(NamedTuple):
     origin: Origin
 
 
-@dataclass(frozen=True)
-class Here:
+class Here(NamedTuple):
     """From where the distances of a telegram count: from its group, whose kilometres these are."""
 
     kilometres: Kilometres = Kilometres()
-    passages: Mapping[int, Sequence[Passage]] = field(default_factory=dict)
+    passages: Mapping[int, Sequence[Passage]] = {}
     """The passages of those packets, by their places in the telegram, that do not always count from the group."""
 
     def place(self, ways: Sequence[str]) -> Place:

@@ -198,20 +198,6 @@ encode = json.JSONEncoder(ensure_ascii=False, separators=(",", ":"), check_circu
 """The JSON of a value, by Python's encoder in C, which serves only without `indent`."""
 
 
-_encode_lines = json.JSONEncoder(ensure_ascii=False, separators=(",\n", ":"), check_circular=False).encode
-BETWEEN = ",\n{"
-"""What is between two objects of a list in that JSON, and nowhere within an object without objects: no text of JSON has
-a line end."""
-
-
-def encode_each(values: Sequence[Mapping[str, object]]) -> List[str]:
-    """The JSON of each of these objects, which have texts and numbers only. A call takes longer than an object."""
-    if not values:
-        return []
-    first, *others = _encode_lines(values)[1:-1].split(BETWEEN)
-    return [text.replace(",\n", ",") for text in (first, *(f"{{{other}" for other in others))]
-
-
 class Json(str):
     """A text that is JSON already. `write_json` copies it."""
 

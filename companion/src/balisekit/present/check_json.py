@@ -1,11 +1,10 @@
 """The answer of `check` as JSON, for other tools."""
 from __future__ import annotations
 
-from itertools import islice
 from typing import Any, Dict, Iterator, Tuple
 
 from balisekit.engine.program import Record
-from balisekit.io.outputs import Json, encode_each
+from balisekit.io.outputs import Json, encode
 from balisekit.present import accepted_text
 from balisekit.present.entries_json import entries_json
 from balisekit.present.headings import finding_words, not_decoded
@@ -17,9 +16,6 @@ from balisekit.rules.checking import Checked, LeftOut, Place, Refused, RefusedMe
 from balisekit.rules.families import Outcome
 from balisekit.rules.remarks import remarks
 from balisekit.tables.model import Message, Row
-
-AT_A_TIME = 1000
-"""So many telegrams are made JSON of together."""
 
 
 def as_json(outcome: Outcome) -> Dict[str, Any]:
@@ -77,46 +73,42 @@ def _counts(checked: Checked) -> Dict[str, Any]:
     }
 
 
-def _row(row: Row) -> Dict[str, Any]:
-    return {
-        "row": row.number,
-        "group": row.group,
-        "name": row.name,
-        "km": None if row.km is None else str(row.km),
-        "track": row.track,
-        "aspect": row.aspect,
-        "telegram": row.telegram,
-    }
+def _row(row: Row) -> str:
+    """The members of an object. `encode` takes twice as long for the object."""
+    km = "null" if row.km is None else f'"{row.km!s}"'
+    return (
+        f'"row":{row.number},"group":{encode(row.group)},"name":{encode(row.name)},"km":{km},'
+        f'"track":{encode(row.track)},"aspect":{encode(row.aspect)},"telegram":{encode(row.telegram)}'
+    )
 
 
-def _message(message: Message) -> Dict[str, Any]:
-    return {"line_of_file": message.number, "name": message.name}
+def _message(message: Message) -> str:
+    return f'"line_of_file":{message.number},"name":{encode(message.name)}'
 
 
-def _with_forms(pairs: Iterator[Tuple[Dict[str, Any], Record]]) -> Iterator[Json]:
+def _with_forms(pairs: Iterator[Tuple[str, Record]]) -> Iterator[Json]:
     """Objects with the program's line as their last member."""
-    for some in iter(lambda: list(islice(pairs, AT_A_TIME)), []):
-        for text, (_, record) in zip(encode_each([members for members, _ in some]), some):
-            yield Json(f'{text[:-1]},"form":{record.line}}}')
+    for members, record in pairs:
+        yield Json(f'{{{members},"form":{record.line}}}')
 
 
-def _refused(refused: Refused) -> Dict[str, Any]:
-    return {
-        **_row(refused.row),
+def _refused(refused: Refused) -> Json:
+    more = {
         "text": refused.refusal.text,
         "line": refused.refusal.line,
         "first_row_of_run": refused.first,
         "sentence": telegram_refused(refused.row.telegram, refused.refusal),
     }
+    return Json(f"{{{_row(refused.row)},{encode(more)[1:]}")
 
 
-def _refused_message(refused: RefusedMessage) -> Dict[str, Any]:
-    return {
-        **_message(refused.message),
+def _refused_message(refused: RefusedMessage) -> Json:
+    more = {
         "text": refused.refusal.text,
         "line": refused.refusal.line,
         "sentence": message_refused(refused.message.text, refused.refusal),
     }
+    return Json(f"{{{_message(refused.message)},{encode(more)[1:]}")
 
 
 def _left_out(left_out: LeftOut) -> Dict[str, Any]:

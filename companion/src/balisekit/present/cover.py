@@ -18,7 +18,7 @@ from balisekit.rules.aspect_counts import aspects_found
 from balisekit.rules.checking import Checked, Place, document
 from balisekit.rules.families import FAMILIES, PLAN, PROVED, Outcome
 from balisekit.rules.remarks import remarks
-from balisekit.tables.names import clean, describe_group, passed_over
+from balisekit.tables.names import clean, counted, describe_group, passed_over
 from balisekit.tables.own_headings import ReportHeading
 
 DOCUMENT = "document.json"
@@ -122,17 +122,17 @@ def _counts(outcome: Outcome) -> Iterator[str]:
     if PROVED in outcome.letters:
         groups = {place.group.name for place in checked.findings if place.group}
         messages = {place.message.number for place in checked.findings if place.message}
-        where = [f"{len(groups)} of {_many(len(checked.kept), 'group')}"] if groups else []
-        where += [_many(len(messages), "message")] if messages else []
-        findings = _many(len(checked.findings), "finding")
+        where = [f"{len(groups)} of {counted(len(checked.kept), 'group')}"] if groups else []
+        where += [counted(len(messages), "message")] if messages else []
+        findings = counted(len(checked.findings), "finding")
         yield f"{findings} in {' and '.join(where)}" if where else "no findings"
     others = {part.family.letter: len(part.items) for part in outcome.parts if part.applied}
     if others:
         of_families = ", ".join(f"{letter} {count}" for letter, count in others.items() if count)
         total = sum(others.values())
-        yield f"{_many(total, 'remark')} ({of_families})" if total else "no remarks"
+        yield f"{counted(total, 'remark')} ({of_families})" if total else "no remarks"
     if judged:
-        faults = f", {_many(len(judged.faults), 'entry', 'entries')} at fault" if judged.faults else ""
+        faults = f", {counted(len(judged.faults), 'entry', 'entries')} at fault" if judged.faults else ""
         yield f"{len(judged.items) - len(judged.open)} accepted, {len(judged.open)} open{faults}"
     yield from _lacks(outcome)
 
@@ -141,7 +141,7 @@ def _lacks(outcome: Outcome) -> Iterator[str]:
     """What no rule has looked at."""
     where = _not_decoded(outcome.checked)
     if where and PROVED in outcome.letters:
-        yield f"packets not decoded in {_many(len(where), 'telegram or message', 'telegrams or messages')}"
+        yield f"packets not decoded in {counted(len(where), 'telegram or message', 'telegrams or messages')}"
     if outcome.without_kilometres:
         yield "rules over the line not applied"
     elif not set(FAMILIES) <= {PLAN, *outcome.letters}:
@@ -160,10 +160,6 @@ def _not_decoded(checked: Checked) -> Set[Tuple[bool, int]]:
     }
 
 
-def _many(count: int, thing: str, things: str = "") -> str:
-    return f"{count} {thing if count == 1 else things or f'{thing}s'}"
-
-
 def _evidence(checked: Checked, command: str) -> Optional[Evidence]:
     """How the program is asked again."""
     if checked.verdict is None:
@@ -178,7 +174,7 @@ def _evidence(checked: Checked, command: str) -> Optional[Evidence]:
 def _inputs(checked: Checked, judged: Optional[Judged]) -> Iterator[Tuple[str, str, str]]:
     """Name, SHA-256 and content of each input."""
     table, messages, entries = checked.table, checked.messages, judged.entries if judged else None
-    content = f"{len(table.rows)} telegrams of {len(table.groups)} groups; {table.encoding}"
+    content = f"{counted(len(table.rows), 'telegram')} of {counted(len(table.groups), 'group')}; {table.encoding}"
     yield clean(table.path), table.sha256, content
     if messages:
         yield clean(messages.path), messages.sha256, f"{len(messages.messages)} radio messages"

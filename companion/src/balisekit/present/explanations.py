@@ -5,9 +5,8 @@ companion/tools/from_docs.py makes `findings.json` of FINDINGS.md.
 from __future__ import annotations
 
 import json
+import os
 import re
-import textwrap
-from pathlib import Path
 from typing import Dict, Iterable, Iterator, Mapping, NamedTuple, Tuple
 
 from balisekit.rules.families import Family
@@ -25,8 +24,8 @@ KEYS = ("says", "urgent", "cause", "happens", "remedy")
 
 def explanations() -> Dict[int, Dict[str, str]]:
     """The paragraphs on each finding, by its number: `name`, `says`, `urgent`, `cause`, `happens`, `remedy`."""
-    text = Path(__file__).with_name("findings.json").read_text("utf-8")
-    return {int(rule): parts for rule, parts in json.loads(text).items()}
+    with open(os.path.join(os.path.dirname(__file__), "findings.json"), encoding="utf-8") as file:
+        return {int(rule): parts for rule, parts in json.load(file).items()}
 
 
 class Page(NamedTuple):
@@ -48,6 +47,8 @@ def pages(family: Family) -> Iterator[Tuple[str, Page]]:
 
 def page_lines(named: Iterable[Tuple[str, Page]]) -> Iterator[str]:
     """What these pages say, as lines of text."""
+    import textwrap  # (only --explain needs it)
+
     for name, page in named:
         yield f"{name}: {page.title}"
         for head, text in ((head, page.parts[head]) for head in EXPLAINED if head in page.parts):

@@ -1,7 +1,7 @@
 """What rules have found of a line, and what they could not look at."""
 from __future__ import annotations
 
-from dataclasses import dataclass, replace
+from dataclasses import dataclass
 from functools import cached_property
 from typing import Callable, Iterator, Mapping, Sequence, Tuple
 
@@ -51,11 +51,11 @@ def _with_causes(line: Line, rule: Rule, result: Result) -> Result:
     suspects = [group for group in line.groups if line.has(number, group)] if number and result.found else []
     if not suspects:
         return result
-    return replace(result, found=[_with_cause(line, number, suspects, each) for each in result.found])
+    return result._replace(found=[_with_cause(line, number, suspects, each) for each in result.found])
 
 
 def _with_cause(line: Line, number: int, suspects: Sequence[BaliseGroup], remark: Remark) -> Remark:
     """The same remark, and which groups of its rows have that finding."""
     rows = {*remark.rows, *remark.others, *([remark.location.row.number] if remark.location.row else [])}
     groups = [group for group in suspects if not rows.isdisjoint(row.number for row in group.group.rows())]
-    return replace(remark, sentence=remark.sentence + line.cause(number, *groups)) if groups else remark
+    return remark._replace(sentence=remark.sentence + line.cause(number, *groups)) if groups else remark

@@ -5,7 +5,6 @@ Which findings belong to exchanged telegrams is the program's word: those that i
 from __future__ import annotations
 
 from collections import Counter
-from dataclasses import replace
 from typing import Dict, Iterable, Iterator, List, Mapping, NamedTuple, Optional, Sequence, Set, Tuple
 
 from balisekit.engine.program import Report
@@ -61,7 +60,7 @@ def _alike(places: Sequence[Place]) -> List[Cause]:
 def _united(some: Sequence[Tuple[Place, int, Statement]]) -> Statement:
     """The statement of the first of these, with the other rows of them all."""
     others = sorted({row for _, _, said in some for row in said.others})
-    return replace(some[0][2], others=tuple(others))
+    return some[0][2]._replace(others=tuple(others))
 
 
 def _about(place: Place) -> Tuple[object, ...]:
@@ -286,4 +285,4 @@ def _copied(said: Statement, row: Row, copies: Sequence[Row]) -> Statement:
         return said
     numbers, groups = [each.number for each in copies], dict.fromkeys(clean(each.group) for each in copies)
     words = f"; row {row.number} has the same telegram as {rows_words(numbers)} ({listed(list(groups), NAMED)})"
-    return replace(said, after=said.after + words, further=(*said.further, *numbers))
+    return said._replace(after=said.after + words, further=(*said.further, *numbers))

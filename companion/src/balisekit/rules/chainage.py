@@ -5,7 +5,6 @@ are finer than a decimetre are rounded.
 """
 from __future__ import annotations
 
-from dataclasses import dataclass
 from decimal import ROUND_HALF_EVEN, Decimal
 from typing import NamedTuple, Optional, Sequence, Tuple
 
@@ -28,8 +27,7 @@ def decimetres(km: Decimal) -> int:
     return int((km * DECIMETRES).to_integral_value(ROUND_HALF_EVEN))
 
 
-@dataclass(frozen=True)
-class Chainage:
+class Chainage(NamedTuple):
     """The kilometres of one track, with their jumps in the order of the kilometres."""
 
     jumps: Tuple[Tuple[int, int], ...] = ()

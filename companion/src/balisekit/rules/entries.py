@@ -5,9 +5,8 @@ not proved.
 """
 from __future__ import annotations
 
-from dataclasses import dataclass, field
 from decimal import Decimal
-from typing import Any, Collection, Dict, List, Mapping, Optional, Sequence, Tuple
+from typing import Any, Collection, Dict, List, Mapping, NamedTuple, Optional, Sequence, Tuple
 
 from balisekit.rules.causes import Cause, causes
 from balisekit.rules.checking import Checked, Place
@@ -17,8 +16,7 @@ from balisekit.rules.urgency import Urgency
 from balisekit.tables.model import Group, Message, Row
 
 
-@dataclass(frozen=True)
-class Entry:
+class Entry(NamedTuple):
     """One cause, and all places at which it shows. What it does not name is None or empty."""
 
     rule: str
@@ -38,7 +36,7 @@ class Entry:
     """`nominal` or `reverse`; nothing if it is about both or none."""
     km: Optional[Decimal] = None
     message: Optional[Message] = None
-    values: Mapping[str, str] = field(default_factory=dict)
+    values: Mapping[str, str] = {}
     """The values that the sentence names, by their variables or as `supervised_location_m`."""
     findings: Tuple[Place, ...] = ()
     """The findings of the program, if it is an entry of the program: their lines are quoted."""

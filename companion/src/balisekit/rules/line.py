@@ -10,7 +10,7 @@ from bisect import bisect_left, bisect_right
 from dataclasses import dataclass, field
 from decimal import Decimal
 from functools import cached_property
-from typing import Dict, FrozenSet, Iterator, List, Mapping, Optional, Sequence, Tuple
+from typing import Dict, FrozenSet, Iterator, List, Mapping, NamedTuple, Optional, Sequence, Tuple
 
 from balisekit.engine.grammar import Finding
 from balisekit.engine.program import Record
@@ -29,8 +29,7 @@ BY_LINKS = "its direction along the kilometres is taken from the links that name
 END = (None, None)
 
 
-@dataclass(frozen=True)
-class LinkedGroups:
+class LinkedGroups(NamedTuple):
     """Groups of a track that say that they are linked, and by which identity, in the order of the kilometres."""
 
     groups: Sequence[BaliseGroup]

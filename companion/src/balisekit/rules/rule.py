@@ -5,10 +5,10 @@ Each rule has a file of its own, whose docstring is its page. A rule is baliseki
 from __future__ import annotations
 
 from collections import Counter
-from dataclasses import dataclass, field, replace
+from dataclasses import dataclass
 from decimal import Decimal
 from functools import cached_property
-from typing import Callable, Dict, FrozenSet, Iterator, List, Mapping, Optional, Sequence, Tuple, Union
+from typing import Callable, Dict, FrozenSet, Iterator, List, Mapping, NamedTuple, Optional, Sequence, Tuple, Union
 
 from balisekit.rules.chainage import Jump
 from balisekit.rules.line import Line
@@ -55,8 +55,7 @@ class Options:
         return not self.asked.isdisjoint({rule, ALL})
 
 
-@dataclass(frozen=True)
-class Remark:
+class Remark(NamedTuple):
     """What a rule has found, and where."""
 
     rule: str
@@ -64,7 +63,7 @@ class Remark:
     sentence: str
     about: Optional[BaliseGroup] = None
     """The group that the sentence is about, if it is another one."""
-    values: Mapping[str, Decimal] = field(default_factory=dict)
+    values: Mapping[str, Decimal] = {}
     """The values that the rule has compared, by their names."""
     named: Sequence[BaliseGroup] = ()
     """The other groups that the sentence rests on, if no telegram of its location names them."""
@@ -78,13 +77,12 @@ class Remark:
     """The aspects that the sentence is about, if it is not about the row of its location."""
 
 
-@dataclass(frozen=True)
-class Result:
+class Result(NamedTuple):
     """What a rule has found, how many things it has looked at, and how many not, by the reason."""
 
     found: Sequence[Remark]
     looked_at: int
-    not_looked_at: Mapping[str, int] = field(default_factory=dict)
+    not_looked_at: Mapping[str, int] = {}
     """A rule that has looked at nothing, and not at something, makes the answer incomplete."""
     notes: Sequence[str] = ()
     """What the user should know beside the remarks, a line each."""
@@ -109,7 +107,7 @@ class Result:
                 looked_at += len(chains)
                 if answer:
                     place = answer.location.link
-                    found += [replace(answer, location=chain.location._replace(link=place)) for chain in chains]
+                    found += [answer._replace(location=chain.location._replace(link=place)) for chain in chains]
         return cls(found, looked_at, skipped)
 
     @property

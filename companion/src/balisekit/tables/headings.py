@@ -3,8 +3,7 @@ from __future__ import annotations
 
 import json
 import re
-from dataclasses import dataclass, field
-from typing import Dict, Iterable, List, Mapping, Optional, Sequence, Tuple
+from typing import Dict, Iterable, List, Mapping, NamedTuple, Optional, Sequence, Tuple
 
 from balisekit.errors import TableError
 from balisekit.tables.cells import COLUMNS, GREATEST_NAME, NEEDED, digits, kind_and_text
@@ -18,13 +17,12 @@ KILOMETRE = re.compile(r"-?[0-9]{1,4}(?:[.,][0-9]{1,6}|\+[0-9]{3})?")
 TO_THE_METRE = re.compile("[.,+][0-9]{3}")
 
 
-@dataclass(frozen=True)
-class Headings:
+class Headings(NamedTuple):
     """The columns that a sheet may have and needs, and the headings that a user has given to some of them."""
 
     known: Tuple[str, ...] = COLUMNS
     needed: Tuple[str, ...] = NEEDED
-    own: Mapping[str, str] = field(default_factory=dict)
+    own: Mapping[str, str] = {}
     """The heading of a column, by its name."""
     source: str = ""
     """The file that gives them."""

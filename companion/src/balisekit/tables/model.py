@@ -54,8 +54,7 @@ class Group:
         return {row.number: place for aspect in reversed(self.aspects) for place, row in enumerate(aspect.rows)}
 
 
-@dataclass(frozen=True)
-class Table:
+class Table(NamedTuple):
     """A table as it was read."""
 
     path: str

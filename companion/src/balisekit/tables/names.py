@@ -23,9 +23,9 @@ def ordinal(place: int) -> str:
     return f"{place + 1}{ending}"
 
 
-def counted(count: int, what: str) -> str:
-    """How many things of a kind: "1 group", "2 groups"."""
-    return f"{count} {what}{'s' * (count != 1)}"
+def counted(count: int, what: str, several: str = "") -> str:
+    """How many things of a kind: "1 group", "2 groups". `several` is a plural of another form."""
+    return f"{count} {what if count == 1 else several or f'{what}s'}"
 
 
 def rows_words(numbers: Iterable[int]) -> str:

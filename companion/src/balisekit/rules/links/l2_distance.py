@@ -28,7 +28,6 @@ anew at group B, so that there is one line.
 """
 from __future__ import annotations
 
-from dataclasses import replace
 from decimal import Decimal
 from typing import Iterator, Optional, Sequence, Set, Union
 
@@ -51,7 +50,7 @@ def find(line: Line, options: Options) -> Result:
     """Compares each link to a group of the table."""
     places = line.places if line.jumps else None
     result = Result.of_chains(line, lambda chain: compare(line, chain, options.tolerance, places))
-    return replace(result, found=_with_jumps(line, options, result.found)) if len(result.found) > 1 else result
+    return result._replace(found=_with_jumps(line, options, result.found)) if len(result.found) > 1 else result
 
 
 def compare(
@@ -117,7 +116,7 @@ def _with_jumps(line: Line, options: Options, found: Sequence[Remark]) -> Sequen
             words = jump.words(Chainage.of(line.jumps, jump.track))
             rows = sorted({step.row for step in jump.steps} - {0, jump.steps[0].row})
             sentence = f"{remark.sentence}. {words}: give the jump by --jumps, or correct the kilometres"
-            others.append(replace(remark, sentence=sentence, others=tuple(rows)))
+            others.append(remark._replace(sentence=sentence, others=tuple(rows)))
     return others
 
 

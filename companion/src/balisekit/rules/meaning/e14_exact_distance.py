@@ -27,7 +27,6 @@ How sure. 90 %.
 from __future__ import annotations
 
 from collections import Counter
-from dataclasses import replace
 from decimal import Decimal
 from typing import Iterator, Optional
 
@@ -131,7 +130,7 @@ def _jump(line: Line, jump: Jump) -> Remark:
     sentence = f"{jump.words(line.decoded.chainages[jump.track])}: give the jump by --jumps, or correct the kilometres"
     values = {"difference_m": Decimal(jump.difference) / 10}
     remark = Remark("E14", first.chains[0].at(first.link), sentence, first.here, values, urgency=Urgency.RULE_ONLY)
-    return replace(remark, others=tuple(rows))
+    return remark._replace(others=tuple(rows))
 
 
 RULE = Rule("E14", "links", __doc__ or "", find, Urgency.WRONG_PLACE, needs_kilometres=True)

@@ -1,7 +1,6 @@
 """Words and merging that several rules E share."""
 from __future__ import annotations
 
-from dataclasses import replace
 from typing import Dict, Iterable, List, Optional, Sequence, Tuple
 
 from balisekit.rules.decoded import Packet, Passage
@@ -46,4 +45,4 @@ def _one_of(remarks: Sequence[Remark]) -> Remark:
         return first
     aspects = tuple(dict.fromkeys(row.aspect for row in rows.values() if row.aspect not in ("", "*")))
     others = tuple(row for row in first.others if row not in rows)
-    return replace(first, rows=tuple(sorted(rows)), aspects=aspects, others=others)
+    return first._replace(rows=tuple(sorted(rows)), aspects=aspects, others=others)

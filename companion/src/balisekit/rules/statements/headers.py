@@ -1,7 +1,6 @@
 """F1 to F7 and F14 to F16: values of the header that do not fit together."""
 from __future__ import annotations
 
-from dataclasses import replace
 from typing import Dict
 
 from balisekit.etcs.variables import in_order, variable_name
@@ -132,7 +131,7 @@ def _telegrams_differ(own: Balise, other: Balise, where: str) -> Statement:
             return Statement(sentence, other.rows, values=_both(key, own, other))
     these, those = (list(enumerate(balise.form["packets"])) for balise in (own, other))
     found = packets_differ(own, other, where, these, those)
-    return replace(found, before=said + found.before)
+    return found._replace(before=said + found.before)
 
 
 def _both(key: str, own: Balise, other: Balise) -> Dict[str, str]:

@@ -1,7 +1,6 @@
 """F10 to F13: authorities without a profile, and profiles that end before the supervised location."""
 from __future__ import annotations
 
-from dataclasses import replace
 from typing import Dict, Optional, Tuple
 
 from balisekit.etcs.geometry import INFILL, Authority, Origin, Site, authority, holds, origins, passed, profile
@@ -35,7 +34,7 @@ def neither_profile(one: Statement, other: Statement) -> Optional[Statement]:
     (gradient, _, about), (speed, _, same) = (said.before.partition(WITH) for said in (one, other))
     if (about, one.others) != (same, other.others):
         return None
-    return replace(one, before=f"{gradient} and {speed}{WITH}{about}", packet=None)
+    return one._replace(before=f"{gradient} and {speed}{WITH}{about}", packet=None)
 
 
 def _elsewhere(scene: Scene, number: int, direction: str) -> Tuple[str, Tuple[int, ...]]:

@@ -1,7 +1,6 @@
 """A finding of the program with all telegrams of its group, or with its message."""
 from __future__ import annotations
 
-from dataclasses import dataclass, field
 from typing import List, Mapping, NamedTuple, Optional, Sequence, Tuple
 
 from balisekit.engine.grammar import Finding
@@ -12,15 +11,14 @@ from balisekit.tables.model import Group, Row
 from balisekit.tables.names import balise_name, ordinal, quoted, rows_words
 
 
-@dataclass(frozen=True)
-class Statement:
+class Statement(NamedTuple):
     """What is wrong. Its sentence names other rows in one place, so that those of several aspects can be united."""
 
     before: str
     others: Tuple[int, ...] = ()
     """The other rows that it names."""
     after: str = ""
-    values: Mapping[str, str] = field(default_factory=dict)
+    values: Mapping[str, str] = {}
     """The values that it names, by their variables or as `supervised_location_m`."""
     packet: Optional[int] = None
     """The NID_PACKET of the packet that it is about."""
