@@ -34,6 +34,13 @@ Answer = Tuple[int, List[str], List[str]]
 Run = Callable[..., Answer]
 
 
+@pytest.hookimpl(trylast=True)
+def pytest_sessionstart() -> None:
+    """The processes that tests start run without coverage, which takes as long as what they do."""
+    for name in [name for name in os.environ if name.startswith("COV_CORE_")]:
+        del os.environ[name]
+
+
 @pytest.fixture(scope="session")
 def program() -> Program:
     """The program under test."""

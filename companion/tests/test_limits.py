@@ -55,8 +55,7 @@ def _spent() -> float:
 def _timed(command: List[str]) -> Tuple[int, List[str], float]:
     """The status, the lines of standard output, and the processor's time in seconds."""
     before = _spent()
-    plain = {name: value for name, value in os.environ.items() if not name.startswith("COV_CORE_")}
-    done = subprocess.run(command, stdout=subprocess.PIPE, check=False, env=plain)  # (coverage would take its time too)
+    done = subprocess.run(command, stdout=subprocess.PIPE, check=False)
     return done.returncode, done.stdout.decode().splitlines(), _spent() - before
 
 
