@@ -122,7 +122,10 @@ OVERVIEWS: List[Tuple[str, List[str]]] = [
 """Steps of a user, and the groups that are shown then."""
 WIDTHS = [500, 800, 1400]
 SAYS = "parent.postMessage([%d, document.documentElement.scrollWidth, innerWidth, document.body.innerHTML], '*');"
-HEARS = "const said = {}; onmessage = ({data}) => (document.title = JSON.stringify(Object.assign(said, {[data[0]]: data})));"
+HEARS = """
+const said = {};
+onmessage = ({data}) => { said[data[0]] = data; document.title = JSON.stringify(said); };
+"""
 
 
 @pytest.fixture(scope="module")
@@ -134,7 +137,9 @@ def frames(page: Path, tmp_path_factory: pytest.TempPathFactory) -> List[Tuple[i
     room = tmp_path_factory.mktemp("frames")
     text = re.sub('<meta http-equiv="Content-Security-Policy"[^>]*>', "", page.read_text("utf-8"))
     whole = f"<title></title><script>{HEARS}</script>"
-    for index, (steps, width) in enumerate([*((steps, 1100) for steps, _ in OVERVIEWS), *(("", each) for each in WIDTHS)]):
+    for index, (steps, width) in enumerate(
+        [*((steps, 1100) for steps, _ in OVERVIEWS), *(("", each) for each in WIDTHS)]
+    ):
         script = f"<script>{{{steps}}}{SAYS % index}</script></body>"
         (room / f"{index}.html").write_text(text.replace("</body>", script), "utf-8")
         whole += f'<iframe src="{index}.html" width="{width}" height="900" style="border: 0"></iframe>'
