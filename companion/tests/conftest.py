@@ -34,9 +34,17 @@ Answer = Tuple[int, List[str], List[str]]
 Run = Callable[..., Answer]
 
 
-@pytest.hookimpl(trylast=True)
-def pytest_sessionstart() -> None:
-    """The processes that tests start run without coverage, which takes as long as what they do."""
+def pytest_collection_modifyitems(items: List[pytest.Item]) -> None:
+    """Slow tests come last, where xdist deals out few at a time, and run without coverage."""
+    items.sort(key=lambda item: item.get_closest_marker("slow") is not None)
+    for item in items:
+        if item.get_closest_marker("slow"):
+            item.add_marker("no_cover")
+
+
+@pytest.hookimpl(tryfirst=True)
+def pytest_runtest_setup() -> None:
+    """The processes that a test starts run without coverage, which would take as long as all that they do."""
     for name in [name for name in os.environ if name.startswith("COV_CORE_")]:
         del os.environ[name]
 

@@ -9,6 +9,7 @@ from typing import Iterator, List, Tuple
 
 import pytest
 
+pytestmark = pytest.mark.no_cover
 PACKAGE = Path(__file__).resolve().parents[1] / "src" / "balisekit"
 BELOW = {
     "io": (),
