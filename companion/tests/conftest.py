@@ -42,7 +42,6 @@ def pytest_collection_modifyitems(items: List[pytest.Item]) -> None:
             item.add_marker("no_cover")
 
 
-@pytest.hookimpl(tryfirst=True)
 def pytest_runtest_setup() -> None:
     """The processes that a test starts run without coverage, which would take as long as all that they do."""
     for name in [name for name in os.environ if name.startswith("COV_CORE_")]:

@@ -7,7 +7,7 @@ import re
 import shutil
 import subprocess
 from pathlib import Path
-from typing import List, Tuple
+from typing import Any, List, Tuple
 
 import pytest
 from cases_of_program import TOP
@@ -47,15 +47,15 @@ def page(tmp_path_factory: pytest.TempPathFactory) -> Path:
 
 
 @pytest.fixture(scope="module")
-def opened(page: Path, tmp_path_factory: pytest.TempPathFactory) -> "subprocess.CompletedProcess[str]":
+def dumped(page: Path, tmp_path_factory: pytest.TempPathFactory) -> "subprocess.CompletedProcess[str]":
     """The page as a browser has it, and what it says of the page."""
-    return browse(tmp_path_factory.mktemp("opened"), page, "--dump-dom")
+    return browse(tmp_path_factory.mktemp("dumped"), page, "--dump-dom")
 
 
-def test_the_console_is_empty(opened: "subprocess.CompletedProcess[str]") -> None:
+def test_the_console_is_empty(dumped: "subprocess.CompletedProcess[str]") -> None:
     """No error, and no style or script that the page's policy refuses; the page is there as a whole."""
-    assert "CONSOLE" not in opened.stderr
-    assert "Report on balise telegrams" in opened.stdout and opened.stdout.count('<section class="group"') == 9
+    assert "CONSOLE" not in dumped.stderr
+    assert "Report on balise telegrams" in dumped.stdout and dumped.stdout.count('<section class="group"') == 9
 
 
 def test_a_wrong_page_is_reported(page: Path, tmp_path: Path) -> None:
@@ -88,10 +88,10 @@ def test_a_print(page: Path, tmp_path: Path) -> None:
 
 
 def test_what_is_folded_is_opened_at_its_place(
-    page: Path, opened: "subprocess.CompletedProcess[str]", tmp_path: Path
+    page: Path, dumped: "subprocess.CompletedProcess[str]", tmp_path: Path
 ) -> None:
     """A link to a row, or to a packet within it, opens its telegram, and a button to copy the digits appears."""
-    assert '<details class="telegram" id="r3">' in opened.stdout
+    assert '<details class="telegram" id="r3">' in dumped.stdout
     for place in ("#r3", "#r23p1"):
         seen = browse(tmp_path, page, "--dump-dom", "--virtual-time-budget=2000", place=place).stdout
         row = place.split("p", maxsplit=1)[0][1:]
@@ -129,7 +129,7 @@ onmessage = ({data}) => { said[data[0]] = data; document.title = JSON.stringify(
 
 
 @pytest.fixture(scope="module")
-def frames(page: Path, tmp_path_factory: pytest.TempPathFactory) -> List[Tuple[int, int, str]]:
+def frames(page: Path, tmp_path_factory: pytest.TempPathFactory) -> List[Any]:
     """How wide each copy of the page is, how wide its window is, and its body, after the steps of its user.
 
     One browser has them all in frames of these widths. The policy of the page itself would refuse the steps.
@@ -147,11 +147,11 @@ def frames(page: Path, tmp_path_factory: pytest.TempPathFactory) -> List[Tuple[i
     seen = browse(room, room / "whole.html", "--dump-dom", "--virtual-time-budget=5000").stdout
     (title,) = re.findall("<title>(.+?)</title>", seen)
     said = json.loads(html.unescape(title))
-    return [tuple(said[str(index)][1:]) for index in range(len(OVERVIEWS) + len(WIDTHS))]
+    return [said[str(index)][1:] for index in range(len(OVERVIEWS) + len(WIDTHS))]
 
 
 @pytest.mark.parametrize("index", range(len(OVERVIEWS)))
-def test_the_overview_is_sorted_and_searched(frames: List[Tuple[int, int, str]], index: int) -> None:
+def test_the_overview_is_sorted_and_searched(frames: List[Any], index: int) -> None:
     """By the headings, as numbers where they are numbers, and by words; empty cells come last."""
     seen = frames[index][2]
     body = seen[seen.index('id="overview"') : seen.index('id="tracks"')]
@@ -160,7 +160,7 @@ def test_the_overview_is_sorted_and_searched(frames: List[Tuple[int, int, str]],
 
 
 @pytest.mark.parametrize("place, width", enumerate(WIDTHS, len(OVERVIEWS)))
-def test_nothing_is_wider_than_the_window(frames: List[Tuple[int, int, str]], place: int, width: int) -> None:
+def test_nothing_is_wider_than_the_window(frames: List[Any], place: int, width: int) -> None:
     """What is wider, as pictures and tables may be, is scrolled by itself."""
     needed, there, _ = frames[place]
     assert needed <= there and abs(there - width) <= 20
