@@ -35,11 +35,8 @@ Run = Callable[..., Answer]
 
 
 def pytest_collection_modifyitems(items: List[pytest.Item]) -> None:
-    """Slow tests come last, where xdist deals out few at a time, and run without coverage."""
+    """Slow tests come last, where xdist deals out few at a time: neighbours would all be on one worker."""
     items.sort(key=lambda item: item.get_closest_marker("slow") is not None)
-    for item in items:
-        if item.get_closest_marker("slow"):
-            item.add_marker("no_cover")
 
 
 def pytest_runtest_setup() -> None:

@@ -16,7 +16,7 @@ pytest.importorskip("jsonschema")
 hypothesis = pytest.importorskip("hypothesis")
 from hypothesis import given, strategies as st  # noqa: E402
 
-pytestmark = pytest.mark.no_cover
+pytestmark = pytest.mark.many
 SCHEMAS = {name: schema(name) for name in ("telegram", "message")}
 EXPRESSIONS = {"telegram": records.telegram_expression, "message": records.message_expression}
 LINES: List[Tuple[str, str]] = [
