@@ -34,6 +34,17 @@ Answer = Tuple[int, List[str], List[str]]
 Run = Callable[..., Answer]
 
 
+def pytest_collection_modifyitems(items: List[pytest.Item]) -> None:
+    """Slow tests come last, where xdist deals out few at a time: neighbours would all be on one worker."""
+    items.sort(key=lambda item: item.get_closest_marker("slow") is not None)
+
+
+def pytest_runtest_setup() -> None:
+    """The processes that a test starts run without coverage, which would take as long as all that they do."""
+    for name in [name for name in os.environ if name.startswith("COV_CORE_")]:
+        del os.environ[name]
+
+
 @pytest.fixture(scope="session")
 def program() -> Program:
     """The program under test."""

@@ -1,11 +1,13 @@
 """The report in a real browser: no error on its console, no request, a page and a print with all of it."""
 from __future__ import annotations
 
+import html
+import json
 import re
 import shutil
 import subprocess
 from pathlib import Path
-from typing import List
+from typing import Any, List, Tuple
 
 import pytest
 from cases_of_program import TOP
@@ -44,11 +46,16 @@ def page(tmp_path_factory: pytest.TempPathFactory) -> Path:
     return path
 
 
-def test_the_console_is_empty(page: Path, tmp_path: Path) -> None:
+@pytest.fixture(scope="module")
+def dumped(page: Path, tmp_path_factory: pytest.TempPathFactory) -> "subprocess.CompletedProcess[str]":
+    """The page as a browser has it, and what it says of the page."""
+    return browse(tmp_path_factory.mktemp("dumped"), page, "--dump-dom")
+
+
+def test_the_console_is_empty(dumped: "subprocess.CompletedProcess[str]") -> None:
     """No error, and no style or script that the page's policy refuses; the page is there as a whole."""
-    run = browse(tmp_path, page, "--dump-dom")
-    assert "CONSOLE" not in run.stderr
-    assert "Report on balise telegrams" in run.stdout and run.stdout.count('<section class="group"') == 9
+    assert "CONSOLE" not in dumped.stderr
+    assert "Report on balise telegrams" in dumped.stdout and dumped.stdout.count('<section class="group"') == 9
 
 
 def test_a_wrong_page_is_reported(page: Path, tmp_path: Path) -> None:
@@ -80,23 +87,17 @@ def test_a_print(page: Path, tmp_path: Path) -> None:
     assert 3 <= few <= 10 and many >= few + 8
 
 
-def test_what_is_folded_is_opened_at_its_place(page: Path, tmp_path: Path) -> None:
+def test_what_is_folded_is_opened_at_its_place(
+    page: Path, dumped: "subprocess.CompletedProcess[str]", tmp_path: Path
+) -> None:
     """A link to a row, or to a packet within it, opens its telegram, and a button to copy the digits appears."""
-    folded = '<details id="r3">'
-    assert folded in browse(tmp_path, page, "--dump-dom").stdout
+    assert '<details id="r3">' in dumped.stdout
     for place in ("#r3", "#r23p1"):
         seen = browse(tmp_path, page, "--dump-dom", "--virtual-time-budget=2000", place=place).stdout
         row = place.split("p", maxsplit=1)[0][1:]
         opened = seen[seen.index(f'<details id="{row}" open="">') :]
         assert '<button type="button">copy the digits</button><pre class="digits">' in opened[:400]
         assert seen.count("copy the digits</button>") == 2, "of this row, and of the refused one"
-
-
-def scripted(page: Path, target: Path, steps: str) -> Path:
-    """A copy of the page with these steps of a user. The policy of the page itself would refuse them."""
-    text = re.sub('<meta http-equiv="Content-Security-Policy"[^>]*>', "", page.read_text("utf-8"))
-    target.write_text(text.replace("</body>", f"<script>{steps}</script></body>"), "utf-8")
-    return target
 
 
 SORTED = """
@@ -109,36 +110,59 @@ text.value = "%s"; text.dispatchEvent(new Event("input"));
 if (%s) only.click();
 """
 ALL = ["A", "B", "C", "Infill", "D", "E", "F", "G", "H"]
+OVERVIEWS: List[Tuple[str, List[str]]] = [
+    ("", ALL),
+    (SORTED % ("km", 2), ALL[::-1]),
+    (SORTED % ("findings", 1), ["E", "C", "Infill", "F", "A", "B", "D", "G", "H"]),
+    (SORTED % ("group", 1), ["Infill", "A", "B", "C", "D", "E", "F", "G", "H"]),
+    (TYPED % ("signal 352/104", "false"), ["D"]),
+    (TYPED % ("", "true"), ["C", "Infill", "E", "F"]),
+    (TYPED % ("nothing", "false"), []),
+]
+"""Steps of a user, and the groups that are shown then."""
+WIDTHS = [500, 800, 1400]
+SAYS = "parent.postMessage([%d, document.documentElement.scrollWidth, innerWidth, document.body.innerHTML], '*');"
+HEARS = """
+const said = {};
+onmessage = ({data}) => { said[data[0]] = data; document.title = JSON.stringify(said); };
+"""
 
 
-@pytest.mark.parametrize(
-    "steps, names",
-    [
-        ("", ALL),
-        (SORTED % ("km", 2), ALL[::-1]),
-        (SORTED % ("findings", 1), ["E", "C", "Infill", "F", "A", "B", "D", "G", "H"]),
-        (SORTED % ("group", 1), ["Infill", "A", "B", "C", "D", "E", "F", "G", "H"]),
-        (TYPED % ("signal 352/104", "false"), ["D"]),
-        (TYPED % ("", "true"), ["C", "Infill", "E", "F"]),
-        (TYPED % ("nothing", "false"), []),
-    ],
-)
-def test_the_overview_is_sorted_and_searched(page: Path, tmp_path: Path, steps: str, names: List[str]) -> None:
+@pytest.fixture(scope="module")
+def frames(page: Path, tmp_path_factory: pytest.TempPathFactory) -> List[Any]:
+    """How wide each copy of the page is, how wide its window is, and its body, after the steps of its user.
+
+    One browser has them all in frames of these widths. The policy of the page itself would refuse the steps.
+    """
+    room = tmp_path_factory.mktemp("frames")
+    text = re.sub('<meta http-equiv="Content-Security-Policy"[^>]*>', "", page.read_text("utf-8"))
+    whole = f"<title></title><script>{HEARS}</script>"
+    for index, (steps, width) in enumerate(
+        [*((steps, 1100) for steps, _ in OVERVIEWS), *(("", each) for each in WIDTHS)]
+    ):
+        script = f"<script>{{{steps}}}{SAYS % index}</script></body>"
+        (room / f"{index}.html").write_text(text.replace("</body>", script), "utf-8")
+        whole += f'<iframe src="{index}.html" width="{width}" height="900" style="border: 0"></iframe>'
+    (room / "whole.html").write_text(whole, "utf-8")
+    seen = browse(room, room / "whole.html", "--dump-dom", "--virtual-time-budget=5000").stdout
+    (title,) = re.findall("<title>(.+?)</title>", seen)
+    said = json.loads(html.unescape(title))
+    return [said[str(index)][1:] for index in range(len(OVERVIEWS) + len(WIDTHS))]
+
+
+@pytest.mark.parametrize("index", range(len(OVERVIEWS)))
+def test_the_overview_is_sorted_and_searched(frames: List[Any], index: int) -> None:
     """By the headings, as numbers where they are numbers, and by words; empty cells come last."""
-    seen = browse(tmp_path, scripted(page, tmp_path / "steps.html", steps), "--dump-dom").stdout
+    seen = frames[index][2]
     body = seen[seen.index('id="overview"') : seen.index('id="tracks"')]
     rows = [row for row in re.findall("<tr.*?</tr>", body)[1:] if 'hidden=""' not in row]
-    assert [re.findall("<bdi>(?:Signal )?([A-Za-z]+)", row)[0] for row in rows] == names
+    assert [re.findall("<bdi>(?:Signal )?([A-Za-z]+)", row)[0] for row in rows] == OVERVIEWS[index][1]
 
 
-@pytest.mark.parametrize("width", [500, 800, 1400])
-def test_nothing_is_wider_than_the_window(page: Path, tmp_path: Path, width: int) -> None:
+@pytest.mark.parametrize("place, width", enumerate(WIDTHS, len(OVERVIEWS)))
+def test_nothing_is_wider_than_the_window(frames: List[Any], place: int, width: int) -> None:
     """What is wider, as pictures and tables may be, is scrolled by itself."""
-    steps = "document.title = `${document.documentElement.scrollWidth} of ${innerWidth}`;"
-    wide = scripted(page, tmp_path / "wide.html", steps)
-    seen = browse(tmp_path, wide, "--dump-dom", f"--window-size={width},900").stdout
-    (title,) = re.findall("<title>([0-9]+ of [0-9]+)</title>", seen)
-    needed, there = map(int, title.split(" of "))
+    needed, there, _ = frames[place]
     assert needed <= there and abs(there - width) <= 20
 
 

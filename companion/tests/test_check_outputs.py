@@ -10,6 +10,7 @@ import sys
 import time
 import zipfile
 import xml.etree.ElementTree as ElementTree
+from functools import lru_cache
 from pathlib import Path
 from typing import Any, Callable, Iterator, List, Tuple
 
@@ -29,6 +30,7 @@ TABLES = [EXAMPLES / "table" / "line.csv", *sorted((EXAMPLES / "links").glob("*.
 SIGNED = {"reason": "=by design", "who": "J. Doe", "date": "2026-01-02"}
 
 
+@lru_cache(maxsize=None)
 def schema(name: str) -> Any:
     """A validator of a schema of the repository."""
     jsonschema = pytest.importorskip("jsonschema")
@@ -85,6 +87,7 @@ def test_each_example_is_as_the_schemas_say(run: Run, tmp_path: Path, path: Path
     assert [rule["id"] for rule in rules] == ["refused", *names]
 
 
+@pytest.mark.many
 def test_documents_are_as_the_schemas_say(run: Run, table: Write, tmp_path: Path) -> None:
     """Each line of examples/check, with its messages, and with all of its findings accepted."""
     for name, lines, messages in documents():

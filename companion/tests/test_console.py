@@ -7,6 +7,7 @@ import re
 import shlex
 import subprocess
 import sys
+from functools import lru_cache
 from pathlib import Path
 from typing import Any, Dict, List, Tuple
 
@@ -18,7 +19,7 @@ from balisekit.engine.program import Program
 
 LINE = "examples/table/line.csv"
 STARTED = [sys.executable, "-m", "balisekit"]
-KNOWN = {**os.environ, "PYTHONPATH": str(TOP / "companion" / "src"), "TERM": "xterm", "NO_COLOR": ""}
+OURS = {"PYTHONPATH": str(TOP / "companion" / "src"), "TERM": "xterm", "NO_COLOR": ""}
 CODES = re.compile("\x1b\\[[0-9;]*[mK]")
 
 
@@ -26,7 +27,8 @@ def _on_terminal(words: List[str], more: Dict[str, str], *streams: str) -> Tuple
     """The status, what the terminal shows, and what other streams get. `streams` are those of the terminal."""
     ours, theirs = pty.openpty()
     chosen = {name: theirs if name in streams else subprocess.PIPE for name in ("stdout", "stderr")}
-    with subprocess.Popen([*STARTED, *words], cwd=TOP, env={**KNOWN, **more}, **chosen) as process:  # type: ignore
+    known = {**os.environ, **OURS, **more}
+    with subprocess.Popen([*STARTED, *words], cwd=TOP, env=known, **chosen) as process:  # type: ignore
         os.close(theirs)
         shown = b""
         while True:
@@ -42,26 +44,28 @@ def _on_terminal(words: List[str], more: Dict[str, str], *streams: str) -> Tuple
     return process.returncode, shown.decode().replace("\r\n", "\n"), rest.decode()
 
 
-def _in_pipe(words: List[str]) -> str:
-    return subprocess.run([*STARTED, *words], cwd=TOP, env=KNOWN, stdout=subprocess.PIPE, check=False).stdout.decode()
+@lru_cache(maxsize=None)
+def _in_pipe(*words: str) -> str:
+    known = {**os.environ, **OURS}
+    return subprocess.run([*STARTED, *words], cwd=TOP, env=known, stdout=subprocess.PIPE, check=False).stdout.decode()
 
 
 def test_a_terminal_gets_the_lines_in_colours() -> None:
     """They are those of a pipe, also the long ones."""
     pytest.importorskip("rich")
     status, shown, _ = _on_terminal(["check", LINE], {}, "stdout")
-    plain = _in_pipe(["check", LINE])
+    plain = _in_pipe("check", LINE)
     assert status == 2 and "\x1b[" in shown and CODES.sub("", shown) == plain and "\x1b" not in plain
 
 
 @pytest.mark.parametrize("more", [{"NO_COLOR": "1"}, {"TERM": "dumb"}, {"TERM": "dumb", "NO_COLOR": "1"}])
 def test_a_terminal_without_colours(more: Dict[str, str]) -> None:
-    assert _on_terminal(["check", LINE], more, "stdout")[1] == _in_pipe(["check", LINE])
+    assert _on_terminal(["check", LINE], more, "stdout")[1] == _in_pipe("check", LINE)
 
 
 def test_a_pipe_beside_a_terminal_is_plain() -> None:
     _, _, rest = _on_terminal(["check", LINE], {}, "stderr")
-    assert rest == _in_pipe(["check", LINE])
+    assert rest == _in_pipe("check", LINE)
 
 
 @pytest.mark.parametrize("more, shows", [({}, True), ({"NO_COLOR": "1"}, True), ({"TERM": "dumb"}, False)])

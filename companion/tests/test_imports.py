@@ -3,11 +3,13 @@
 from __future__ import annotations
 
 import ast
+from functools import lru_cache
 from pathlib import Path
-from typing import Iterator, Tuple
+from typing import Iterator, List, Tuple
 
 import pytest
 
+pytestmark = pytest.mark.many
 PACKAGE = Path(__file__).resolve().parents[1] / "src" / "balisekit"
 BELOW = {
     "io": (),
@@ -35,15 +37,12 @@ def imports(path: Path) -> Iterator[str]:
         yield from (name for name in names if name.split(".")[0] == "balisekit")
 
 
-def edges() -> Iterator[Tuple[str, str, Path]]:
+@lru_cache(maxsize=None)
+def edges() -> List[Tuple[str, str, Path]]:
     """Each import from a room to another one, or to a module beside the rooms."""
-    for path in sorted(PACKAGE.rglob("*.py")):
-        room = path.relative_to(PACKAGE).parts[0]
-        if path.parent != PACKAGE:
-            for name in imports(path):
-                target = name.split(".")[1]
-                if target != room:
-                    yield room, target, path
+    paths = [path for path in sorted(PACKAGE.rglob("*.py")) if path.parent != PACKAGE]
+    found = [(path.relative_to(PACKAGE).parts[0], name.split(".")[1], path) for path in paths for name in imports(path)]
+    return [edge for edge in found if edge[0] != edge[1]]
 
 
 def test_every_room_is_known() -> None:

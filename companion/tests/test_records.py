@@ -7,18 +7,17 @@ import re
 from typing import Any, Dict, Iterator, List, Tuple
 
 import pytest
-from cases_of_program import CASES, EXAMPLES, TOP
+from cases_of_program import CASES, EXAMPLES
+from test_check_outputs import schema
 
 from balisekit.engine import records
 
-jsonschema = pytest.importorskip("jsonschema")
+pytest.importorskip("jsonschema")
 hypothesis = pytest.importorskip("hypothesis")
 from hypothesis import given, strategies as st  # noqa: E402
 
-SCHEMAS = {
-    name: jsonschema.Draft202012Validator(json.loads((TOP / "schemas" / f"{name}.json").read_text("utf-8")))
-    for name in ("telegram", "message")
-}
+pytestmark = pytest.mark.many
+SCHEMAS = {name: schema(name) for name in ("telegram", "message")}
 EXPRESSIONS = {"telegram": records.telegram_expression, "message": records.message_expression}
 LINES: List[Tuple[str, str]] = [
     *(("telegram", case.answer) for case in (*CASES, *EXAMPLES[False]) if case.answer.startswith("{")),

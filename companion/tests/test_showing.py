@@ -38,6 +38,7 @@ def _values_in(said: str) -> "Counter[str]":
     return found
 
 
+@pytest.mark.many
 def test_every_number_is_shown() -> None:
     """The values of the JSON, and of bodies that are read, are those of the text, as often as they stand there."""
     assert len(READ) > 1000
@@ -47,6 +48,7 @@ def test_every_number_is_shown() -> None:
         assert _values_in(text(form, Here(Kilometres(Decimal("13.85"), 1)))) == wanted, case
 
 
+@pytest.mark.many
 def test_every_path_is_shown() -> None:
     """Each path of the JSON, and of bodies that are read, comes with its own value."""
     for case in READ:
@@ -76,6 +78,7 @@ def test_a_key_that_is_not_known_is_shown() -> None:
     assert set(shown) >= {77, 7, 8, 99}
 
 
+@pytest.mark.many
 def test_bits_name_each_field() -> None:
     """Places are without a gap from the first bit to the last, and each value of the JSON has its own.
 

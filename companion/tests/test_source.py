@@ -9,6 +9,7 @@ from pathlib import Path
 import pytest
 from cases_of_program import TOP
 
+pytestmark = pytest.mark.many
 SOURCES = sorted((TOP / "companion").rglob("*.py"))
 NAMES = [path.name for path in SOURCES]
 LONGEST = 40

@@ -610,6 +610,7 @@ class TestWorkbooks:
         assert err[0].startswith("balisekit: reading .xlsx (CSV needs no package) needs openpyxl, which ")
 
 
+@pytest.mark.many
 def test_tables_that_are_made() -> None:
     hypothesis: Any = pytest.importorskip("hypothesis")
     strategies = hypothesis.strategies

@@ -23,7 +23,7 @@ from balisekit.engine.program import Program
 from balisekit.present.pages import TEMPLATES
 
 pytest.importorskip("jinja2")
-pytestmark = pytest.mark.random
+pytestmark = pytest.mark.many
 Write = Callable[..., Path]
 SVG = "{http://www.w3.org/2000/svg}"
 EXAMPLES = TOP / "examples"

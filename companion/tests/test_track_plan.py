@@ -17,6 +17,7 @@ import pytest
 from conftest import Run
 from meaning_line import SOUND, Line, Row, change, random_line
 from plan_example import Cells, rows_of, text_of
+from test_check_outputs import schema
 
 from balisekit.engine.program import Program, Text
 from balisekit.io import csv_writing
@@ -135,6 +136,7 @@ def test_round_trip(run: Run, program: Program, tmp_path: Path, name: str) -> No
     assert status == 0 and out[-1].startswith("track plan: none found, ") and out[-1].endswith(" compared")
 
 
+@pytest.mark.many
 @pytest.mark.parametrize("seeds", [range(5), pytest.param(range(5, 100), marks=pytest.mark.slow)])
 def test_round_trip_of_random_lines(program: Program, tmp_path: Path, seeds: range) -> None:
     """So does that of lines of all kinds and scales."""
@@ -197,11 +199,13 @@ def assert_one(found: List[Remark], row: Cells, column: str, cell: str) -> None:
     assert values >= {f"{value.normalize():f}" for value in map(Decimal, expected)}, (row, column, cell, remark)
 
 
+@pytest.mark.many
+@pytest.mark.parametrize("signals", [7, pytest.param(15, marks=pytest.mark.slow)])
 @pytest.mark.parametrize("name", ["level-border", "falling", "both-directions"])
-def test_one_other_cell_gets_one_remark(program: Program, tmp_path: Path, name: str) -> None:
+def test_one_other_cell_gets_one_remark(program: Program, tmp_path: Path, name: str, signals: int) -> None:
     """Each cell of the plan that rules compare: exactly the remark of its rule."""
     changes = [with_rbc] if name == "level-border" else []
-    line = read(program, written(program, tmp_path / "t.csv", SOUND[name], *changes))
+    line = read(program, written(program, tmp_path / "t.csv", replace(SOUND[name], signals=signals), *changes))
     rows = implied_rows(line)
     tried = 0
     for index, row in enumerate(rows):
@@ -209,7 +213,7 @@ def test_one_other_cell_gets_one_remark(program: Program, tmp_path: Path, name: 
             changed = [*rows[:index], {**row, column: cell}, *rows[index + 1 :]]
             assert_one(remarks(line, changed, tmp_path), row, column, cell)
             tried += 1
-    assert tried > 150
+    assert tried > 10 * signals
 
 
 def test_a_row_that_is_left_out_is_counted(sound: Tuple[LineOfTable, List[Cells]], tmp_path: Path) -> None:
@@ -524,15 +528,14 @@ def test_refused_telegrams(run: Run) -> None:
 
 def test_outputs(run: Run, program: Program, tmp_path: Path) -> None:
     """Remarks are in the JSON, and can be accepted: the entry is at fault once the plan has another value."""
-    validate = pytest.importorskip("jsonschema").validate
     path, file = TOP / plan_example.TABLE, tmp_path / "p.csv"
     file.write_text((TOP / plan_example.PLAN).read_text("utf-8"), "utf-8")
     signed = tmp_path / "accepted.csv"
     words = ("check", path, "--plan", file)
     assert run(*words, "--json", tmp_path / "a.json", "--sarif", tmp_path / "a.sarif", "--propose", signed)[0] == 1
     form = json.loads((tmp_path / "a.json").read_text("utf-8"))
-    for schema, answer in (("kit-check", form), ("kit-sarif", json.loads((tmp_path / "a.sarif").read_text("utf-8")))):
-        validate(answer, json.loads((TOP / "schemas" / f"{schema}.json").read_text("utf-8")))
+    for name, answer in (("kit-check", form), ("kit-sarif", json.loads((tmp_path / "a.sarif").read_text("utf-8")))):
+        schema(name).validate(answer)
     (entry,) = (each for each in form["entries"] if each["rules"] == ["X1"])
     assert entry["values"] == {"v_static_kmh": "100", "plan_kmh": "80", "km": "17.990", "km_to": "20.700"}
     assert form["rules"]["X5"]["looked_at"] == 3

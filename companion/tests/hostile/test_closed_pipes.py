@@ -30,7 +30,7 @@ def test_a_reader_that_goes_on_the_way(words: str, said: str, table: Write, tmp_
     """`show | head` is no error. What others lose is named."""
     if words.startswith(("draw", "report")):
         pytest.importorskip("jinja2")
-    rows = [f"G{number},{number},{ALONE}" for number in range(3000)]
+    rows = [f"G{number},{number},{ALONE}" for number in range(3000 if words.startswith("show") else 300)]
     table("group,km,telegram", f"A,3000,{ALONE}", *rows, name="line.csv")
     (tmp_path / "input").write_text(f"{ALONE}\n" * 3000, "utf-8")
     with open(tmp_path / "input", "rb") as lines:
