@@ -8,7 +8,6 @@ takes UNIT. What takes too long is measured once more, because load changes.
 from __future__ import annotations
 
 import json
-import os
 import resource
 import select
 import statistics
@@ -18,8 +17,6 @@ import time
 from typing import Callable, List
 
 UNIT, PAUSE = 0.036, 0.1
-PLAIN = {name: value for name, value in os.environ.items() if not name.startswith("COV_CORE_")}
-"""The environment without that of coverage, which would take its time too."""
 
 
 def _spent() -> float:
@@ -49,7 +46,7 @@ def _work_beside() -> None:
 def seconds(task: Callable[[], object]) -> float:
     """The processor's time of a task and of processes that it waits for, in seconds of the machine of the limits."""
     command = [sys.executable, __file__]
-    with subprocess.Popen(command, stdin=subprocess.PIPE, stdout=subprocess.PIPE, env=PLAIN) as beside:
+    with subprocess.Popen(command, stdin=subprocess.PIPE, stdout=subprocess.PIPE) as beside:
         assert beside.stdin and beside.stdout
         beside.stdout.readline()
         before = _spent()

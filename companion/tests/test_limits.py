@@ -14,7 +14,7 @@ from typing import Any, Callable, Dict, List, Tuple
 import line_table
 import pytest
 from cases_of_program import TOP
-from limits import PLAIN, is_quick, is_within, seconds
+from limits import is_quick, is_within, seconds
 from telegrams import ALONE, SPARE
 from test_browser import CHROMIUM, browse
 
@@ -41,7 +41,7 @@ def _words(program: Program, *words: object) -> List[str]:
 
 def _run(command: List[str]) -> Tuple[int, List[str]]:
     """The status, and the lines of standard output."""
-    done = subprocess.run(command, stdout=subprocess.PIPE, check=False, env=PLAIN)
+    done = subprocess.run(command, stdout=subprocess.PIPE, check=False)
     return done.returncode, done.stdout.decode().splitlines()
 
 
