@@ -29,10 +29,6 @@ def _escaped(text: str) -> str:
     return escape(text, quote=False)
 
 
-def _title(title: str) -> str:
-    return f"<title>{_escaped(title)}</title>" if title else ""
-
-
 def _look(style: str, quote: str) -> str:
     quote = '"' if " " in style else quote
     return f" class={quote}{style}{quote}" if style else ""
@@ -69,13 +65,13 @@ def svg(shapes: Iterable[Shape], in_page: bool = False) -> Markup:
         if style == "tick":
             ticks[y].append(f"<tspan x={quote}{x}{quote}>{_escaped(text)}</tspan>")
         elif tag == "text":
-            words = f"<text x={quote}{x}{quote} y={quote}{y}{quote}>{_escaped(text)}{_title(title)}</text>"
-            texts[style].append(words)
+            inside = f"{_escaped(text)}<title>{_escaped(title)}</title>" if title else _escaped(text)
+            texts[style].append(f"<text x={quote}{x}{quote} y={quote}{y}{quote}>{inside}</text>")
         else:
             is_area = tag == "rect"
             path = f"M{x},{y}h{width}v{height}H{x}z" if is_area else path.replace(" ", ",")
             if title:
-                titled = f"<path d={quote}{path}{quote}>{_title(title)}</path>"
+                titled = f"<path d={quote}{path}{quote}><title>{_escaped(title)}</title></path>"
                 (areas if is_area else lines)[style].append(titled)
             elif path:
                 (bare_areas if is_area else bare_lines)[style].append(path)
