@@ -17,7 +17,7 @@ import sys
 import time
 from typing import Callable, List
 
-UNIT, PAUSE = 0.036, 0.1
+UNIT, PAUSE = 0.25, 0.3
 PLAIN = {name: value for name, value in os.environ.items() if not name.startswith("COV_CORE_")}
 """The environment without that of coverage, which would take its time too."""
 
@@ -31,15 +31,15 @@ def _spent() -> float:
 def _piece() -> float:
     """The processor's time for a piece of work."""
     before = time.process_time()
-    forms = [{"number": number, "packets": [{"place": place} for place in range(4)]} for number in range(6000)]
+    forms = [{"number": number, "packets": [{"place": place} for place in range(4)]} for number in range(30_000)]
     said = [f"{form['number']} {form['packets']}" for form in json.loads(json.dumps(forms))]
-    assert len(said) == 6000
+    assert len(said) == 30_000
     return time.process_time() - before
 
 
 def _work_beside() -> None:
     """Pieces of work until standard input ends: a line once it has begun, and the mean of their times."""
-    times = [_piece() for _ in range(3)]
+    times = [_piece() for _ in range(2)]
     print("begun", flush=True)
     while not select.select([sys.stdin], [], [], PAUSE)[0]:
         times.append(_piece())
