@@ -15,9 +15,10 @@ import statistics
 import subprocess
 import sys
 import time
-from typing import Callable, List
+from itertools import cycle
+from typing import Callable, Iterator, List
 
-UNIT, PAUSE = 0.25, 0.3
+UNIT, PAUSE = 0.016, 0.05
 PLAIN = {name: value for name, value in os.environ.items() if not name.startswith("COV_CORE_")}
 """The environment without that of coverage, which would take its time too."""
 
@@ -28,21 +29,24 @@ def _spent() -> float:
     return sum(one.ru_utime + one.ru_stime for one in used)
 
 
-def _piece() -> float:
-    """The processor's time for a piece of work."""
-    before = time.process_time()
+def _pieces() -> Iterator[float]:
+    """The processor's time for each piece of work. One after another they go through more than a cache has room for."""
     forms = [{"number": number, "packets": [{"place": place} for place in range(4)]} for number in range(30_000)]
-    said = [f"{form['number']} {form['packets']}" for form in json.loads(json.dumps(forms))]
-    assert len(said) == 30_000
-    return time.process_time() - before
+    for begin in cycle(range(0, 30_000, 3000)):
+        before = time.process_time()
+        part = json.loads(json.dumps(forms[begin : begin + 3000]))
+        assert len([f"{form['number']} {form['packets']}" for form in part]) == 3000
+        forms[begin : begin + 3000] = part
+        yield time.process_time() - before
 
 
 def _work_beside() -> None:
     """Pieces of work until standard input ends: a line once it has begun, and the mean of their times."""
-    times = [_piece() for _ in range(2)]
+    pieces = _pieces()
+    times = [next(pieces) for _ in range(10)]
     print("begun", flush=True)
     while not select.select([sys.stdin], [], [], PAUSE)[0]:
-        times.append(_piece())
+        times.append(next(pieces))
     print(statistics.mean(times), flush=True)
 
 
