@@ -2,8 +2,8 @@
 
 Times are those of the processor, of balisekit and the program together: those of the clock depend on what else runs.
 What else runs makes the processor slower too, by its use of memory. So while a task runs, a process beside it does a
-fixed piece of work of the same kind again and again, with pauses. Limits are seconds of a machine on which a piece
-takes UNIT. What takes too long is measured once more, because load changes.
+fixed piece of work of the same kind again and again. Limits are seconds of a machine on which a piece takes UNIT. What
+takes too long is measured once more, because load changes.
 """
 from __future__ import annotations
 
@@ -18,7 +18,7 @@ import time
 from itertools import cycle
 from typing import Callable, Iterator, List
 
-UNIT, PAUSE = 0.016, 0.05
+UNIT = 0.0146
 PLAIN = {name: value for name, value in os.environ.items() if not name.startswith("COV_CORE_")}
 """The environment without that of coverage, which would take its time too."""
 
@@ -45,7 +45,7 @@ def _work_beside() -> None:
     pieces = _pieces()
     times = [next(pieces) for _ in range(10)]
     print("begun", flush=True)
-    while not select.select([sys.stdin], [], [], PAUSE)[0]:
+    while not select.select([sys.stdin], [], [], 0)[0]:
         times.append(next(pieces))
     print(statistics.mean(times), flush=True)
 
