@@ -2,8 +2,8 @@
 
 Times are those of the processor, of balisekit and the program together: those of the clock depend on what else runs.
 What else runs makes the processor slower too, by its use of memory. So while a task runs, a process beside it does a
-fixed piece of work of the same kind again and again, with pauses. Limits are seconds of a machine on which a piece
-takes UNIT. What takes too long is measured once more, because load changes.
+fixed piece of work of the same kind again and again. Limits are seconds of a machine on which a piece takes UNIT. What
+takes too long is measured once more, because load changes.
 """
 from __future__ import annotations
 
@@ -14,9 +14,10 @@ import statistics
 import subprocess
 import sys
 import time
-from typing import Callable, List
+from itertools import cycle
+from typing import Callable, Iterator, List
 
-UNIT, PAUSE = 0.036, 0.1
+UNIT = 0.0146
 
 
 def _spent() -> float:
@@ -25,21 +26,24 @@ def _spent() -> float:
     return sum(one.ru_utime + one.ru_stime for one in used)
 
 
-def _piece() -> float:
-    """The processor's time for a piece of work."""
-    before = time.process_time()
-    forms = [{"number": number, "packets": [{"place": place} for place in range(4)]} for number in range(6000)]
-    said = [f"{form['number']} {form['packets']}" for form in json.loads(json.dumps(forms))]
-    assert len(said) == 6000
-    return time.process_time() - before
+def _pieces() -> Iterator[float]:
+    """The processor's time for each piece of work. One after another they go through more than a cache has room for."""
+    forms = [{"number": number, "packets": [{"place": place} for place in range(4)]} for number in range(30_000)]
+    for begin in cycle(range(0, 30_000, 3000)):
+        before = time.process_time()
+        part = json.loads(json.dumps(forms[begin : begin + 3000]))
+        assert len([f"{form['number']} {form['packets']}" for form in part]) == 3000
+        forms[begin : begin + 3000] = part
+        yield time.process_time() - before
 
 
 def _work_beside() -> None:
     """Pieces of work until standard input ends: a line once it has begun, and the mean of their times."""
-    times = [_piece() for _ in range(3)]
+    pieces = _pieces()
+    times = [next(pieces) for _ in range(10)]
     print("begun", flush=True)
-    while not select.select([sys.stdin], [], [], PAUSE)[0]:
-        times.append(_piece())
+    while not select.select([sys.stdin], [], [], 0)[0]:
+        times.append(next(pieces))
     print(statistics.mean(times), flush=True)
 
 
