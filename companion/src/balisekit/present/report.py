@@ -296,9 +296,9 @@ def _telegrams(
 def _texts(form: Form, here: Here, id: str, marked: Set[str]) -> List[Text]:
     """A telegram or message in words, the packets apart that are marked."""
     if not marked:
-        return [Text(_tabbed("".join(parts(form, here))))]
+        return [Text("".join(parts(form, here, _tabbed)))]
     found: List[Text] = []
-    for place, words in enumerate(map(_tabbed, parts(form, here)), -1):  # (the head is before packet 0)
+    for place, words in enumerate(parts(form, here, _tabbed), -1):  # (the head is before packet 0)
         name = packet_id(id, place)
         if name in marked:
             found.append(Text(words, name))
