@@ -57,6 +57,15 @@ def test_help_ends_with_0(words: List[str], capsys: pytest.CaptureFixture[str]) 
     assert ended.value.code == 0 and ("exit status:" in said if len(words) == 1 else "--program" in said)
 
 
+@pytest.mark.parametrize("words", ["chek", "--debug chek", "--help", "--help check", "--debug --help check"])
+def test_help_and_a_wrong_command_name_all_commands(words: str, capsys: pytest.CaptureFixture[str]) -> None:
+    """Though only the parser of the named command is made if the words begin with it."""
+    with pytest.raises(SystemExit):
+        cli.main(words.split())
+    said = capsys.readouterr()
+    assert set(COMMANDS) <= set(re.findall("[a-z]+", said.out + said.err))
+
+
 def test_the_page_names_the_packages_of_the_tests() -> None:
     """Each package that companion/test looks for."""
     script = (TOP / "companion" / "test").read_text("utf-8")

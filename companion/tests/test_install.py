@@ -4,6 +4,7 @@ from __future__ import annotations
 import importlib.util
 import os
 import shutil
+import signal
 import subprocess
 import sys
 import venv
@@ -15,7 +16,7 @@ from balisekit import __version__
 from balisekit.cli import main as cli
 from balisekit.engine import about as released_file, find_program as program_file
 from balisekit.engine.program import Program
-from balisekit.errors import NoAnswer
+from balisekit.errors import NoAnswer, TableError
 
 TOP = Path(__file__).resolve().parents[2]
 
@@ -135,3 +136,41 @@ def test_a_start_script_that_does_not_end(tmp_path: Path, monkeypatch: pytest.Mo
     monkeypatch.setattr(program_file, "SECONDS", 0.2)
     with pytest.raises(NoAnswer, match="balisecheck: it has not ended within 0.2 s"):
         program_file.find(None)
+
+
+def _clone_with_script(folder: Path, script: str, monkeypatch: pytest.MonkeyPatch) -> None:
+    """A folder that balisekit takes for its clone."""
+    (folder / "companion").mkdir()
+    (folder / "companion" / "pyproject.toml").touch()
+    (folder / "balisecheck").write_text(f"#!/bin/sh\n{script}\n")
+    monkeypatch.delenv("BALISECHECK")
+    monkeypatch.setattr(program_file, "TOP", folder)
+
+
+def test_a_start_script_that_runs_ahead(tmp_path: Path, monkeypatch: pytest.MonkeyPatch) -> None:
+    """What it has found is used, once."""
+    log = tmp_path / "log"
+    _clone_with_script(tmp_path, f"echo run >>{log}; echo {log}", monkeypatch)
+    with program_file.script_ahead():
+        assert program_file.find(None) == str(log) and log.read_text() == "run\n"
+        assert program_file.find(None) == str(log) and log.read_text() == "run\nrun\n"
+
+
+def test_a_start_script_that_nobody_needs_is_ended(tmp_path: Path, monkeypatch: pytest.MonkeyPatch) -> None:
+    """As the options are wrong. None is started if a program is named."""
+    _clone_with_script(tmp_path, "exec sleep 60", monkeypatch)
+    with pytest.raises(TableError), program_file.script_ahead():
+        (started,) = program_file._STARTED
+        raise TableError("wrong options")
+    assert started.returncode == -signal.SIGKILL and not program_file._STARTED
+    monkeypatch.setenv("BALISECHECK", "program")
+    with program_file.script_ahead():
+        assert not program_file._STARTED
+
+
+@pytest.mark.parametrize("words", ["", "--version", "--help", "check --help", "check t.csv --program=p", "chek t.csv"])
+def test_no_start_script_is_run_for_these(words: str, monkeypatch: pytest.MonkeyPatch) -> None:
+    """Each of them needs no program, or names one."""
+    monkeypatch.setattr(program_file, "script_ahead", lambda: pytest.fail("it was run"))
+    with cli._script_ahead(words.split()):
+        pass

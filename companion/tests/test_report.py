@@ -145,6 +145,7 @@ def test_what_was_not_looked_at_stands_before_the_verdict(tmp_path: Path) -> Non
     assert "not compared by L6: 1 of 34 headers (refused: 1)" in before
     _, page = _report(_table(tmp_path / "t.csv", {"group": "A", "telegram": HEADER}), tmp_path / "r.html")
     assert "no kilometres: rules over the line are not applied" in page[: page.index('<p class="verdict">')]
+    assert "1 telegram of 1 group; utf-8" in page
     _, page = _report(TOP / "examples" / "links" / "line.csv", tmp_path / "r.html")
     assert "Not looked at" not in page
 

@@ -1,6 +1,7 @@
 """Groups and aspects that options name. A name that the table has not is refused with the names that resemble it."""
 from __future__ import annotations
 
+from dataclasses import replace
 from difflib import get_close_matches
 from typing import Dict, Iterable, Optional, Sequence, Tuple
 
@@ -31,7 +32,7 @@ def groups_named(table: Table, names: Sequence[str]) -> Table:
         if name not in known:
             raise TableError(f"there is no group {quoted(name)} in {table.path}{meant(name, known)}")
     groups = tuple(group for group in table.groups if group.name in names)
-    return table._replace(groups=groups, rows=tuple(row for row in table.rows if row.group in names))
+    return replace(table, groups=groups, rows=tuple(row for row in table.rows if row.group in names))
 
 
 def with_directions_of(

@@ -101,7 +101,7 @@ def by_place(table: Table) -> Table:
         names = [str(place) if len(group.aspects) > 1 else "" for place in range(len(group.aspects))]
         aspects = tuple(aspect._replace(name=name) for name, aspect in zip(names, group.aspects))
         groups.append(replace(group, aspects=aspects))
-    return table._replace(groups=tuple(groups))
+    return replace(table, groups=tuple(groups))
 
 
 def compare(old: Checked, new: Checked, named: bool = True) -> Difference:

@@ -54,7 +54,8 @@ class Group:
         return {row.number: place for aspect in reversed(self.aspects) for place, row in enumerate(aspect.rows)}
 
 
-class Table(NamedTuple):
+@dataclass(frozen=True)
+class Table:
     """A table as it was read."""
 
     path: str
