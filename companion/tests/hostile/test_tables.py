@@ -210,7 +210,7 @@ def test_files_that_are_too_large(run: Run, tmp_path: Path) -> None:
     path = tmp_path / "t.csv"
     path.touch()
     os.truncate(path, 2 * 10**9 + 1)
-    answers = []
+    answers: List[object] = []
     assert is_within(1, lambda: answers.append(run("check", path)))
     why = "it has 2,000,000,001 bytes, more than 2,000,000,000: divide it into several files"
     assert answers[-1] == (2, [], [f"balisekit: {path}: {why}"])
