@@ -2,10 +2,10 @@
 
 use crate::error::FormError;
 use crate::members::{
-    ListMember, Listed, Member, NumberMember, ReadMembers, Required, pairs, send_members,
+    ListMember, Listed, Member, NumberMember, ReadMembers, pairs, send_members,
 };
 use crate::node::Node;
-use crate::node::reading::read_fixed;
+use crate::node::reading::{Fixed, read_number};
 use crate::record::{InRange, Members, Record, prove_allowed};
 use crate::writing::Sink;
 use etcs_bits::{Identity, Memory, are_allowed};
@@ -55,12 +55,10 @@ impl Members for MovementMessage {
     }
 
     fn of_members<N: Node>(alloc: Global, node: &N) -> Result<Self, FormError> {
-        read_fixed(alloc, node, "nid_message", 3)?;
+        read_number::<Fixed<3>, N>(alloc, node, "nid_message")?;
         let keys = pairs!("t_train", "m_ack", "nid_c", "nid_bg", "packets");
         let found = ReadMembers::read(alloc, node, keys)?;
-        let (Required { value: time }, (Required { value: ack }, rest)) = found;
-        let (Required { value: country }, (Required { value: group }, rest)) = rest;
-        let Listed { value: packets } = rest;
+        let (time, (ack, (country, (group, Listed { value: packets })))) = found;
         match MovementMessage::new(time, ack, Identity { country, group }, packets) {
             Ok(message) => Ok(message),
             Err(_) => Err(FormError::range_at(alloc, "packets")),

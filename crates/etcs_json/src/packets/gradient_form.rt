@@ -6,9 +6,9 @@ ghost use Rattle.etcs_json.specs.Profiles.{gradient, gradient_element};
 ghost use Rattle.etcs_json.specs.Shape.{whole};
 
 use crate::error::FormError;
-use crate::members::{Member, Required, read_record, send_members};
+use crate::members::{Member, read_record, send_members};
 use crate::node::Node;
-use crate::node::reading::read_fixed;
+use crate::node::reading::{Fixed, read_number};
 use crate::packets::profile_form::{read_profile, send_profile};
 use crate::record::{LayoutRecord, Members, Record};
 use crate::writing::Sink;
@@ -40,9 +40,9 @@ impl Members for GradientElement {
 
     fn of_members<N: Node>(alloc: Global, node: &N) -> Result<Self, FormError> {
         read_record!(GradientElement, alloc, node;
-            Required distance "d_gradient",
-            Required uphill "q_gdir",
-            Required gradient "g_a",
+            distance "d_gradient",
+            uphill "q_gdir",
+            gradient "g_a",
         )
     }
 }
@@ -66,7 +66,7 @@ impl Members for Gradient {
     }
 
     fn of_members<N: Node>(alloc: Global, node: &N) -> Result<Self, FormError> {
-        read_fixed(alloc, node, "nid_packet", 21)?;
+        read_number::<Fixed<21>, N>(alloc, node, "nid_packet")?;
         read_profile(alloc, node, "elements")
     }
 }

@@ -6,9 +6,9 @@ ghost use Rattle.etcs_json.specs.Profiles.{link, linking};
 ghost use Rattle.etcs_json.specs.Shape.{whole};
 
 use crate::error::FormError;
-use crate::members::{Member, Optional, OptionalMember, Required, read_record, send_members};
+use crate::members::{Member, OptionalMember, read_record, send_members};
 use crate::node::Node;
-use crate::node::reading::read_fixed;
+use crate::node::reading::{Fixed, read_number};
 use crate::packets::profile_form::{read_profile, send_profile};
 use crate::record::{LayoutRecord, Members, Record};
 use crate::writing::Sink;
@@ -50,12 +50,12 @@ impl Members for Link {
 
     fn of_members<N: Node>(alloc: Global, node: &N) -> Result<Self, FormError> {
         read_record!(Link, alloc, node;
-            Required distance "d_link",
-            Optional country "nid_c",
-            Required group "nid_bg",
-            Required nominal "q_linkorientation",
-            Required reaction "q_linkreaction",
-            Required accuracy "q_locacc",
+            distance "d_link",
+            country "nid_c",
+            group "nid_bg",
+            nominal "q_linkorientation",
+            reaction "q_linkreaction",
+            accuracy "q_locacc",
         )
     }
 }
@@ -79,7 +79,7 @@ impl Members for Linking {
     }
 
     fn of_members<N: Node>(alloc: Global, node: &N) -> Result<Self, FormError> {
-        read_fixed(alloc, node, "nid_packet", 5)?;
+        read_number::<Fixed<5>, N>(alloc, node, "nid_packet")?;
         read_profile(alloc, node, "links")
     }
 }
