@@ -20,7 +20,7 @@ use Rattle.etcs_json.specs.Entries.{Entry, members_onto}
 use Rattle.etcs_json.specs.Fault.{Fault}
 use Rattle.etcs_json.specs.Reading.{◌>>=◌, as_kind, object_with}
 use Rattle.etcs_json.specs.Report.{either_report, report, situation, with_one, with_two}
-use Rattle.etcs_json.specs.ReportSending.{sent_members as sent_report}
+use Rattle.etcs_json.specs.ReportSending.{first_members as report_first, last_members as report_last, sent_members as sent_report}
 use Rattle.etcs_json.specs.Sending.{members_of}
 use Rattle.etcs_json.specs.Shape.{object}
 use Rattle.etcs_json.specs.TrackPackets.{track_numbered, track_packet}
@@ -51,7 +51,7 @@ authority_in_order a = made_members (sent_members a) refl
 -- ---- a position report
 
 report_sent_by : (previous : Option Identity) (r : Report) → object_data (members_of (sent_report (report_with previous r.scale r.lrbg (situation_of r)))) ≡ either_report.to (report_by previous r)
-unfolding sent_report with_one with_two situation alone
+unfolding report_first report_last with_one with_two situation alone
 report_sent_by None r = ap object_data (sym (made_members ((with_number with_one).part.to (r.scale, (r.lrbg, situation_of r))) refl))
 report_sent_by (Some previous) r = ap object_data (sym (made_members ((with_number with_two).part.to (r.scale, (r.lrbg, (previous, situation_of r)))) refl))
 
@@ -60,7 +60,7 @@ unfolding report
 report_sent r = report_sent_by r.previous r
 
 pub report_in_order : (r : Report) → members_onto no_members (sent_report r) ≡ members_of (sent_report r)
-unfolding sent_report
+unfolding report_first report_last
 report_in_order r = made_members (sent_report r) refl
 
 -- ---- an authority and a report as one of all packets

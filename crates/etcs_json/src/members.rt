@@ -293,13 +293,12 @@ macro_rules! make_record {
     }};
 }
 
-// Reads the fields of a record, each with its key, in the order in which the keys are looked for. Fields in brackets
-// are there before.
+// Reads the fields of a record, each with its key, in the order in which the keys are looked for.
 macro_rules! read_record {
-    ($record:ident $([$($done:tt)*])?, $alloc:ident, $node:ident; $($field:ident $key:expr),+ $(,)?) => {{
+    ($record:ident, $alloc:ident, $node:ident; $($field:ident $key:expr),+ $(,)?) => {{
         let keys = $crate::members::pairs!($($key),+);
         let found = $crate::members::ReadMembers::read($alloc, $node, keys)?;
-        Ok($crate::members::make_record!($record, found; [$($($done)*)?] $($field),+))
+        Ok($crate::members::make_record!($record, found; [] $($field),+))
     }};
 }
 

@@ -1,9 +1,7 @@
 //! The form of message 3, the movement authority.
 
 use crate::error::FormError;
-use crate::members::{
-    ListMember, Listed, Member, NumberMember, ReadMembers, pairs, send_members,
-};
+use crate::members::{ListMember, Listed, Member, NumberMember, ReadMembers, pairs, send_members};
 use crate::node::Node;
 use crate::node::reading::{Fixed, read_number};
 use crate::record::{InRange, Members, Record, prove_allowed};

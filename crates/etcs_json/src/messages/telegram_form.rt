@@ -6,9 +6,7 @@ ghost use Rattle.etcs_json.specs.Telegrams.{header};
 
 use crate::error::FormError;
 use crate::form::{Form, InPieces};
-use crate::members::{
-    ListMember, Listed, Member, ReadMembers, pairs, read_record, send_members,
-};
+use crate::members::{ListMember, Listed, Member, ReadMembers, pairs, read_record, send_members};
 use crate::node::Node;
 use crate::record::{InRange, Members, Record, prove_allowed};
 use crate::writing::Sink;

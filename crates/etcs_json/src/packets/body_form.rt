@@ -58,7 +58,10 @@ fn read_body<N: Node>(alloc: Global, node: &N, count: usize) -> Result<Bits, For
 
 /// Reads the members `l_packet` and `body`. `HEAD` is the number of bits before the body, 21 or
 /// more.
-pub(crate) fn read_measured<const HEAD: u32, N: Node>(alloc: Global, node: &N) -> Result<Bits, FormError>
+pub(crate) fn read_measured<const HEAD: u32, N: Node>(
+    alloc: Global,
+    node: &N,
+) -> Result<Bits, FormError>
     requires { 21 ≤ HEAD }
     ensures gives { Gives (λ b. b) result (measured_of HEAD (N.shows node.now)) }
     ensures short { IfOk result (λ b. HEAD + length b < 8192) }

@@ -1,17 +1,18 @@
 //! The form of position reports, train packets 0 and 1.
 
-ghost use Rattle.std.specs.Prelude.{OnOk};
-ghost use Rattle.etcs_radio.specs.Report.{report_of};
+ghost use Rattle.std.specs.Prelude.{◌≡◌, OnOk};
+ghost use Rattle.etcs_radio.specs.Report.{report_of, report_with as what_is_with};
 ghost use Rattle.etcs_json.specs.Chosen.{with_number};
 ghost use Rattle.etcs_json.specs.Fault.{Gives};
 ghost use Rattle.etcs_json.specs.Reading.{as_kind, object_with};
-ghost use Rattle.etcs_json.specs.Report.{either_report, identity, with_one, with_two};
-ghost use Rattle.etcs_json.specs.ReportSending.{sent_members};
+ghost use Rattle.etcs_json.specs.Report.{either_report, identity, situation, with_one, with_two};
+ghost use Rattle.etcs_json.specs.ReportSending.{first_members, last_members, sent_members};
 
 use crate::error::FormError;
 use crate::form::{Form, InPieces};
 use crate::members::{
-    Member, NumberMember, OptionalMember, ReadMembers, read_record, send_members,
+    Member, NumberMember, OptionalMember, ReadMembers, make_record, pairs, read_record,
+    send_members,
 };
 use crate::node::Node;
 use crate::node::keys::check_keys;
@@ -22,11 +23,22 @@ use crate::record::prove_allowed;
 use crate::writing::Sink;
 use crate::writing::building::NewObject;
 use crate::writing::marks::Marks;
-use etcs_bits::{Identity, Memory, Plain};
-use etcs_radio::Report;
+use etcs_bits::{Distance, Identity, Level, Memory, Plain, Scale};
+use etcs_radio::{Integrity, Report, Train3};
 use json::Token;
 use serde_json::Value;
 use std::alloc::Global;
+
+// Whether a train is whole, how it runs, and in which mode and level.
+type State = (Integrity, (Plain<7>, (Train3, (Plain<4>, Level))));
+
+// Where a train is, as seen from the group that its position report refers to, and its state.
+type Situation = (Distance, (Train3, (Train3, (Distance, (Distance, State)))));
+
+// What follows the number in packet 0, and in packet 1.
+type WithOne = (Scale, (Identity, Situation));
+
+type WithTwo = (Scale, (Identity, (Identity, Situation)));
 
 // ---- reading
 
@@ -69,45 +81,79 @@ fn check_keys_with_two<N: Node>(alloc: Global, node: &N) -> Result<(), FormError
     check_keys(alloc, node, keys_with!("prv_nid_bg", "prv_nid_c"))
 }
 
-// Reads the members behind the groups, and makes the report of them.
-macro_rules! read_report {
-    ($alloc:ident, $node:ident, $scale:ident, $lrbg:ident, $previous:expr) => {
-        read_record!(Report [scale: $scale, lrbg: $lrbg, previous: $previous,], $alloc, $node;
-            distance "d_lrbg", orientation "q_dirlrbg", side "q_dlrbg", doubt_over "l_doubtover",
-            doubt_under "l_doubtunder", length (), speed "v_train", running "q_dirtrain", mode "m_mode",
-            level "m_level")
-    };
+// Reads the members behind the groups.
+#[tactic(auto, unfolding(crate::specs::Report::situation))]
+fn read_situation<N: Node>(alloc: Global, node: &N) -> Result<Situation, FormError>
+    ensures { Gives (λ s. s) result (situation.of (N.shows node.now)) }
+{
+    let state = pairs!((), "v_train", "q_dirtrain", "m_mode", "m_level");
+    let doubts = pairs!("l_doubtover", "l_doubtunder", state);
+    let keys = pairs!("d_lrbg", "q_dirlrbg", "q_dlrbg", doubts);
+    let (distance, (orientation, (side, (over, (under, state))))) =
+        ReadMembers::read(alloc, node, keys)?;
+    Ok((distance, (orientation, (side, (over, (under, state))))))
 }
 
-/// Reads packet 0.
-#[tactic(auto, unfolding(crate::specs::Report::with_one, crate::specs::Report::situation))]
-pub(crate) fn read_one<N: Node>(alloc: Global, node: &N) -> Result<Report, FormError>
-    ensures { Gives (λ r. r) result (as_kind report_of (either_report.of 0 (N.shows node.now))) }
+// The position report of these parts.
+fn report_with(
+    previous: Option<Identity>,
+    scale: Scale,
+    lrbg: Identity,
+    situation: Situation,
+) -> Report
+    ensures { result ≡ what_is_with previous scale lrbg situation }
 {
-    check_keys_with_one(alloc, node)?;
+    make_record!(Report, situation; [scale, lrbg, previous,] distance, orientation, side, doubt_over, doubt_under,
+        length, speed, running, mode, level)
+}
+
+// Reads the members of packet 0.
+#[tactic(auto, unfolding(crate::specs::Report::with_one))]
+fn read_with_one<N: Node>(alloc: Global, node: &N) -> Result<WithOne, FormError>
+    ensures { Gives (λ p. p) result ((with_number with_one).part.of (N.shows node.now)) }
+{
     read_number::<Fixed<0>, N>(alloc, node, "nid_packet")?;
     let scale = ReadMembers::read(alloc, node, "q_scale")?;
     let lrbg = ReadMembers::read(alloc, node, ("nid_c", "nid_bg"))?;
-    read_report!(alloc, node, scale, lrbg, None)
+    let situation = read_situation(alloc, node)?;
+    Ok((scale, (lrbg, situation)))
 }
 
-/// Reads packet 1.
-#[tactic(auto, unfolding(crate::specs::Report::with_two, crate::specs::Report::situation))]
-pub(crate) fn read_two<N: Node>(alloc: Global, node: &N) -> Result<Report, FormError>
-    ensures { Gives (λ r. r) result (as_kind report_of (either_report.of 1 (N.shows node.now))) }
+// Reads the members of packet 1.
+#[tactic(auto, unfolding(crate::specs::Report::with_two))]
+fn read_with_two<N: Node>(alloc: Global, node: &N) -> Result<WithTwo, FormError>
+    ensures { Gives (λ p. p) result ((with_number with_two).part.of (N.shows node.now)) }
 {
-    check_keys_with_two(alloc, node)?;
     read_number::<Fixed<1>, N>(alloc, node, "nid_packet")?;
     let scale = ReadMembers::read(alloc, node, "q_scale")?;
     let lrbg = ReadMembers::read(alloc, node, ("nid_c", "nid_bg"))?;
     let previous = ReadMembers::read(alloc, node, ("prv_nid_c", "prv_nid_bg"))?;
-    read_report!(alloc, node, scale, lrbg, Some(previous))
+    let situation = read_situation(alloc, node)?;
+    Ok((scale, (lrbg, (previous, situation))))
 }
 
-// Sends the members in the byte order of their keys.
-#[tactic(auto, unfolding(crate::specs::ReportSending::sent_members))]
-fn send_report<S: Sink>(out: &mut S, report: &Report) -> Result<(), Memory>
-    ensures { OnOk result (S.takes (sent_members report.now) out.old out.new) }
+/// Reads packet 0.
+pub(crate) fn read_one<N: Node>(alloc: Global, node: &N) -> Result<Report, FormError>
+    ensures { Gives (λ r. r) result (as_kind report_of (either_report.of 0 (N.shows node.now))) }
+{
+    check_keys_with_one(alloc, node)?;
+    let (scale, (lrbg, situation)) = read_with_one(alloc, node)?;
+    Ok(report_with(None, scale, lrbg, situation))
+}
+
+/// Reads packet 1.
+pub(crate) fn read_two<N: Node>(alloc: Global, node: &N) -> Result<Report, FormError>
+    ensures { Gives (λ r. r) result (as_kind report_of (either_report.of 1 (N.shows node.now))) }
+{
+    check_keys_with_two(alloc, node)?;
+    let (scale, (lrbg, (previous, situation))) = read_with_two(alloc, node)?;
+    Ok(report_with(Some(previous), scale, lrbg, situation))
+}
+
+// Sends the members up to NID_PACKET, in the byte order of their keys.
+#[tactic(auto, unfolding(crate::specs::ReportSending::first_members))]
+fn send_first<S: Sink>(out: &mut S, report: &Report) -> Result<(), Memory>
+    ensures { OnOk result (S.takes (first_members report.now) out.old out.new) }
 {
     send_members!(out;
         Member("d_lrbg", &report.distance),
@@ -120,6 +166,15 @@ fn send_report<S: Sink>(out: &mut S, report: &Report) -> Result<(), Memory>
         Member("nid_c", &report.lrbg.country),
         OptionalMember("nid_ntc", &national_system_of(report.level)),
         NumberMember("nid_packet", u64::from(report.number())),
+    )
+}
+
+// Sends the members after NID_PACKET.
+#[tactic(auto, unfolding(crate::specs::ReportSending::last_members))]
+fn send_last<S: Sink>(out: &mut S, report: &Report) -> Result<(), Memory>
+    ensures { OnOk result (S.takes (last_members report.now) out.old out.new) }
+{
+    send_members!(out;
         OptionalMember("prv_nid_bg", &report.previous.map(|previous| previous.group)),
         OptionalMember("prv_nid_c", &report.previous.map(|previous| previous.country)),
         Member("q_dirlrbg", &report.orientation),
@@ -129,6 +184,14 @@ fn send_report<S: Sink>(out: &mut S, report: &Report) -> Result<(), Memory>
         Member("q_scale", &report.scale),
         Member("v_train", &report.speed),
     )
+}
+
+// Sends all members.
+fn send_report<S: Sink>(out: &mut S, report: &Report) -> Result<(), Memory>
+    ensures { OnOk result (S.takes (sent_members report.now) out.old out.new) }
+{
+    send_first(out, report)?;
+    send_last(out, report)
 }
 
 #[tactic(auto, unfolding(crate::specs::Report::report))]

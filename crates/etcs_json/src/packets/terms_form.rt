@@ -55,12 +55,15 @@ pub(crate) struct Terms {
 }
 
 impl Model for Terms {
+    ghost use Rattle.std.specs.Prelude.{◌<◌, length};
     ghost use Rattle.etcs_profile.specs.Terms.{TermsValue, terms_value};
 
     ghost Value = { TermsValue };
 
     ghost view = { λ t. terms_value t.end_speed t.end_timeout t.sections t.l_endsection
         t.section_timer t.end_timer t.danger_point t.overlap };
+
+    ghost invariant = { λ t. length t.sections < 32 };
 }
 
 impl ReadMembers for Terms {

@@ -7,8 +7,8 @@ ghost use Rattle.etcs_json.specs.Transition.{level_order, transition};
 
 use crate::error::FormError;
 use crate::members::{
-    Member, NonEmpty, NonEmptyMember, NumberMember, OptionalMember, ReadMembers, pairs, read_record,
-    send_members,
+    Member, NonEmpty, NonEmptyMember, NumberMember, OptionalMember, ReadMembers, pairs,
+    read_record, send_members,
 };
 use crate::node::Node;
 use crate::node::reading::{Fixed, read_number};
