@@ -3,7 +3,7 @@
 use crate::error::FormError;
 use crate::members::{ListMember, Listed, Member, NumberMember, ReadMembers, pairs, send_members};
 use crate::node::Node;
-use crate::node::reading::{Fixed, read_number};
+use crate::node::reading::read_fixed;
 use crate::record::{InRange, Members, Record, prove_allowed};
 use crate::writing::Sink;
 use etcs_bits::{Identity, Memory, are_allowed};
@@ -53,7 +53,7 @@ impl Members for MovementMessage {
     }
 
     fn of_members<N: Node>(alloc: Global, node: &N) -> Result<Self, FormError> {
-        read_number::<Fixed<3>, N>(alloc, node, "nid_message")?;
+        read_fixed(alloc, node, "nid_message", 3)?;
         let keys = pairs!("t_train", "m_ack", "nid_c", "nid_bg", "packets");
         let found = ReadMembers::read(alloc, node, keys)?;
         let (time, (ack, (country, (group, Listed { value: packets })))) = found;

@@ -3,7 +3,7 @@
 use crate::error::FormError;
 use crate::members::{ListMember, Listed, Member, NumberMember, ReadMembers, pairs, send_members};
 use crate::node::Node;
-use crate::node::reading::{Fixed, read_number};
+use crate::node::reading::read_fixed;
 use crate::record::{InRange, Members, Record, prove_allowed};
 use crate::writing::Sink;
 use etcs_bits::{Memory, are_allowed};
@@ -43,7 +43,7 @@ impl Members for PositionMessage {
     }
 
     fn of_members<N: Node>(alloc: Global, node: &N) -> Result<Self, FormError> {
-        read_number::<Fixed<136>, N>(alloc, node, "nid_message")?;
+        read_fixed(alloc, node, "nid_message", 136)?;
         let found = ReadMembers::read(alloc, node, pairs!("t_train", "nid_engine", "packets"))?;
         let (time, (engine, Listed { value: packets })) = found;
         match PositionMessage::new(time, engine, packets) {

@@ -4,7 +4,7 @@ ghost use Rattle.std.specs.Prelude.{◌≡◌, ◌==◌, ℕ, Bool, true, IfOk, 
 ghost use Rattle.etcs_json.specs.Chosen.{any_object, first_at};
 ghost use Rattle.etcs_json.specs.Fault.{Gives, IfMemory, IsUnder, key};
 ghost use Rattle.etcs_json.specs.Reading.{at_key, at_key_if, items_at, list_of, member_at, no_key, allowed_number};
-ghost use Rattle.etcs_json.specs.Shape.{first_and_others};
+ghost use Rattle.etcs_json.specs.Shape.{first_and_others, fixed};
 
 use crate::error::{FormError, Step};
 use crate::form::Form;
@@ -159,15 +159,29 @@ pub(crate) fn read_number<T: Numbers, N: Node>(
     under(name, number_in::<T, N>(alloc, &found))
 }
 
-/// This number alone.
-pub(crate) struct Fixed<const NUMBER: u32>;
-
-impl<const NUMBER: u32> Numbers for Fixed<NUMBER> {
-    ghost test = { λ n. n == NUMBER };
-
-    fn has(number: u64) -> bool {
-        number == u64::from(NUMBER)
+// Refuses a value that is not this number.
+#[tactic(auto, unfolding(crate::specs::Reading::allowed_number))]
+fn check_number<N: Node>(alloc: Global, node: &N, number: u64) -> Result<(), FormError>
+    ensures { Gives (λ _. number) result (allowed_number (λ n. n == number) (N.shows node.now)) }
+{
+    match node.number() {
+        None => Err(FormError::kind(alloc)),
+        Some(found) if found == number => Ok(()),
+        Some(_) => Err(FormError::range(alloc)),
     }
+}
+
+/// Reads the member at a key that has to be there, and to have this number.
+pub(crate) fn read_fixed<N: Node>(
+    alloc: Global,
+    node: &N,
+    name: &'static str,
+    number: u64,
+) -> Result<(), FormError>
+    ensures { Gives (λ u. u) result ((fixed name.now number).of (N.shows node.now)) }
+{
+    let found = member(alloc, node, name)?;
+    under(name, check_number(alloc, &found, number))
 }
 
 /// Refuses a key that must not be there.

@@ -10,22 +10,25 @@ ghost use Rattle.etcs_json.specs.Reading.{as_kind, object_with};
 
 use crate::error::FormError;
 use crate::form::{Form, InPieces};
-use crate::members::{
-    ListMember, Member, NumberMember, OptionalMember, ReadMembers, pairs, send_members,
-};
+use crate::members::{ListMember, Member, NumberMember, OptionalMember, ReadMembers, send_members};
 use crate::node::Node;
 use crate::node::keys::check_keys;
-use crate::node::reading::{Fixed, read_first, read_number};
-use crate::packets::terms_form::authority_of;
+use crate::node::reading::{read_first, read_fixed};
+use crate::packets::terms_form::{Terms, authority_of};
 use crate::record::prove_allowed;
 use crate::writing::Sink;
 use crate::writing::building::NewObject;
 use crate::writing::marks::Marks;
-use etcs_bits::{Memory, Ranged};
+use etcs_bits::{Dir, Memory, Ranged, Scale, Speed};
 use etcs_profile::Authority;
 use json::Token;
 use serde_json::Value;
 use std::alloc::Global;
+
+// What follows the number in packet 12, and in packet 15.
+type WithMain = (Dir, (Scale, (Speed, Terms)));
+
+type WithoutMain = (Dir, (Scale, Terms));
 
 // The keys of packet 12, in byte order. Packet 15 lacks the last.
 const KEYS: [&str; 12] = [
@@ -88,29 +91,48 @@ fn check_keys_without_main<N: Node>(alloc: Global, node: &N) -> Result<(), FormE
     check_keys(alloc, node, &KEYS[..11])
 }
 
-/// Reads packet 12.
+// Reads the members of packet 12.
 #[tactic(auto, unfolding(crate::specs::Authority::with_main))]
+fn read_main_and_terms<N: Node>(alloc: Global, node: &N) -> Result<WithMain, FormError>
+    ensures { Gives (λ p. p) result ((with_number with_main).part.of (N.shows node.now)) }
+{
+    read_fixed(alloc, node, "nid_packet", 12)?;
+    let dir = ReadMembers::read(alloc, node, "q_dir")?;
+    let scale = ReadMembers::read(alloc, node, "q_scale")?;
+    let main = ReadMembers::read(alloc, node, "v_main")?;
+    let terms = ReadMembers::read(alloc, node, ())?;
+    Ok((dir, (scale, (main, terms))))
+}
+
+// Reads the members of packet 15.
+#[tactic(auto, unfolding(crate::specs::Authority::without_main))]
+fn read_terms_alone<N: Node>(alloc: Global, node: &N) -> Result<WithoutMain, FormError>
+    ensures { Gives (λ p. p) result ((with_number without_main).part.of (N.shows node.now)) }
+{
+    read_fixed(alloc, node, "nid_packet", 15)?;
+    let dir = ReadMembers::read(alloc, node, "q_dir")?;
+    let scale = ReadMembers::read(alloc, node, "q_scale")?;
+    let terms = ReadMembers::read(alloc, node, ())?;
+    Ok((dir, (scale, terms)))
+}
+
+/// Reads packet 12.
 pub(crate) fn read_with_main<N: Node>(alloc: Global, node: &N) -> Result<Authority, FormError>
     ensures { Gives (λ a. a) result
         (as_kind authority_of_parts (either_authority.of 12 (N.shows node.now))) }
 {
     check_keys_with_main(alloc, node)?;
-    read_number::<Fixed<12>, N>(alloc, node, "nid_packet")?;
-    let keys = pairs!("q_dir", "q_scale", "v_main", ());
-    let (dir, (scale, (main, terms))) = ReadMembers::read(alloc, node, keys)?;
+    let (dir, (scale, (main, terms))) = read_main_and_terms(alloc, node)?;
     Ok(authority_of(dir, scale, Some(main), terms))
 }
 
 /// Reads packet 15.
-#[tactic(auto, unfolding(crate::specs::Authority::without_main))]
 pub(crate) fn read_without_main<N: Node>(alloc: Global, node: &N) -> Result<Authority, FormError>
     ensures { Gives (λ a. a) result
         (as_kind authority_of_parts (either_authority.of 15 (N.shows node.now))) }
 {
     check_keys_without_main(alloc, node)?;
-    read_number::<Fixed<15>, N>(alloc, node, "nid_packet")?;
-    let keys = pairs!("q_dir", "q_scale", ());
-    let (dir, (scale, terms)) = ReadMembers::read(alloc, node, keys)?;
+    let (dir, (scale, terms)) = read_terms_alone(alloc, node)?;
     Ok(authority_of(dir, scale, None, terms))
 }
 

@@ -6,7 +6,7 @@ ghost use Rattle.etcs_json.specs.Shape.{whole};
 use crate::error::FormError;
 use crate::members::{Member, NumberMember, ReadMembers, send_members};
 use crate::node::Node;
-use crate::node::reading::{Fixed, read_number};
+use crate::node::reading::read_fixed;
 use crate::record::{LayoutRecord, Members, Record};
 use crate::writing::Sink;
 use etcs_bits::Memory;
@@ -35,7 +35,7 @@ impl Members for CoverMarker {
     }
 
     fn of_members<N: Node>(alloc: Global, node: &N) -> Result<Self, FormError> {
-        read_number::<Fixed<0>, N>(alloc, node, "nid_packet")?;
+        read_fixed(alloc, node, "nid_packet", 0)?;
         let marker = ReadMembers::read(alloc, node, "nid_vbcmk")?;
         Ok(CoverMarker { marker })
     }

@@ -16,7 +16,7 @@ use crate::members::{
 };
 use crate::node::Node;
 use crate::node::keys::check_keys;
-use crate::node::reading::{Fixed, read_first, read_number};
+use crate::node::reading::{read_first, read_fixed};
 use crate::packets::integrity_form::{confirmed_length, length_number};
 use crate::packets::level_form::national_system_of;
 use crate::record::prove_allowed;
@@ -89,8 +89,9 @@ fn read_situation<N: Node>(alloc: Global, node: &N) -> Result<Situation, FormErr
     let state = pairs!((), "v_train", "q_dirtrain", "m_mode", "m_level");
     let doubts = pairs!("l_doubtover", "l_doubtunder", state);
     let keys = pairs!("d_lrbg", "q_dirlrbg", "q_dlrbg", doubts);
-    let (distance, (orientation, (side, (over, (under, state))))) =
-        ReadMembers::read(alloc, node, keys)?;
+    let (distance, (orientation, (side, (over, (under, state))))) = ReadMembers::read(
+        alloc, node, keys,
+    )?;
     Ok((distance, (orientation, (side, (over, (under, state))))))
 }
 
@@ -112,7 +113,7 @@ fn report_with(
 fn read_with_one<N: Node>(alloc: Global, node: &N) -> Result<WithOne, FormError>
     ensures { Gives (λ p. p) result ((with_number with_one).part.of (N.shows node.now)) }
 {
-    read_number::<Fixed<0>, N>(alloc, node, "nid_packet")?;
+    read_fixed(alloc, node, "nid_packet", 0)?;
     let scale = ReadMembers::read(alloc, node, "q_scale")?;
     let lrbg = ReadMembers::read(alloc, node, ("nid_c", "nid_bg"))?;
     let situation = read_situation(alloc, node)?;
@@ -124,7 +125,7 @@ fn read_with_one<N: Node>(alloc: Global, node: &N) -> Result<WithOne, FormError>
 fn read_with_two<N: Node>(alloc: Global, node: &N) -> Result<WithTwo, FormError>
     ensures { Gives (λ p. p) result ((with_number with_two).part.of (N.shows node.now)) }
 {
-    read_number::<Fixed<1>, N>(alloc, node, "nid_packet")?;
+    read_fixed(alloc, node, "nid_packet", 1)?;
     let scale = ReadMembers::read(alloc, node, "q_scale")?;
     let lrbg = ReadMembers::read(alloc, node, ("nid_c", "nid_bg"))?;
     let previous = ReadMembers::read(alloc, node, ("prv_nid_c", "prv_nid_bg"))?;

@@ -8,7 +8,7 @@ ghost use Rattle.etcs_json.specs.Shape.{whole};
 use crate::error::FormError;
 use crate::members::{ListMember, Member, read_record, send_members};
 use crate::node::Node;
-use crate::node::reading::{Fixed, read_number};
+use crate::node::reading::read_fixed;
 use crate::packets::profile_form::{read_profile, send_profile};
 use crate::record::{InRange, LayoutRecord, Members, Record, prove_allowed};
 use crate::writing::Sink;
@@ -106,7 +106,7 @@ impl Members for SpeedProfile {
     }
 
     fn of_members<N: Node>(alloc: Global, node: &N) -> Result<Self, FormError> {
-        read_number::<Fixed<27>, N>(alloc, node, "nid_packet")?;
+        read_fixed(alloc, node, "nid_packet", 27)?;
         read_profile(alloc, node, "elements")
     }
 }

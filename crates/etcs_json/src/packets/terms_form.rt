@@ -7,7 +7,7 @@ ghost use Rattle.etcs_json.specs.Reading.{list_of};
 ghost use Rattle.etcs_json.specs.Shape.{object};
 
 use crate::error::FormError;
-use crate::members::{FromNode, ReadMembers, read_record};
+use crate::members::{FromNode, ReadMembers, make_record, pairs};
 use crate::node::Node;
 use crate::node::reading::read_list;
 use etcs_bits::{Dir, Distance, Scale, Speed, Time};
@@ -46,7 +46,7 @@ impl FromNode for Sections {
 pub(crate) struct Terms {
     end_speed: Speed,
     end_timeout: Time,
-    sections: Sections,
+    sections: Vec<Section>,
     l_endsection: Distance,
     section_timer: Option<SectionTimer>,
     end_timer: Option<EndTimer>,
@@ -60,10 +60,10 @@ impl Model for Terms {
 
     ghost Value = { TermsValue };
 
-    ghost view = { λ t. terms_value t.end_speed t.end_timeout t.sections t.l_endsection
+    ghost view = { λ t. terms_value t.end_speed t.end_timeout t.sections.items t.l_endsection
         t.section_timer t.end_timer t.danger_point t.overlap };
 
-    ghost invariant = { λ t. length t.sections < 32 };
+    ghost invariant = { λ t. length t.sections.items < 32 };
 }
 
 impl ReadMembers for Terms {
@@ -73,15 +73,13 @@ impl ReadMembers for Terms {
 
     #[tactic(auto, unfolding(crate::specs::Authority::terms, crate::specs::Authority::end_parts))]
     fn read<N: Node>(alloc: Global, node: &N, _keys: ()) -> Result<Terms, FormError> {
-        read_record!(Terms, alloc, node;
-            end_speed "end_speed",
-            end_timeout "end_timeout",
-            sections "sections",
-            l_endsection "l_endsection",
-            section_timer "section_timer",
-            end_timer "end_timer",
-            danger_point "danger_point",
-            overlap "overlap",
+        let keys = pairs!("section_timer", "end_timer", "danger_point", "overlap");
+        let keys = pairs!("end_speed", "end_timeout", "sections", "l_endsection", keys);
+        let found = ReadMembers::read(alloc, node, keys)?;
+        let (end_speed, (end_timeout, (Sections { value: sections }, rest))) = found;
+        Ok(
+            make_record!(Terms, rest; [end_speed, end_timeout, sections,]
+            l_endsection, section_timer, end_timer, danger_point, overlap),
         )
     }
 }
@@ -98,7 +96,7 @@ pub(crate) fn authority_of(dir: Dir, scale: Scale, main: Option<Speed>, terms: T
         main,
         terms.end_speed,
         terms.end_timeout,
-        terms.sections.value,
+        terms.sections,
         terms.l_endsection,
         terms.section_timer,
         terms.end_timer,

@@ -11,7 +11,7 @@ use crate::members::{
     read_record, send_members,
 };
 use crate::node::Node;
-use crate::node::reading::{Fixed, read_number};
+use crate::node::reading::read_fixed;
 use crate::packets::level_form::national_system_of;
 use crate::record::{LayoutRecord, Members, Record};
 use crate::writing::Sink;
@@ -77,7 +77,7 @@ impl Members for Transition {
     }
 
     fn of_members<N: Node>(alloc: Global, node: &N) -> Result<Self, FormError> {
-        read_number::<Fixed<41>, N>(alloc, node, "nid_packet")?;
+        read_fixed(alloc, node, "nid_packet", 41)?;
         let keys = pairs!("q_dir", "q_scale", "d_leveltr", "transitions");
         let found = ReadMembers::read(alloc, node, keys)?;
         let (dir, (scale, (d_leveltr, NonEmpty { first, further }))) = found;
