@@ -4,7 +4,7 @@ use Rattle.serde_json.specs.Data.{Data}
 use Rattle.etcs_profile.specs.declared.section.Section.{Section}
 use Rattle.etcs_json.specs.Authority.{section}
 use Rattle.etcs_json.specs.Fault.{Fault}
-use Rattle.etcs_json.specs.Reading.{at_key, list_of}
+use Rattle.etcs_json.specs.Reading.{list_of}
 use Rattle.etcs_json.specs.Shape.{object}
 use Rattle.etcs_json.proofs.ReadLemmas.{short_list}
 
@@ -13,5 +13,5 @@ few_at r xs few is =
     let few_xs = subst (λ (s : Result (List Section) Fault). IfOk s (λ ys. length ys ≤ 31)) is few in omega (arith, few_xs)
 
 -- at most 31 sections are read
-pub few_sections : (name : List ℕ) (d : Data) (xs : List Section) → at_key (list_of (object section).of 0 31) name d ≡ Ok xs → length xs < 32
-few_sections name d xs is = few_at _ xs (short_list (object section) name 0 31 d) is
+pub few_sections : (d : Data) (xs : List Section) → list_of (object section).of 0 31 d ≡ Ok xs → length xs < 32
+few_sections d xs is = few_at _ xs (short_list (object section) 0 31 d) is

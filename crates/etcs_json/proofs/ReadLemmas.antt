@@ -121,11 +121,13 @@ short : {A : Type 0} (high : ℕ) (r : Result (List A) Fault) → IfOk r (λ xs.
 short high (Err e) h = tt
 short high (Ok xs) h = h.1
 
-pub short_list : {X : Type 0} (s : Shape X) (name : List ℕ) (low high : ℕ) (d : Data) → IfOk (at_key (list_of s.of low high) name d) (λ xs. length xs ≤ high)
-unfolding at_key list_of
-short_list s name low high d =
-    key_read (λ xs. length xs ≤ high) (list_of s.of low high) name (get name d)
-    (λ e. short high _ (counted_read (λ _. Unit {0}) s.of (λ _ _ _. tt) low high (as_array e)))
+pub short_list : {X : Type 0} (s : Shape X) (low high : ℕ) (d : Data) → IfOk (list_of s.of low high d) (λ xs. length xs ≤ high)
+unfolding list_of
+short_list s low high d = short high _ (counted_read (λ _. Unit {0}) s.of (λ _ _ _. tt) low high (as_array d))
+
+short_at : {X : Type 0} (s : Shape X) (name : List ℕ) (low high : ℕ) (d : Data) → IfOk (at_key (list_of s.of low high) name d) (λ xs. length xs ≤ high)
+unfolding at_key
+short_at s name low high d = key_read (λ xs. length xs ≤ high) (list_of s.of low high) name (get name d) (short_list s low high)
 
 abbrev Few : List Difference → Type 0
 Few xs = length xs ≤ 31
@@ -135,7 +137,7 @@ pub few_differences : (d : Data) (e : SpeedElement) → (object speed_element).o
 unfolding speed_element
 few_differences d e is =
     let several = key_part (codes "differences") (list (object difference)) in
-    let last = short_list (object difference) (codes "differences") 0 31 d in
+    let last = short_at (object difference) (codes "differences") 0 31 d in
     let third = second Few (at_key flag.of (codes "q_front")) several.of d last in
     let two = second (of_second Few) (at_key (number v_static.fields).of (codes "v_static")) (both_of (at_key flag.of (codes "q_front")) several.of) d third in
     let all = second (of_second (of_second Few)) (at_key (number d_static.fields).of (codes "d_static")) (both_of (at_key (number v_static.fields).of (codes "v_static")) (both_of (at_key flag.of (codes "q_front")) several.of)) d two in
@@ -144,9 +146,8 @@ few_differences d e is =
     as_named (λ (x : SpeedElement). length x.differences ≤ 31) _ _ all)) is
 
 -- how many items stand after the first
-pub few_further : {X : Type 0} (s : Shape X) (high : ℕ) (name : List ℕ) (d : Data) (p : X × List X)
-    → at_key (first_and_others s.of high) name d ≡ Ok p → length p.1 < high
-few_further s high name d p is = (first_and_read (λ _. Unit {0}) s high name d p (λ _ _ _. tt) is).1
+pub few_further : {X : Type 0} (s : Shape X) (high : ℕ) (d : Data) (p : X × List X) → first_and_others s.of high d ≡ Ok p → length p.1 < high
+few_further s high d p is = (found (λ q. (Unit {0} × AllByRecursion (λ _. Unit {0}) q.1) × (length q.1 < high)) _ p (one_read (λ _. Unit {0}) s high (λ _ _ _. tt) d) is).1
 
 -- a level transition order with so few levels is built
 pub is_built : (e : BuildError) (n : ℕ) → IsReason e (31 < n) ⊥ → n < 32 → ⊥

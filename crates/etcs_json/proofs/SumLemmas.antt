@@ -13,14 +13,14 @@ use Rattle.etcs_radio.specs.TrainPacket.{report_in, train_of}
 use Rattle.etcs_radio.specs.declared.report.Report.{Report}
 use Rattle.etcs_radio.specs.declared.train_packet.TrainPacket.TheVariants as train
 use Rattle.etcs_json.specs.Authority.{authority, either_authority, end_parts, terms, with_main, without_main}
-use Rattle.etcs_json.specs.AuthoritySending.{first_members, last_members, sent_members}
+use Rattle.etcs_json.specs.AuthoritySending.{sent_members}
 use Rattle.etcs_json.specs.Chosen.{with_number}
 use Rattle.etcs_json.specs.Cover.{cover, cover_marker}
 use Rattle.etcs_json.specs.Entries.{Entry, members_onto}
 use Rattle.etcs_json.specs.Fault.{Fault}
 use Rattle.etcs_json.specs.Reading.{◌>>=◌, as_kind, object_with}
 use Rattle.etcs_json.specs.Report.{either_report, report, situation, with_one, with_two}
-use Rattle.etcs_json.specs.ReportSending.{first_members as report_first, middle_members as report_middle, last_members as report_last, sent_members as sent_report}
+use Rattle.etcs_json.specs.ReportSending.{first_members as report_first, last_members as report_last, sent_members as sent_report}
 use Rattle.etcs_json.specs.Sending.{members_of}
 use Rattle.etcs_json.specs.Shape.{object}
 use Rattle.etcs_json.specs.TrackPackets.{track_numbered, track_packet}
@@ -36,7 +36,7 @@ made_of es old new d e in_order same none made is =
 -- ---- a movement authority
 
 authority_sent_by : (main : Option ℕ) (a : AuthorityValue) → object_data (members_of (sent_members (authority_value a.dir a.scale main a.terms))) ≡ either_authority.to (authority_by main a)
-unfolding first_members last_members with_main without_main terms end_parts
+unfolding sent_members with_main without_main terms end_parts
 authority_sent_by None a = ap object_data (sym (made_members ((with_number without_main).part.to (a.dir, (a.scale, a.terms))) refl))
 authority_sent_by (Some v) a = ap object_data (sym (made_members ((with_number with_main).part.to (a.dir, (a.scale, (v, a.terms)))) refl))
 
@@ -45,13 +45,13 @@ unfolding authority
 authority_sent a = authority_sent_by a.main a
 
 pub authority_in_order : (a : AuthorityValue) → members_onto no_members (sent_members a) ≡ members_of (sent_members a)
-unfolding first_members last_members
+unfolding sent_members
 authority_in_order a = made_members (sent_members a) refl
 
 -- ---- a position report
 
 report_sent_by : (previous : Option Identity) (r : Report) → object_data (members_of (sent_report (report_with previous r.scale r.lrbg (situation_of r)))) ≡ either_report.to (report_by previous r)
-unfolding report_first report_middle report_last with_one with_two situation alone
+unfolding report_first report_last with_one with_two situation alone
 report_sent_by None r = ap object_data (sym (made_members ((with_number with_one).part.to (r.scale, (r.lrbg, situation_of r))) refl))
 report_sent_by (Some previous) r = ap object_data (sym (made_members ((with_number with_two).part.to (r.scale, (r.lrbg, (previous, situation_of r)))) refl))
 
@@ -60,7 +60,7 @@ unfolding report
 report_sent r = report_sent_by r.previous r
 
 pub report_in_order : (r : Report) → members_onto no_members (sent_report r) ≡ members_of (sent_report r)
-unfolding report_first report_middle report_last
+unfolding report_first report_last
 report_in_order r = made_members (sent_report r) refl
 
 -- ---- an authority and a report as one of all packets

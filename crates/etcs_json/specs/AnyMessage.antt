@@ -15,10 +15,6 @@ use Rattle.etcs_json.specs.TrainPackets.{train_packet}
 abbrev pub is_message : ℕ → Bool
 is_message n = (n == 3) || (n == 136)
 
--- the number of a message, by whether it is message 3
-abbrev pub number_by : Bool → ℕ
-number_by three = if three then 3 else 136
-
 abbrev pub message_of : Movement ⊎ Position → Message
 message_of m = by_kind messages.Movement messages.Position m
 

@@ -1,5 +1,5 @@
 -- What is sent of a movement authority: its members in the byte order of their keys.
-use Rattle.std.specs.Prelude.{List, [], ◌∷◌, ◌++◌, Some, codes}
+use Rattle.std.specs.Prelude.{List, [], ◌∷◌, Some, codes}
 use Rattle.serde_json.specs.Data.{array}
 use Rattle.etcs_profile.specs.Authority.{AuthorityValue, authority_number}
 use Rattle.etcs_json.specs.Authority.{danger_point, end_timer, overlap, section, section_timer}
@@ -7,27 +7,19 @@ use Rattle.etcs_json.specs.Entries.{Entry}
 use Rattle.etcs_json.specs.Shape.{items_of, object, optional, number_data}
 use Rattle.etcs_json.specs.Variables.{direction, scale}
 
--- the members up to NID_PACKET
-unfoldable pub first_members : AuthorityValue → List Entry
-first_members a =
+-- V_MAIN is there in packet 12 alone
+unfoldable pub sent_members : AuthorityValue → List Entry
+sent_members a =
     (codes "danger_point", optional (object danger_point).to a.terms.danger_point)
     ∷ (codes "end_speed", Some (number_data a.terms.end_speed))
     ∷ (codes "end_timeout", Some (number_data a.terms.end_timeout))
     ∷ (codes "end_timer", optional (object end_timer).to a.terms.end_timer)
     ∷ (codes "l_endsection", Some (number_data a.terms.l_endsection))
     ∷ (codes "nid_packet", Some (number_data (authority_number a)))
-    ∷ []
-
--- the members after NID_PACKET; V_MAIN is there in packet 12 alone
-unfoldable pub last_members : AuthorityValue → List Entry
-last_members a =
-    (codes "overlap", optional (object overlap).to a.terms.overlap)
+    ∷ (codes "overlap", optional (object overlap).to a.terms.overlap)
     ∷ (codes "q_dir", Some (direction.to a.dir))
     ∷ (codes "q_scale", Some (scale.to a.scale))
     ∷ (codes "section_timer", optional (object section_timer).to a.terms.section_timer)
     ∷ (codes "sections", Some (array (items_of (object section).to a.terms.sections)))
     ∷ (codes "v_main", optional number_data a.main)
     ∷ []
-
-abbrev pub sent_members : AuthorityValue → List Entry
-sent_members a = first_members a ++ last_members a

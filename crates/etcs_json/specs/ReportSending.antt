@@ -10,27 +10,23 @@ use Rattle.etcs_json.specs.Report.{side}
 use Rattle.etcs_json.specs.Shape.{optional, number_data}
 use Rattle.etcs_json.specs.Variables.{scale}
 
--- distances and lengths, the level's number and the mode
+-- the members up to NID_PACKET
 unfoldable pub first_members : Report → List Entry
 first_members r =
     (codes "d_lrbg", Some (number_data r.distance)) ∷ (codes "l_doubtover", Some (number_data r.doubt_over))
     ∷ (codes "l_doubtunder", Some (number_data r.doubt_under)) ∷ (codes "l_trainint", optional number_data (number_in 1 (q_length.rows r.length)))
-    ∷ (codes "m_level", Some (number_data (level_number r.level))) ∷ (codes "m_mode", Some (number_data r.mode)) ∷ []
+    ∷ (codes "m_level", Some (number_data (level_number r.level))) ∷ (codes "m_mode", Some (number_data r.mode))
+    ∷ (codes "nid_bg", Some (number_data r.lrbg.group)) ∷ (codes "nid_c", Some (number_data r.lrbg.country))
+    ∷ (codes "nid_ntc", optional number_data (number_in 1 (m_level.rows r.level))) ∷ (codes "nid_packet", Some (number_data (report_number r))) ∷ []
 
--- the groups, the national system, and the packet's number; the group before is there in packet 1 alone
-unfoldable pub middle_members : Report → List Entry
-middle_members r =
-    (codes "nid_bg", Some (number_data r.lrbg.group)) ∷ (codes "nid_c", Some (number_data r.lrbg.country))
-    ∷ (codes "nid_ntc", optional number_data (number_in 1 (m_level.rows r.level))) ∷ (codes "nid_packet", Some (number_data (report_number r)))
-    ∷ (codes "prv_nid_bg", optional number_data (option_map (λ i. i.group) r.previous))
-    ∷ (codes "prv_nid_c", optional number_data (option_map (λ i. i.country) r.previous)) ∷ []
-
--- the qualifiers, and the speed
+-- the members after NID_PACKET; the group before is there in packet 1 alone
 unfoldable pub last_members : Report → List Entry
 last_members r =
-    (codes "q_dirlrbg", Some (side.to r.orientation)) ∷ (codes "q_dirtrain", Some (side.to r.running))
+    (codes "prv_nid_bg", optional number_data (option_map (λ i. i.group) r.previous))
+    ∷ (codes "prv_nid_c", optional number_data (option_map (λ i. i.country) r.previous))
+    ∷ (codes "q_dirlrbg", Some (side.to r.orientation)) ∷ (codes "q_dirtrain", Some (side.to r.running))
     ∷ (codes "q_dlrbg", Some (side.to r.side)) ∷ (codes "q_length", Some (number_data (length_number r.length)))
     ∷ (codes "q_scale", Some (scale.to r.scale)) ∷ (codes "v_train", Some (number_data r.speed)) ∷ []
 
 abbrev pub sent_members : Report → List Entry
-sent_members r = first_members r ++ (middle_members r ++ last_members r)
+sent_members r = first_members r ++ last_members r

@@ -25,13 +25,13 @@ pub trait Form: Drop {
     /// if the value's type keeps its numbers and lists in range.
     ghost in_range: { Self → Type 0 } = { λ _. Unit {0} };
 
-    /// Whether making the form may ask for memory: not if the form is a number.
-    ghost builds: { Type 0 } = { Unit {0} };
+    /// Whether making the form may ask for memory: not if the form is a number, as here if a type does not say so.
+    ghost builds: { Type 0 } = { ⊥ };
 
     /// Whether reading this value may ask for memory. It never does where the form is a number, where an
     /// object is wanted and the value is another one, or where the object has a key that the form of a record
     /// lacks: the fault of the value itself has the empty path.
-    ghost asks: { Data → Type 0 } = { λ _. Unit {0} };
+    ghost asks: { Data → Type 0 } = { λ _. ⊥ };
 
     /// The form as a JSON value, which is read as this value again if the value is in range. The
     /// only error is that memory runs out; then no form is returned.

@@ -26,6 +26,6 @@ pub use error::{FormError, Path, Step};
 pub use form::{Form, InPieces};
 pub use node::Node;
 pub use node::json_text::{JsonError, JsonText};
-pub use node::known_keys::check_keys;
+pub use node::keys::check_keys;
 pub use node::tape_node::{TapeItems, TapeNode};
 pub use record::Record;

@@ -9,11 +9,10 @@ ghost use Rattle.etcs_json.specs.Listed.{all_of};
 ghost use Rattle.etcs_json.specs.Reading.{at_key, at_key_if, list_of};
 ghost use Rattle.etcs_json.specs.Shape.{both_of, first_and_others, items_of, number_data, optional as data_if};
 
-use crate::error::FormError;
+use crate::error::{FormError, Step};
 use crate::form::{Form, InPieces};
 use crate::node::Node;
-use crate::node::packets_form::read_all_at;
-use crate::node::reading::{read_first_and_at, read_items_at, read_key, read_key_if};
+use crate::node::reading::{member, read_first_and, read_items, read_list, under};
 use crate::writing::Sink;
 use etcs_bits::{Items, Memory};
 use std::alloc::Global;
@@ -122,90 +121,31 @@ impl<A: SendMembers, B: SendMembers> SendMembers for (A, B) {
 
 // ---- reading
 
-/// Members that are looked for, one after the other.
-pub(crate) trait ReadMembers: Drop {
-    /// Their keys.
-    type Keys: Copy;
+/// What is read of a JSON value.
+pub(crate) trait FromNode: Drop {
+    /// What reading gives.
+    ghost reads: { Data → Result Self Fault };
 
-    /// What they are read as.
-    ghost reads: { Self.Keys → Data → Result Self Fault };
-
-    /// Reads them.
-    fn read<N: Node>(alloc: Global, node: &N, keys: Self::Keys) -> Result<Self, FormError>
-        ensures { Gives (λ x. x) result (reads keys (N.shows node.now)) };
+    /// Reads it.
+    fn from_node<N: Node>(alloc: Global, node: &N) -> Result<Self, FormError>
+        ensures { Gives (λ x. x) result (reads (N.shows node.now)) };
 }
 
-/// A member that has to be there.
-#[derive(Drop)]
-pub(crate) struct Required<T> {
-    pub(crate) value: T,
-}
-
-impl<T> Model for Required<T> {
-    ghost Value = { T };
-
-    ghost view = { λ m. m.value };
-}
-
-impl<T: Form> ReadMembers for Required<T> {
-    type Keys = &'static str;
-
-    ghost reads = { λ key. at_key T.shape.of key.now };
+impl<T: Form> FromNode for T {
+    ghost reads = { T.shape.of };
 
     #[inline(always)]
-    fn read<N: Node>(alloc: Global, node: &N, key: &'static str) -> Result<Required<T>, FormError> {
-        let value = read_key(alloc, node, key)?;
-        Ok(Required { value })
+    fn from_node<N: Node>(alloc: Global, node: &N) -> Result<T, FormError> {
+        T::of_node(alloc, node)
     }
 }
 
-/// A member that may be left out.
-#[derive(Drop)]
-pub(crate) struct Optional<T> {
-    pub(crate) value: Option<T>,
-}
+impl<T: Form> FromNode for Items<T> {
+    ghost reads = { list_of T.shape.of 0 31 };
 
-impl<T> Model for Optional<T> {
-    ghost use Rattle.std.specs.Prelude.{Option};
-
-    ghost Value = { Option T };
-
-    ghost view = { λ m. m.value };
-}
-
-impl<T: Form> ReadMembers for Optional<T> {
-    type Keys = &'static str;
-
-    ghost reads = { λ key. at_key_if T.shape.of key.now };
-
-    #[inline(always)]
-    fn read<N: Node>(alloc: Global, node: &N, key: &'static str) -> Result<Optional<T>, FormError> {
-        let value = read_key_if(alloc, node, key)?;
-        Ok(Optional { value })
-    }
-}
-
-/// A list of up to 31 items.
-#[derive(Drop)]
-pub(crate) struct Repeated<T> {
-    pub(crate) value: Items<T>,
-}
-
-impl<T> Model for Repeated<T> {
-    ghost Value = { List T };
-
-    ghost view = { λ m. m.value };
-}
-
-impl<T: Form> ReadMembers for Repeated<T> {
-    type Keys = &'static str;
-
-    ghost reads = { λ key. at_key (list_of T.shape.of 0 31) key.now };
-
-    #[inline(always)]
-    fn read<N: Node>(alloc: Global, node: &N, key: &'static str) -> Result<Repeated<T>, FormError> {
-        let value = read_items_at(alloc, node, key)?;
-        Ok(Repeated { value })
+    fn from_node<N: Node>(alloc: Global, node: &N) -> Result<Items<T>, FormError> {
+        let items = read_list(alloc, node, 0, 31)?;
+        Ok(Items::new(items))
     }
 }
 
@@ -221,15 +161,18 @@ impl<T> Model for Listed<T> {
     ghost view = { λ m. m.value.items };
 }
 
-impl<T: Form> ReadMembers for Listed<T> {
-    type Keys = &'static str;
+impl<T: Form> FromNode for Listed<T> {
+    ghost reads = { all_of T.shape.of };
 
-    ghost reads = { λ key. at_key (all_of T.shape.of) key.now };
-
-    #[inline(always)]
-    fn read<N: Node>(alloc: Global, node: &N, key: &'static str) -> Result<Listed<T>, FormError> {
-        let value = read_all_at(alloc, node, key)?;
-        Ok(Listed { value })
+    #[tactic(auto, unfolding(crate::specs::Listed::all_of))]
+    fn from_node<N: Node>(alloc: Global, node: &N) -> Result<Listed<T>, FormError> {
+        match node.items() {
+            None => Err(FormError::kind(alloc)),
+            Some(items) => {
+                let value = read_items::<T, N>(alloc, items)?;
+                Ok(Listed { value })
+            }
+        }
     }
 }
 
@@ -250,18 +193,62 @@ impl<T> Model for NonEmpty<T> {
     ghost invariant = { λ m. length m.further.items < 32 };
 }
 
-impl<T: Form> ReadMembers for NonEmpty<T> {
-    type Keys = &'static str;
+impl<T: Form> FromNode for NonEmpty<T> {
+    ghost reads = { first_and_others T.shape.of 32 };
 
-    ghost reads = { λ key. at_key (first_and_others T.shape.of 32) key.now };
-
-    #[inline(always)]
-    fn read<N: Node>(alloc: Global, node: &N, key: &'static str) -> Result<NonEmpty<T>, FormError> {
-        let (first, further) = read_first_and_at(alloc, node, key, 32)?;
+    fn from_node<N: Node>(alloc: Global, node: &N) -> Result<NonEmpty<T>, FormError> {
+        let (first, further) = read_first_and(alloc, node, 32)?;
         Ok(NonEmpty { first, further })
     }
 }
 
+/// What is read of one or more members of an object.
+pub(crate) trait ReadMembers: Drop {
+    /// The keys of the members.
+    type Keys: Copy;
+
+    /// What reading gives.
+    ghost reads: { Self.Keys → Data → Result Self Fault };
+
+    /// Reads it.
+    fn read<N: Node>(alloc: Global, node: &N, keys: Self::Keys) -> Result<Self, FormError>
+        ensures { Gives (λ x. x) result (reads keys (N.shows node.now)) };
+}
+
+// A member that has to be there. It is inlined, since a key that is constant is found in less time.
+impl<T: FromNode> ReadMembers for T {
+    type Keys = &'static str;
+
+    ghost reads = { λ key. at_key T.reads key.now };
+
+    #[inline(always)]
+    #[tactic(auto, using(crate::proofs::Objects::member_read))]
+    fn read<N: Node>(alloc: Global, node: &N, key: &'static str) -> Result<T, FormError> {
+        let found = member(alloc, node, key)?;
+        under(key, T::from_node(alloc, &found))
+    }
+}
+
+// A member that may be left out.
+impl<T: FromNode> ReadMembers for Option<T> {
+    type Keys = &'static str;
+
+    ghost reads = { λ key. at_key_if T.reads key.now };
+
+    #[inline(always)]
+    #[tactic(auto, using(crate::proofs::Objects::fails_under), unfolding(crate::specs::Reading::at_key_if))]
+    fn read<N: Node>(alloc: Global, node: &N, key: &'static str) -> Result<Option<T>, FormError> {
+        match node.member(key) {
+            None => Ok(None),
+            Some(found) => match T::from_node(alloc, &found) {
+                Ok(read) => Ok(Some(read)),
+                Err(error) => Err(error.under(Step::Key(key))),
+            },
+        }
+    }
+}
+
+// Members one after the other.
 impl<A: ReadMembers, B: ReadMembers> ReadMembers for (A, B) {
     type Keys = (A::Keys, B::Keys);
 
@@ -296,22 +283,22 @@ macro_rules! send_members {
 
 // The record of the fields that are there, in brackets, and of the members that were read.
 macro_rules! make_record {
-    ($record:ident, $found:ident; [$($done:ident)*] $kind:ident $field:ident $(,)?) => {{
-        let $kind { value: $field } = $found;
-        $record { $($done,)* $field }
+    ($record:ident, $found:ident; [$($done:tt)*] $field:ident) => {{
+        let $field = $found;
+        $record { $($done)* $field }
     }};
-    ($record:ident, $found:ident; [$($done:ident)*] $kind:ident $field:ident, $($more:tt)+) => {{
-        let ($kind { value: $field }, rest) = $found;
-        $crate::members::make_record!($record, rest; [$($done)* $field] $($more)+)
+    ($record:ident, $found:ident; [$($done:tt)*] $field:ident, $($more:ident),+) => {{
+        let ($field, rest) = $found;
+        $crate::members::make_record!($record, rest; [$($done)* $field,] $($more),+)
     }};
 }
 
-// Reads the fields of a record, each with its kind and key, in the order in which the keys are looked for.
+// Reads the fields of a record, each with its key, in the order in which the keys are looked for.
 macro_rules! read_record {
-    ($record:ident, $alloc:ident, $node:ident; $($kind:ident $field:ident $key:expr),+ $(,)?) => {{
+    ($record:ident, $alloc:ident, $node:ident; $($field:ident $key:expr),+ $(,)?) => {{
         let keys = $crate::members::pairs!($($key),+);
         let found = $crate::members::ReadMembers::read($alloc, $node, keys)?;
-        Ok($crate::members::make_record!($record, found; [] $($kind $field),+))
+        Ok($crate::members::make_record!($record, found; [] $($field),+))
     }};
 }
 

@@ -1,7 +1,6 @@
 //! JSON values that are only looked at, whatever holds them. A reader of forms is generic over
 //! [`Node`], so that one reader serves values of `serde_json` and places in a tape of tokens, which
-//! takes less time to make. What all these readers share is in `reading`, `known_keys` and
-//! `packets_form`.
+//! takes less time to make. What all these readers share is in `reading` and `keys`.
 
 ghost use Rattle.std.specs.Prelude.{◌≡◌, ◌∷◌, [], List, map, option_map, option_and_then, MatchOption};
 ghost use Rattle.serde_json.specs.Data.{Data};
@@ -12,9 +11,7 @@ ghost use Rattle.etcs_json.specs.node.Nodes.{counts_between};
 
 pub(crate) mod json_text;
 pub(crate) mod keys;
-pub(crate) mod known_keys;
 mod numbers;
-pub(crate) mod packets_form;
 pub(crate) mod reading;
 pub(crate) mod tape_node;
 mod tape_range;

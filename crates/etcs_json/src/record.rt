@@ -10,7 +10,7 @@ ghost use Rattle.etcs_json.specs.Sending.{sorted, sorted_keys};
 use crate::error::FormError;
 use crate::form::{Form, InPieces};
 use crate::node::Node;
-use crate::node::known_keys::check_keys;
+use crate::node::keys::check_keys;
 use crate::writing::Sink;
 use crate::writing::building::NewObject;
 use crate::writing::marks::Marks;
@@ -86,6 +86,8 @@ impl<T: Members> Form for T {
     ghost shape = { shape_of T.object };
 
     ghost in_range = { T.bounded };
+
+    ghost builds = { Unit {0} };
 
     ghost asks = { λ d. IsOk (object_with T.object.part.keys d) };
 

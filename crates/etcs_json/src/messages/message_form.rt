@@ -1,15 +1,13 @@
 //! The form of a radio message, whose number decides it.
 
-ghost use Rattle.std.specs.Prelude.{codes, IsOk};
-ghost use Rattle.etcs_json.specs.AnyMessage.{is_message, number_by};
-ghost use Rattle.etcs_json.specs.Chosen.{any_object, first_at};
-ghost use Rattle.etcs_json.specs.Fault.{Gives, IfMemory};
-ghost use Rattle.etcs_json.specs.Reading.{at_key, allowed_number};
+ghost use Rattle.std.specs.Prelude.{IsOk};
+ghost use Rattle.etcs_json.specs.AnyMessage.{is_message};
+ghost use Rattle.etcs_json.specs.Chosen.{any_object};
 
 use crate::error::FormError;
 use crate::form::{Form, InPieces};
 use crate::node::Node;
-use crate::node::reading::{check_object, member, under};
+use crate::node::reading::{Numbers, check_object, read_number};
 use crate::record::InRange;
 use crate::writing::marks::Marks;
 use etcs_bits::Memory;
@@ -17,37 +15,12 @@ use etcs_radio::Message;
 use serde_json::Value;
 use std::alloc::Global;
 
-// Whether a number is that of message 3. The other number that is allowed is 136.
-#[tactic(auto, unfolding(crate::specs::Reading::allowed_number))]
-fn is_three<N: Node>(alloc: Global, node: &N) -> Result<bool, FormError>
-    ensures { Gives number_by result (allowed_number is_message (N.shows node.now)) }
-{
-    match node.number() {
-        None => Err(FormError::kind(alloc)),
-        Some(3) => Ok(true),
-        Some(136) => Ok(false),
-        Some(_) => Err(FormError::range(alloc)),
+impl Numbers for Message {
+    ghost test = { is_message };
+
+    fn has(number: u64) -> bool {
+        matches!(number, 3 | 136)
     }
-}
-
-// Whether the member `nid_message` is that of message 3.
-#[tactic(auto, using(crate::proofs::Objects::member_read))]
-fn has_three<N: Node>(alloc: Global, node: &N) -> Result<bool, FormError>
-    ensures { Gives number_by result
-        (at_key (allowed_number is_message) (codes "nid_message") (N.shows node.now)) }
-{
-    let found = member(alloc, node, "nid_message")?;
-    under("nid_message", is_three(alloc, &found))
-}
-
-// Whether a form is that of message 3, before its other keys are looked at.
-fn is_movement<N: Node>(alloc: Global, node: &N) -> Result<bool, FormError>
-    ensures first { Gives number_by result
-        (first_at (allowed_number is_message) (codes "nid_message") (N.shows node.now)) }
-    ensures memory { IfMemory result (IsOk (any_object (N.shows node.now))) }
-{
-    check_object(alloc, node)?;
-    has_three(alloc, node)
 }
 
 #[tactic(auto, unfolding(crate::specs::AnyMessage::message))]
@@ -55,6 +28,8 @@ impl Form for Message {
     ghost use Rattle.etcs_json.specs.AnyMessage.{message};
 
     ghost shape = { message };
+
+    ghost builds = { Unit {0} };
 
     ghost asks = { λ d. IsOk (any_object d) };
 
@@ -73,10 +48,11 @@ impl Form for Message {
     }
 
     fn of_node<N: Node>(alloc: Global, node: &N) -> Result<Self, FormError> {
-        if is_movement(alloc, node)? {
-            Ok(Message::Movement(Form::of_node(alloc, node)?))
-        } else {
-            Ok(Message::Position(Form::of_node(alloc, node)?))
+        check_object(alloc, node)?;
+        match read_number::<Message, N>(alloc, node, "nid_message")? {
+            3 => Ok(Message::Movement(Form::of_node(alloc, node)?)),
+            136 => Ok(Message::Position(Form::of_node(alloc, node)?)),
+            _ => Err(FormError::range_at(alloc, "nid_message")),
         }
     }
 }

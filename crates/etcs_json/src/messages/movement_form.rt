@@ -1,9 +1,7 @@
 //! The form of message 3, the movement authority.
 
 use crate::error::FormError;
-use crate::members::{
-    ListMember, Listed, Member, NumberMember, ReadMembers, Required, pairs, send_members,
-};
+use crate::members::{ListMember, Listed, Member, NumberMember, ReadMembers, pairs, send_members};
 use crate::node::Node;
 use crate::node::reading::read_fixed;
 use crate::record::{InRange, Members, Record, prove_allowed};
@@ -58,9 +56,7 @@ impl Members for MovementMessage {
         read_fixed(alloc, node, "nid_message", 3)?;
         let keys = pairs!("t_train", "m_ack", "nid_c", "nid_bg", "packets");
         let found = ReadMembers::read(alloc, node, keys)?;
-        let (Required { value: time }, (Required { value: ack }, rest)) = found;
-        let (Required { value: country }, (Required { value: group }, rest)) = rest;
-        let Listed { value: packets } = rest;
+        let (time, (ack, (country, (group, Listed { value: packets })))) = found;
         match MovementMessage::new(time, ack, Identity { country, group }, packets) {
             Ok(message) => Ok(message),
             Err(_) => Err(FormError::range_at(alloc, "packets")),

@@ -1,9 +1,7 @@
 //! The form of message 136, the position report.
 
 use crate::error::FormError;
-use crate::members::{
-    ListMember, Listed, Member, NumberMember, ReadMembers, Required, pairs, send_members,
-};
+use crate::members::{ListMember, Listed, Member, NumberMember, ReadMembers, pairs, send_members};
 use crate::node::Node;
 use crate::node::reading::read_fixed;
 use crate::record::{InRange, Members, Record, prove_allowed};
@@ -47,8 +45,7 @@ impl Members for PositionMessage {
     fn of_members<N: Node>(alloc: Global, node: &N) -> Result<Self, FormError> {
         read_fixed(alloc, node, "nid_message", 136)?;
         let found = ReadMembers::read(alloc, node, pairs!("t_train", "nid_engine", "packets"))?;
-        let (Required { value: time }, (Required { value: engine }, Listed { value: packets })) =
-            found;
+        let (time, (engine, Listed { value: packets })) = found;
         match PositionMessage::new(time, engine, packets) {
             Ok(message) => Ok(message),
             Err(_) => Err(FormError::range_at(alloc, "packets")),

@@ -2,16 +2,12 @@
 
 ghost use Rattle.std.specs.Prelude.{◌≡◌};
 ghost use Rattle.etcs_telegram.specs.Sizes.{user_bits};
-ghost use Rattle.etcs_json.specs.Fault.{Gives};
 ghost use Rattle.etcs_json.specs.Telegrams.{header};
 
 use crate::error::FormError;
 use crate::form::{Form, InPieces};
-use crate::members::{ListMember, Member, send_members};
+use crate::members::{ListMember, Listed, Member, ReadMembers, pairs, read_record, send_members};
 use crate::node::Node;
-use crate::node::packets_form::read_all_at;
-use crate::node::reading::read_key;
-use crate::packets::report_form::read_identity;
 use crate::record::{InRange, Members, Record, prove_allowed};
 use crate::writing::Sink;
 use crate::writing::marks::Marks;
@@ -35,10 +31,6 @@ impl Form for Size {
     ghost use Rattle.etcs_json.specs.Telegrams.{size};
 
     ghost shape = { size };
-
-    ghost builds = { ⊥ };
-
-    ghost asks = { λ _. ⊥ };
 
     fn to_form(&self, _alloc: Global) -> Result<Value, Memory> {
         Ok(Value::from(user_bit_count(*self)))
@@ -66,20 +58,23 @@ impl InPieces for Size {
     }
 }
 
-// Reads the header's members.
-#[tactic(auto, unfolding(crate::specs::Telegrams::header))]
-fn read_header<N: Node>(alloc: Global, node: &N) -> Result<Header, FormError>
-    ensures { Gives (λ h. h) result (header.of (N.shows node.now)) }
-{
-    Ok(Header {
-        version: read_key(alloc, node, "m_version")?,
-        position: read_key(alloc, node, "n_pig")?,
-        total: read_key(alloc, node, "n_total")?,
-        dup: read_key(alloc, node, "m_dup")?,
-        counter: read_key(alloc, node, "m_mcount")?,
-        identity: read_identity(alloc, node, "nid_c", "nid_bg")?,
-        linked: read_key(alloc, node, "q_link")?,
-    })
+impl ReadMembers for Header {
+    type Keys = ();
+
+    ghost reads = { λ _. header.of };
+
+    #[tactic(auto, unfolding(crate::specs::Telegrams::header))]
+    fn read<N: Node>(alloc: Global, node: &N, _keys: ()) -> Result<Header, FormError> {
+        read_record!(Header, alloc, node;
+            version "m_version",
+            position "n_pig",
+            total "n_total",
+            dup "m_dup",
+            counter "m_mcount",
+            identity ("nid_c", "nid_bg"),
+            linked "q_link",
+        )
+    }
 }
 
 impl Record for Telegram {
@@ -131,9 +126,8 @@ impl Members for Telegram {
     }
 
     fn of_members<N: Node>(alloc: Global, node: &N) -> Result<Self, FormError> {
-        let size = read_key(alloc, node, "user_bits")?;
-        let header = read_header(alloc, node)?;
-        let packets = read_all_at(alloc, node, "packets")?;
+        let keys = pairs!("user_bits", (), "packets");
+        let (size, (header, Listed { value: packets })) = ReadMembers::read(alloc, node, keys)?;
         Ok(Telegram {
             size,
             header,

@@ -5,8 +5,13 @@ ghost use Rattle.std.specs.List.{list_any};
 ghost use Rattle.std.specs.Str.{bytes_eq};
 ghost use Rattle.serde_json.specs.View.{members_view};
 ghost use Rattle.etcs_json.specs.Entries.{are_known, is_among};
+ghost use Rattle.etcs_json.specs.Fault.{Gives, IfMemory};
+ghost use Rattle.etcs_json.specs.Reading.{object_with};
 
+use crate::error::FormError;
+use crate::node::Node;
 use serde_json::{Map, Value};
+use std::alloc::Global;
 
 // Whether a key is one of these.
 fn is_one_of(name: &str, keys: &[&str]) -> bool
@@ -48,4 +53,22 @@ pub(crate) fn all_among(members: &Map<String, Value>, keys: &[&str]) -> bool
         }
     }
     true
+}
+
+/// Refuses a value that is no object, and an object with a key that is none of these. Neither refusal takes
+/// memory.
+pub fn check_keys<N: Node>(alloc: Global, node: &N, keys: &[&str]) -> Result<(), FormError>
+    ensures keys { Gives (λ u. u) result (object_with (map (λ l. l.now) keys.now) (N.shows node.now)) }
+    ensures memory { IfMemory result ⊥ }
+{
+    match node.has_only(keys) {
+        None => Err(FormError::kind(alloc)),
+        Some(known) => {
+            if known {
+                Ok(())
+            } else {
+                Err(FormError::unknown(alloc))
+            }
+        }
+    }
 }

@@ -1,6 +1,6 @@
 //! How the parts of a form are read.
 
-ghost use Rattle.std.specs.Prelude.{◌==◌, IsOk};
+ghost use Rattle.std.specs.Prelude.{◌≡◌, ◌==◌, ℕ, Bool, true, IfOk, IsOk};
 ghost use Rattle.etcs_json.specs.Chosen.{any_object, first_at};
 ghost use Rattle.etcs_json.specs.Fault.{Gives, IfMemory, IsUnder, key};
 ghost use Rattle.etcs_json.specs.Reading.{at_key, at_key_if, items_at, list_of, member_at, no_key, allowed_number};
@@ -8,8 +8,8 @@ ghost use Rattle.etcs_json.specs.Shape.{first_and_others, fixed};
 
 use crate::error::{FormError, Step};
 use crate::form::Form;
+use crate::members::ReadMembers;
 use crate::node::Node;
-use etcs_bits::Items;
 use std::alloc::Global;
 
 /// The member at a key that has to be there.
@@ -31,21 +31,6 @@ pub(crate) fn under<X>(name: &'static str, read: Result<X, FormError>) -> Result
         Ok(found) => Ok(found),
         Err(error) => Err(error.under(Step::Key(name))),
     }
-}
-
-/// Reads the member at a key that has to be there.
-// Inlined, since a key that is constant is found in less time.
-#[inline(always)]
-#[tactic(auto, using(crate::proofs::Objects::member_read))]
-pub(crate) fn read_key<T: Form, N: Node>(
-    alloc: Global,
-    node: &N,
-    name: &'static str,
-) -> Result<T, FormError>
-    ensures { Gives (λ x. x) result (at_key T.shape.of name.now (N.shows node.now)) }
-{
-    let found = member(alloc, node, name)?;
-    under(name, T::of_node(alloc, &found))
 }
 
 /// Refuses a value that is no object.
@@ -71,26 +56,7 @@ pub(crate) fn read_first<T: Form, N: Node>(
     ensures memory { IfMemory result (IsOk (any_object (N.shows node.now))) }
 {
     check_object(alloc, node)?;
-    read_key(alloc, node, name)
-}
-
-/// Reads the member at a key that may be left out.
-#[inline(always)]
-#[tactic(auto, using(crate::proofs::Objects::fails_under), unfolding(crate::specs::Reading::at_key_if))]
-pub(crate) fn read_key_if<T: Form, N: Node>(
-    alloc: Global,
-    node: &N,
-    name: &'static str,
-) -> Result<Option<T>, FormError>
-    ensures { Gives (λ x. x) result (at_key_if T.shape.of name.now (N.shows node.now)) }
-{
-    match node.member(name) {
-        None => Ok(None),
-        Some(found) => match T::of_node(alloc, &found) {
-            Ok(read) => Ok(Some(read)),
-            Err(error) => Err(error.under(Step::Key(name))),
-        },
-    }
+    T::read(alloc, node, name)
 }
 
 /// Reads the items of a list that are left, one after the other.
@@ -115,8 +81,8 @@ pub(crate) fn read_items<T: Form, N: Node>(
     Ok(found)
 }
 
-// Reads a list of from `low` to `high` items. Its count comes before its items.
-fn read_list<T: Form, N: Node>(
+/// Reads a list of from `low` to `high` items. Its count comes before its items.
+pub(crate) fn read_list<T: Form, N: Node>(
     alloc: Global,
     node: &N,
     low: usize,
@@ -139,37 +105,8 @@ fn read_list<T: Form, N: Node>(
     }
 }
 
-/// Reads the member at a key that has to be there: a list of from `low` to `high` items.
-#[tactic(auto, using(crate::proofs::Objects::member_read))]
-pub(crate) fn read_list_at<T: Form, N: Node>(
-    alloc: Global,
-    node: &N,
-    name: &'static str,
-    low: usize,
-    high: usize,
-) -> Result<Vec<T>, FormError>
-    ensures { Gives (λ v. v.items) result
-        (at_key (list_of T.shape.of low high) name.now (N.shows node.now)) }
-{
-    let found = member(alloc, node, name)?;
-    under(name, read_list(alloc, &found, low, high))
-}
-
-/// Reads the member at a key that has to be there: the items after their count N_ITER, at most 31.
-pub(crate) fn read_items_at<T: Form, N: Node>(
-    alloc: Global,
-    node: &N,
-    name: &'static str,
-) -> Result<Items<T>, FormError>
-    ensures { Gives (λ v. v) result
-        (at_key (list_of T.shape.of 0 31) name.now (N.shows node.now)) }
-{
-    let items = read_list_at(alloc, node, name, 0, 31)?;
-    Ok(Items::new(items))
-}
-
-// Reads a list of from 1 to `high` items, as its first and the further ones.
-fn read_first_and<T: Form, N: Node>(
+/// Reads a list of from 1 to `high` items, as its first and the further ones.
+pub(crate) fn read_first_and<T: Form, N: Node>(
     alloc: Global,
     node: &N,
     high: usize,
@@ -185,19 +122,41 @@ fn read_first_and<T: Form, N: Node>(
     Ok((first, items))
 }
 
-/// Reads the member at a key that has to be there: a list of from 1 to `high` items, as its first
-/// and the further ones.
-pub(crate) fn read_first_and_at<T: Form, N: Node>(
+/// Some of the numbers of a variable.
+pub(crate) trait Numbers {
+    /// Which they are.
+    ghost test: { ℕ → Bool };
+
+    /// Whether a number is one of them.
+    fn has(number: u64) -> bool
+        ensures { result ≡ test number };
+}
+
+// Reads one of these numbers.
+#[tactic(auto, unfolding(crate::specs::Reading::allowed_number))]
+fn number_in<T: Numbers, N: Node>(alloc: Global, node: &N) -> Result<u64, FormError>
+    ensures gives { Gives (λ n. n) result (allowed_number T.test (N.shows node.now)) }
+    ensures has { IfOk result (λ n. T.test n ≡ true) }
+{
+    match node.number() {
+        None => Err(FormError::kind(alloc)),
+        Some(number) if T::has(number) => Ok(number),
+        Some(_) => Err(FormError::range(alloc)),
+    }
+}
+
+/// Reads the member at a key that has to be there: one of these numbers.
+#[tactic(auto, using(crate::proofs::Objects::member_read, crate::proofs::Objects::under_keeps))]
+pub(crate) fn read_number<T: Numbers, N: Node>(
     alloc: Global,
     node: &N,
     name: &'static str,
-    high: usize,
-) -> Result<(T, Vec<T>), FormError>
-    ensures { Gives (λ p. (p.0, p.1.items)) result
-        (at_key (first_and_others T.shape.of high) name.now (N.shows node.now)) }
+) -> Result<u64, FormError>
+    ensures gives { Gives (λ n. n) result (at_key (allowed_number T.test) name.now (N.shows node.now)) }
+    ensures has { IfOk result (λ n. T.test n ≡ true) }
 {
     let found = member(alloc, node, name)?;
-    under(name, read_first_and(alloc, &found, high))
+    under(name, number_in::<T, N>(alloc, &found))
 }
 
 // Refuses a value that is not this number.

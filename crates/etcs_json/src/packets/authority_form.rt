@@ -3,18 +3,18 @@
 ghost use Rattle.std.specs.Prelude.{◌≡◌, OnOk};
 ghost use Rattle.etcs_profile.specs.Authority.{authority_number, authority_of_parts};
 ghost use Rattle.etcs_json.specs.Authority.{either_authority, with_main, without_main};
-ghost use Rattle.etcs_json.specs.AuthoritySending.{first_members, last_members, sent_members};
+ghost use Rattle.etcs_json.specs.AuthoritySending.{sent_members};
 ghost use Rattle.etcs_json.specs.Chosen.{with_number};
 ghost use Rattle.etcs_json.specs.Fault.{Gives};
 ghost use Rattle.etcs_json.specs.Reading.{as_kind, object_with};
 
 use crate::error::FormError;
 use crate::form::{Form, InPieces};
-use crate::members::{ListMember, Member, NumberMember, OptionalMember, send_members};
+use crate::members::{ListMember, Member, NumberMember, OptionalMember, ReadMembers, send_members};
 use crate::node::Node;
-use crate::node::known_keys::check_keys;
-use crate::node::reading::{read_first, read_fixed, read_key};
-use crate::packets::terms_form::{Terms, authority_of, read_terms};
+use crate::node::keys::check_keys;
+use crate::node::reading::{read_first, read_fixed};
+use crate::packets::terms_form::{Terms, authority_of};
 use crate::record::prove_allowed;
 use crate::writing::Sink;
 use crate::writing::building::NewObject;
@@ -56,10 +56,10 @@ fn packet_number(authority: &Authority) -> u64
     }
 }
 
-// Sends the members up to NID_PACKET, in the byte order of their keys.
-#[tactic(auto, unfolding(crate::specs::AuthoritySending::first_members))]
-fn send_first<S: Sink>(out: &mut S, authority: &Authority) -> Result<(), Memory>
-    ensures { OnOk result (S.takes (first_members authority.now) out.old out.new) }
+// Sends the members in the byte order of their keys.
+#[tactic(auto, unfolding(crate::specs::AuthoritySending::sent_members))]
+fn send_authority<S: Sink>(out: &mut S, authority: &Authority) -> Result<(), Memory>
+    ensures { OnOk result (S.takes (sent_members authority.now) out.old out.new) }
 {
     send_members!(out;
         OptionalMember("danger_point", &authority.danger_point()),
@@ -68,15 +68,6 @@ fn send_first<S: Sink>(out: &mut S, authority: &Authority) -> Result<(), Memory>
         OptionalMember("end_timer", &authority.end_timer()),
         Member("l_endsection", &authority.l_endsection()),
         NumberMember("nid_packet", packet_number(authority)),
-    )
-}
-
-// Sends the members after NID_PACKET.
-#[tactic(auto, unfolding(crate::specs::AuthoritySending::last_members))]
-fn send_last<S: Sink>(out: &mut S, authority: &Authority) -> Result<(), Memory>
-    ensures { OnOk result (S.takes (last_members authority.now) out.old out.new) }
-{
-    send_members!(out;
         OptionalMember("overlap", &authority.overlap()),
         Member("q_dir", &authority.dir()),
         Member("q_scale", &authority.scale()),
@@ -84,14 +75,6 @@ fn send_last<S: Sink>(out: &mut S, authority: &Authority) -> Result<(), Memory>
         ListMember("sections", authority.sections()),
         OptionalMember("v_main", &authority.main()),
     )
-}
-
-// Sends all members.
-fn send_authority<S: Sink>(out: &mut S, authority: &Authority) -> Result<(), Memory>
-    ensures { OnOk result (S.takes (sent_members authority.now) out.old out.new) }
-{
-    send_first(out, authority)?;
-    send_last(out, authority)
 }
 
 // Refuses what is no object, and an object with a key that packet 12 does not have.
@@ -114,10 +97,10 @@ fn read_main_and_terms<N: Node>(alloc: Global, node: &N) -> Result<WithMain, For
     ensures { Gives (λ p. p) result ((with_number with_main).part.of (N.shows node.now)) }
 {
     read_fixed(alloc, node, "nid_packet", 12)?;
-    let dir = read_key(alloc, node, "q_dir")?;
-    let scale = read_key(alloc, node, "q_scale")?;
-    let main = read_key(alloc, node, "v_main")?;
-    let terms = read_terms(alloc, node)?;
+    let dir = ReadMembers::read(alloc, node, "q_dir")?;
+    let scale = ReadMembers::read(alloc, node, "q_scale")?;
+    let main = ReadMembers::read(alloc, node, "v_main")?;
+    let terms = ReadMembers::read(alloc, node, ())?;
     Ok((dir, (scale, (main, terms))))
 }
 
@@ -127,9 +110,9 @@ fn read_terms_alone<N: Node>(alloc: Global, node: &N) -> Result<WithoutMain, For
     ensures { Gives (λ p. p) result ((with_number without_main).part.of (N.shows node.now)) }
 {
     read_fixed(alloc, node, "nid_packet", 15)?;
-    let dir = read_key(alloc, node, "q_dir")?;
-    let scale = read_key(alloc, node, "q_scale")?;
-    let terms = read_terms(alloc, node)?;
+    let dir = ReadMembers::read(alloc, node, "q_dir")?;
+    let scale = ReadMembers::read(alloc, node, "q_scale")?;
+    let terms = ReadMembers::read(alloc, node, ())?;
     Ok((dir, (scale, terms)))
 }
 
@@ -160,6 +143,8 @@ impl Form for Authority {
     ghost use Rattle.etcs_json.specs.Authority.{authority};
 
     ghost shape = { authority };
+
+    ghost builds = { Unit {0} };
 
     ghost asks = { λ d. IsOk (any_object d) };
 

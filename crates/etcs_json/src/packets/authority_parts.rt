@@ -4,7 +4,7 @@ ghost use Rattle.etcs_json.specs.Authority.{danger_point, end_timer, overlap, se
 ghost use Rattle.etcs_json.specs.Shape.{whole};
 
 use crate::error::FormError;
-use crate::members::{Member, Optional, OptionalMember, Required, read_record, send_members};
+use crate::members::{Member, OptionalMember, read_record, send_members};
 use crate::node::Node;
 use crate::record::{LayoutRecord, Members, Record};
 use crate::writing::Sink;
@@ -35,8 +35,8 @@ impl Members for SectionTimer {
 
     fn of_members<N: Node>(alloc: Global, node: &N) -> Result<Self, FormError> {
         read_record!(SectionTimer, alloc, node;
-            Required time "t_sectiontimer",
-            Required stop "d_sectiontimerstoploc",
+            time "t_sectiontimer",
+            stop "d_sectiontimerstoploc",
         )
     }
 }
@@ -64,8 +64,8 @@ impl Members for Section {
 
     fn of_members<N: Node>(alloc: Global, node: &N) -> Result<Self, FormError> {
         read_record!(Section, alloc, node;
-            Required length "l_section",
-            Optional timer "section_timer",
+            length "l_section",
+            timer "section_timer",
         )
     }
 }
@@ -93,8 +93,8 @@ impl Members for EndTimer {
 
     fn of_members<N: Node>(alloc: Global, node: &N) -> Result<Self, FormError> {
         read_record!(EndTimer, alloc, node;
-            Required time "t_endtimer",
-            Required start "d_endtimerstartloc",
+            time "t_endtimer",
+            start "d_endtimerstartloc",
         )
     }
 }
@@ -122,8 +122,8 @@ impl Members for DangerPoint {
 
     fn of_members<N: Node>(alloc: Global, node: &N) -> Result<Self, FormError> {
         read_record!(DangerPoint, alloc, node;
-            Required distance "d_dp",
-            Required release_speed "v_releasedp",
+            distance "d_dp",
+            release_speed "v_releasedp",
         )
     }
 }
@@ -153,10 +153,10 @@ impl Members for Overlap {
 
     fn of_members<N: Node>(alloc: Global, node: &N) -> Result<Self, FormError> {
         read_record!(Overlap, alloc, node;
-            Required start "d_startol",
-            Required time "t_ol",
-            Required length "d_ol",
-            Required release_speed "v_releaseol",
+            start "d_startol",
+            time "t_ol",
+            length "d_ol",
+            release_speed "v_releaseol",
         )
     }
 }

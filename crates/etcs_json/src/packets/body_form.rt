@@ -4,11 +4,11 @@ ghost use Rattle.std.specs.Prelude.{◌≡◌, ◌+◌, ◌≤◌, ◌<◌, code
 ghost use Rattle.etcs_json.specs.BodyText.{body_of};
 ghost use Rattle.etcs_json.specs.Fault.{Gives};
 ghost use Rattle.etcs_json.specs.Measured.{is_length, measured_of};
-ghost use Rattle.etcs_json.specs.Reading.{at_key, allowed_number};
+ghost use Rattle.etcs_json.specs.Reading.{at_key};
 
 use crate::error::FormError;
 use crate::node::Node;
-use crate::node::reading::{member, under};
+use crate::node::reading::{Numbers, member, read_number, under};
 use crate::packets::body_text::body_in;
 use etcs_bits::Bits;
 use std::alloc::Global;
@@ -21,30 +21,15 @@ pub(crate) fn packet_length(head: u32, body: &Bits) -> u64
     u64::from(head) + body.len() as u64
 }
 
-// Reads L_PACKET, which counts the `head` bits before the body too.
-#[tactic(auto, unfolding(crate::specs::Reading::allowed_number))]
-fn length_in<N: Node>(alloc: Global, node: &N, head: u32) -> Result<u32, FormError>
-    ensures gives { Gives (λ n. n) result (allowed_number (is_length head) (N.shows node.now)) }
-    ensures least { IfOk result (λ n. head ≤ n) }
-    ensures most { IfOk result (λ n. n < 8192) }
-{
-    match node.number() {
-        None => Err(FormError::kind(alloc)),
-        Some(length) if length < 8192 && u64::from(head) <= length => Ok(length as u32),
-        Some(_) => Err(FormError::range(alloc)),
-    }
-}
+// L_PACKET of a packet with `HEAD` bits before its body, which it counts too.
+struct PacketLength<const HEAD: u32>;
 
-// Reads the member `l_packet`.
-#[tactic(auto, using(crate::proofs::Objects::member_read, crate::proofs::Objects::under_keeps))]
-fn read_length<N: Node>(alloc: Global, node: &N, head: u32) -> Result<u32, FormError>
-    ensures gives { Gives (λ n. n) result
-        (at_key (allowed_number (is_length head)) (codes "l_packet") (N.shows node.now)) }
-    ensures least { IfOk result (λ n. head ≤ n) }
-    ensures most { IfOk result (λ n. n < 8192) }
-{
-    let found = member(alloc, node, "l_packet")?;
-    under("l_packet", length_in(alloc, &found, head))
+impl<const HEAD: u32> Numbers for PacketLength<HEAD> {
+    ghost test = { is_length HEAD };
+
+    fn has(number: u64) -> bool {
+        number < 8192 && u64::from(HEAD) <= number
+    }
 }
 
 // Reads a body of `count` bits.
@@ -71,13 +56,16 @@ fn read_body<N: Node>(alloc: Global, node: &N, count: usize) -> Result<Bits, For
     under("body", read_text(alloc, &found, count))
 }
 
-/// Reads the members `l_packet` and `body`. `head` is the number of bits before the body, 21 or
+/// Reads the members `l_packet` and `body`. `HEAD` is the number of bits before the body, 21 or
 /// more.
-pub(crate) fn read_measured<N: Node>(alloc: Global, node: &N, head: u32) -> Result<Bits, FormError>
-    requires { 21 ≤ head }
-    ensures gives { Gives (λ b. b) result (measured_of head (N.shows node.now)) }
-    ensures short { IfOk result (λ b. head + length b < 8192) }
+pub(crate) fn read_measured<const HEAD: u32, N: Node>(
+    alloc: Global,
+    node: &N,
+) -> Result<Bits, FormError>
+    requires { 21 ≤ HEAD }
+    ensures gives { Gives (λ b. b) result (measured_of HEAD (N.shows node.now)) }
+    ensures short { IfOk result (λ b. HEAD + length b < 8192) }
 {
-    let length = read_length(alloc, node, head)?;
-    read_body(alloc, node, (length - head) as usize)
+    let length = read_number::<PacketLength<HEAD>, N>(alloc, node, "l_packet")?;
+    read_body(alloc, node, (length - u64::from(HEAD)) as usize)
 }

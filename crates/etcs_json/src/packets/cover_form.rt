@@ -4,9 +4,9 @@ ghost use Rattle.etcs_json.specs.Cover.{cover_marker};
 ghost use Rattle.etcs_json.specs.Shape.{whole};
 
 use crate::error::FormError;
-use crate::members::{Member, NumberMember, send_members};
+use crate::members::{Member, NumberMember, ReadMembers, send_members};
 use crate::node::Node;
-use crate::node::reading::{read_fixed, read_key};
+use crate::node::reading::read_fixed;
 use crate::record::{LayoutRecord, Members, Record};
 use crate::writing::Sink;
 use etcs_bits::Memory;
@@ -36,7 +36,7 @@ impl Members for CoverMarker {
 
     fn of_members<N: Node>(alloc: Global, node: &N) -> Result<Self, FormError> {
         read_fixed(alloc, node, "nid_packet", 0)?;
-        let marker = read_key(alloc, node, "nid_vbcmk")?;
+        let marker = ReadMembers::read(alloc, node, "nid_vbcmk")?;
         Ok(CoverMarker { marker })
     }
 }

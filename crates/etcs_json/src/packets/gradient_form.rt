@@ -6,7 +6,7 @@ ghost use Rattle.etcs_json.specs.Profiles.{gradient, gradient_element};
 ghost use Rattle.etcs_json.specs.Shape.{whole};
 
 use crate::error::FormError;
-use crate::members::{Member, Required, read_record, send_members};
+use crate::members::{Member, read_record, send_members};
 use crate::node::Node;
 use crate::node::reading::read_fixed;
 use crate::packets::profile_form::{read_profile, send_profile};
@@ -40,9 +40,9 @@ impl Members for GradientElement {
 
     fn of_members<N: Node>(alloc: Global, node: &N) -> Result<Self, FormError> {
         read_record!(GradientElement, alloc, node;
-            Required distance "d_gradient",
-            Required uphill "q_gdir",
-            Required gradient "g_a",
+            distance "d_gradient",
+            uphill "q_gdir",
+            gradient "g_a",
         )
     }
 }

@@ -2,7 +2,6 @@
 
 ghost use Rattle.std.specs.Prelude.{◌≡◌};
 ghost use Rattle.etcs_radio.specs.Integrity.{length_number as number_of_length, q_length};
-ghost use Rattle.etcs_json.specs.Fault.{Gives};
 ghost use Rattle.etcs_json.specs.KeyedVariables.{number_in};
 ghost use Rattle.etcs_json.specs.Report.{integrity};
 
@@ -10,14 +9,13 @@ use crate::error::FormError;
 use crate::form::{Form, InPieces};
 use crate::members::ReadMembers;
 use crate::node::Node;
-use crate::node::reading::{check_absent, read_key};
+use crate::node::reading::check_absent;
 use crate::packets::number_forms::read_number;
 use crate::writing::marks::Marks;
 use etcs_bits::{Distance, Memory, Plain};
 use etcs_radio::{Integrity, Train3};
 use serde_json::Value;
 use std::alloc::Global;
-use std::marker::Model;
 
 /// The number of Q_LENGTH, 0 to 3.
 pub(crate) fn length_number(integrity: Integrity) -> u64
@@ -44,47 +42,26 @@ pub(crate) fn confirmed_length(integrity: Integrity) -> Option<Distance>
     }
 }
 
-// Reads Q_LENGTH and L_TRAININT. L_TRAININT has to be there at 1 and 2, and nowhere else.
-#[tactic(auto, using(crate::proofs::KeyedLemmas::length_numbers))]
-fn read_integrity<N: Node>(alloc: Global, node: &N) -> Result<Integrity, FormError>
-    ensures { Gives (λ v. v) result (integrity.of (N.shows node.now)) }
-{
-    let number: Plain<2> = read_key(alloc, node, "q_length")?;
-    if number.number() == 1 {
-        return Ok(Integrity::Q1(read_key(alloc, node, "l_trainint")?));
-    }
-    if number.number() == 2 {
-        return Ok(Integrity::Q2(read_key(alloc, node, "l_trainint")?));
-    }
-    check_absent(alloc, node, "l_trainint")?;
-    if number.number() == 0 {
-        return Ok(Integrity::Q0);
-    }
-    Ok(Integrity::Q3)
-}
-
-/// A train's integrity, of the members Q_LENGTH and L_TRAININT.
-#[derive(Drop)]
-pub(crate) struct IntegrityMembers {
-    pub(crate) value: Integrity,
-}
-
-impl Model for IntegrityMembers {
-    ghost use Rattle.etcs_radio.specs.declared.integrity.Integrity.{Integrity};
-
-    ghost Value = { Integrity };
-
-    ghost view = { λ m. m.value };
-}
-
-impl ReadMembers for IntegrityMembers {
+// L_TRAININT has to be there at Q_LENGTH 1 and 2, and nowhere else.
+impl ReadMembers for Integrity {
     type Keys = ();
 
     ghost reads = { λ _. integrity.of };
 
-    fn read<N: Node>(alloc: Global, node: &N, _keys: ()) -> Result<Self, FormError> {
-        let value = read_integrity(alloc, node)?;
-        Ok(IntegrityMembers { value })
+    #[tactic(auto, using(crate::proofs::KeyedLemmas::length_numbers))]
+    fn read<N: Node>(alloc: Global, node: &N, _keys: ()) -> Result<Integrity, FormError> {
+        let number: Plain<2> = ReadMembers::read(alloc, node, "q_length")?;
+        if number.number() == 1 {
+            return Ok(Integrity::Q1(ReadMembers::read(alloc, node, "l_trainint")?));
+        }
+        if number.number() == 2 {
+            return Ok(Integrity::Q2(ReadMembers::read(alloc, node, "l_trainint")?));
+        }
+        check_absent(alloc, node, "l_trainint")?;
+        if number.number() == 0 {
+            return Ok(Integrity::Q0);
+        }
+        Ok(Integrity::Q3)
     }
 }
 
@@ -93,10 +70,6 @@ impl Form for Train3 {
     ghost use Rattle.etcs_json.specs.Report.{side};
 
     ghost shape = { side };
-
-    ghost builds = { ⊥ };
-
-    ghost asks = { λ _. ⊥ };
 
     fn to_form(&self, _alloc: Global) -> Result<Value, Memory> {
         Ok(Value::from(u64::from(self.number())))

@@ -1,7 +1,6 @@
 //! The form of a level, with the national system of level NTC.
 
 ghost use Rattle.std.specs.Prelude.{◌≡◌};
-ghost use Rattle.etcs_json.specs.Fault.{Gives};
 ghost use Rattle.etcs_bits.specs.variables.Level.{m_level};
 ghost use Rattle.etcs_json.specs.KeyedVariables.{number_in};
 ghost use Rattle.etcs_json.specs.Transition.{level};
@@ -9,10 +8,9 @@ ghost use Rattle.etcs_json.specs.Transition.{level};
 use crate::error::FormError;
 use crate::members::ReadMembers;
 use crate::node::Node;
-use crate::node::reading::{check_absent, read_key};
+use crate::node::reading::check_absent;
 use etcs_bits::{Level, Plain, Ranged};
 use std::alloc::Global;
-use std::marker::Model;
 
 /// The national system of level NTC: NID_NTC, 8 bits.
 #[tactic(auto, unfolding(etcs_bits::specs::layout::Rows::alone))]
@@ -25,51 +23,25 @@ pub(crate) fn national_system_of(level: Level) -> Option<Plain<8>>
     }
 }
 
-/// Reads the members of a level. `name` is the key of its number. NID_NTC has to be there at level
-/// NTC, and nowhere else.
-#[tactic(auto, using(crate::proofs::KeyedLemmas::level_numbers))]
-pub(crate) fn read_level<N: Node>(
-    alloc: Global,
-    node: &N,
-    name: &'static str,
-) -> Result<Level, FormError>
-    ensures { Gives (λ v. v) result ((level name.now).of (N.shows node.now)) }
-{
-    let number: Ranged<3, 4, 8> = read_key(alloc, node, name)?;
-    if number.number() == 1 {
-        let ntc: Plain<8> = read_key(alloc, node, "nid_ntc")?;
-        return Ok(Level::Ntc(ntc.number() as u8));
-    }
-    check_absent(alloc, node, "nid_ntc")?;
-    match number.number() {
-        0 => Ok(Level::L0),
-        2 => Ok(Level::L1),
-        3 => Ok(Level::L2),
-        _ => Ok(Level::L3),
-    }
-}
-
-/// A level, of the members at the key of its number and at that of NID_NTC.
-#[derive(Drop)]
-pub(crate) struct LevelMembers {
-    pub(crate) value: Level,
-}
-
-impl Model for LevelMembers {
-    ghost use Rattle.etcs_bits.specs.declared.variables.level.Level.{Level};
-
-    ghost Value = { Level };
-
-    ghost view = { λ m. m.value };
-}
-
-impl ReadMembers for LevelMembers {
+// The key is that of the level's number. NID_NTC has to be there at level NTC, and nowhere else.
+impl ReadMembers for Level {
     type Keys = &'static str;
 
-    ghost reads = { λ key. (level key.now).of };
+    ghost reads = { λ name. (level name.now).of };
 
-    fn read<N: Node>(alloc: Global, node: &N, key: &'static str) -> Result<Self, FormError> {
-        let value = read_level(alloc, node, key)?;
-        Ok(LevelMembers { value })
+    #[tactic(auto, using(crate::proofs::KeyedLemmas::level_numbers))]
+    fn read<N: Node>(alloc: Global, node: &N, name: &'static str) -> Result<Level, FormError> {
+        let number: Ranged<3, 4, 8> = ReadMembers::read(alloc, node, name)?;
+        if number.number() == 1 {
+            let ntc: Plain<8> = ReadMembers::read(alloc, node, "nid_ntc")?;
+            return Ok(Level::Ntc(ntc.number() as u8));
+        }
+        check_absent(alloc, node, "nid_ntc")?;
+        match number.number() {
+            0 => Ok(Level::L0),
+            2 => Ok(Level::L1),
+            3 => Ok(Level::L2),
+            _ => Ok(Level::L3),
+        }
     }
 }

@@ -6,7 +6,7 @@ ghost use Rattle.etcs_json.specs.Profiles.{link, linking};
 ghost use Rattle.etcs_json.specs.Shape.{whole};
 
 use crate::error::FormError;
-use crate::members::{Member, Optional, OptionalMember, Required, read_record, send_members};
+use crate::members::{Member, OptionalMember, read_record, send_members};
 use crate::node::Node;
 use crate::node::reading::read_fixed;
 use crate::packets::profile_form::{read_profile, send_profile};
@@ -50,12 +50,12 @@ impl Members for Link {
 
     fn of_members<N: Node>(alloc: Global, node: &N) -> Result<Self, FormError> {
         read_record!(Link, alloc, node;
-            Required distance "d_link",
-            Optional country "nid_c",
-            Required group "nid_bg",
-            Required nominal "q_linkorientation",
-            Required reaction "q_linkreaction",
-            Required accuracy "q_locacc",
+            distance "d_link",
+            country "nid_c",
+            group "nid_bg",
+            nominal "q_linkorientation",
+            reaction "q_linkreaction",
+            accuracy "q_locacc",
         )
     }
 }

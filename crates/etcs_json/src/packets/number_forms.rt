@@ -33,10 +33,6 @@ pub(crate) use read_number;
 impl<const W: u32> Form for Plain<W> {
     ghost shape = { variable (plain W) };
 
-    ghost builds = { ⊥ };
-
-    ghost asks = { λ _. ⊥ };
-
     fn to_form(&self, _alloc: Global) -> Result<Value, Memory> {
         Ok(Value::from(u64::from(self.number())))
     }
@@ -61,10 +57,6 @@ impl<const W: u32> InPieces for Plain<W> {
 impl<const W: u32, const LAST: u32, const FROM: u32> Form for Ranged<W, LAST, FROM> {
     ghost shape = { variable (ranged W LAST FROM) };
 
-    ghost builds = { ⊥ };
-
-    ghost asks = { λ _. ⊥ };
-
     fn to_form(&self, _alloc: Global) -> Result<Value, Memory> {
         Ok(Value::from(u64::from(self.number())))
     }
@@ -88,10 +80,6 @@ impl<const W: u32, const LAST: u32, const FROM: u32> InPieces for Ranged<W, LAST
 
 impl Form for bool {
     ghost shape = { flag };
-
-    ghost builds = { ⊥ };
-
-    ghost asks = { λ _. ⊥ };
 
     fn to_form(&self, _alloc: Global) -> Result<Value, Memory> {
         Ok(Value::from(if *self { 1u64 } else { 0u64 }))
@@ -122,10 +110,6 @@ impl InPieces for bool {
 impl Form for Dir {
     ghost shape = { direction };
 
-    ghost builds = { ⊥ };
-
-    ghost asks = { λ _. ⊥ };
-
     fn to_form(&self, _alloc: Global) -> Result<Value, Memory> {
         Ok(Value::from(u64::from(self.number())))
     }
@@ -149,10 +133,6 @@ impl InPieces for Dir {
 
 impl Form for Scale {
     ghost shape = { scale };
-
-    ghost builds = { ⊥ };
-
-    ghost asks = { λ _. ⊥ };
 
     fn to_form(&self, _alloc: Global) -> Result<Value, Memory> {
         Ok(Value::from(u64::from(self.number())))
@@ -178,10 +158,6 @@ impl InPieces for Scale {
 impl Form for Dup {
     ghost shape = { duplicate };
 
-    ghost builds = { ⊥ };
-
-    ghost asks = { λ _. ⊥ };
-
     fn to_form(&self, _alloc: Global) -> Result<Value, Memory> {
         Ok(Value::from(u64::from(self.number())))
     }
@@ -205,10 +181,6 @@ impl InPieces for Dup {
 
 impl Form for Version {
     ghost shape = { version };
-
-    ghost builds = { ⊥ };
-
-    ghost asks = { λ _. ⊥ };
 
     fn to_form(&self, _alloc: Global) -> Result<Value, Memory> {
         Ok(Value::from(u64::from(self.number())))

@@ -12,7 +12,7 @@ ghost use Rattle.etcs_json.specs.Variables.{direction, scale};
 use crate::error::FormError;
 use crate::form::{Form, InPieces};
 use crate::members::{
-    Member, NonEmpty, NonEmptyMember, NumberMember, ReadMembers, Required, pairs, send_members,
+    Member, NonEmpty, NonEmptyMember, NumberMember, ReadMembers, pairs, send_members,
 };
 use crate::node::Node;
 use crate::writing::Sink;
@@ -71,6 +71,6 @@ pub(crate) fn read_profile<const K: u32, T: Form + Layout, N: Node>(
     ensures { Gives (λ p. p) result (profile_of name.now T.format T.shape.of (N.shows node.now)) }
 {
     let found = ReadMembers::read(alloc, node, pairs!("q_dir", "q_scale", name))?;
-    let (Required { value: dir }, (Required { value: scale }, NonEmpty { first, further })) = found;
+    let (dir, (scale, NonEmpty { first, further })) = found;
     packet_of(alloc, dir, scale, first, further)
 }

@@ -1,53 +1,39 @@
 //! The form of position reports, train packets 0 and 1.
 
-ghost use Rattle.std.specs.Prelude.{◌≡◌, OnOk, option_map};
+ghost use Rattle.std.specs.Prelude.{◌≡◌, OnOk};
 ghost use Rattle.etcs_radio.specs.Report.{report_of, report_with as what_is_with};
 ghost use Rattle.etcs_json.specs.Chosen.{with_number};
 ghost use Rattle.etcs_json.specs.Fault.{Gives};
 ghost use Rattle.etcs_json.specs.Reading.{as_kind, object_with};
 ghost use Rattle.etcs_json.specs.Report.{either_report, identity, situation, with_one, with_two};
-ghost use Rattle.etcs_json.specs.ReportSending.{first_members, last_members, middle_members, sent_members};
+ghost use Rattle.etcs_json.specs.ReportSending.{first_members, last_members, sent_members};
 
 use crate::error::FormError;
 use crate::form::{Form, InPieces};
 use crate::members::{
-    Member, NumberMember, OptionalMember, ReadMembers, Required, make_record, pairs, send_members,
+    Member, NumberMember, OptionalMember, ReadMembers, make_record, pairs, read_record,
+    send_members,
 };
 use crate::node::Node;
-use crate::node::known_keys::check_keys;
-use crate::node::reading::{read_first, read_fixed, read_key};
-use crate::packets::integrity_form::{IntegrityMembers, confirmed_length, length_number};
-use crate::packets::level_form::{LevelMembers, national_system_of};
+use crate::node::keys::check_keys;
+use crate::node::reading::{read_first, read_fixed};
+use crate::packets::integrity_form::{confirmed_length, length_number};
+use crate::packets::level_form::national_system_of;
 use crate::record::prove_allowed;
 use crate::writing::Sink;
 use crate::writing::building::NewObject;
 use crate::writing::marks::Marks;
-use etcs_bits::{Country, Distance, GroupNumber, Identity, Memory, Plain, Scale};
-use etcs_radio::{Report, Train3};
+use etcs_bits::{Distance, Identity, Level, Memory, Plain, Scale};
+use etcs_radio::{Integrity, Report, Train3};
 use json::Token;
 use serde_json::Value;
 use std::alloc::Global;
 
 // Whether a train is whole, how it runs, and in which mode and level.
-type State = (
-    IntegrityMembers,
-    (
-        Required<Plain<7>>,
-        (Required<Train3>, (Required<Plain<4>>, LevelMembers)),
-    ),
-);
+type State = (Integrity, (Plain<7>, (Train3, (Plain<4>, Level))));
 
 // Where a train is, as seen from the group that its position report refers to, and its state.
-type Situation = (
-    Required<Distance>,
-    (
-        Required<Train3>,
-        (
-            Required<Train3>,
-            (Required<Distance>, (Required<Distance>, State)),
-        ),
-    ),
-);
+type Situation = (Distance, (Train3, (Train3, (Distance, (Distance, State)))));
 
 // What follows the number in packet 0, and in packet 1.
 type WithOne = (Scale, (Identity, Situation));
@@ -56,18 +42,43 @@ type WithTwo = (Scale, (Identity, (Identity, Situation)));
 
 // ---- reading
 
-/// Reads the identity of a group, whose country and number stand at these keys.
-pub(crate) fn read_identity<N: Node>(
-    alloc: Global,
-    node: &N,
-    country: &'static str,
-    group: &'static str,
-) -> Result<Identity, FormError>
-    ensures { Gives (λ i. i) result ((identity country.now group.now).of (N.shows node.now)) }
+// The keys are those of the country and of the number.
+impl ReadMembers for Identity {
+    type Keys = (&'static str, &'static str);
+
+    ghost reads = { λ keys. (identity keys.0.now keys.1.now).of };
+
+    fn read<N: Node>(
+        alloc: Global,
+        node: &N,
+        keys: (&'static str, &'static str),
+    ) -> Result<Identity, FormError> {
+        read_record!(Identity, alloc, node; country keys.0, group keys.1)
+    }
+}
+
+// The keys of a packet in byte order, of which packet 0 lacks those of the group before.
+macro_rules! keys_with {
+    ($($previous:literal),*) => {
+        &[
+            "d_lrbg", "l_doubtover", "l_doubtunder", "l_trainint", "m_level", "m_mode", "nid_bg", "nid_c", "nid_ntc",
+            "nid_packet", $($previous,)* "q_dirlrbg", "q_dirtrain", "q_dlrbg", "q_length", "q_scale", "v_train",
+        ]
+    };
+}
+
+// Refuses what is no object, and an object with a key that packet 0 does not have.
+fn check_keys_with_one<N: Node>(alloc: Global, node: &N) -> Result<(), FormError>
+    ensures { Gives (λ u. u) result (object_with (with_number with_one).part.keys (N.shows node.now)) }
 {
-    let country: Country = read_key(alloc, node, country)?;
-    let group: GroupNumber = read_key(alloc, node, group)?;
-    Ok(Identity { country, group })
+    check_keys(alloc, node, keys_with!())
+}
+
+// Refuses what is no object, and an object with a key that packet 1 does not have.
+fn check_keys_with_two<N: Node>(alloc: Global, node: &N) -> Result<(), FormError>
+    ensures { Gives (λ u. u) result (object_with (with_number with_two).part.keys (N.shows node.now)) }
+{
+    check_keys(alloc, node, keys_with!("prv_nid_bg", "prv_nid_c"))
 }
 
 // Reads the members behind the groups.
@@ -76,15 +87,12 @@ fn read_situation<N: Node>(alloc: Global, node: &N) -> Result<Situation, FormErr
     ensures { Gives (λ s. s) result (situation.of (N.shows node.now)) }
 {
     let state = pairs!((), "v_train", "q_dirtrain", "m_mode", "m_level");
-    let keys = pairs!(
-        "d_lrbg",
-        "q_dirlrbg",
-        "q_dlrbg",
-        "l_doubtover",
-        "l_doubtunder",
-        state
-    );
-    ReadMembers::read(alloc, node, keys)
+    let doubts = pairs!("l_doubtover", "l_doubtunder", state);
+    let keys = pairs!("d_lrbg", "q_dirlrbg", "q_dlrbg", doubts);
+    let (distance, (orientation, (side, (over, (under, state))))) = ReadMembers::read(
+        alloc, node, keys,
+    )?;
+    Ok((distance, (orientation, (side, (over, (under, state))))))
 }
 
 // The position report of these parts.
@@ -96,76 +104,8 @@ fn report_with(
 ) -> Report
     ensures { result ≡ what_is_with previous scale lrbg situation }
 {
-    make_record!(Report, situation; [scale lrbg previous]
-        Required distance,
-        Required orientation,
-        Required side,
-        Required doubt_over,
-        Required doubt_under,
-        IntegrityMembers length,
-        Required speed,
-        Required running,
-        Required mode,
-        LevelMembers level,
-    )
-}
-
-// Refuses what is no object, and an object with a key that packet 0 does not have.
-fn check_keys_with_one<N: Node>(alloc: Global, node: &N) -> Result<(), FormError>
-    ensures { Gives (λ u. u) result (object_with (with_number with_one).part.keys (N.shows node.now)) }
-{
-    check_keys(
-        alloc,
-        node,
-        &[
-            "d_lrbg",
-            "l_doubtover",
-            "l_doubtunder",
-            "l_trainint",
-            "m_level",
-            "m_mode",
-            "nid_bg",
-            "nid_c",
-            "nid_ntc",
-            "nid_packet",
-            "q_dirlrbg",
-            "q_dirtrain",
-            "q_dlrbg",
-            "q_length",
-            "q_scale",
-            "v_train",
-        ],
-    )
-}
-
-// Refuses what is no object, and an object with a key that packet 1 does not have.
-fn check_keys_with_two<N: Node>(alloc: Global, node: &N) -> Result<(), FormError>
-    ensures { Gives (λ u. u) result (object_with (with_number with_two).part.keys (N.shows node.now)) }
-{
-    check_keys(
-        alloc,
-        node,
-        &[
-            "d_lrbg",
-            "l_doubtover",
-            "l_doubtunder",
-            "l_trainint",
-            "m_level",
-            "m_mode",
-            "nid_bg",
-            "nid_c",
-            "nid_ntc",
-            "nid_packet",
-            "prv_nid_bg",
-            "prv_nid_c",
-            "q_dirlrbg",
-            "q_dirtrain",
-            "q_dlrbg",
-            "q_length",
-            "q_scale",
-            "v_train",
-        ],
-    )
+    make_record!(Report, situation; [scale, lrbg, previous,] distance, orientation, side, doubt_over, doubt_under,
+        length, speed, running, mode, level)
 }
 
 // Reads the members of packet 0.
@@ -174,8 +114,8 @@ fn read_with_one<N: Node>(alloc: Global, node: &N) -> Result<WithOne, FormError>
     ensures { Gives (λ p. p) result ((with_number with_one).part.of (N.shows node.now)) }
 {
     read_fixed(alloc, node, "nid_packet", 0)?;
-    let scale = read_key(alloc, node, "q_scale")?;
-    let lrbg = read_identity(alloc, node, "nid_c", "nid_bg")?;
+    let scale = ReadMembers::read(alloc, node, "q_scale")?;
+    let lrbg = ReadMembers::read(alloc, node, ("nid_c", "nid_bg"))?;
     let situation = read_situation(alloc, node)?;
     Ok((scale, (lrbg, situation)))
 }
@@ -186,9 +126,9 @@ fn read_with_two<N: Node>(alloc: Global, node: &N) -> Result<WithTwo, FormError>
     ensures { Gives (λ p. p) result ((with_number with_two).part.of (N.shows node.now)) }
 {
     read_fixed(alloc, node, "nid_packet", 1)?;
-    let scale = read_key(alloc, node, "q_scale")?;
-    let lrbg = read_identity(alloc, node, "nid_c", "nid_bg")?;
-    let previous = read_identity(alloc, node, "prv_nid_c", "prv_nid_bg")?;
+    let scale = ReadMembers::read(alloc, node, "q_scale")?;
+    let lrbg = ReadMembers::read(alloc, node, ("nid_c", "nid_bg"))?;
+    let previous = ReadMembers::read(alloc, node, ("prv_nid_c", "prv_nid_bg"))?;
     let situation = read_situation(alloc, node)?;
     Ok((scale, (lrbg, (previous, situation))))
 }
@@ -211,11 +151,7 @@ pub(crate) fn read_two<N: Node>(alloc: Global, node: &N) -> Result<Report, FormE
     Ok(report_with(Some(previous), scale, lrbg, situation))
 }
 
-// ---- sending
-// The text of an object has its members in the byte order of their keys. So the members of a position report
-// are sent in three runs.
-
-// Sends the members of the first run: distances and lengths, the level's number and the mode.
+// Sends the members up to NID_PACKET, in the byte order of their keys.
 #[tactic(auto, unfolding(crate::specs::ReportSending::first_members))]
 fn send_first<S: Sink>(out: &mut S, report: &Report) -> Result<(), Memory>
     ensures { OnOk result (S.takes (first_members report.now) out.old out.new) }
@@ -227,44 +163,21 @@ fn send_first<S: Sink>(out: &mut S, report: &Report) -> Result<(), Memory>
         OptionalMember("l_trainint", &confirmed_length(report.length)),
         NumberMember("m_level", u64::from(report.level.number())),
         Member("m_mode", &report.mode),
-    )
-}
-
-// The number of the group before.
-fn previous_group(report: &Report) -> Option<GroupNumber>
-    ensures { result ≡ option_map (λ i. i.group) report.now.previous }
-{
-    report.previous.map(|previous| previous.group)
-}
-
-// The country of the group before.
-fn previous_country(report: &Report) -> Option<Country>
-    ensures { result ≡ option_map (λ i. i.country) report.now.previous }
-{
-    report.previous.map(|previous| previous.country)
-}
-
-// Sends the members of the second run: the groups, the national system, and the packet's number.
-#[tactic(auto, unfolding(crate::specs::ReportSending::middle_members))]
-fn send_middle<S: Sink>(out: &mut S, report: &Report) -> Result<(), Memory>
-    ensures { OnOk result (S.takes (middle_members report.now) out.old out.new) }
-{
-    send_members!(out;
         Member("nid_bg", &report.lrbg.group),
         Member("nid_c", &report.lrbg.country),
         OptionalMember("nid_ntc", &national_system_of(report.level)),
         NumberMember("nid_packet", u64::from(report.number())),
-        OptionalMember("prv_nid_bg", &previous_group(report)),
-        OptionalMember("prv_nid_c", &previous_country(report)),
     )
 }
 
-// Sends the members of the third run: the qualifiers, and the speed.
+// Sends the members after NID_PACKET.
 #[tactic(auto, unfolding(crate::specs::ReportSending::last_members))]
 fn send_last<S: Sink>(out: &mut S, report: &Report) -> Result<(), Memory>
     ensures { OnOk result (S.takes (last_members report.now) out.old out.new) }
 {
     send_members!(out;
+        OptionalMember("prv_nid_bg", &report.previous.map(|previous| previous.group)),
+        OptionalMember("prv_nid_c", &report.previous.map(|previous| previous.country)),
         Member("q_dirlrbg", &report.orientation),
         Member("q_dirtrain", &report.running),
         Member("q_dlrbg", &report.side),
@@ -279,7 +192,6 @@ fn send_report<S: Sink>(out: &mut S, report: &Report) -> Result<(), Memory>
     ensures { OnOk result (S.takes (sent_members report.now) out.old out.new) }
 {
     send_first(out, report)?;
-    send_middle(out, report)?;
     send_last(out, report)
 }
 
@@ -290,6 +202,8 @@ impl Form for Report {
     ghost use Rattle.etcs_json.specs.Report.{report};
 
     ghost shape = { report };
+
+    ghost builds = { Unit {0} };
 
     ghost asks = { λ d. IsOk (any_object d) };
 

@@ -6,7 +6,7 @@ ghost use Rattle.etcs_json.specs.Profiles.{difference, speed_element, speed_prof
 ghost use Rattle.etcs_json.specs.Shape.{whole};
 
 use crate::error::FormError;
-use crate::members::{ListMember, Member, Repeated, Required, read_record, send_members};
+use crate::members::{ListMember, Member, read_record, send_members};
 use crate::node::Node;
 use crate::node::reading::read_fixed;
 use crate::packets::profile_form::{read_profile, send_profile};
@@ -40,9 +40,9 @@ impl Members for Difference {
 
     fn of_members<N: Node>(alloc: Global, node: &N) -> Result<Self, FormError> {
         read_record!(Difference, alloc, node;
-            Required kind "q_diff",
-            Required category "nc",
-            Required speed "v_diff",
+            kind "q_diff",
+            category "nc",
+            speed "v_diff",
         )
     }
 }
@@ -79,10 +79,10 @@ impl Members for SpeedElement {
 
     fn of_members<N: Node>(alloc: Global, node: &N) -> Result<Self, FormError> {
         read_record!(SpeedElement, alloc, node;
-            Required distance "d_static",
-            Required speed "v_static",
-            Required front "q_front",
-            Repeated differences "differences",
+            distance "d_static",
+            speed "v_static",
+            front "q_front",
+            differences "differences",
         )
     }
 }

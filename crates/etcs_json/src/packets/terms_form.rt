@@ -3,14 +3,13 @@
 ghost use Rattle.std.specs.Prelude.{◌≡◌};
 ghost use Rattle.etcs_profile.specs.Authority.{authority_value};
 ghost use Rattle.etcs_json.specs.Authority.{section, terms};
-ghost use Rattle.etcs_json.specs.Fault.{Gives};
-ghost use Rattle.etcs_json.specs.Reading.{at_key, list_of};
+ghost use Rattle.etcs_json.specs.Reading.{list_of};
 ghost use Rattle.etcs_json.specs.Shape.{object};
 
 use crate::error::FormError;
-use crate::members::{Optional, ReadMembers, Required, read_record};
+use crate::members::{FromNode, ReadMembers, make_record, pairs};
 use crate::node::Node;
-use crate::node::reading::read_list_at;
+use crate::node::reading::read_list;
 use etcs_bits::{Dir, Distance, Scale, Speed, Time};
 use etcs_profile::{Authority, DangerPoint, EndTimer, Overlap, Section, SectionTimer};
 use std::alloc::Global;
@@ -33,13 +32,11 @@ impl Model for Sections {
     ghost invariant = { λ s. length s.value.items < 32 };
 }
 
-impl ReadMembers for Sections {
-    type Keys = &'static str;
+impl FromNode for Sections {
+    ghost reads = { list_of (object section).of 0 31 };
 
-    ghost reads = { λ key. at_key (list_of (object section).of 0 31) key.now };
-
-    fn read<N: Node>(alloc: Global, node: &N, key: &'static str) -> Result<Self, FormError> {
-        let value = read_list_at(alloc, node, key, 0, 31)?;
+    fn from_node<N: Node>(alloc: Global, node: &N) -> Result<Sections, FormError> {
+        let value = read_list(alloc, node, 0, 31)?;
         Ok(Sections { value })
     }
 }
@@ -69,21 +66,22 @@ impl Model for Terms {
     ghost invariant = { λ t. length t.sections.items < 32 };
 }
 
-/// Reads the conditions.
-#[tactic(auto, unfolding(crate::specs::Authority::terms, crate::specs::Authority::end_parts))]
-pub(crate) fn read_terms<N: Node>(alloc: Global, node: &N) -> Result<Terms, FormError>
-    ensures { Gives (λ t. t) result (terms.of (N.shows node.now)) }
-{
-    read_record!(Terms, alloc, node;
-        Required end_speed "end_speed",
-        Required end_timeout "end_timeout",
-        Sections sections "sections",
-        Required l_endsection "l_endsection",
-        Optional section_timer "section_timer",
-        Optional end_timer "end_timer",
-        Optional danger_point "danger_point",
-        Optional overlap "overlap",
-    )
+impl ReadMembers for Terms {
+    type Keys = ();
+
+    ghost reads = { λ _. terms.of };
+
+    #[tactic(auto, unfolding(crate::specs::Authority::terms, crate::specs::Authority::end_parts))]
+    fn read<N: Node>(alloc: Global, node: &N, _keys: ()) -> Result<Terms, FormError> {
+        let keys = pairs!("section_timer", "end_timer", "danger_point", "overlap");
+        let keys = pairs!("end_speed", "end_timeout", "sections", "l_endsection", keys);
+        let found = ReadMembers::read(alloc, node, keys)?;
+        let (end_speed, (end_timeout, (Sections { value: sections }, rest))) = found;
+        Ok(
+            make_record!(Terms, rest; [end_speed, end_timeout, sections,]
+            l_endsection, section_timer, end_timer, danger_point, overlap),
+        )
+    }
 }
 
 /// The movement authority with these conditions: packet 12 if there is a `main` speed, else packet

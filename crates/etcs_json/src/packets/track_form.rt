@@ -46,6 +46,8 @@ impl Form for TrackPacket {
 
     ghost shape = { track_packet };
 
+    ghost builds = { Unit {0} };
+
     ghost asks = { λ d. IsOk (any_object d) };
 
     fn to_form(&self, alloc: Global) -> Result<Value, Memory> {

@@ -34,6 +34,8 @@ impl Form for TrainPacket {
 
     ghost shape = { train_packet };
 
+    ghost builds = { Unit {0} };
+
     ghost asks = { λ d. IsOk (any_object d) };
 
     fn to_form(&self, alloc: Global) -> Result<Value, Memory> {

@@ -7,12 +7,12 @@ ghost use Rattle.etcs_json.specs.Transition.{level_order, transition};
 
 use crate::error::FormError;
 use crate::members::{
-    Member, NonEmpty, NonEmptyMember, NumberMember, OptionalMember, ReadMembers, Required, pairs,
+    Member, NonEmpty, NonEmptyMember, NumberMember, OptionalMember, ReadMembers, pairs,
     read_record, send_members,
 };
 use crate::node::Node;
 use crate::node::reading::read_fixed;
-use crate::packets::level_form::{LevelMembers, national_system_of};
+use crate::packets::level_form::national_system_of;
 use crate::record::{LayoutRecord, Members, Record};
 use crate::writing::Sink;
 use etcs_bits::Memory;
@@ -46,8 +46,8 @@ impl Members for LevelOrder {
 
     fn of_members<N: Node>(alloc: Global, node: &N) -> Result<Self, FormError> {
         read_record!(LevelOrder, alloc, node;
-            LevelMembers level "m_leveltr",
-            Required acknowledge "l_ackleveltr",
+            level "m_leveltr",
+            acknowledge "l_ackleveltr",
         )
     }
 }
@@ -80,8 +80,7 @@ impl Members for Transition {
         read_fixed(alloc, node, "nid_packet", 41)?;
         let keys = pairs!("q_dir", "q_scale", "d_leveltr", "transitions");
         let found = ReadMembers::read(alloc, node, keys)?;
-        let (Required { value: dir }, (Required { value: scale }, rest)) = found;
-        let (Required { value: d_leveltr }, NonEmpty { first, further }) = rest;
+        let (dir, (scale, (d_leveltr, NonEmpty { first, further }))) = found;
         match Transition::new(dir, scale, d_leveltr, first, further) {
             Ok(packet) => Ok(packet),
             Err(_) => Err(FormError::range(alloc)),

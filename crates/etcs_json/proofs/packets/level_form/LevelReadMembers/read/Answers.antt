@@ -1,7 +1,7 @@
 use Rattle.std.proofs.Common.{refl}
 use Rattle.etcs_json.proofs.KeyedLemmas.{level_ends, level_numbers}
 use Rattle.etcs_json.proofs.Objects.{fails_up}
-use Rattle.etcs_json.proofs.packets.level_form.read_level.Goals as goal
+use Rattle.etcs_json.proofs.packets.level_form.LevelReadMembers.read.Goals as goal
 
 -- no national system follows the number
 pub returns-in_err-check_absent : goal.returns-in_err-check_absent

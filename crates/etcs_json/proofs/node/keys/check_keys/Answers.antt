@@ -1,6 +1,6 @@
 use Rattle.std.proofs.Common.{map, true, false}
 use Rattle.etcs_json.proofs.Objects.{fails_as, keys_known, keys_none}
-use Rattle.etcs_json.proofs.node.known_keys.check_keys.Goals as goal
+use Rattle.etcs_json.proofs.node.keys.check_keys.Goals as goal
 
 pub returns-in-None-clause-keys : goal.returns-in-None-clause-keys
 returns-in-None-clause-keys g c = fails_as _ _ _ c.kind.ensures.fault (keys_none _ _ c.in-None.ensures)

@@ -1,5 +1,0 @@
-use Rattle.etcs_json.proofs.Objects.{member_missing}
-use Rattle.etcs_json.proofs.node.packets_form.read_all_at.Goals as goal
-
-pub returns-in_err-found : goal.returns-in_err-found
-returns-in_err-found g c = member_missing (λ v. v.items) _ _ _ _ _ c.from_residual.ensures.1 c.in_err-found.ensures
