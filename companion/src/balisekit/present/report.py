@@ -1,7 +1,7 @@
 """What the body of a report is made of: what each family of rules finds, and a block for each group and message."""
 from __future__ import annotations
 
-import re
+from collections import defaultdict
 from typing import Dict, Iterable, Iterator, List, Mapping, NamedTuple, Optional, Sequence, Set, Tuple
 
 from balisekit.drawing.group import LinkMark, picture_of, picture_of_message
@@ -15,7 +15,7 @@ from balisekit.present import headings
 from balisekit.present.accepted_text import accepted_words
 from balisekit.present.outcome_text import behind
 from balisekit.present.refusals import RefusedInput, refused
-from balisekit.present.telegram_text import LABEL_WIDTH, parts
+from balisekit.present.telegram_parts import Said, Text, packet_id, texts
 from balisekit.rules.accepted import Acceptance
 from balisekit.rules.checking import AcceptedMessage, Checked
 from balisekit.rules.entries import Entry, track_of
@@ -25,18 +25,8 @@ from balisekit.rules.location import BaliseGroup
 from balisekit.tables.model import Group
 from balisekit.tables.names import clean, describe_balise, describe_group, describe_message, describe_rows, rows_words
 
-LABELS = re.compile(f"^(.{{{LABEL_WIDTH - 1}}}) ", re.M)
-"""The labels in front of a telegram's values, and the blanks behind them."""
 LINKED = 8
 """So many rows of an entry have a link."""
-
-
-class Text(NamedTuple):
-    """A part of a telegram in words."""
-
-    text: str
-    id: str = ""
-    """If it is a packet that an entry is about: its place in the page."""
 
 
 class Telegram(NamedTuple):
@@ -187,11 +177,6 @@ def packets_of(entry: Entry) -> List[Tuple[str, int]]:
     return list(dict.fromkeys((id, packet) for id, packet in found if id))
 
 
-def packet_id(telegram: str, packet: int) -> str:
-    """The place of a packet in the page."""
-    return f"{telegram}p{packet}"
-
-
 def blocks(checked: Checked, line: Line, found: Iterable[Listed]) -> Iterator[Block]:
     """A block for each group, in the table's order, and for each message."""
     by_block: Dict[str, List[Listed]] = {}
@@ -267,7 +252,7 @@ def _message(item: AcceptedMessage, entries: Sequence[Listed], identities: Ident
     group, here = identities.group_of(form), identities.here(form)
     where = f"its places count from {describe_group(group)}" if group else ""
     picture = picture_of_message(heading, form, _findings(entries), here.kilometres)
-    telegram = Telegram("", "in words", clean(item.message.text), _texts(form, here, id, _marked(entries)))
+    telegram = Telegram("", "in words", clean(item.message.text), texts(form, here, id, _marked(entries)))
     packets = sorted({packet["nid_packet"] for packet in form["packets"]})
     return Block(id, heading, "", "", "", where, "", "", (), picture, entries, [telegram], packets)
 
@@ -281,6 +266,7 @@ def _telegrams(
 ) -> Iterator[Telegram]:
     """Each row once, in the order of the table."""
     rows = {row.number: row for row in group.rows()}
+    said: Dict[int, Said] = defaultdict(Said)
     for number, here in places.items():
         row, id = rows[number], f"r{number}"
         n_pig = forms[number]["n_pig"] if number in forms else None
@@ -288,27 +274,7 @@ def _telegrams(
         if id in items:
             yield Telegram(id, items[id].sentence, digits, refused=items[id].program)
         elif number in forms:
-            yield Telegram(id, heading, digits, _texts(forms[number], here, id, marked))
+            words = texts(forms[number], here, id, marked, number, said[group.places[number]])
+            yield Telegram(id, heading, digits, words)
         else:
             yield Telegram(id, f"{heading}: not looked at", digits)
-
-
-def _texts(form: Form, here: Here, id: str, marked: Set[str]) -> List[Text]:
-    """A telegram or message in words, the packets apart that are marked."""
-    if not marked:
-        return [Text("".join(parts(form, here, _tabbed)))]
-    found: List[Text] = []
-    for place, words in enumerate(parts(form, here, _tabbed), -1):  # (the head is before packet 0)
-        name = packet_id(id, place)
-        if name in marked:
-            found.append(Text(words, name))
-        elif found and not found[-1].id:
-            found[-1] = Text(found[-1].text + words)
-        else:
-            found.append(Text(words))
-    return found
-
-
-def _tabbed(words: str) -> str:
-    """Words with a tab before the values of each line, in place of a sixth of the page that would be blanks."""
-    return LABELS.sub(lambda label: label[1].rstrip() + "\t", words)

@@ -1,0 +1,135 @@
+"""What telegrams of one balise have alike stands in a report once: with its links, each telegram is that of `show`."""
+from __future__ import annotations
+
+import csv
+import re
+from pathlib import Path
+from typing import Any, Dict, List, Tuple
+
+import pytest
+from conftest import Run
+from line_table import HEADING, LINE, authority, gradients, linking, speeds, telegram
+from test_report_page import report
+
+from balisekit.engine.program import Program, Text
+
+TELEGRAM = re.compile(r"<details id=r(\d+)[^>]*>(?:(?!</details>).)*?</pre><pre>(.*?)</pre></details>", re.DOTALL)
+EVERYTHING = re.compile(r"everything as in <a href=#r(\d+)>row \1</a>\n")
+HEADER = re.compile(r"header\tas in <a href=#r(\d+)>row \1</a>(?:, but (.*))?\n")
+PACKET = re.compile(r"  packet (\d+)\t(NID_PACKET [^:\n]*): as (?:in|packet (\d+) of) <a href=#r(\d+)>row \4</a>\n")
+
+
+def texts_of(page: str) -> Dict[int, str]:
+    """The telegrams of a page in words, by their rows, with their tags."""
+    return {int(row): text for row, text in TELEGRAM.findall(page)}
+
+
+def parts_of(text: str) -> List[str]:
+    """The header and the packets of a telegram in words."""
+    return re.split(r"^(?=  packet )", text, flags=re.M)
+
+
+def followed(texts: Dict[int, str]) -> Dict[int, str]:
+    """The same telegrams, with what their links lead to in place of these. No link leads to a later row."""
+    whole: Dict[int, str] = {}
+    for row, text in texts.items():
+        same = EVERYTHING.fullmatch(text)
+        parts = [] if same else parts_of(re.sub("</?mark[^>]*>", "", text))
+        whole[row] = whole[int(same[1])] if same else "".join(part_at(part, whole) for part in parts)
+    return whole
+
+
+def part_at(part: str, whole: Dict[int, str]) -> str:
+    """A header or packet, with what its link leads to in place of this."""
+    header, packet = HEADER.fullmatch(part), PACKET.fullmatch(part)
+    if header:
+        text = parts_of(whole[int(header[1])])[0]
+        for other in (header[2] or "").split(" and ") if header[2] else ():
+            text, count = re.subn(f"(?<=[\t ]){other.split()[0]} .*?(?=  |\n)", other, text)
+            assert count == 1
+        return text
+    if packet:
+        text = parts_of(whole[int(packet[4])])[1 + int(packet[3] or packet[1])]
+        assert text.partition("\t")[2].startswith(packet[2])
+        return f"  packet {packet[1]}\t{text.partition(chr(9))[2]}"
+    assert "<a" not in part, part
+    return part
+
+
+def write(path: Path, program: Program, rows: List[Tuple[str, str, Any]]) -> Path:
+    """A table of one group: aspect, balise and telegram of each row."""
+    with open(path, "w", encoding="utf-8", newline="") as file:
+        table = csv.writer(file)
+        table.writerow(HEADING)
+        for (aspect, balise, _), text in zip(rows, program.encode([row[2] for row in rows])):
+            assert isinstance(text, Text)
+            table.writerow(["Signal A", f"A{balise}", "12.300", aspect, balise, text.line])
+    return path
+
+
+def switched(counter: int, *packets: Any, identity: int = 101) -> Any:
+    """A telegram of the switched balise."""
+    return telegram(identity, 1, 1, counter, *packets)
+
+
+@pytest.fixture
+def alike(tmp_path: Path, program: Program) -> Path:
+    """A signal with the same links and profiles in three aspects; the last one has the telegram of the second."""
+    profiles, links = (gradients(12300, 3200), speeds(12300, 3200)), linking(0)
+    green = switched(2, *links, authority(1550, 160), *profiles)
+    return write(
+        tmp_path / "alike.csv",
+        program,
+        [
+            ("*", "0", telegram(101, 0, 1, 255, *links)),
+            ("yellow", "1", switched(1, *links, authority(1550, 120), *profiles)),
+            ("green", "1", green),
+            ("slow", "1", switched(3, authority(1550, 40), *profiles, *links, identity=102)),
+            ("fast", "1", green),
+        ],
+    )
+
+
+def test_what_is_alike_is_said_once(run: Run, alike: Path) -> None:
+    """Of one balise: packets of several lines, wherever they are, the header but its counter, and whole telegrams."""
+    texts = texts_of(report(run, alike, "--only", "F"))
+    assert not any("<a" in texts[row] for row in (2, 3)), "the other balise has the same links"
+    links = [re.sub("</?a[^>]*>", "", line) for row in (4, 5, 6) for line in texts[row].split("\n") if "<a" in line]
+    assert links == [
+        "header\tas in row 3, but M_MCOUNT 2",
+        "  packet 0\tNID_PACKET linking [5]: as in row 3",
+        "  packet 2\tNID_PACKET gradient profile [21]: as in row 3",
+        "  packet 3\tNID_PACKET international static speed profile [27]: as in row 3",
+        "header\tas in row 3, but M_MCOUNT 3 and NID_BG 102",
+        "  packet 1\tNID_PACKET gradient profile [21]: as packet 2 of row 3",
+        "  packet 2\tNID_PACKET international static speed profile [27]: as packet 3 of row 3",
+        "  packet 3\tNID_PACKET linking [5]: as packet 0 of row 3",
+        "everything as in row 4",
+    ]
+
+
+@pytest.mark.parametrize("words", [("--only", "F"), ("--full",)], ids=["folded", "full"])
+def test_links_lead_to_what_show_says(words: Tuple[str, ...], run: Run, alike: Path) -> None:
+    """Each telegram with what its links lead to has the lines of `show`, and in the same order."""
+    for path, rows in ((alike, 5), (LINE, 33)):
+        copy = path if path is alike else alike.with_name("line.csv")
+        copy.write_bytes(path.read_bytes())
+        texts = texts_of(report(run, copy, *words))
+        shown = "\n".join(run("show", copy)[1]) + "\n"
+        assert len(texts) == rows and sum("<a" in text for text in texts.values()) >= 3
+        begin = 0
+        for text in followed(texts).values():
+            begin = shown.index(text.expandtabs(22), begin)
+
+
+def test_a_packet_that_an_entry_is_about_is_written_out(run: Run, tmp_path: Path, program: Program) -> None:
+    """It is marked in each telegram that has it, and the same telegram is not put in one line."""
+    short = (authority(1550, 120), gradients(12300, 1600), speeds(12300, 3200))
+    rows = [(aspect, "1", switched(place, *short)) for place, aspect in enumerate(("yellow", "green", "white"), 1)]
+    rows.insert(0, ("*", "0", telegram(101, 0, 1, 255)))
+    texts = texts_of(report(run, write(tmp_path / "short.csv", program, rows), "--only", "F", status=1))
+    for row in (3, 4, 5):
+        (marked,) = re.findall(f"<mark id=r{row}p1>(.*?)</mark>", texts[row], re.DOTALL)
+        assert "gradient profile [21]" in marked and "element 1" in marked and "<a" not in marked
+    assert [text.count("<a") for text in texts.values()] == [0, 0, 3, 3]
+    assert "  packet 2\tNID_PACKET international static speed profile [27]: as in <a href=#r3>row 3</a>\n" in texts[5]
