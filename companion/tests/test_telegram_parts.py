@@ -74,18 +74,23 @@ def switched(counter: int, *packets: Any, identity: int = 101) -> Any:
 
 @pytest.fixture
 def alike(tmp_path: Path, program: Program) -> Path:
-    """A signal with the same links and profiles in three aspects; the last one has the telegram of the second."""
+    """A signal with the same links and profiles in three aspects; two more have the telegrams of the first two.
+
+    In a last one three values of the header are others.
+    """
     profiles, links = (gradients(12300, 3200), speeds(12300, 3200)), linking(0)
-    green = switched(2, *links, authority(1550, 160), *profiles)
+    yellow, green = (switched(speed // 80, *links, authority(1550, speed), *profiles) for speed in (120, 160))
     return write(
         tmp_path / "alike.csv",
         program,
         [
             ("*", "0", telegram(101, 0, 1, 255, *links)),
-            ("yellow", "1", switched(1, *links, authority(1550, 120), *profiles)),
+            ("yellow", "1", yellow),
             ("green", "1", green),
             ("slow", "1", switched(3, authority(1550, 40), *profiles, *links, identity=102)),
             ("fast", "1", green),
+            ("late", "1", yellow),
+            ("odd", "1", {**switched(4, *links, identity=103), "m_version": 32}),
         ],
     )
 
@@ -94,7 +99,9 @@ def test_what_is_alike_is_said_once(run: Run, alike: Path) -> None:
     """Of one balise: packets of several lines, wherever they are, the header but its counter, and whole telegrams."""
     texts = texts_of(report(run, alike, "--only", "F"))
     assert not any("<a" in texts[row] for row in (2, 3)), "the other balise has the same links"
-    links = [re.sub("</?a[^>]*>", "", line) for row in (4, 5, 6) for line in texts[row].split("\n") if "<a" in line]
+    header, packet = parts_of(texts[8])
+    assert "<a" not in header and "M_MCOUNT 4  NID_C 352  NID_BG 103" in header and PACKET.fullmatch(packet)
+    links = [re.sub("</?a[^>]*>", "", line) for row in (4, 5, 6, 7) for line in texts[row].split("\n") if "<a" in line]
     assert links == [
         "header\tas in row 3, but M_MCOUNT 2",
         "  packet 0\tNID_PACKET linking [5]: as in row 3",
@@ -105,13 +112,14 @@ def test_what_is_alike_is_said_once(run: Run, alike: Path) -> None:
         "  packet 2\tNID_PACKET international static speed profile [27]: as packet 3 of row 3",
         "  packet 3\tNID_PACKET linking [5]: as packet 0 of row 3",
         "everything as in row 4",
+        "everything as in row 3",
     ]
 
 
 @pytest.mark.parametrize("words", [("--only", "F"), ("--full",)], ids=["folded", "full"])
 def test_links_lead_to_what_show_says(words: Tuple[str, ...], run: Run, alike: Path) -> None:
     """Each telegram with what its links lead to has the lines of `show`, and in the same order."""
-    for path, rows in ((alike, 5), (LINE, 33)):
+    for path, rows in ((alike, 7), (LINE, 33)):
         copy = path if path is alike else alike.with_name("line.csv")
         copy.write_bytes(path.read_bytes())
         texts = texts_of(report(run, copy, *words))

@@ -2,16 +2,14 @@
 from __future__ import annotations
 
 import re
-from typing import AbstractSet, Dict, List, NamedTuple, Optional, Sequence, Tuple
+from typing import AbstractSet, Dict, Hashable, List, NamedTuple, Optional, Sequence, Tuple
 
 from balisekit.etcs.places import Here
-from balisekit.etcs.variables import Form
-from balisekit.present.telegram_text import LABEL_WIDTH, parts
+from balisekit.etcs.variables import WORDS, Around, Form, in_order, value_texts
+from balisekit.present.telegram_text import LABEL_WIDTH, head_text, packet_text
 
 LABELS = re.compile(f"^(.{{{LABEL_WIDTH - 1}}}) ", re.M)
 """The labels in front of a telegram's values, and the blanks behind them."""
-BETWEEN = re.compile(r"\n?\t|\n|  ")
-"""What is between the values of a header."""
 OTHER = 2
 """So many values of a header may be others, if only these are said."""
 
@@ -27,45 +25,41 @@ class Text(NamedTuple):
     behind: str = ""
     """What follows the link."""
 
-    @property
-    def is_plain(self) -> bool:
-        """Whether it is nothing but words."""
-        return not (self.id or self.row)
-
 
 class Said:
-    """What the telegrams of one balise have said so far."""
+    """What the telegrams of one balise have said so far. Packets are taken for equal if they are one object."""
 
     def __init__(self) -> None:
-        self._telegrams: Dict[Sequence[str], int] = {}
-        self._header: Tuple[int, List[str]] = 0, []
-        self._packets: Dict[str, Tuple[int, int]] = {}
+        self._header: Tuple[int, Form] = 0, {}
+        self._telegrams: Dict[Hashable, int] = {}
+        self._packets: Dict[int, Tuple[int, int]] = {}
 
-    def telegram(self, row: int, words: Sequence[str]) -> Optional[Text]:
-        """A link in place of the whole telegram, if that of an earlier row says the same."""
-        first = self._telegrams.setdefault(tuple(words), row)
+    def header(self, row: int, form: Form) -> Optional[Text]:
+        """A link in place of the header, and the values that are others, if they are few."""
+        first, known = self._header
+        if not first:
+            self._header = row, form
+            return None
+        others = [key for key, value in form.items() if known.get(key) != value and key != "packets"]
+        if form.keys() != known.keys() or len(others) > OTHER or not all(key in WORDS for key in others):
+            return None
+        but = " and ".join(value_texts(in_order(others), form, Around()))
+        return Text("header\tas in ", row=first, behind=f", but {but}\n" if but else "\n")
+
+    def telegram(self, row: int, header: Optional[Text], packets: Sequence[object]) -> Optional[Text]:
+        """A link in place of the whole telegram, if that of an earlier row has this header and these packets."""
+        others = header.behind if header else "\n" if row == self._header[0] else row
+        first = self._telegrams.setdefault((others, *map(id, packets)), row)
         return Text("everything as in ", row=first, behind="\n") if first != row else None
 
-    def part(self, row: int, place: int, words: str) -> Text:
-        """A packet, or the header, which has the place -1."""
-        return self._of_header(row, words) if place < 0 else self._packet(row, place, words)
-
-    def _of_header(self, row: int, words: str) -> Text:
-        values = BETWEEN.split(words.rstrip("\n"))
-        first, known = self._header
-        others = [value for value, before in zip(values, known) if value != before]
-        if len(values) != len(known) or len(others) > OTHER:
-            self._header = (first, known) if first else (row, values)
-            return Text(words)
-        return Text(f"{values[0]}\tas in ", row=first, behind=f", but {' and '.join(others)}\n" if others else "\n")
-
-    def _packet(self, row: int, place: int, words: str) -> Text:
+    def packet(self, row: int, place: int, packet: object, words: str) -> Optional[Text]:
+        """A link in place of a packet that has several lines, if an earlier row has it."""
+        first, first_place = self._packets.setdefault(id(packet), (row, place))
+        if first == row or words.count("\n") == 1:
+            return None
         label, _, values = words.partition("\t")
-        first_row, first_place = self._packets.setdefault(values, (row, place))
-        if first_row == row or values.count("\n") == 1:  # (a link would be a line as well)
-            return Text(words)
         name, which = re.split("  |\n", values, maxsplit=1)[0], f"packet {first_place} of " * (place != first_place)
-        return Text(f"{label}\t{name}: as {which or 'in '}", row=first_row, behind="\n")
+        return Text(f"{label}\t{name}: as {which or 'in '}", row=first, behind="\n")
 
 
 def packet_id(telegram: str, packet: int) -> str:
@@ -78,21 +72,26 @@ def texts(
 ) -> List[Text]:
     """A telegram or message in words, the packets apart that are marked.
 
-    `said` has what earlier telegrams of its balise have said. What is marked is always written out.
+    `said` has what earlier telegrams of its balise have said. What is marked is always written out, and so are packets
+    whose notes are of some aspects.
     """
-    words = list(parts(form, here, _tabbed))
-    names = [packet_id(id, place) if marked else "" for place in range(-1, len(words) - 1)]  # (the head is first)
-    same = said.telegram(row, words) if said and marked.isdisjoint(names) else None
+    packets, said = form["packets"], said or Said()
+    names = [packet_id(id, place) for place in range(len(packets))] if marked else []
+    header = said.header(row, form)
+    same = said.telegram(row, header, packets) if marked.isdisjoint(names) and not here.passages else None
     if same:
         return [same]
-    found: List[Text] = []
-    for place, (one, name) in enumerate(zip(words, names), -1):
-        text = Text(one, name) if name in marked else said.part(row, place, one) if said else Text(one)
-        if found and found[-1].is_plain and text.is_plain:
-            found[-1] = Text(found[-1].text + one)
+    found, plain = ([header], []) if header else ([], [head_text(form, _tabbed)])
+    for place, packet in enumerate(packets):
+        words = packet_text(form, place, here, _tabbed)
+        apart = None if place in here.passages else said.packet(row, place, packet, words)
+        apart = Text(words, names[place]) if names and names[place] in marked else apart
+        if apart:
+            found += [Text("".join(plain)), apart] if plain else [apart]
+            plain = []
         else:
-            found.append(text)
-    return found
+            plain.append(words)
+    return [*found, Text("".join(plain))] if plain else found
 
 
 def _tabbed(words: str) -> str:

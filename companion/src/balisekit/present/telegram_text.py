@@ -7,7 +7,7 @@ from __future__ import annotations
 
 import textwrap
 from functools import lru_cache
-from typing import Callable, Dict, Iterator, List, Mapping, NamedTuple, Sequence, Tuple, Union
+from typing import Callable, Dict, List, Mapping, NamedTuple, Sequence, Tuple, Union
 
 from balisekit.etcs.geometry import Kilometres
 from balisekit.etcs.holes import Kept, Pattern
@@ -167,23 +167,26 @@ def _label(depth: int, label: str) -> str:
     return f"{text:<{LABEL_WIDTH}}" if len(text) < LABEL_WIDTH else f"{text} "
 
 
-def parts(form: Form, here: Here = Here(), finish: Callable[[str], str] = str) -> Iterator[str]:
-    """The head of a telegram or radio message in words, and each packet. Packets that are one object are made once.
+Finish = Callable[[str], str]
+"""What is made of words, and is kept: it may not change what is between the words of a line."""
 
-    What `finish` makes of the words is kept: it may not change what is between the words of a line.
-    """
-    from_track = form.get("nid_message") != 136
-    yield finish(_text(_head_lines(form)))
-    for place, packet in enumerate(form["packets"]):
-        if place in here.passages:
-            yield finish(_text(*_packet_lines(place, packet, here, from_track)))
-            continue
 
-        def make(holes: Kilometres) -> Pattern:
-            return Pattern(finish(_text(*_packet_lines(place, packet, Here(holes), from_track))))
+def head_text(form: Form, finish: Finish = str) -> str:
+    """The head of a telegram or radio message in words."""
+    return finish(_text(_head_lines(form)))
 
-        pattern, kilometres = KEPT.of((place, id(packet), from_track, finish), packet, here.kilometres, make)
-        yield pattern.filled(kilometres)
+
+def packet_text(form: Form, place: int, here: Here = Here(), finish: Finish = str) -> str:
+    """The packet in this place in words. Packets that are one object are made once."""
+    packet, from_track = form["packets"][place], form.get("nid_message") != 136
+    if place in here.passages:
+        return finish(_text(*_packet_lines(place, packet, here, from_track)))
+
+    def make(holes: Kilometres) -> Pattern:
+        return Pattern(finish(_text(*_packet_lines(place, packet, Here(holes), from_track))))
+
+    pattern, kilometres = KEPT.of((place, id(packet), from_track, finish), packet, here.kilometres, make)
+    return pattern.filled(kilometres)
 
 
 def _text(lines: Sequence[Line], notes: Mapping[str, str] = {}) -> str:
@@ -192,4 +195,5 @@ def _text(lines: Sequence[Line], notes: Mapping[str, str] = {}) -> str:
 
 def text(form: Form, here: Here = Here()) -> str:
     """A telegram, or a radio message, as text of several lines."""
-    return "".join(parts(form, here))[:-1]
+    packets = [packet_text(form, place, here) for place in range(len(form["packets"]))]
+    return "".join([head_text(form), *packets])[:-1]
