@@ -653,7 +653,8 @@ def test_pictures(program: Program, run: Run, table: Write) -> None:
         assert re.search(
             rf"temporary speed restriction 80 km/h, from [^<]*{limit}\.350 to [^<]*{limit}\.650; ", picture
         )
-        assert "change to level NTC 9, at " in picture and "level crossing" not in picture and "spare" not in picture
+        drawn = re.sub("<title>E1: [^<]*", "", picture)  # (without the flag of the remark on V_TSR 127)
+        assert "change to level NTC 9, at " in drawn and "level crossing" not in drawn and "spare" not in drawn
 
 
 def test_bits(program: Program, run: Run, table: Write) -> None:
