@@ -9,10 +9,11 @@ from bisect import bisect_left
 from dataclasses import dataclass, field
 from decimal import Decimal
 from functools import cached_property, lru_cache
-from typing import Callable, Dict, Iterator, List, Optional, Sequence, Set, Tuple
+from typing import Callable, Dict, Iterator, List, NamedTuple, Optional, Sequence, Set, Tuple
 
 from balisekit.drawing.flags import Flag
 from balisekit.drawing.profiles import gap, gap_label, places, short_profiles
+from balisekit.drawing.words import ends, summary
 from balisekit.engine.grammar import Finding
 from balisekit.etcs.geometry import DIRECTIONS, Way, end_of, has_infill, infill, kilometre_of, passed, way
 from balisekit.etcs.variables import Around, Form, value_words
@@ -54,6 +55,10 @@ class Band:
         """1 if the band runs up the kilometres, -1 if it runs down."""
         return self.station.along(self.way.direction) or 1
 
+    def describe(self, place: int) -> str:
+        """A place of its way in words."""
+        return f"km {kilometre_of(self.at + self.sign * place)}"
+
     @cached_property
     def places(self) -> Sequence[int]:
         """Where anything of it begins or ends, in order."""
@@ -79,13 +84,18 @@ class Band:
         return ", ".join(filter(None, [*parts, f"V_MAIN {' and '.join(speeds)}" if speeds else ""]))
 
     @cached_property
+    def words(self) -> str:
+        """What it says, in a sentence."""
+        parts = [f"{self.label}, {ends(self.way, self.describe)}", summary([self.way], self.describe)]
+        return "; ".join(filter(None, parts))
+
+    @cached_property
     def findings(self) -> str:
         """F10 to F13 of the group in this direction, each once."""
         return "; ".join(dict.fromkeys(gap_label(one, self.way) for one in self.found if gap(one, self.way)))
 
 
-@dataclass(frozen=True)
-class Arc:
+class Arc(NamedTuple):
     """A link, from the group that sends it to the group that it names."""
 
     begin: int
@@ -235,10 +245,11 @@ def _pages(at: Set[int], bands: Sequence[Band]) -> Sequence[Page]:
     """Empty pages for groups and flags at these places, and for bands. A band that ends at an edge is before it."""
     numbers = {place // PAGE for place in at}
     for band in bands:
-        numbers.update((place - (place == band.end > band.begin)) // PAGE for place in band.places)
-    for number in [number + 1 for number in numbers if number + 1 not in numbers and number + 2 in numbers]:
-        if any(band.begin < (number + 1) * PAGE and band.end > number * PAGE for band in bands):
-            numbers.add(number)
+        numbers.update([place // PAGE for place in band.places[:-1]])
+        numbers.add((band.end - (band.end > band.begin)) // PAGE)
+    gaps = sorted(number + 1 for number in numbers if number + 1 not in numbers and number + 2 in numbers)
+    for band in bands if gaps else ():
+        numbers.update(gaps[bisect_left(gaps, band.begin // PAGE) : bisect_left(gaps, -(-band.end // PAGE))])
     along = sorted(numbers)
     ends = [number + 1 for number in along]
     return [
