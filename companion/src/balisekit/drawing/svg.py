@@ -6,7 +6,6 @@ without a title are one path. So a browser has fewer elements.
 from __future__ import annotations
 
 from collections import defaultdict
-from functools import lru_cache
 from html import escape
 from typing import Dict, Iterable, List
 
@@ -23,10 +22,9 @@ def text(content: str) -> Markup:
     return Markup(escape(content, quote=False))
 
 
-@lru_cache(maxsize=1 << 16)
 def _escaped(text: str) -> str:
-    """A title or text as a page may have it. Most of them come again and again."""
-    return escape(text, quote=False)
+    """A title or text as a page may have it. Most of them have nothing to escape, which is seen sooner than done."""
+    return escape(text, quote=False) if "<" in text or "&" in text or ">" in text else text
 
 
 def _look(style: str, quote: str) -> str:

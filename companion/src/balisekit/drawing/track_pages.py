@@ -178,7 +178,7 @@ def chosen(form_of: FormOf, station: BaliseGroup, aspect: Optional[str]) -> Opti
 
 def _forms(form_of: FormOf, aspect: Aspect) -> List[Form]:
     """The telegrams of an aspect that the program has read."""
-    return [form for form in (form_of(row.number) for row in aspect.rows) if form is not None]
+    return [form for form in [form_of(row.number) for row in aspect.rows] if form is not None]
 
 
 def _farthest(forms: Sequence[Form]) -> int:
@@ -229,7 +229,8 @@ def pages(line: Line, links: Links, track: str, aspect: Optional[str], flags: Se
         return known[bisect_left(begins, begin // PAGE * PAGE) : bisect_left(begins, max(end, begin + 1))]
 
     for station in stations:
-        crossed(place_of(station), place_of(station))[0].stations.append(station)
+        at = place_of(station)
+        crossed(at, at)[0].stations.append(station)
     for flag in flags:
         crossed(flag.place, flag.place)[0].flags.append(flag)
     for band in bands:
@@ -270,15 +271,14 @@ def _bands(station: BaliseGroup, shown: Aspect, forms: Sequence[Form], findings:
 def _arcs(links: Links, track: str, shown: Dict[int, Optional[Aspect]]) -> Iterator[Arc]:
     """The links between groups of the track that are sent in the chosen aspects."""
     wrong = {remark.location.order: remark for remark in links.remarks if remark.rule == "L2"}
-    for chain in links.line.chains:
-        sender, row, distance = chain.sender, chain.location.row, 0
-        if sender is None or row is None or sender.km is None or sender.track != track:
-            continue
-        aspect = shown[sender.number]
-        if aspect is None or row not in aspect.rows:
+    for chain in links.line.sent.get(track, ()):
+        sender, distance = chain.sender, 0
+        aspect = shown[sender.number] if sender else None
+        if sender is None or aspect is None or chain.location.row not in aspect.rows:
             continue
         for link in chain.links:
             distance += link.distance
             target = link.target
             if target is not None and target.km is not None and target.track == track:
-                yield Arc(place_of(sender), place_of(target), chain, link, distance, wrong.get(chain.at(link).order))
+                found = wrong.get(chain.at(link).order) if wrong else None
+                yield Arc(place_of(sender), place_of(target), chain, link, distance, found)
