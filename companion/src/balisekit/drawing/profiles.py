@@ -4,7 +4,6 @@ Pictures of groups and of tracks are both drawn by it.
 """
 from __future__ import annotations
 
-from dataclasses import dataclass
 from functools import lru_cache
 from typing import Iterator, NamedTuple, Optional, Sequence, Tuple
 
@@ -100,8 +99,7 @@ def _gradient_words(value: int, rises: int) -> str:
     return value_words("g_a", value, Around({}, {"q_gdir": rises})).replace("-", "\u2212")
 
 
-@dataclass(frozen=True)
-class WayDrawing:
+class WayDrawing(NamedTuple):
     """A way, and where it is on a sheet."""
 
     sheet: Sheet
@@ -119,10 +117,10 @@ class WayDrawing:
         """Where a place of the way is on the sheet."""
         return self.origin + self.sign * place
 
-    def _is_beyond(self, *places: int) -> bool:
+    def _is_beyond(self, begin: int, end: int) -> bool:
         """Whether the sheet shows nothing of what is between these places: a page of a track has parts of bands."""
-        near, far = map(self.at, places)
-        return max(near, far) < self.sheet.least or min(near, far) > self.sheet.greatest
+        sheet, near, far = self.sheet, self.origin + self.sign * begin, self.origin + self.sign * end
+        return (near < sheet.least and far < sheet.least) or (near > sheet.greatest and far > sheet.greatest)
 
     def _titled(self, title: str) -> str:
         return f"{title}, {self.whose}" if self.whose and title else title
@@ -144,14 +142,12 @@ class WayDrawing:
     def profile(self, profile: Profile, lane: Lane, top_speed: int) -> None:
         """A profile in its lane: its elements, the track before it, its end mark, and the elements behind that."""
         is_speed, describe, steps = profile.number == SPEED_PROFILE, self.describe, []
-        name = "speed profile" if is_speed else "gradient profile"
         for element in profile.elements:
             end = open_end(self.way) if element.end is None else element.end
             if self._is_beyond(element.begin, end):
                 continue
             to = " on: an open profile" if element.end is None else f" to {describe(end)}"
-            to += ": end mark" * (end == profile.reach)
-            where = f"from {describe(element.begin)}{to}"
+            where = f"from {describe(element.begin)}{to}{': end mark' if end == profile.reach else ''}"
             if is_speed:
                 steps.append(self._speed(element, where, end, lane, top_speed))
             else:
@@ -161,6 +157,7 @@ class WayDrawing:
         if profile.first > 0 and profile.elements:
             self._hatched("none", f"not given here: up to {describe(profile.first)}", 0, profile.first, lane)
         if profile.reach is None:
+            name = "speed profile" if is_speed else "gradient profile"
             self._arrow(f"the {name} has no end mark: it is open", lane)
         else:
             self._mark("endmark", "", profile.reach, lane)

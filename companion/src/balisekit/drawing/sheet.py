@@ -146,9 +146,10 @@ class Sheet:
 
     def stripes(self, style: str, title: str, places: Tuple[int, int], lane: Lane) -> None:
         """The part of a strip of upright strokes that is on the sheet. The style sheet has their height."""
-        near, far = (min(max(place, self.least), self.greatest) for place in sorted(places))
-        if near < far or self.shows(places[0]) and places[0] == places[1]:
-            self.path(style, title, f"M{tenths(self.x(near))} {lane.top + lane.height // 2}H{tenths(self.x(far) + 10)}")
+        near, far = min(places), max(places)
+        if near < self.greatest and far > self.least or near == far and self.shows(near):
+            begin, end = self.nearest(near), self.nearest(far) + 10
+            self.path(style, title, f"M{tenths(begin)} {lane.top + lane.height // 2}H{tenths(end)}")
 
     def path(self, style: str, title: str, path: str) -> None:
         """A line through points."""
@@ -200,7 +201,7 @@ class Sheet:
         """A text in the middle between two coordinates, if it fits there."""
         left, right = edges
         if width(style, text) <= right - left:
-            self.label(style, text, (((left + right) // 2, y),))
+            self.label(style, text, [((left + right) // 2, y)])
 
     def axis(self, title: str, places: Iterable[int]) -> None:
         """A line from the least place to the greatest, with a tick at each of these places."""

@@ -6,7 +6,6 @@ without a title are one path. So a browser has fewer elements.
 from __future__ import annotations
 
 from collections import defaultdict
-from functools import lru_cache
 from html import escape
 from typing import Dict, Iterable, List
 
@@ -23,10 +22,9 @@ def text(content: str) -> Markup:
     return Markup(escape(content, quote=False))
 
 
-@lru_cache(maxsize=1 << 16)
 def _escaped(text: str) -> str:
-    """A title or text as a page may have it. Most of them come again and again."""
-    return escape(text, quote=False)
+    """A title or text as a page may have it. Most of them have nothing to escape, which is seen sooner than done."""
+    return escape(text, quote=False) if "<" in text or "&" in text or ">" in text else text
 
 
 def _look(style: str, quote: str) -> str:
@@ -39,7 +37,8 @@ def _paths(titled: Written, bare: Written, quote: str) -> List[str]:
     found = []
     for style in dict.fromkeys((*titled, *bare)):
         inside, look = "".join(titled.get(style, ())), _look(style, quote)
-        line = f"<path{{}} d={quote}{''.join(bare[style])}{quote}></path>" if style in bare else ""
+        path = "".join(bare[style]).replace(" ", ",") if style in bare else ""
+        line = f"<path{{}} d={quote}{path}{quote}></path>" if path else ""
         found.append(f"<g{look}>{inside}{line.format('')}</g>\n" if inside else f"{line.format(look)}\n")
     return found
 
@@ -62,7 +61,10 @@ def svg(shapes: Iterable[Shape], in_page: bool = False) -> Markup:
     layers: List[Written] = [defaultdict(list) for _ in range(6)]
     areas, bare_areas, lines, bare_lines, texts, ticks = layers
     for tag, style, title, x, y, width, height, path, text in shapes:
-        if style == "tick":
+        if tag == "path" and not title:
+            if path:
+                bare_lines[style].append(path)
+        elif style == "tick":
             ticks[y].append(f"<tspan x={quote}{x}{quote}>{_escaped(text)}</tspan>")
         elif tag == "text":
             inside = f"{_escaped(text)}<title>{_escaped(title)}</title>" if title else _escaped(text)
@@ -73,7 +75,7 @@ def svg(shapes: Iterable[Shape], in_page: bool = False) -> Markup:
             if title:
                 titled = f"<path d={quote}{path}{quote}><title>{_escaped(title)}</title></path>"
                 (areas if is_area else lines)[style].append(titled)
-            elif path:
-                (bare_areas if is_area else bare_lines)[style].append(path)
+            else:
+                bare_areas[style].append(path)
     written = (*_paths(areas, bare_areas, quote), *_paths(lines, bare_lines, quote), _texts(texts, ticks, quote))
     return Markup("".join(written))

@@ -5,8 +5,6 @@ shows which way the band runs along the kilometres. Bands that overlap are below
 """
 from __future__ import annotations
 
-from decimal import Decimal
-from functools import partial
 from math import hypot
 from typing import Iterator, List, NamedTuple, Optional, Sequence, Set, Tuple
 
@@ -15,8 +13,7 @@ from balisekit.drawing.letters import shortened, width
 from balisekit.drawing.profiles import Sizes, WayDrawing, open_end, profile_number, speed_top
 from balisekit.drawing.sheet import EDGE, EDGES, RIGHT, WIDTH, Lane, Picture, Rows, Sheet, tenths
 from balisekit.drawing.track_pages import Arc, Band, Page, at_km, pages, place_of, shown_words
-from balisekit.drawing.words import ends, summary
-from balisekit.etcs.geometry import NOMINAL, kilometre
+from balisekit.etcs.geometry import NOMINAL, kilometre_of
 from balisekit.etcs.variables import metres
 from balisekit.rules.line import Line
 from balisekit.rules.links import Links
@@ -71,14 +68,14 @@ def track_pictures(
             sheet = Sheet(page.begin, page.end, 18)
             _head(sheet, page, title, shown_words(aspect))
             _groups(sheet, page, number == 1)
-            for lane in part:
+            for height, lane in part:
                 for one in lane:
                     _band(sheet, one, top_speed)
-                sheet.y += _lane_height(lane)
+                sheet.y += height
             if not part:
                 sheet.text("", "no authority, gradient or speed profile", 4000, sheet.y + 12)
                 sheet.y += 20
-            bands = [one.band for lane in part for one in lane]
+            bands = [one.band for _, lane in part for one in lane]
             yield sheet.picture(title, 8, _description(title, page, bands, shown_words(aspect)))
 
 
@@ -96,15 +93,10 @@ def _description(title: str, page: Page, bands: Sequence[Band], shown: str) -> s
     """What a page shows, for those who do not see it."""
     stations = [f"{clean(each.group.name)} at {at_km(place_of(each))}" for each in page.stations[:NAMED]]
     groups = listed(stations, NAMED, len(page.stations)) if stations else "no group"
-    said = listed(list(map(_band_words, bands[:NAMED])), NAMED, len(bands))
+    said = listed([band.words for band in bands[:NAMED]], NAMED, len(bands))
     found = [f"{flag.words} at {at_km(flag.place)}" for flag in page.flags[:NAMED]]
     parts = [f"{title}: {groups}, {shown}", page.left_out, said, listed(found, NAMED, len(page.flags))]
     return ". ".join(filter(None, parts))
-
-
-def _band_words(band: Band) -> str:
-    describe = partial(_describe, band.at, band.sign)
-    return "; ".join(filter(None, [f"{band.label}, {ends(band.way, describe)}", summary([band.way], describe)]))
 
 
 class Placed(NamedTuple):
@@ -115,6 +107,8 @@ class Placed(NamedTuple):
     name: int
     words: str
     band: Band
+    height: int
+    """Down to its lower edge, in pixels."""
 
 
 def _placed(scale: Sheet, band: Band) -> Placed:
@@ -133,22 +127,21 @@ def _placed(scale: Sheet, band: Band) -> Placed:
             left, right = min(left, scale.x(far) - room * (band.sign < 0)), max(
                 right, scale.x(far) + room * (band.sign > 0)
             )
-    return Placed(max(left, EDGES[0]), min(right, EDGES[1]), name, words, band)
+    height = _areas_top(band) + AREA * len(_kinds(band))
+    return Placed(max(left, EDGES[0]), min(right, EDGES[1]), name, words, band, height)
 
 
-def _parts(lanes: List[List[Placed]]) -> List[List[List[Placed]]]:
-    """The lanes of a page in as many parts as are needed, so that each fits on a printed page."""
-    parts: List[List[List[Placed]]] = [[]]
+def _parts(lanes: List[List[Placed]]) -> List[List[Tuple[int, List[Placed]]]]:
+    """The lanes of a page with their heights, in as many parts as are needed, so that each fits on a printed page."""
+    parts: List[List[Tuple[int, List[Placed]]]] = [[]]
+    used = 0
     for lane in lanes:
-        used = sum(map(_lane_height, parts[-1]))
-        parts += [[]] if parts[-1] and used + _lane_height(lane) > LANES * BAND else []
-        parts[-1].append(lane)
+        height = max([one.height for one in lane])
+        if parts[-1] and used + height > LANES * BAND:
+            parts, used = [*parts, []], 0
+        parts[-1].append((height, lane))
+        used += height
     return parts
-
-
-def _lane_height(lane: List[Placed]) -> int:
-    """How high the bands of a lane are, with their other areas."""
-    return max((_areas_top(one.band) + AREA * len(_kinds(one.band)) for one in lane), default=BAND)
 
 
 def _areas_top(band: Band) -> int:
@@ -170,12 +163,15 @@ def _lanes(placed: Sequence[Placed]) -> List[List[Placed]]:
 
 def _groups(sheet: Sheet, page: Page, first: bool) -> None:
     """The axis. The first picture of a page has links and flags above it, and names below."""
-    highest = max((_height(sheet, arc) for arc in page.arcs), default=0) if first else 0
+    arcs = page.arcs if first else []
+    heights = [_height(sheet, arc) for arc in arcs]
+    highest = max(heights, default=0)
     sheet.y += max(highest + 24, 32 * bool(page.flags), 18) if first else 18
     written: Set[Tuple[Tuple[int, int], str]] = set()
-    for arc in page.arcs if first else ():
-        said = arc.edges, _distance(arc)
-        _arc(sheet, arc, said not in written)
+    for arc, high in zip(arcs, heights):
+        words = _distance(arc)
+        said = arc.edges, words
+        _arc(sheet, arc, high, "" if said in written else words)
         written.add(said)
     places = range(sheet.least, sheet.greatest + 1, TICK)
     sheet.axis("", places)
@@ -186,7 +182,7 @@ def _groups(sheet: Sheet, page: Page, first: bool) -> None:
         if is_broken:
             sheet.path("break", "the axis is broken here", f"M{tenths(x)} {sheet.y - 8}l-4 6h8l-4 6")
     for place in places:
-        sheet.tick(kilometre(Decimal(place).scaleb(-4))[:-2], place, sheet.y + 15)
+        sheet.tick(kilometre_of(place)[:-2], place, sheet.y + 15)
     sheet.text("", "km", EDGE, sheet.y + 15)
     _names(sheet, page.stations if first else (), page.flags if first else ())
 
@@ -225,25 +221,25 @@ def _station(sheet: Sheet, station: BaliseGroup, base: int) -> None:
 
 def _band(sheet: Sheet, one: Placed, top_speed: int) -> None:
     """Speeds, gradients and authority of a group, where profiles are missing, and its name above them."""
-    band, lane = one.band, Lane(sheet.y + 26, SPEEDS)
+    band, way, lane = one.band, one.band.way, Lane(sheet.y + 26, SPEEDS)
     lanes = {27: lane, 21: Lane(lane.bottom + 2, LOW)}
-    whose = f"{band.way.direction}, {clean(band.station.group.name)}"
-    drawing = WayDrawing(sheet, band.way, SIZES, partial(_describe, band.at, band.sign), whose, band.sign, band.at)
+    whose = f"{way.direction}, {clean(band.station.group.name)}"
+    drawing = WayDrawing(sheet, way, SIZES, band.describe, whose, band.sign, band.at)
     _name(sheet, one)
-    for profile in (*band.way.speeds, *band.way.gradients):
+    for profile in (*way.speeds, *way.gradients):
         drawing.profile(profile, lanes[profile.number], top_speed)
-    for authority in band.way.authorities:
-        if band.way.speeds:
+    for authority in way.authorities:
+        if way.speeds:
             drawing.v_main(authority, lanes[27], top_speed)
         drawing.authority(authority, Lane(lanes[21].bottom + 2, LOW))
     kinds = _kinds(band)
-    for area in band.way.areas:
+    for area in way.areas:
         row = Lane(sheet.y + _areas_top(band) - 1 + AREA * kinds.index(area.number), AREA - 2)
         drawing.area(area, row)
         drawing.label_area(area, area.words, row.bottom - 1, (one.left, one.right))
     for finding in band.found:
         drawing.gap(finding, lanes[profile_number(finding)])
-    sheet.mark("group", "", band.at, sheet.y + 14, _areas_top(band) + AREA * len(kinds) - 18)
+    sheet.mark("group", "", band.at, sheet.y + 14, one.height - 18)
 
 
 def _name(sheet: Sheet, one: Placed) -> None:
@@ -262,11 +258,7 @@ def _name(sheet: Sheet, one: Placed) -> None:
 def _kinds(band: Band) -> List[int]:
     """The packets of the other areas of a band, as they are below each other."""
     known = {area.number for area in band.way.areas}
-    return [number for number in AREAS if number in known]
-
-
-def _describe(at: int, sign: int, place: int) -> str:
-    return at_km(at + sign * place)
+    return [number for number in AREAS if number in known] if known else []
 
 
 class Curve(NamedTuple):
@@ -285,40 +277,51 @@ class Curve(NamedTuple):
         """The part between two points."""
         (x, y), (to_x, to_y) = self.point(first), self.point(last)
         slope = -4 * self.high * (1 - 2 * first)
-        middle = x + (to_x - x) / 2, y + slope * (last - first) / 2
-        points = ((x, y), middle, (to_x, to_y))
-        at, by, to = (f"{tenths(round(across))} {tenths(round(down * 10))}" for across, down in points)
+        at, by, to = _spot(x, y), _spot(x + (to_x - x) / 2, y + slope * (last - first) / 2), _spot(to_x, to_y)
         return f"M{at}Q{by} {to}"
 
     def arrow(self, at: float) -> str:
         """A triangle along the way of the link."""
         x, y = self.point(at)
-        along = (self.end - self.begin) / 10, -4 * self.high * (1 - 2 * at)
-        dx, dy = (4 * each / (hypot(*along) or 1) for each in along)
-        corners = ((dx, dy), (-dx - dy * 0.7, -dy + dx * 0.7), (-dx + dy * 0.7, -dy - dx * 0.7))
-        points = ((round(x + 10 * right), round(10 * (y + down))) for right, down in corners)
-        return "M" + "L".join(f"{tenths(across)} {tenths(down)}" for across, down in points) + "z"
+        right, down = (self.end - self.begin) / 10, -4 * self.high * (1 - 2 * at)
+        long = hypot(right, down) or 1
+        dx, dy = 4 * right / long, 4 * down / long
+        tip, one = _spot(x + 10 * dx, y + dy), _spot(x + 10 * (-dx - dy * 0.7), y + (-dy + dx * 0.7))
+        return f"M{tip}L{one}L{_spot(x + 10 * (-dx + dy * 0.7), y + (-dy - dx * 0.7))}z"
 
 
-def _arc(sheet: Sheet, arc: Arc, has_label: bool) -> None:
-    """The part of a link that is on the page, with an arrow to where it leads, and its distance."""
+def _spot(across: float, down: float) -> str:
+    """A point of a path, of tenths of a pixel and of pixels."""
+    return f"{tenths(round(across))} {tenths(round(10 * down))}"
+
+
+def _arc(sheet: Sheet, arc: Arc, high: int, words: str) -> None:
+    """The part of a link that is on the page, with an arrow to where it leads, and these words if it has room."""
     begin, end = sheet.x(arc.begin), sheet.x(arc.end)
     if begin == end:
         return
-    curve = Curve(begin, end, sheet.y, _height(sheet, arc))
-    edges = sheet.x(sheet.least), sheet.x(sheet.greatest)
-    first, last = sorted(min(1.0, max(0.0, (edge - begin) / (end - begin))) for edge in edges)
+    curve, long = Curve(begin, end, sheet.y, high), end - begin
+    edges = (sheet.x(sheet.least) - begin) / long, (sheet.x(sheet.greatest) - begin) / long
+    first, last = max(0.0, min(edges)), min(1.0, max(edges))
+    sheet.path(_look(arc), _said(arc), curve.path(first, last))
+    sheet.path("way", "", curve.arrow(first + (last - first) / 2))
+    if words and (last - first >= PART or 0 < first < last < 1):
+        points = (curve.point(first + (last - first) * part) for part in (0.5, 0.4, 0.6, 0.3, 0.7))
+        style = "red middle" if arc.wrong else "middle"
+        sheet.label(style, words, ((int(x), int(y) - 4) for x, y in points))
+
+
+def _look(arc: Arc) -> str:
+    """The style of an arc."""
+    return "arc wrong" if arc.wrong else "arc" if arc.chain.direction == NOMINAL else "arc back"
+
+
+def _said(arc: Arc) -> str:
+    """The title of an arc."""
     target = clean(arc.link.target.group.name) if arc.link.target else ""
     sender = clean(arc.chain.sender.group.name) if arc.chain.sender else ""
     title = f"{sender} links {target}: {metres(arc.distance)} by D_LINK, {arc.chain.direction}"
-    style = "arc wrong" if arc.wrong else "arc" if arc.chain.direction == NOMINAL else "arc back"
-    title += f"; links L2: {arc.wrong.sentence}" if arc.wrong else ""
-    sheet.path(style, title, curve.path(first, last))
-    sheet.path("way", "", curve.arrow(first + (last - first) / 2))
-    points = (curve.point(first + (last - first) * part) for part in (0.5, 0.4, 0.6, 0.3, 0.7))
-    if has_label and (last - first >= PART or 0 < first < last < 1):
-        style = "red middle" if arc.wrong else "middle"
-        sheet.label(style, _distance(arc), ((int(x), int(y) - 4) for x, y in points))
+    return f"{title}; links L2: {arc.wrong.sentence}" if arc.wrong else title
 
 
 def _height(sheet: Sheet, arc: Arc) -> int:

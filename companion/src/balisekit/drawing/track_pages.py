@@ -9,10 +9,11 @@ from bisect import bisect_left
 from dataclasses import dataclass, field
 from decimal import Decimal
 from functools import cached_property, lru_cache
-from typing import Callable, Dict, Iterator, List, Optional, Sequence, Set, Tuple
+from typing import Callable, Dict, Iterator, List, NamedTuple, Optional, Sequence, Set, Tuple
 
 from balisekit.drawing.flags import Flag
 from balisekit.drawing.profiles import gap, gap_label, places, short_profiles
+from balisekit.drawing.words import ends, summary
 from balisekit.engine.grammar import Finding
 from balisekit.etcs.geometry import DIRECTIONS, Way, end_of, has_infill, infill, kilometre_of, passed, way
 from balisekit.etcs.variables import Around, Form, value_words
@@ -54,6 +55,10 @@ class Band:
         """1 if the band runs up the kilometres, -1 if it runs down."""
         return self.station.along(self.way.direction) or 1
 
+    def describe(self, place: int) -> str:
+        """A place of its way in words."""
+        return f"km {kilometre_of(self.at + self.sign * place)}"
+
     @cached_property
     def places(self) -> Sequence[int]:
         """Where anything of it begins or ends, in order."""
@@ -79,13 +84,18 @@ class Band:
         return ", ".join(filter(None, [*parts, f"V_MAIN {' and '.join(speeds)}" if speeds else ""]))
 
     @cached_property
+    def words(self) -> str:
+        """What it says, in a sentence."""
+        parts = [f"{self.label}, {ends(self.way, self.describe)}", summary([self.way], self.describe)]
+        return "; ".join(filter(None, parts))
+
+    @cached_property
     def findings(self) -> str:
         """F10 to F13 of the group in this direction, each once."""
         return "; ".join(dict.fromkeys(gap_label(one, self.way) for one in self.found if gap(one, self.way)))
 
 
-@dataclass(frozen=True)
-class Arc:
+class Arc(NamedTuple):
     """A link, from the group that sends it to the group that it names."""
 
     begin: int
@@ -168,7 +178,7 @@ def chosen(form_of: FormOf, station: BaliseGroup, aspect: Optional[str]) -> Opti
 
 def _forms(form_of: FormOf, aspect: Aspect) -> List[Form]:
     """The telegrams of an aspect that the program has read."""
-    return [form for form in (form_of(row.number) for row in aspect.rows) if form is not None]
+    return [form for form in [form_of(row.number) for row in aspect.rows] if form is not None]
 
 
 def _farthest(forms: Sequence[Form]) -> int:
@@ -219,7 +229,8 @@ def pages(line: Line, links: Links, track: str, aspect: Optional[str], flags: Se
         return known[bisect_left(begins, begin // PAGE * PAGE) : bisect_left(begins, max(end, begin + 1))]
 
     for station in stations:
-        crossed(place_of(station), place_of(station))[0].stations.append(station)
+        at = place_of(station)
+        crossed(at, at)[0].stations.append(station)
     for flag in flags:
         crossed(flag.place, flag.place)[0].flags.append(flag)
     for band in bands:
@@ -235,10 +246,11 @@ def _pages(at: Set[int], bands: Sequence[Band]) -> Sequence[Page]:
     """Empty pages for groups and flags at these places, and for bands. A band that ends at an edge is before it."""
     numbers = {place // PAGE for place in at}
     for band in bands:
-        numbers.update((place - (place == band.end > band.begin)) // PAGE for place in band.places)
-    for number in [number + 1 for number in numbers if number + 1 not in numbers and number + 2 in numbers]:
-        if any(band.begin < (number + 1) * PAGE and band.end > number * PAGE for band in bands):
-            numbers.add(number)
+        numbers.update([place // PAGE for place in band.places[:-1]])
+        numbers.add((band.end - (band.end > band.begin)) // PAGE)
+    gaps = sorted(number + 1 for number in numbers if number + 1 not in numbers and number + 2 in numbers)
+    for band in bands if gaps else ():
+        numbers.update(gaps[bisect_left(gaps, band.begin // PAGE) : bisect_left(gaps, -(-band.end // PAGE))])
     along = sorted(numbers)
     ends = [number + 1 for number in along]
     return [
@@ -259,15 +271,14 @@ def _bands(station: BaliseGroup, shown: Aspect, forms: Sequence[Form], findings:
 def _arcs(links: Links, track: str, shown: Dict[int, Optional[Aspect]]) -> Iterator[Arc]:
     """The links between groups of the track that are sent in the chosen aspects."""
     wrong = {remark.location.order: remark for remark in links.remarks if remark.rule == "L2"}
-    for chain in links.line.chains:
-        sender, row, distance = chain.sender, chain.location.row, 0
-        if sender is None or row is None or sender.km is None or sender.track != track:
-            continue
-        aspect = shown[sender.number]
-        if aspect is None or row not in aspect.rows:
+    for chain in links.line.sent.get(track, ()):
+        sender, distance = chain.sender, 0
+        aspect = shown[sender.number] if sender else None
+        if sender is None or aspect is None or chain.location.row not in aspect.rows:
             continue
         for link in chain.links:
             distance += link.distance
             target = link.target
             if target is not None and target.km is not None and target.track == track:
-                yield Arc(place_of(sender), place_of(target), chain, link, distance, wrong.get(chain.at(link).order))
+                found = wrong.get(chain.at(link).order) if wrong else None
+                yield Arc(place_of(sender), place_of(target), chain, link, distance, found)

@@ -4,9 +4,9 @@ from __future__ import annotations
 from datetime import datetime
 from functools import partial
 from tempfile import SpooledTemporaryFile
-from typing import Iterable, Iterator, List, Optional, Tuple
+from typing import Dict, Iterable, Iterator, List, Optional, Tuple
 
-from balisekit.drawing.flags import marks_of
+from balisekit.drawing.flags import Mark, marks_of
 from balisekit.drawing.sheet import Picture
 from balisekit.drawing.track import track_pictures, tracks_of
 from balisekit.present.cover import cover
@@ -68,9 +68,11 @@ def report_page(
 
 def _tracks(links: Links, outcome: Outcome, aspect: Optional[str]) -> Iterator[Tuple[str, Iterable[Picture]]]:
     """The name and the pictures of each track."""
-    marks = [mark for part in outcome.parts for mark in marks_of(part.open, part.accepted)]
+    marks: Dict[str, List[Mark]] = {}
+    for mark in (mark for part in outcome.parts for mark in marks_of(part.open, part.accepted)):
+        marks.setdefault(mark.track, []).append(mark)
     for name in tracks_of(links.line):
-        yield clean(name), track_pictures(links.line, links, name, aspect, marks)
+        yield clean(name), track_pictures(links.line, links, name, aspect, marks.get(name, ()))
 
 
 def _noted(made: Iterable[Block], rows: List[Block]) -> Iterator[Block]:

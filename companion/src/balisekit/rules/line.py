@@ -167,6 +167,15 @@ class Line:
         return self.passages.chains
 
     @cached_property
+    def sent(self) -> Mapping[str, Sequence[Chain]]:
+        """Of each track: the chains that its groups with a kilometre send. Those of messages are none of them."""
+        sent: Dict[str, List[Chain]] = {}
+        for chain in self.chains:
+            if chain.sender is not None and chain.sender.km is not None and chain.location.row is not None:
+                sent.setdefault(chain.sender.track, []).append(chain)
+        return sent
+
+    @cached_property
     def alike(self) -> Sequence[Sequence[Chain]]:
         """The chains, and together those of one group in one direction whose links are the same."""
         alike: Dict[Tuple[Optional[int], str, int], List[Chain]] = {}
