@@ -96,8 +96,8 @@ def releases(tmp_path_factory: pytest.TempPathFactory, program: Program) -> Call
     [
         (2000, 10_000, 15, ["links", "OLD"], "links: "),
         (500, 2000, 15, ["draw", "OLD", "--track", "--svg", "OUT"], ""),
-        (500, 2000, 20, ["report", "OLD", "--only", "F", "--html", "OUT"], 'program: "no: findings '),
-        (500, 2000, 24, ["report", "OLD", "--html", "OUT"], 'program: "no: findings '),
+        (500, 2000, 24, ["report", "OLD", "--only", "F", "--html", "OUT"], 'program: "no: findings '),
+        (500, 2000, 30, ["report", "OLD", "--html", "OUT"], 'program: "no: findings '),
         (500, 2000, 22, ["diff", "OLD", "NEW", "--html", "OUT"], "groups added 0, removed 0; "),
     ],
     ids=["links", "draw", "report of findings", "report", "diff"],
