@@ -15,7 +15,7 @@ from balisekit.engine.program import Program, Text
 
 TELEGRAM = re.compile(r"<details id=r(\d+)[^>]*>(?:(?!</details>).)*?</pre><pre>(.*?)</pre></details>", re.DOTALL)
 EVERYTHING = re.compile(r"everything as in <a href=#r(\d+)>row \1</a>\n")
-HEADER = re.compile(r"header\tas in <a href=#r(\d+)>row \1</a>(?:, but (.*))?\n")
+HEADER = re.compile(r"header\tas in <a href=#r(\d+)>row \1</a>(?:, but (.*)|, M_MCOUNT \d+ too)\n")
 PACKET = re.compile(r"  packet (\d+)\t(NID_PACKET [^:\n]*): as (?:in|packet (\d+) of) <a href=#r(\d+)>row \4</a>\n")
 
 
@@ -76,7 +76,7 @@ def switched(counter: int, *packets: Any, identity: int = 101) -> Any:
 def alike(tmp_path: Path, program: Program) -> Path:
     """A signal with the same links and profiles in three aspects; two more have the telegrams of the first two.
 
-    In a last one three values of the header are others.
+    Another one has three other values in its header, and the last one the counter of the first aspect.
     """
     profiles, links = (gradients(12300, 3200), speeds(12300, 3200)), linking(0)
     yellow, green = (switched(speed // 80, *links, authority(1550, speed), *profiles) for speed in (120, 160))
@@ -91,6 +91,7 @@ def alike(tmp_path: Path, program: Program) -> Path:
             ("fast", "1", green),
             ("late", "1", yellow),
             ("odd", "1", {**switched(4, *links, identity=103), "m_version": 32}),
+            ("copied", "1", switched(1, *links)),
         ],
     )
 
@@ -101,7 +102,7 @@ def test_what_is_alike_is_said_once(run: Run, alike: Path) -> None:
     assert not any("<a" in texts[row] for row in (2, 3)), "the other balise has the same links"
     header, packet = parts_of(texts[8])
     assert "<a" not in header and "M_MCOUNT 4  NID_C 352  NID_BG 103" in header and PACKET.fullmatch(packet)
-    links = [re.sub("</?a[^>]*>", "", line) for row in (4, 5, 6, 7) for line in texts[row].split("\n") if "<a" in line]
+    links = [re.sub("</?a[^>]*>", "", line) for row in (4, 5, 6, 7, 9) for line in texts[row].split("\n") if "<a" in line]
     assert links == [
         "header\tas in row 3, but M_MCOUNT 2",
         "  packet 0\tNID_PACKET linking [5]: as in row 3",
@@ -113,13 +114,15 @@ def test_what_is_alike_is_said_once(run: Run, alike: Path) -> None:
         "  packet 3\tNID_PACKET linking [5]: as packet 0 of row 3",
         "everything as in row 4",
         "everything as in row 3",
+        "header\tas in row 3, M_MCOUNT 1 too",
+        "  packet 0\tNID_PACKET linking [5]: as in row 3",
     ]
 
 
 @pytest.mark.parametrize("words", [("--only", "F"), ("--full",)], ids=["folded", "full"])
 def test_links_lead_to_what_show_says(words: Tuple[str, ...], run: Run, alike: Path) -> None:
     """Each telegram with what its links lead to has the lines of `show`, and in the same order."""
-    for path, rows in ((alike, 7), (LINE, 33)):
+    for path, rows in ((alike, 8), (LINE, 33)):
         copy = path if path is alike else alike.with_name("line.csv")
         copy.write_bytes(path.read_bytes())
         texts = texts_of(report(run, copy, *words))

@@ -35,7 +35,7 @@ class Said:
         self._packets: Dict[int, Tuple[int, int]] = {}
 
     def header(self, row: int, form: Form) -> Optional[Text]:
-        """A link in place of the header, and the values that are others, if they are few."""
+        """A link in place of the header, and the values that are others, if they are few. The counter is always said."""
         first, known = self._header
         if not first:
             self._header = row, form
@@ -44,11 +44,13 @@ class Said:
         if form.keys() != known.keys() or len(others) > OTHER or not all(key in WORDS for key in others):
             return None
         but = " and ".join(value_texts(in_order(others), form, Around()))
-        return Text("header\tas in ", row=first, behind=f", but {but}\n" if but else "\n")
+        also = "".join(f", {words} too" for words in value_texts(form.keys() & {"m_mcount"}, form, Around()))
+        return Text("header\tas in ", row=first, behind=f", but {but}\n" if but else f"{also}\n")
 
     def telegram(self, row: int, header: Optional[Text], packets: Sequence[object]) -> Optional[Text]:
         """A link in place of the whole telegram, if that of an earlier row has this header and these packets."""
-        others = header.behind if header else "\n" if row == self._header[0] else row
+        is_same = header and " but " not in header.behind or row == self._header[0]
+        others = "" if is_same else header.behind if header else row
         first = self._telegrams.setdefault((others, *map(id, packets)), row)
         return Text("everything as in ", row=first, behind="\n") if first != row else None
 
