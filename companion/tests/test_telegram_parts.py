@@ -102,7 +102,8 @@ def test_what_is_alike_is_said_once(run: Run, alike: Path) -> None:
     assert not any("<a" in texts[row] for row in (2, 3)), "the other balise has the same links"
     header, packet = parts_of(texts[8])
     assert "<a" not in header and "M_MCOUNT 4  NID_C 352  NID_BG 103" in header and PACKET.fullmatch(packet)
-    links = [re.sub("</?a[^>]*>", "", line) for row in (4, 5, 6, 7, 9) for line in texts[row].split("\n") if "<a" in line]
+    lines = [line for row in (4, 5, 6, 7, 9) for line in texts[row].split("\n")]
+    links = [re.sub("</?a[^>]*>", "", line) for line in lines if "<a" in line]
     assert links == [
         "header\tas in row 3, but M_MCOUNT 2",
         "  packet 0\tNID_PACKET linking [5]: as in row 3",

@@ -35,7 +35,7 @@ class Said:
         self._packets: Dict[int, Tuple[int, int]] = {}
 
     def header(self, row: int, form: Form) -> Optional[Text]:
-        """A link in place of the header, and the values that are others, if they are few. The counter is always said."""
+        """A link in place of the header, and the values that are others, if they are few. M_MCOUNT always follows."""
         first, known = self._header
         if not first:
             self._header = row, form
