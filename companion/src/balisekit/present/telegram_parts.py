@@ -44,7 +44,8 @@ class Said:
         if form.keys() != known.keys() or len(others) > OTHER or not all(key in WORDS for key in others):
             return None
         but = " and ".join(value_texts(in_order(others), form, Around()))
-        also = "".join(f", {words} too" for words in value_texts(form.keys() & {"m_mcount"}, form, Around()))
+        counter = [key for key in form if key == "m_mcount"]
+        also = "".join(f", {words} too" for words in value_texts(counter, form, Around()))
         return Text("header\tas in ", row=first, behind=f", but {but}\n" if but else f"{also}\n")
 
     def telegram(self, row: int, header: Optional[Text], packets: Sequence[object]) -> Optional[Text]:
