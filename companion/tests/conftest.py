@@ -25,9 +25,9 @@ os.environ.setdefault("BALISEKIT_PYTHON", sys.executable)
 """What ./balisekit is run by in these tests."""
 if "BALISECHECK" not in os.environ:  # (found once here: the start script sums up all sources at each call)
     os.environ["BALISECHECK"] = find_program.find(None)
-PAGES = ["test_browser.py", "test_hostile_texts.py", "test_report.py", "test_report_page.py", "test_track.py"]
+PAGES = ["browser", "hostile_texts", "report", "report_page", "telegram_parts", "track"]
 """The tests of pages and pictures, which need jinja2."""
-collect_ignore = [] if find_spec("jinja2") else PAGES
+collect_ignore = [] if find_spec("jinja2") else [f"test_{name}.py" for name in PAGES]
 
 Answer = Tuple[int, List[str], List[str]]
 """A status, and the lines of standard output and standard error."""
