@@ -281,6 +281,13 @@ macro_rules! send_members {
     };
 }
 
+// Refuses what is no object, and an object with a key beside these, which stand in byte order.
+macro_rules! check_members {
+    ($alloc:ident, $node:ident; $($key:literal),+) => {
+        $crate::record::check_record::<Self, N>($alloc, $node, &[$($key),+])?
+    };
+}
+
 // The record of the fields that are there, in brackets, and of the members that were read.
 macro_rules! make_record {
     ($record:ident, $found:ident; [$($done:tt)*] $field:ident) => {{
@@ -302,6 +309,7 @@ macro_rules! read_record {
     }};
 }
 
+pub(crate) use check_members;
 pub(crate) use make_record;
 pub(crate) use pairs;
 pub(crate) use read_record;

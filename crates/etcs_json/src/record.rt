@@ -51,17 +51,15 @@ impl<T: LayoutRecord> InRange for T {
 
 /// How the members of a record are sent and read.
 pub(crate) trait Members: InRange {
-    /// Its keys in byte order, in which most objects have them.
-    fn keys() -> &'static [&'static str]
-        ensures { map (λ l. l.now) result.now ≡ sorted_keys Self.object.part.keys };
-
     /// Sends the members in the byte order of their keys.
     fn send_members<S: Sink>(&self, out: &mut S) -> Result<(), Memory>
         ensures { OnOk result (S.takes (sorted (Self.object.part.to self.now)) out.old out.new) };
 
-    /// Reads the members of an object that has no other keys.
+    /// Reads an object that has these members and no others. What is refused for its keys takes no memory.
     fn of_members<N: Node>(alloc: Global, node: &N) -> Result<Self, FormError>
-        ensures { Gives (λ x. x) result (Self.object.part.of (N.shows node.now)) };
+        ensures gives { Gives (λ x. x) result ((shape_of Self.object).of (N.shows node.now)) }
+        ensures memory { IfMemory result
+            (IsOk (object_with Self.object.part.keys (N.shows node.now))) };
 }
 
 /// Does nothing when it runs; its contract is the proof that each number of a record is allowed, as far as the
@@ -72,14 +70,19 @@ pub(crate) fn prove_allowed<T: Layout>(value: &T)
     let _allowed = value.is_allowed();
 }
 
-// Refuses what is no object, and an object with a key that the record does not have. Neither refusal
-// takes memory.
+/// Refuses what is no object, and an object with a key that the record does not have. Neither refusal
+/// takes memory. The keys of the record stand in byte order, in which most objects have them.
 #[tactic(auto, using(crate::proofs::Keys::sorted_gives))]
-fn check_record<T: Members, N: Node>(alloc: Global, node: &N) -> Result<(), FormError>
+pub(crate) fn check_record<T: Record, N: Node>(
+    alloc: Global,
+    node: &N,
+    keys: &[&str],
+) -> Result<(), FormError>
+    requires { map (λ l. l.now) keys.now ≡ sorted_keys T.object.part.keys }
     ensures keys { Gives (λ u. u) result (object_with T.object.part.keys (N.shows node.now)) }
     ensures memory { IfMemory result ⊥ }
 {
-    check_keys(alloc, node, T::keys())
+    check_keys(alloc, node, keys)
 }
 
 impl<T: Members> Form for T {
@@ -100,7 +103,6 @@ impl<T: Members> Form for T {
     }
 
     fn of_node<N: Node>(alloc: Global, node: &N) -> Result<Self, FormError> {
-        check_record::<T, N>(alloc, node)?;
         T::of_members(alloc, node)
     }
 }

@@ -1,7 +1,9 @@
 //! The form of message 3, the movement authority.
 
 use crate::error::FormError;
-use crate::members::{ListMember, Listed, Member, NumberMember, ReadMembers, pairs, send_members};
+use crate::members::{
+    ListMember, Listed, Member, NumberMember, ReadMembers, check_members, pairs, send_members,
+};
 use crate::node::Node;
 use crate::node::reading::read_fixed;
 use crate::record::{InRange, Members, Record, prove_allowed};
@@ -29,17 +31,6 @@ impl InRange for MovementMessage {
 
 #[tactic(auto, unfolding(crate::specs::Messages::movement))]
 impl Members for MovementMessage {
-    fn keys() -> &'static [&'static str] {
-        &[
-            "m_ack",
-            "nid_bg",
-            "nid_c",
-            "nid_message",
-            "packets",
-            "t_train",
-        ]
-    }
-
     fn send_members<S: Sink>(&self, out: &mut S) -> Result<(), Memory> {
         let lrbg = self.lrbg();
         send_members!(out;
@@ -53,6 +44,7 @@ impl Members for MovementMessage {
     }
 
     fn of_members<N: Node>(alloc: Global, node: &N) -> Result<Self, FormError> {
+        check_members!(alloc, node; "m_ack", "nid_bg", "nid_c", "nid_message", "packets", "t_train");
         read_fixed(alloc, node, "nid_message", 3)?;
         let keys = pairs!("t_train", "m_ack", "nid_c", "nid_bg", "packets");
         let found = ReadMembers::read(alloc, node, keys)?;

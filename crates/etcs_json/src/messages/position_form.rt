@@ -1,7 +1,9 @@
 //! The form of message 136, the position report.
 
 use crate::error::FormError;
-use crate::members::{ListMember, Listed, Member, NumberMember, ReadMembers, pairs, send_members};
+use crate::members::{
+    ListMember, Listed, Member, NumberMember, ReadMembers, check_members, pairs, send_members,
+};
 use crate::node::Node;
 use crate::node::reading::read_fixed;
 use crate::record::{InRange, Members, Record, prove_allowed};
@@ -29,10 +31,6 @@ impl InRange for PositionMessage {
 
 #[tactic(auto, unfolding(crate::specs::Messages::position))]
 impl Members for PositionMessage {
-    fn keys() -> &'static [&'static str] {
-        &["nid_engine", "nid_message", "packets", "t_train"]
-    }
-
     fn send_members<S: Sink>(&self, out: &mut S) -> Result<(), Memory> {
         send_members!(out;
             Member("nid_engine", &self.engine()),
@@ -43,6 +41,7 @@ impl Members for PositionMessage {
     }
 
     fn of_members<N: Node>(alloc: Global, node: &N) -> Result<Self, FormError> {
+        check_members!(alloc, node; "nid_engine", "nid_message", "packets", "t_train");
         read_fixed(alloc, node, "nid_message", 136)?;
         let found = ReadMembers::read(alloc, node, pairs!("t_train", "nid_engine", "packets"))?;
         let (time, (engine, Listed { value: packets })) = found;

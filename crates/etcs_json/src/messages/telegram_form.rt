@@ -6,7 +6,9 @@ ghost use Rattle.etcs_json.specs.Telegrams.{header};
 
 use crate::error::FormError;
 use crate::form::{Form, InPieces};
-use crate::members::{ListMember, Listed, Member, ReadMembers, pairs, read_record, send_members};
+use crate::members::{
+    ListMember, Listed, Member, ReadMembers, check_members, pairs, read_record, send_members,
+};
 use crate::node::Node;
 use crate::record::{InRange, Members, Record, prove_allowed};
 use crate::writing::Sink;
@@ -91,24 +93,8 @@ impl InRange for Telegram {
     }
 }
 
-#[tactic(auto, unfolding(crate::specs::Telegrams::telegram))]
+#[tactic(auto, unfolding(crate::specs::Telegrams::telegram, crate::specs::Telegrams::header))]
 impl Members for Telegram {
-    #[tactic(auto, unfolding(crate::specs::Telegrams::telegram, crate::specs::Telegrams::header))]
-    fn keys() -> &'static [&'static str] {
-        &[
-            "m_dup",
-            "m_mcount",
-            "m_version",
-            "n_pig",
-            "n_total",
-            "nid_bg",
-            "nid_c",
-            "packets",
-            "q_link",
-            "user_bits",
-        ]
-    }
-
     fn send_members<S: Sink>(&self, out: &mut S) -> Result<(), Memory> {
         let header = &self.header;
         send_members!(out;
@@ -126,6 +112,8 @@ impl Members for Telegram {
     }
 
     fn of_members<N: Node>(alloc: Global, node: &N) -> Result<Self, FormError> {
+        check_members!(alloc, node; "m_dup", "m_mcount", "m_version", "n_pig", "n_total",
+            "nid_bg", "nid_c", "packets", "q_link", "user_bits");
         let keys = pairs!("user_bits", (), "packets");
         let (size, (header, Listed { value: packets })) = ReadMembers::read(alloc, node, keys)?;
         Ok(Telegram {

@@ -4,7 +4,7 @@ ghost use Rattle.etcs_json.specs.Authority.{danger_point, end_timer, overlap, se
 ghost use Rattle.etcs_json.specs.Shape.{whole};
 
 use crate::error::FormError;
-use crate::members::{Member, OptionalMember, read_record, send_members};
+use crate::members::{Member, OptionalMember, check_members, read_record, send_members};
 use crate::node::Node;
 use crate::record::{LayoutRecord, Members, Record};
 use crate::writing::Sink;
@@ -22,10 +22,6 @@ impl LayoutRecord for SectionTimer {
 
 #[tactic(auto, unfolding(crate::specs::Authority::section_timer))]
 impl Members for SectionTimer {
-    fn keys() -> &'static [&'static str] {
-        &["d_sectiontimerstoploc", "t_sectiontimer"]
-    }
-
     fn send_members<S: Sink>(&self, out: &mut S) -> Result<(), Memory> {
         send_members!(out;
             Member("d_sectiontimerstoploc", &self.stop),
@@ -34,6 +30,7 @@ impl Members for SectionTimer {
     }
 
     fn of_members<N: Node>(alloc: Global, node: &N) -> Result<Self, FormError> {
+        check_members!(alloc, node; "d_sectiontimerstoploc", "t_sectiontimer");
         read_record!(SectionTimer, alloc, node;
             time "t_sectiontimer",
             stop "d_sectiontimerstoploc",
@@ -51,10 +48,6 @@ impl LayoutRecord for Section {
 
 #[tactic(auto, unfolding(crate::specs::Authority::section))]
 impl Members for Section {
-    fn keys() -> &'static [&'static str] {
-        &["l_section", "section_timer"]
-    }
-
     fn send_members<S: Sink>(&self, out: &mut S) -> Result<(), Memory> {
         send_members!(out;
             Member("l_section", &self.length),
@@ -63,6 +56,7 @@ impl Members for Section {
     }
 
     fn of_members<N: Node>(alloc: Global, node: &N) -> Result<Self, FormError> {
+        check_members!(alloc, node; "l_section", "section_timer");
         read_record!(Section, alloc, node;
             length "l_section",
             timer "section_timer",
@@ -80,10 +74,6 @@ impl LayoutRecord for EndTimer {
 
 #[tactic(auto, unfolding(crate::specs::Authority::end_timer))]
 impl Members for EndTimer {
-    fn keys() -> &'static [&'static str] {
-        &["d_endtimerstartloc", "t_endtimer"]
-    }
-
     fn send_members<S: Sink>(&self, out: &mut S) -> Result<(), Memory> {
         send_members!(out;
             Member("d_endtimerstartloc", &self.start),
@@ -92,6 +82,7 @@ impl Members for EndTimer {
     }
 
     fn of_members<N: Node>(alloc: Global, node: &N) -> Result<Self, FormError> {
+        check_members!(alloc, node; "d_endtimerstartloc", "t_endtimer");
         read_record!(EndTimer, alloc, node;
             time "t_endtimer",
             start "d_endtimerstartloc",
@@ -109,10 +100,6 @@ impl LayoutRecord for DangerPoint {
 
 #[tactic(auto, unfolding(crate::specs::Authority::danger_point))]
 impl Members for DangerPoint {
-    fn keys() -> &'static [&'static str] {
-        &["d_dp", "v_releasedp"]
-    }
-
     fn send_members<S: Sink>(&self, out: &mut S) -> Result<(), Memory> {
         send_members!(out;
             Member("d_dp", &self.distance),
@@ -121,6 +108,7 @@ impl Members for DangerPoint {
     }
 
     fn of_members<N: Node>(alloc: Global, node: &N) -> Result<Self, FormError> {
+        check_members!(alloc, node; "d_dp", "v_releasedp");
         read_record!(DangerPoint, alloc, node;
             distance "d_dp",
             release_speed "v_releasedp",
@@ -138,10 +126,6 @@ impl LayoutRecord for Overlap {
 
 #[tactic(auto, unfolding(crate::specs::Authority::overlap))]
 impl Members for Overlap {
-    fn keys() -> &'static [&'static str] {
-        &["d_ol", "d_startol", "t_ol", "v_releaseol"]
-    }
-
     fn send_members<S: Sink>(&self, out: &mut S) -> Result<(), Memory> {
         send_members!(out;
             Member("d_ol", &self.length),
@@ -152,6 +136,7 @@ impl Members for Overlap {
     }
 
     fn of_members<N: Node>(alloc: Global, node: &N) -> Result<Self, FormError> {
+        check_members!(alloc, node; "d_ol", "d_startol", "t_ol", "v_releaseol");
         read_record!(Overlap, alloc, node;
             start "d_startol",
             time "t_ol",

@@ -4,7 +4,7 @@ ghost use Rattle.etcs_json.specs.Cover.{cover_marker};
 ghost use Rattle.etcs_json.specs.Shape.{whole};
 
 use crate::error::FormError;
-use crate::members::{Member, NumberMember, ReadMembers, send_members};
+use crate::members::{Member, NumberMember, ReadMembers, check_members, send_members};
 use crate::node::Node;
 use crate::node::reading::read_fixed;
 use crate::record::{LayoutRecord, Members, Record};
@@ -23,10 +23,6 @@ impl LayoutRecord for CoverMarker {
 
 #[tactic(auto, unfolding(crate::specs::Cover::cover_marker, crate::specs::Cover::cover))]
 impl Members for CoverMarker {
-    fn keys() -> &'static [&'static str] {
-        &["nid_packet", "nid_vbcmk"]
-    }
-
     fn send_members<S: Sink>(&self, out: &mut S) -> Result<(), Memory> {
         send_members!(out;
             NumberMember("nid_packet", 0),
@@ -35,6 +31,7 @@ impl Members for CoverMarker {
     }
 
     fn of_members<N: Node>(alloc: Global, node: &N) -> Result<Self, FormError> {
+        check_members!(alloc, node; "nid_packet", "nid_vbcmk");
         read_fixed(alloc, node, "nid_packet", 0)?;
         let marker = ReadMembers::read(alloc, node, "nid_vbcmk")?;
         Ok(CoverMarker { marker })

@@ -6,7 +6,7 @@ ghost use Rattle.etcs_json.specs.Profiles.{gradient, gradient_element};
 ghost use Rattle.etcs_json.specs.Shape.{whole};
 
 use crate::error::FormError;
-use crate::members::{Member, read_record, send_members};
+use crate::members::{Member, check_members, read_record, send_members};
 use crate::node::Node;
 use crate::node::reading::read_fixed;
 use crate::packets::profile_form::{read_profile, send_profile};
@@ -26,10 +26,6 @@ impl LayoutRecord for GradientElement {
 
 #[tactic(auto, unfolding(crate::specs::Profiles::gradient_element))]
 impl Members for GradientElement {
-    fn keys() -> &'static [&'static str] {
-        &["d_gradient", "g_a", "q_gdir"]
-    }
-
     fn send_members<S: Sink>(&self, out: &mut S) -> Result<(), Memory> {
         send_members!(out;
             Member("d_gradient", &self.distance),
@@ -39,6 +35,7 @@ impl Members for GradientElement {
     }
 
     fn of_members<N: Node>(alloc: Global, node: &N) -> Result<Self, FormError> {
+        check_members!(alloc, node; "d_gradient", "g_a", "q_gdir");
         read_record!(GradientElement, alloc, node;
             distance "d_gradient",
             uphill "q_gdir",
@@ -57,15 +54,12 @@ impl LayoutRecord for Gradient {
 
 #[tactic(auto, unfolding(crate::specs::Profiles::gradient))]
 impl Members for Gradient {
-    fn keys() -> &'static [&'static str] {
-        &["elements", "nid_packet", "q_dir", "q_scale"]
-    }
-
     fn send_members<S: Sink>(&self, out: &mut S) -> Result<(), Memory> {
         send_profile(out, "elements", self)
     }
 
     fn of_members<N: Node>(alloc: Global, node: &N) -> Result<Self, FormError> {
+        check_members!(alloc, node; "elements", "nid_packet", "q_dir", "q_scale");
         read_fixed(alloc, node, "nid_packet", 21)?;
         read_profile(alloc, node, "elements")
     }

@@ -6,7 +6,7 @@ ghost use Rattle.etcs_json.specs.Profiles.{link, linking};
 ghost use Rattle.etcs_json.specs.Shape.{whole};
 
 use crate::error::FormError;
-use crate::members::{Member, OptionalMember, read_record, send_members};
+use crate::members::{Member, OptionalMember, check_members, read_record, send_members};
 use crate::node::Node;
 use crate::node::reading::read_fixed;
 use crate::packets::profile_form::{read_profile, send_profile};
@@ -26,17 +26,6 @@ impl LayoutRecord for Link {
 
 #[tactic(auto, unfolding(crate::specs::Profiles::link))]
 impl Members for Link {
-    fn keys() -> &'static [&'static str] {
-        &[
-            "d_link",
-            "nid_bg",
-            "nid_c",
-            "q_linkorientation",
-            "q_linkreaction",
-            "q_locacc",
-        ]
-    }
-
     fn send_members<S: Sink>(&self, out: &mut S) -> Result<(), Memory> {
         send_members!(out;
             Member("d_link", &self.distance),
@@ -49,6 +38,7 @@ impl Members for Link {
     }
 
     fn of_members<N: Node>(alloc: Global, node: &N) -> Result<Self, FormError> {
+        check_members!(alloc, node; "d_link", "nid_bg", "nid_c", "q_linkorientation", "q_linkreaction", "q_locacc");
         read_record!(Link, alloc, node;
             distance "d_link",
             country "nid_c",
@@ -70,15 +60,12 @@ impl LayoutRecord for Linking {
 
 #[tactic(auto, unfolding(crate::specs::Profiles::linking))]
 impl Members for Linking {
-    fn keys() -> &'static [&'static str] {
-        &["links", "nid_packet", "q_dir", "q_scale"]
-    }
-
     fn send_members<S: Sink>(&self, out: &mut S) -> Result<(), Memory> {
         send_profile(out, "links", self)
     }
 
     fn of_members<N: Node>(alloc: Global, node: &N) -> Result<Self, FormError> {
+        check_members!(alloc, node; "links", "nid_packet", "q_dir", "q_scale");
         read_fixed(alloc, node, "nid_packet", 5)?;
         read_profile(alloc, node, "links")
     }

@@ -6,7 +6,7 @@ ghost use Rattle.etcs_json.specs.Shape.{whole};
 ghost use Rattle.etcs_json.specs.Variables.{is_allowed};
 
 use crate::error::FormError;
-use crate::members::{Member, NumberMember, ReadMembers, send_members};
+use crate::members::{Member, NumberMember, ReadMembers, check_members, send_members};
 use crate::node::Node;
 use crate::node::reading::{Numbers, read_number};
 use crate::packets::body_form::{packet_length, read_measured};
@@ -40,10 +40,6 @@ impl InRange for RawPacket {
 
 #[tactic(auto, unfolding(crate::specs::Raw::raw_packet))]
 impl Members for RawPacket {
-    fn keys() -> &'static [&'static str] {
-        &["body", "l_packet", "nid_packet", "q_dir"]
-    }
-
     fn send_members<S: Sink>(&self, out: &mut S) -> Result<(), Memory> {
         let body = self.body();
         send_members!(out;
@@ -55,6 +51,7 @@ impl Members for RawPacket {
     }
 
     fn of_members<N: Node>(alloc: Global, node: &N) -> Result<Self, FormError> {
+        check_members!(alloc, node; "body", "l_packet", "nid_packet", "q_dir");
         let number = read_number::<Self, N>(alloc, node, "nid_packet")?;
         let dir = ReadMembers::read(alloc, node, "q_dir")?;
         let body = read_measured::<HEAD_BITS, N>(alloc, node)?;

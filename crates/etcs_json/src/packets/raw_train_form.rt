@@ -6,7 +6,7 @@ ghost use Rattle.etcs_json.specs.Shape.{whole};
 ghost use Rattle.etcs_json.specs.Variables.{is_allowed};
 
 use crate::error::FormError;
-use crate::members::{NumberMember, send_members};
+use crate::members::{NumberMember, check_members, send_members};
 use crate::node::Node;
 use crate::node::reading::{Numbers, read_number};
 use crate::packets::body_form::{packet_length, read_measured};
@@ -40,10 +40,6 @@ impl InRange for RawTrainPacket {
 
 #[tactic(auto, unfolding(crate::specs::RawTrain::raw_train_packet))]
 impl Members for RawTrainPacket {
-    fn keys() -> &'static [&'static str] {
-        &["body", "l_packet", "nid_packet"]
-    }
-
     fn send_members<S: Sink>(&self, out: &mut S) -> Result<(), Memory> {
         let body = self.body();
         send_members!(out;
@@ -54,6 +50,7 @@ impl Members for RawTrainPacket {
     }
 
     fn of_members<N: Node>(alloc: Global, node: &N) -> Result<Self, FormError> {
+        check_members!(alloc, node; "body", "l_packet", "nid_packet");
         let number = read_number::<Self, N>(alloc, node, "nid_packet")?;
         let body = read_measured::<HEAD_BITS, N>(alloc, node)?;
         match RawTrainPacket::new(number as u8, body) {

@@ -6,7 +6,7 @@ ghost use Rattle.etcs_json.specs.Profiles.{difference, speed_element, speed_prof
 ghost use Rattle.etcs_json.specs.Shape.{whole};
 
 use crate::error::FormError;
-use crate::members::{ListMember, Member, read_record, send_members};
+use crate::members::{ListMember, Member, check_members, read_record, send_members};
 use crate::node::Node;
 use crate::node::reading::read_fixed;
 use crate::packets::profile_form::{read_profile, send_profile};
@@ -26,10 +26,6 @@ impl LayoutRecord for Difference {
 
 #[tactic(auto, unfolding(crate::specs::Profiles::difference))]
 impl Members for Difference {
-    fn keys() -> &'static [&'static str] {
-        &["nc", "q_diff", "v_diff"]
-    }
-
     fn send_members<S: Sink>(&self, out: &mut S) -> Result<(), Memory> {
         send_members!(out;
             Member("nc", &self.category),
@@ -39,6 +35,7 @@ impl Members for Difference {
     }
 
     fn of_members<N: Node>(alloc: Global, node: &N) -> Result<Self, FormError> {
+        check_members!(alloc, node; "nc", "q_diff", "v_diff");
         read_record!(Difference, alloc, node;
             kind "q_diff",
             category "nc",
@@ -64,10 +61,6 @@ impl InRange for SpeedElement {
 
 #[tactic(auto, unfolding(crate::specs::Profiles::speed_element))]
 impl Members for SpeedElement {
-    fn keys() -> &'static [&'static str] {
-        &["d_static", "differences", "q_front", "v_static"]
-    }
-
     fn send_members<S: Sink>(&self, out: &mut S) -> Result<(), Memory> {
         send_members!(out;
             Member("d_static", &self.distance),
@@ -78,6 +71,7 @@ impl Members for SpeedElement {
     }
 
     fn of_members<N: Node>(alloc: Global, node: &N) -> Result<Self, FormError> {
+        check_members!(alloc, node; "d_static", "differences", "q_front", "v_static");
         read_record!(SpeedElement, alloc, node;
             distance "d_static",
             speed "v_static",
@@ -97,15 +91,12 @@ impl LayoutRecord for SpeedProfile {
 
 #[tactic(auto, unfolding(crate::specs::Profiles::speed_profile))]
 impl Members for SpeedProfile {
-    fn keys() -> &'static [&'static str] {
-        &["elements", "nid_packet", "q_dir", "q_scale"]
-    }
-
     fn send_members<S: Sink>(&self, out: &mut S) -> Result<(), Memory> {
         send_profile(out, "elements", self)
     }
 
     fn of_members<N: Node>(alloc: Global, node: &N) -> Result<Self, FormError> {
+        check_members!(alloc, node; "elements", "nid_packet", "q_dir", "q_scale");
         read_fixed(alloc, node, "nid_packet", 27)?;
         read_profile(alloc, node, "elements")
     }

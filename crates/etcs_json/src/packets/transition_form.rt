@@ -7,8 +7,8 @@ ghost use Rattle.etcs_json.specs.Transition.{level_order, transition};
 
 use crate::error::FormError;
 use crate::members::{
-    Member, NonEmpty, NonEmptyMember, NumberMember, OptionalMember, ReadMembers, pairs,
-    read_record, send_members,
+    Member, NonEmpty, NonEmptyMember, NumberMember, OptionalMember, ReadMembers, check_members,
+    pairs, read_record, send_members,
 };
 use crate::node::Node;
 use crate::node::reading::read_fixed;
@@ -29,10 +29,6 @@ impl LayoutRecord for LevelOrder {
 
 #[tactic(auto, unfolding(crate::specs::Transition::level_order))]
 impl Members for LevelOrder {
-    fn keys() -> &'static [&'static str] {
-        &["l_ackleveltr", "m_leveltr", "nid_ntc"]
-    }
-
     #[tactic(auto, unfolding(crate::specs::Transition::level_order, etcs_bits::specs::layout::Rows::alone))]
     fn send_members<S: Sink>(&self, out: &mut S) -> Result<(), Memory> {
         let ntc = national_system_of(self.level);
@@ -45,6 +41,7 @@ impl Members for LevelOrder {
     }
 
     fn of_members<N: Node>(alloc: Global, node: &N) -> Result<Self, FormError> {
+        check_members!(alloc, node; "l_ackleveltr", "m_leveltr", "nid_ntc");
         read_record!(LevelOrder, alloc, node;
             level "m_leveltr",
             acknowledge "l_ackleveltr",
@@ -62,10 +59,6 @@ impl LayoutRecord for Transition {
 
 #[tactic(auto, unfolding(crate::specs::Transition::transition))]
 impl Members for Transition {
-    fn keys() -> &'static [&'static str] {
-        &["d_leveltr", "nid_packet", "q_dir", "q_scale", "transitions"]
-    }
-
     fn send_members<S: Sink>(&self, out: &mut S) -> Result<(), Memory> {
         send_members!(out;
             Member("d_leveltr", &self.d_leveltr()),
@@ -77,6 +70,7 @@ impl Members for Transition {
     }
 
     fn of_members<N: Node>(alloc: Global, node: &N) -> Result<Self, FormError> {
+        check_members!(alloc, node; "d_leveltr", "nid_packet", "q_dir", "q_scale", "transitions");
         read_fixed(alloc, node, "nid_packet", 41)?;
         let keys = pairs!("q_dir", "q_scale", "d_leveltr", "transitions");
         let found = ReadMembers::read(alloc, node, keys)?;
