@@ -7,9 +7,8 @@ ghost use Rattle.etcs_json.specs.Fault.{Gives, IfMemory};
 ghost use Rattle.etcs_json.specs.Sending.{SendsValue, entries_tokens, tokens_of};
 ghost use Rattle.etcs_json.specs.Shape.{Shape};
 
-use crate::error::FormError;
-use crate::node::Node;
 use crate::writing::marks::Marks;
+use crate::{FormError, Node};
 use etcs_bits::Memory;
 use json::{Token, Writer};
 use serde_json::Value;

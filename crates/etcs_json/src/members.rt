@@ -9,11 +9,9 @@ ghost use Rattle.etcs_json.specs.Listed.{all_of};
 ghost use Rattle.etcs_json.specs.Reading.{at_key, at_key_if, list_of};
 ghost use Rattle.etcs_json.specs.Shape.{both_of, first_and_others, items_of, number_data, optional as data_if};
 
-use crate::error::{FormError, Step};
-use crate::form::{Form, InPieces};
-use crate::node::Node;
 use crate::node::reading::{member, read_first_and, read_items, read_list, under};
 use crate::writing::Sink;
+use crate::{Form, FormError, InPieces, Node, Step};
 use etcs_bits::{Items, Memory};
 use std::alloc::Global;
 use std::marker::Model;

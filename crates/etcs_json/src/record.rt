@@ -7,13 +7,10 @@ ghost use Rattle.etcs_json.specs.Reading.{object_with};
 ghost use Rattle.etcs_json.specs.Shape.{Object, shape_of};
 ghost use Rattle.etcs_json.specs.Sending.{sorted, sorted_keys};
 
-use crate::error::FormError;
-use crate::form::{Form, InPieces};
-use crate::node::Node;
-use crate::node::keys::check_keys;
 use crate::writing::Sink;
 use crate::writing::building::NewObject;
 use crate::writing::marks::Marks;
+use crate::{Form, FormError, InPieces, Node, check_keys};
 use etcs_bits::{Layout, Memory};
 use json::Token;
 use serde_json::Value;

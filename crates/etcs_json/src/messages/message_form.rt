@@ -4,12 +4,10 @@ ghost use Rattle.std.specs.Prelude.{IsOk};
 ghost use Rattle.etcs_json.specs.AnyMessage.{is_message};
 ghost use Rattle.etcs_json.specs.Chosen.{any_object};
 
-use crate::error::FormError;
-use crate::form::{Form, InPieces};
-use crate::node::Node;
 use crate::node::reading::{Numbers, check_object, read_number};
 use crate::record::InRange;
 use crate::writing::marks::Marks;
+use crate::{Form, FormError, InPieces, Node};
 use etcs_bits::Memory;
 use etcs_radio::Message;
 use serde_json::Value;

@@ -1,13 +1,12 @@
 //! The form of message 3, the movement authority.
 
-use crate::error::FormError;
 use crate::members::{
     ListMember, Listed, Member, NumberMember, ReadMembers, check_members, pairs, send_members,
 };
-use crate::node::Node;
 use crate::node::reading::read_fixed;
-use crate::record::{InRange, Members, Record, prove_allowed};
+use crate::record::{InRange, Members, prove_allowed};
 use crate::writing::Sink;
+use crate::{FormError, Node, Record};
 use etcs_bits::{Identity, Memory, are_allowed};
 use etcs_radio::MovementMessage;
 use std::alloc::Global;

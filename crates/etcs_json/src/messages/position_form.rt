@@ -1,13 +1,12 @@
 //! The form of message 136, the position report.
 
-use crate::error::FormError;
 use crate::members::{
     ListMember, Listed, Member, NumberMember, ReadMembers, check_members, pairs, send_members,
 };
-use crate::node::Node;
 use crate::node::reading::read_fixed;
-use crate::record::{InRange, Members, Record, prove_allowed};
+use crate::record::{InRange, Members, prove_allowed};
 use crate::writing::Sink;
+use crate::{FormError, Node, Record};
 use etcs_bits::{Memory, are_allowed};
 use etcs_radio::PositionMessage;
 use std::alloc::Global;

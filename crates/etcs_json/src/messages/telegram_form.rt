@@ -4,15 +4,13 @@ ghost use Rattle.std.specs.Prelude.{◌≡◌};
 ghost use Rattle.etcs_telegram.specs.Sizes.{user_bits};
 ghost use Rattle.etcs_json.specs.Telegrams.{header};
 
-use crate::error::FormError;
-use crate::form::{Form, InPieces};
 use crate::members::{
     ListMember, Listed, Member, ReadMembers, check_members, pairs, read_record, send_members,
 };
-use crate::node::Node;
-use crate::record::{InRange, Members, Record, prove_allowed};
+use crate::record::{InRange, Members, prove_allowed};
 use crate::writing::Sink;
 use crate::writing::marks::Marks;
+use crate::{Form, FormError, InPieces, Node, Record};
 use etcs_bits::{Memory, are_allowed};
 use etcs_telegram::{Header, Size, Telegram};
 use serde_json::Value;

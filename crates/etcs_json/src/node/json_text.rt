@@ -6,9 +6,8 @@ ghost use Rattle.json.specs.Scratch.{tape_room};
 ghost use Rattle.serde_json.specs.Read.{read};
 ghost use Rattle.etcs_json.specs.node.Tape.{is_sound};
 
-use crate::node::Node;
-use crate::node::tape_node::TapeNode;
 use crate::node::tape_range::are_in_range;
+use crate::{Node, TapeNode};
 use json::{Scratch, Tape};
 
 // The most bytes of a text that has a tape.

@@ -8,8 +8,7 @@ ghost use Rattle.etcs_json.specs.Entries.{are_known, is_among};
 ghost use Rattle.etcs_json.specs.Fault.{Gives, IfMemory};
 ghost use Rattle.etcs_json.specs.Reading.{object_with};
 
-use crate::error::FormError;
-use crate::node::Node;
+use crate::{FormError, Node};
 use serde_json::{Map, Value};
 use std::alloc::Global;
 

@@ -6,10 +6,8 @@ ghost use Rattle.etcs_json.specs.Fault.{Gives, IfMemory, IsUnder, key};
 ghost use Rattle.etcs_json.specs.Reading.{at_key, at_key_if, items_at, list_of, member_at, no_key, allowed_number};
 ghost use Rattle.etcs_json.specs.Shape.{first_and_others, fixed};
 
-use crate::error::{FormError, Step};
-use crate::form::Form;
 use crate::members::ReadMembers;
-use crate::node::Node;
+use crate::{Form, FormError, Node, Step};
 use std::alloc::Global;
 
 /// The member at a key that has to be there.

@@ -8,17 +8,14 @@ ghost use Rattle.etcs_json.specs.Chosen.{with_number};
 ghost use Rattle.etcs_json.specs.Fault.{Gives};
 ghost use Rattle.etcs_json.specs.Reading.{as_kind, object_with};
 
-use crate::error::FormError;
-use crate::form::{Form, InPieces};
 use crate::members::{ListMember, Member, NumberMember, OptionalMember, ReadMembers, send_members};
-use crate::node::Node;
-use crate::node::keys::check_keys;
 use crate::node::reading::{read_first, read_fixed};
 use crate::packets::terms_form::{Terms, authority_of};
 use crate::record::prove_allowed;
 use crate::writing::Sink;
 use crate::writing::building::NewObject;
 use crate::writing::marks::Marks;
+use crate::{Form, FormError, InPieces, Node, check_keys};
 use etcs_bits::{Dir, Memory, Ranged, Scale, Speed};
 use etcs_profile::Authority;
 use json::Token;

@@ -3,11 +3,10 @@
 ghost use Rattle.etcs_json.specs.Authority.{danger_point, end_timer, overlap, section, section_timer};
 ghost use Rattle.etcs_json.specs.Shape.{whole};
 
-use crate::error::FormError;
 use crate::members::{Member, OptionalMember, check_members, read_record, send_members};
-use crate::node::Node;
-use crate::record::{LayoutRecord, Members, Record};
+use crate::record::{LayoutRecord, Members};
 use crate::writing::Sink;
+use crate::{FormError, Node, Record};
 use etcs_bits::Memory;
 use etcs_profile::{DangerPoint, EndTimer, Overlap, Section, SectionTimer};
 use std::alloc::Global;

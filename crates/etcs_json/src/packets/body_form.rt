@@ -6,10 +6,9 @@ ghost use Rattle.etcs_json.specs.Fault.{Gives};
 ghost use Rattle.etcs_json.specs.Measured.{is_length, measured_of};
 ghost use Rattle.etcs_json.specs.Reading.{at_key};
 
-use crate::error::FormError;
-use crate::node::Node;
 use crate::node::reading::{Numbers, member, read_number, under};
 use crate::packets::body_text::body_in;
+use crate::{FormError, Node};
 use etcs_bits::Bits;
 use std::alloc::Global;
 

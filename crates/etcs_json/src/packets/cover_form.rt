@@ -3,12 +3,11 @@
 ghost use Rattle.etcs_json.specs.Cover.{cover_marker};
 ghost use Rattle.etcs_json.specs.Shape.{whole};
 
-use crate::error::FormError;
 use crate::members::{Member, NumberMember, ReadMembers, check_members, send_members};
-use crate::node::Node;
 use crate::node::reading::read_fixed;
-use crate::record::{LayoutRecord, Members, Record};
+use crate::record::{LayoutRecord, Members};
 use crate::writing::Sink;
+use crate::{FormError, Node, Record};
 use etcs_bits::Memory;
 use etcs_packet::CoverMarker;
 use std::alloc::Global;

@@ -5,13 +5,11 @@ ghost use Rattle.etcs_radio.specs.Integrity.{length_number as number_of_length, 
 ghost use Rattle.etcs_json.specs.KeyedVariables.{number_in};
 ghost use Rattle.etcs_json.specs.Report.{integrity};
 
-use crate::error::FormError;
-use crate::form::{Form, InPieces};
 use crate::members::ReadMembers;
-use crate::node::Node;
 use crate::node::reading::check_absent;
 use crate::packets::number_forms::read_number;
 use crate::writing::marks::Marks;
+use crate::{Form, FormError, InPieces, Node};
 use etcs_bits::{Distance, Memory, Plain};
 use etcs_radio::{Integrity, Train3};
 use serde_json::Value;

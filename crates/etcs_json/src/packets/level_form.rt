@@ -5,10 +5,9 @@ ghost use Rattle.etcs_bits.specs.variables.Level.{m_level};
 ghost use Rattle.etcs_json.specs.KeyedVariables.{number_in};
 ghost use Rattle.etcs_json.specs.Transition.{level};
 
-use crate::error::FormError;
 use crate::members::ReadMembers;
-use crate::node::Node;
 use crate::node::reading::check_absent;
+use crate::{FormError, Node};
 use etcs_bits::{Level, Plain, Ranged};
 use std::alloc::Global;
 

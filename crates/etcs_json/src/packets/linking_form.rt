@@ -5,13 +5,12 @@ ghost use Rattle.etcs_json.specs.Head.{packet};
 ghost use Rattle.etcs_json.specs.Profiles.{link, linking};
 ghost use Rattle.etcs_json.specs.Shape.{whole};
 
-use crate::error::FormError;
 use crate::members::{Member, OptionalMember, check_members, read_record, send_members};
-use crate::node::Node;
 use crate::node::reading::read_fixed;
 use crate::packets::profile_form::{read_profile, send_profile};
-use crate::record::{LayoutRecord, Members, Record};
+use crate::record::{LayoutRecord, Members};
 use crate::writing::Sink;
+use crate::{FormError, Node, Record};
 use etcs_bits::Memory;
 use etcs_profile::{Link, Linking};
 use std::alloc::Global;

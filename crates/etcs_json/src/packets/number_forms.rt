@@ -4,10 +4,8 @@
 ghost use Rattle.etcs_bits.specs.variables.Variables.{plain, ranged};
 ghost use Rattle.etcs_json.specs.Variables.{direction, duplicate, flag, scale, variable, version};
 
-use crate::error::FormError;
-use crate::form::{Form, InPieces};
-use crate::node::Node;
 use crate::writing::marks::Marks;
+use crate::{Form, FormError, InPieces, Node};
 use etcs_bits::{Dir, Dup, Memory, Plain, Ranged, Scale, Version};
 use serde_json::Value;
 use std::alloc::Global;

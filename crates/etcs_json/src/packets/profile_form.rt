@@ -9,13 +9,11 @@ ghost use Rattle.etcs_json.specs.Profiles.{is_short, profile_of};
 ghost use Rattle.etcs_json.specs.Shape.{items_of, only, number_data};
 ghost use Rattle.etcs_json.specs.Variables.{direction, scale};
 
-use crate::error::FormError;
-use crate::form::{Form, InPieces};
 use crate::members::{
     Member, NonEmpty, NonEmptyMember, NumberMember, ReadMembers, pairs, send_members,
 };
-use crate::node::Node;
 use crate::writing::Sink;
+use crate::{Form, FormError, InPieces, Node};
 use etcs_bits::{Dir, Layout, Memory, Scale};
 use etcs_profile::{Elements, Packet};
 use std::alloc::Global;

@@ -5,14 +5,13 @@ ghost use Rattle.etcs_json.specs.RawTrain.{raw_train_packet};
 ghost use Rattle.etcs_json.specs.Shape.{whole};
 ghost use Rattle.etcs_json.specs.Variables.{is_allowed};
 
-use crate::error::FormError;
 use crate::members::{NumberMember, check_members, send_members};
-use crate::node::Node;
 use crate::node::reading::{Numbers, read_number};
 use crate::packets::body_form::{packet_length, read_measured};
 use crate::packets::body_text::BodyMember;
-use crate::record::{InRange, Members, Record, prove_allowed};
+use crate::record::{InRange, Members, prove_allowed};
 use crate::writing::Sink;
+use crate::{FormError, Node, Record};
 use etcs_bits::Memory;
 use etcs_radio::RawTrainPacket;
 use std::alloc::Global;

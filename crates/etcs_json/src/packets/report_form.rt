@@ -8,14 +8,10 @@ ghost use Rattle.etcs_json.specs.Reading.{as_kind, object_with};
 ghost use Rattle.etcs_json.specs.Report.{either_report, identity, situation, with_one, with_two};
 ghost use Rattle.etcs_json.specs.ReportSending.{first_members, last_members, sent_members};
 
-use crate::error::FormError;
-use crate::form::{Form, InPieces};
 use crate::members::{
     Member, NumberMember, OptionalMember, ReadMembers, make_record, pairs, read_record,
     send_members,
 };
-use crate::node::Node;
-use crate::node::keys::check_keys;
 use crate::node::reading::{read_first, read_fixed};
 use crate::packets::integrity_form::{confirmed_length, length_number};
 use crate::packets::level_form::national_system_of;
@@ -23,6 +19,7 @@ use crate::record::prove_allowed;
 use crate::writing::Sink;
 use crate::writing::building::NewObject;
 use crate::writing::marks::Marks;
+use crate::{Form, FormError, InPieces, Node, check_keys};
 use etcs_bits::{Distance, Identity, Level, Memory, Plain, Scale};
 use etcs_radio::{Integrity, Report, Train3};
 use json::Token;

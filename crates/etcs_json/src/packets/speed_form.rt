@@ -5,13 +5,12 @@ ghost use Rattle.etcs_json.specs.Head.{packet};
 ghost use Rattle.etcs_json.specs.Profiles.{difference, speed_element, speed_profile};
 ghost use Rattle.etcs_json.specs.Shape.{whole};
 
-use crate::error::FormError;
 use crate::members::{ListMember, Member, check_members, read_record, send_members};
-use crate::node::Node;
 use crate::node::reading::read_fixed;
 use crate::packets::profile_form::{read_profile, send_profile};
-use crate::record::{InRange, LayoutRecord, Members, Record, prove_allowed};
+use crate::record::{InRange, LayoutRecord, Members, prove_allowed};
 use crate::writing::Sink;
+use crate::{FormError, Node, Record};
 use etcs_bits::Memory;
 use etcs_profile::{Difference, SpeedElement, SpeedProfile};
 use std::alloc::Global;

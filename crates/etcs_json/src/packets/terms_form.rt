@@ -6,10 +6,9 @@ ghost use Rattle.etcs_json.specs.Authority.{section, terms};
 ghost use Rattle.etcs_json.specs.Reading.{list_of};
 ghost use Rattle.etcs_json.specs.Shape.{object};
 
-use crate::error::FormError;
 use crate::members::{FromNode, ReadMembers, make_record, pairs};
-use crate::node::Node;
 use crate::node::reading::read_list;
+use crate::{FormError, Node};
 use etcs_bits::{Dir, Distance, Scale, Speed, Time};
 use etcs_profile::{Authority, DangerPoint, EndTimer, Overlap, Section, SectionTimer};
 use std::alloc::Global;

@@ -4,13 +4,11 @@ ghost use Rattle.std.specs.Prelude.{◌≡◌, IfOk};
 ghost use Rattle.serde_json.specs.View.{view};
 ghost use Rattle.etcs_json.specs.TrainPackets.{train_packet};
 
-use crate::error::FormError;
-use crate::form::{Form, InPieces};
-use crate::node::Node;
 use crate::node::reading::read_first;
 use crate::packets::report_form::{read_one, read_two};
 use crate::record::prove_allowed;
 use crate::writing::marks::Marks;
+use crate::{Form, FormError, InPieces, Node};
 use etcs_bits::{Memory, Ranged};
 use etcs_radio::TrainPacket;
 use serde_json::Value;

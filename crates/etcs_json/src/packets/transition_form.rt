@@ -5,16 +5,15 @@ ghost use Rattle.etcs_json.specs.Head.{packet};
 ghost use Rattle.etcs_json.specs.Shape.{whole};
 ghost use Rattle.etcs_json.specs.Transition.{level_order, transition};
 
-use crate::error::FormError;
 use crate::members::{
     Member, NonEmpty, NonEmptyMember, NumberMember, OptionalMember, ReadMembers, check_members,
     pairs, read_record, send_members,
 };
-use crate::node::Node;
 use crate::node::reading::read_fixed;
 use crate::packets::level_form::national_system_of;
-use crate::record::{LayoutRecord, Members, Record};
+use crate::record::{LayoutRecord, Members};
 use crate::writing::Sink;
+use crate::{FormError, Node, Record};
 use etcs_bits::Memory;
 use etcs_profile::{LevelOrder, Transition};
 use std::alloc::Global;
