@@ -8,4 +8,4 @@ pub returns : goal.returns
 unfolding raw_train_packet
 returns g c =
     let is = c.in-Ok.ensures.ok in
-    rw (c.in_ok-number.ensures.gives, c.in_ok-body.ensures.gives) (ap Ok (raw_train_made c.in-Ok.packet _ _ is.0 is.1))
+    rw (c.in_ok-check_record.ensures.keys, c.in_ok-number.ensures.gives, c.in_ok-body.ensures.gives) (ap Ok (raw_train_made c.in-Ok.packet _ _ is.0 is.1))
