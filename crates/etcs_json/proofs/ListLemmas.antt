@@ -8,10 +8,9 @@ use Rattle.serde_json.specs.View.{view, items_view}
 use Rattle.serde_json.specs.declared.value.Value.{Value}
 use Rattle.etcs_json.specs.Fault.{Fails, Fault, Gives, IsDeeper, Kind, Range, here, list_item, under}
 use Rattle.etcs_json.specs.Listed.{all_of, items_or}
-use Rattle.etcs_json.specs.Reading.{◌>>=◌, bounded_list_or, data_list, items_at, list_of, with_first}
+use Rattle.etcs_json.specs.Reading.{counts_between, ◌>>=◌, bounded_list_or, data_list, items_at, list_of, with_first}
 use Rattle.etcs_json.specs.Shape.{items_of}
 use Rattle.etcs_json.specs.declared.error.FormError.{FormError}
-use Rattle.etcs_json.specs.node.Nodes.{counts_between}
 use Rattle.etcs_json.proofs.Objects.{fails_same, fails_under, none_mapped}
 use Rattle.etcs_json.proofs.TapeLemmas.{or_this, some_mapped}
 

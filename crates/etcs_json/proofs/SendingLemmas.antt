@@ -6,9 +6,9 @@ use Rattle.json.specs.Tree.{items_tokens, members_tokens}
 use Rattle.serde_json.specs.Data.{Data, array, object}
 use Rattle.serde_json.specs.Written.{items_outline, members_outline}
 use Rattle.etcs_json.specs.Entries.{Entry, are_apart, object_of}
-use Rattle.etcs_json.specs.Sending.{each_tokens, entries_tokens, members_of, sorted, tokens_of}
+use Rattle.etcs_json.specs.Sending.{each_tokens, entries_tokens, sorted, tokens_of}
 use Rattle.etcs_json.specs.Shape.{Object, items_of}
-use Rattle.etcs_json.proofs.SortedLemmas.{made_members}
+use Rattle.etcs_json.proofs.SortedLemmas.{made_members, members_of}
 
 -- ---- arrays
 

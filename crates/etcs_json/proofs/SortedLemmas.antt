@@ -10,7 +10,16 @@ use Rattle.std.specs.Ordering.{match_ordering, ordering_reverse}
 use Rattle.serde_json.specs.Data.{Data, Members, member, no_members, put}
 use Rattle.etcs_json.specs.EntryLemmas.{apart_sym, not_true}
 use Rattle.etcs_json.specs.Entries.{Entry, keys_of, put_or, members_onto, is_among, are_apart}
-use Rattle.etcs_json.specs.Sending.{member_or, members_of, insert, onto, sorted}
+use Rattle.etcs_json.specs.Sending.{insert, onto, sorted}
+
+-- the keys that are there, in this order
+abbrev pub member_or : List ℕ → Option Data → Members → Members
+member_or k None ms = ms
+member_or k (Some d) ms = member k d ms
+
+abbrev pub members_of : List Entry → Members
+members_of [] = no_members
+members_of (e ∷ es) = member_or e.0 e.1 (members_of es)
 
 or_swapped : (a b c : Bool) → (a || (b || c)) ≡ (b || (a || c))
 or_swapped a b c = grind (arith, nat_tests)

@@ -1,5 +1,5 @@
 -- The form of a radio message, by its number (SUBSET-026, 8.6 and 8.7).
-use Rattle.std.specs.Prelude.{◌≡◌, ℕ, ◌==◌, ◌||◌, ◌⊎◌, Bool, true, codes, if◌then◌else◌, refl}
+use Rattle.std.specs.Prelude.{◌≡◌, ◌⊎◌, codes, refl}
 use Rattle.std.proofs.Common.{inl, inr}
 use Rattle.etcs_radio.specs.Head.{nid_message}
 use Rattle.etcs_radio.specs.Record.{Movement, Position}
@@ -10,10 +10,6 @@ use Rattle.etcs_json.specs.Messages.{movement, position}
 use Rattle.etcs_json.specs.Shape.{Shape, renamed}
 use Rattle.etcs_json.specs.TrackPackets.{track_packet}
 use Rattle.etcs_json.specs.TrainPackets.{train_packet}
-
--- the numbers of messages that are read and written here
-abbrev pub is_message : ℕ → Bool
-is_message n = (n == 3) || (n == 136)
 
 abbrev pub message_of : Movement ⊎ Position → Message
 message_of m = by_kind messages.Movement messages.Position m
@@ -30,10 +26,6 @@ message_again (messages.Position m) = refl
 abbrev pub numbered : Choice (codes "nid_message") nid_message (Movement ⊎ Position)
 numbered = either (movement track_packet) (last (position train_packet)) refl
 
-pub passes : (v : Movement ⊎ Position) → is_message (numbered.number v) ≡ true
-passes (inl m) = refl
-passes (inr m) = refl
-
 -- NID_MESSAGE is looked at first: 3 or 136
 unfoldable pub message : Shape Message
-message = renamed message_of kinds_of message_again (chosen (codes "nid_message") is_message numbered (λ v _. passes v))
+message = renamed message_of kinds_of message_again (chosen (codes "nid_message") numbered.allows numbered (λ v _. numbered.is_number v))

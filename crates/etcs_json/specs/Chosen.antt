@@ -76,10 +76,6 @@ pub record Choice (name : List ℕ) (x : Variable) (X : Type 0) : Type 0 where
 abbrev pub last_of : {A : Type 0} → List ℕ → ℕ → (Data → Result A Fault) → ℕ → Data → Result A Fault
 last_of name k read n d = if n == k then read d else Err (at_once Range (key_step name))
 
-pub last_again : {name : List ℕ} {k : ℕ} {A : Type 0} {rows : A → List Row} (o : BehindNumber name k rows) (v : A) → AreAllowed (rows v)
-    → last_of name k (object (with_number o)).of k ((object (with_number o)).to v) ≡ Ok v
-last_again {k = k} o v allowed = rw (is_itself k) ((object (with_number o)).again v allowed)
-
 -- the number k and no other
 abbrev pub last : {name : List ℕ} {x : Variable} {k : ℕ} {A : Type 0} {rows : A → List Row} → BehindNumber name k rows → Choice name x A
 last {name = name} {x = x} {k = k} {rows = rows} o = record {
@@ -90,7 +86,7 @@ last {name = name} {x = x} {k = k} {rows = rows} o = record {
   of = last_of name k (object (with_number o)).of;
   is_number = λ _. is_itself k;
   has_number = number_there o;
-  again = λ v allowed. last_again o v (allowed_behind x k (rows v) allowed);
+  again = λ v allowed. rw (is_itself k) ((object (with_number o)).again v (allowed_behind x k (rows v) allowed));
 }
 
 -- a function of either kind

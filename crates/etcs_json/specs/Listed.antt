@@ -1,15 +1,13 @@
 -- Lists of any number of items, and records that may still be refused once they are read.
-use Rattle.std.specs.Prelude.{◌≡◌, ◌++◌, Bool, false, List, Option, Some, None, Result, Ok, Err, refl}
+use Rattle.std.specs.Prelude.{◌≡◌, ◌++◌, Bool, true, false, List, Option, Some, None, Result, Ok, Err}
 use Rattle.std.specs.List.{flat_map}
 use Rattle.serde_json.specs.Data.{Data, Items, array}
 use Rattle.serde_json.specs.Find.{as_array}
 use Rattle.etcs_bits.specs.declared.layout.fault.FaultKind.TheVariants.{Spare}
 use Rattle.etcs_bits.specs.layout.Rows.{AreAllowed, Row, alone}
-use Rattle.etcs_json.specs.Entries.{Holds}
-use Rattle.etcs_json.specs.Fault.{Fault, here}
-use Rattle.etcs_json.specs.Fault.{Kind}
-use Rattle.etcs_json.specs.Reading.{◌>>=◌, data_list, items_at}
-use Rattle.etcs_json.specs.Shape.{Part, Shape, items_again, items_of, only}
+use Rattle.etcs_json.specs.Fault.{Fault, Kind, here}
+use Rattle.etcs_json.specs.Reading.{data_list, items_at}
+use Rattle.etcs_json.specs.Shape.{Part, Shape, items_again, items_of, with_bits, within}
 
 -- ---- lists
 
@@ -40,17 +38,11 @@ listed s = record {
 abbrev pub rows_holding : {X : Type 0} → (X → Bool) → (X → List Row) → X → List Row
 rows_holding holds rows x = alone (record { width = 0; allows = λ _. holds x; refusal = Spare; closes = false }) 0 ++ rows x
 
-pub holding_again : {X : Type 0} {rows : X → List Row} (fault : Fault) (holds : X → Bool) (a : Part rows) (x : X) (d : Data) → AreAllowed (rows_holding holds rows x) → Holds (a.to x) d
-    → (a.of d >>= only fault holds) ≡ Ok x
+pub held : {X : Type 0} (holds : X → Bool) (rows : X → List Row) (x : X) → AreAllowed (rows_holding holds rows x) → (holds x ≡ true) × AreAllowed (rows x)
 unfolding alone
-holding_again fault holds a x d allowed there = rw (a.again x d allowed.1 there, allowed.0.1) refl
+held holds rows x allowed = (allowed.0.1, allowed.1)
 
 -- the members of records that have to have a property; one without it has the fault
 abbrev pub holding : {X : Type 0} {rows : X → List Row} → Fault → (holds : X → Bool) → Part rows → Part (rows_holding holds rows)
-holding fault holds a = record {
-  keys = a.keys;
-  to = a.to;
-  of = λ d. a.of d >>= only fault holds;
-  has_keys = a.has_keys;
-  again = holding_again fault holds a;
-}
+holding {rows = rows} fault holds a =
+    within fault holds (λ x allowed. (held holds rows x allowed).0) (with_bits (rows_holding holds rows) (λ x allowed. (held holds rows x allowed).1) a)

@@ -34,7 +34,7 @@ profile_short layout p allowed = le-leb (23 + width ((elements layout).rows p.1)
 -- a packet with a list of elements at this key; it is refused where it is too long
 abbrev pub profile : {X : Type 0} → List ℕ → (layout : Format X) → ObjectOf layout.rows → Part (rest (elements layout)).rows
 profile name layout element =
-    within (is_short layout) (profile_short layout) (headed (struct profile_struct (scaled (key name (list_from_one (object element))))))
+    within (here Range) (is_short layout) (profile_short layout) (headed (struct profile_struct (scaled (key name (list_from_one (object element))))))
 
 -- what is read of such a packet
 abbrev pub profile_of : {X : Type 0} → List ℕ → Format X → (Data → Result X Fault) → Data → Result (Dir × Profile X) Fault

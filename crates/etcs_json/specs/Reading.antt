@@ -3,8 +3,7 @@ use Rattle.std.specs.Prelude.{◌&&◌, ◌+◌, ℕ, Bool, List, [], ◌∷◌,
 use Rattle.serde_json.specs.Data.{Data, Items, item, no_items, Members}
 use Rattle.serde_json.specs.Find.{get, as_object, as_array, as_number, as_u64}
 use Rattle.etcs_json.specs.Entries.{are_known}
-use Rattle.etcs_json.specs.Fault.{Fault, key, list_item, at_once, here, under}
-use Rattle.etcs_json.specs.Fault.{Missing, Unknown, Kind, Range}
+use Rattle.etcs_json.specs.Fault.{Fault, Missing, Unknown, Kind, Range, key, list_item, at_once, here, under}
 
 infixl 10 ◌>>=◌
 abbrev pub ◌>>=◌ : {A B : Type 0} → Result A Fault → (A → Result B Fault) → Result B Fault
@@ -38,11 +37,14 @@ abbrev pub data_list : Items → List Data
 data_list no_items = []
 data_list (item d ds) = d ∷ data_list ds
 
+-- from `low` to `high` items
+abbrev pub counts_between : ℕ → ℕ → List Data → Bool
+counts_between low high ds = nat_le low (length ds) && nat_le (length ds) high
+
 abbrev pub bounded_list_or : {A : Type 0} → (Data → Result A Fault) → ℕ → ℕ → Option Items → Result (List A) Fault
 bounded_list_or read low high None = Err (here Kind)
 bounded_list_or read low high (Some ds) =
-    if nat_le low (length (data_list ds)) && nat_le (length (data_list ds)) high
-    then items_at read 0 (data_list ds) else Err (here Range)
+    if counts_between low high (data_list ds) then items_at read 0 (data_list ds) else Err (here Range)
 
 -- a list of from `low` to `high` items
 unfoldable pub list_of : {A : Type 0} → (Data → Result A Fault) → ℕ → ℕ → Data → Result (List A) Fault

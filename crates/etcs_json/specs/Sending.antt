@@ -6,18 +6,9 @@ use Rattle.std.specs.Ordering.{nat_cmp, match_ordering}
 use Rattle.json.specs.Token.{Token, key}
 use Rattle.json.specs.Tree.{json_tokens}
 use Rattle.json.specs.Written.{Written}
-use Rattle.serde_json.specs.Data.{Data, Members, member, no_members}
+use Rattle.serde_json.specs.Data.{Data}
 use Rattle.serde_json.specs.Written.{outline}
 use Rattle.etcs_json.specs.Entries.{Entry, keys_of}
-
--- the keys that are there, in this order
-abbrev pub member_or : List ℕ → Option Data → Members → Members
-member_or k None ms = ms
-member_or k (Some d) ms = member k d ms
-
-abbrev pub members_of : List Entry → Members
-members_of [] = no_members
-members_of (e ∷ es) = member_or e.0 e.1 (members_of es)
 
 -- in the byte order of the keys
 abbrev pub insert : Entry → List Entry → List Entry

@@ -12,9 +12,8 @@ use Rattle.etcs_bits.specs.layout.Rows.{AreAllowed, Row, Variable, alone, width}
 use Rattle.etcs_bits.specs.layout.Struct.{Struct}
 use Rattle.etcs_json.specs.Entries.{Entry, keys_of, object_of, are_apart, Holds}
 use Rattle.etcs_json.specs.EntryLemmas.{object_holds, object_known, holds_parts, keys_of-append}
-use Rattle.etcs_json.specs.Fault.{Fault, key as key_step, under, here}
+use Rattle.etcs_json.specs.Fault.{Fault, Range, key as key_step, under, here}
 use Rattle.etcs_json.specs.Reading.{◌>>=◌, allowed_number, items_at, data_list, list_of, object_with, at_key, key_or, at_key_if, option_or, as_kind}
-use Rattle.etcs_json.specs.Fault.{Range}
 
 -- a value, whose bits have these rows
 pub record Shape (X : Type 0) : Type 0 where
@@ -39,16 +38,6 @@ number_data n = number (unsigned n)
 pub number_again : (allowed : ℕ → Bool) (n : ℕ) → allowed n ≡ true → allowed_number allowed (number_data n) ≡ Ok n
 unfolding allowed_number
 number_again allowed n is = rw is refl
-
--- numbers that have names
-abbrev pub names : {X : Type 0} (rows : X → List Row) (allowed : ℕ → Bool) (tag : X → ℕ) (of : ℕ → X)
-    → ((x : X) → allowed (tag x) ≡ true) → ((x : X) → of (tag x) ≡ x) → Shape X
-names rows allowed tag of is_allowed again = record {
-  rows = rows;
-  to = λ x. number_data (tag x);
-  of = λ d. allowed_number allowed d >>= λ n. Ok (of n);
-  again = λ x _. ap (λ r. r >>= λ n. Ok (of n)) (number_again allowed (tag x) (is_allowed x)) ∙ ap Ok (again x);
-}
 
 -- the form of a struct, which is the form of its parts; `make` and `parts` go between the two
 abbrev pub renamed : {X Y : Type 0} (make : X → Y) (parts : Y → X) → ((y : Y) → make (parts y) ≡ y) → Shape X → Shape Y
@@ -161,9 +150,6 @@ then_again {rows_a = rows_a} {rows_b = rows_b} a b p d allowed holds =
     let parts = holds_parts (a.to p.0) (b.to p.1) d holds in
     rw (a.again p.0 d (allowed_first (rows_a p.0) (rows_b p.1) allowed) parts.0, b.again p.1 d (allowed_second (rows_a p.0) (rows_b p.1) allowed) parts.1) refl
 
-pub then_keys : {A B : Type 0} {rows_a : A → List Row} {rows_b : B → List Row} (a : Part rows_a) (b : Part rows_b) (p : A × B) → keys_of (a.to p.0 ++ b.to p.1) ≡ a.keys ++ b.keys
-then_keys a b p = keys_of-append (a.to p.0) (b.to p.1) ∙ rw (a.has_keys p.0, b.has_keys p.1) refl
-
 -- members, and then others
 infixr 5 ◌then◌
 abbrev pub ◌then◌ : {A B : Type 0} {rows_a : A → List Row} {rows_b : B → List Row} → Part rows_a → Part rows_b → Part (pair_rows rows_a rows_b)
@@ -171,7 +157,7 @@ a then b = record {
   keys = a.keys ++ b.keys;
   to = λ p. a.to p.0 ++ b.to p.1;
   of = both_of a.of b.of;
-  has_keys = then_keys a b;
+  has_keys = λ p. keys_of-append (a.to p.0) (b.to p.1) ∙ rw (a.has_keys p.0, b.has_keys p.1) refl;
   again = then_again a b;
 }
 
@@ -228,14 +214,14 @@ fixed name k = record {
 abbrev pub only : {X : Type 0} → Fault → (X → Bool) → X → Result X Fault
 only fault holds x = if holds x then Ok x else Err fault
 
--- members of which some records, although each member is allowed, are out of range; their rows are not allowed
-abbrev pub within : {X : Type 0} {rows : X → List Row} (small : X → Bool) → ((x : X) → AreAllowed (rows x) → small x ≡ true) → Part rows → Part rows
-within small is_small a = record {
+-- members of records that pass a test, as they do if their rows are allowed; a record that fails it has the fault
+abbrev pub within : {X : Type 0} {rows : X → List Row} → Fault → (test : X → Bool) → ((x : X) → AreAllowed (rows x) → test x ≡ true) → Part rows → Part rows
+within fault test passes a = record {
   keys = a.keys;
   to = a.to;
-  of = λ d. a.of d >>= only (here Range) small;
+  of = λ d. a.of d >>= only fault test;
   has_keys = a.has_keys;
-  again = λ x d allowed holds. rw (a.again x d allowed holds, is_small x allowed) refl;
+  again = λ x d allowed holds. rw (a.again x d allowed holds, passes x allowed) refl;
 }
 
 -- ---- objects

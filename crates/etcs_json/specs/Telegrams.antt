@@ -1,7 +1,8 @@
 -- The form of a telegram (SUBSET-026, 8.4.2). Each key is named as the standard names its variable, in
 -- small letters. NID_C and NID_BG are the identity of the balise's group. `user_bits` and `packets` are
 -- this project's. Keys are in the order in which they are looked for.
-use Rattle.std.specs.Prelude.{◌≡◌, ◌++◌, ℕ, ◌==◌, ◌||◌, Bool, true, List, [], codes, if◌then◌else◌, refl}
+use Rattle.std.specs.Prelude.{◌≡◌, ◌++◌, ℕ, ◌==◌, ◌||◌, Bool, true, List, [], Ok, codes, if◌then◌else◌, refl}
+use Rattle.std.proofs.Common.{ap, ◌∙◌}
 use Rattle.std.specs.List.{flat_map}
 use Rattle.etcs_bits.specs.layout.Rows.{Row}
 use Rattle.etcs_bits.specs.declared.layout.fault.FaultKind.TheVariants.{Downlink, Loop}
@@ -13,8 +14,9 @@ use Rattle.etcs_telegram.specs.Sizes.{user_bits}
 use Rattle.etcs_telegram.specs.declared.size.Size.{Size}
 use Rattle.etcs_telegram.specs.declared.size.Size.TheVariants.{Short, Long}
 use Rattle.etcs_json.specs.Listed.{listed}
+use Rattle.etcs_json.specs.Reading.{as_kind, allowed_number}
 use Rattle.etcs_json.specs.Report.{identity}
-use Rattle.etcs_json.specs.Shape.{ObjectOf, Part, Shape, closed, key, named, names, struct, unstated, ◌then◌}
+use Rattle.etcs_json.specs.Shape.{ObjectOf, Part, Shape, closed, key, named, number_again, number_data, struct, unstated, ◌then◌}
 use Rattle.etcs_json.specs.TrackPackets.{track_packet}
 use Rattle.etcs_json.specs.Variables.{duplicate, flag, number, version}
 
@@ -36,7 +38,12 @@ size_again Long = refl
 
 -- a size, as its number of user bits (SUBSET-036, 4.3)
 abbrev pub size : Shape Size
-size = names (λ _. []) is_size user_bits size_with is_one size_again
+size = record {
+  rows = λ _. [];
+  to = λ s. number_data (user_bits s);
+  of = λ d. as_kind size_with (allowed_number is_size d);
+  again = λ s _. ap (as_kind size_with) (number_again is_size (user_bits s) (is_one s)) ∙ ap Ok (size_again s);
+}
 
 -- the header; the bits have Q_UPDOWN and Q_MEDIA too
 unfoldable pub header : Part header_layout.rows

@@ -13,7 +13,7 @@ use Rattle.etcs_bits.specs.variables.Variables.{dir_number, dir_variable, dup_nu
 use Rattle.etcs_bits.specs.variables.VariableLemmas.{AreNames, dir_names, dup_names, scale_names, version_names}
 use Rattle.etcs_bits.specs.variables.VariableValues.{dir_of, dup_of, flag_of, scale_of, version_of}
 use Rattle.etcs_json.specs.Reading.{allowed_number}
-use Rattle.etcs_json.specs.Shape.{Shape, names, number_again, number_data}
+use Rattle.etcs_json.specs.Shape.{Shape, number_again, number_data, renamed}
 
 -- whether a number fits in the bits of a variable and is allowed
 abbrev pub is_allowed : Variable → ℕ → Bool
@@ -40,7 +40,7 @@ number f = variable (variable_of f)
 
 -- a variable whose numbers have names
 abbrev pub named_numbers : {X : Type 0} (x : Variable) (tag : X → ℕ) (of : ℕ → X) → AreNames x tag of → Shape X
-named_numbers x tag of are = names (λ v. alone x (tag v)) (is_allowed x) tag of (λ v. (are v).1) (λ v. (are v).0)
+named_numbers x tag of are = renamed of tag (λ v. (are v).0) (variable x)
 
 pub flag_names : AreNames (plain 1) worth flag_of
 flag_names true = (refl, refl)

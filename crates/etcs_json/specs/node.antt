@@ -1,4 +1,3 @@
 -- JSON values that are only looked at: what is asked of them, and what the tokens of a tape stand for.
-pub mod Nodes
 pub mod Tape
 pub mod Texts

@@ -6,8 +6,7 @@ ghost use Rattle.std.specs.Prelude.{◌≡◌, ◌∷◌, [], List, map, option_
 ghost use Rattle.serde_json.specs.Data.{Data};
 ghost use Rattle.serde_json.specs.Find.{as_array, as_number, as_object, as_str, as_u64, get};
 ghost use Rattle.etcs_json.specs.Entries.{are_known};
-ghost use Rattle.etcs_json.specs.Reading.{data_list};
-ghost use Rattle.etcs_json.specs.node.Nodes.{counts_between};
+ghost use Rattle.etcs_json.specs.Reading.{counts_between, data_list};
 
 pub(crate) mod json_text;
 pub(crate) mod keys;

@@ -1,7 +1,7 @@
 //! The form of a radio message, whose number decides it.
 
 ghost use Rattle.std.specs.Prelude.{IsOk};
-ghost use Rattle.etcs_json.specs.AnyMessage.{is_message};
+ghost use Rattle.etcs_json.specs.AnyMessage.{numbered};
 ghost use Rattle.etcs_json.specs.Chosen.{any_object};
 
 use crate::node::reading::{Numbers, check_object, read_number};
@@ -14,7 +14,7 @@ use serde_json::Value;
 use std::alloc::Global;
 
 impl Numbers for Message {
-    ghost test = { is_message };
+    ghost test = { numbered.allows };
 
     fn has(number: u64) -> bool {
         matches!(number, 3 | 136)
