@@ -1,12 +1,10 @@
 -- The text of a body is read as that body again.
-use Rattle.std.proofs.Common.{◌≡◌, ◌∙◌, ℕ, zero, suc, ◌-◌, ◌*◌, ◌^◌, ◌<◌, ◌≤◌, ◌==◌, Bool, true, false, List, ◌++◌, length, take, drop, replicate, Ok, refl, sym, ap, ap₂, subst, arith}
-use Rattle.std.proofs.lemmas.Bool.{eq-eqb}
+use Rattle.etcs_json.specs.Prelude.{◌≡◌, ◌∙◌, ℕ, zero, suc, ◌-◌, ◌*◌, ◌^◌, ◌<◌, ◌≤◌, ◌==◌, Bool, true, false, List, ◌++◌, length, take, drop, replicate, Ok, refl, sym, ap, ap₂, subst, arith, eq-eqb, string}
 use Rattle.std.proofs.lemmas.List.{drop_at, length-append, length-drop, length-replicate, length-take, length-take-le, nil_from_length, take_at, take-append-drop}
 use Rattle.std.proofs.Math.Pow.{pow_mono}
 use Rattle.std.proofs.lemmas.Nat.{pow_pos}
 use Rattle.hex.specs.Hex.{IsBytes}
 use Rattle.hex.proofs.HexLemmas.{decode_of-encode_lower}
-use Rattle.serde_json.specs.Data.{string}
 use Rattle.etcs_bits.specs.bits.Number.{bits_of_bytes, num, num_of_bits}
 use Rattle.etcs_bits.proofs.NumberLemmas.{num-num_of_bits, num_of_bits-lt, num_of_bits-small}
 use Rattle.etcs_bits.proofs.ViewLemmas.{zeros_are}

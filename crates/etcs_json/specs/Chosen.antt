@@ -1,12 +1,7 @@
 -- Values that a number distinguishes, such as packets by NID_PACKET. The number is looked at before any
 -- other key of the object, and decides the form of the whole object.
-use Rattle.std.specs.Prelude.{◌≡◌, ℕ, ◌++◌, ◌==◌, ◌⊎◌, Bool, true, false, List, ◌∷◌, Option, Some, None, Result, Ok, Err, if◌then◌else◌, refl}
-use Rattle.std.proofs.Common.{ap, inl, inr, subst, sym, ◌∙◌}
-use Rattle.std.proofs.lemmas.Bool.{ne_eqb, true≢false}
-use Rattle.serde_json.specs.Data.{Data, Members}
-use Rattle.serde_json.specs.Find.{as_object, get}
+use Rattle.etcs_json.specs.Prelude.{◌≡◌, ℕ, ◌++◌, ◌==◌, ◌⊎◌, Bool, true, false, List, ◌∷◌, Option, Some, None, Result, Ok, Err, if◌then◌else◌, refl, ap, inl, inr, subst, sym, ◌∙◌, ne_eqb, true≢false, Data, Members, as_object, get, AreAllowed, IsAllowed, Row, Variable, alone, row}
 use Rattle.etcs_bits.specs.layout.Choice.{either_allows, either_number, either_rows}
-use Rattle.etcs_bits.specs.layout.Rows.{AreAllowed, IsAllowed, Row, Variable, alone, row}
 use Rattle.etcs_json.specs.Entries.{Entry, Holds, are_apart, object_of}
 use Rattle.etcs_json.specs.EntryLemmas.{object_holds}
 use Rattle.etcs_json.specs.Fault.{Fault, Kind, Range, at_once, here, key as key_step}

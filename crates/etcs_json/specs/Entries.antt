@@ -1,9 +1,6 @@
 -- The members of an object as a list of keys, each with its value or none, in any order.
-use Rattle.std.specs.Prelude.{◌≡◌, ◌&&◌, ℕ, Bool, true, not, List, [], ◌∷◌, Option, Some, None}
-use Rattle.std.specs.List.{list_any}
+use Rattle.etcs_json.specs.Prelude.{◌≡◌, ◌&&◌, ℕ, Bool, true, not, List, [], ◌∷◌, Option, Some, None, list_any, Data, Members, member, no_members, object, put, get}
 use Rattle.std.specs.Str.{bytes_eq}
-use Rattle.serde_json.specs.Data.{Data, Members, member, no_members, object, put}
-use Rattle.serde_json.specs.Find.{get}
 
 -- a key, and its value; None where the key is left out
 abbrev pub Entry : Type 0

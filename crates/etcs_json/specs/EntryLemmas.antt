@@ -1,12 +1,9 @@
 -- An object of entries with different keys has each of them, and no other key.
-use Rattle.std.proofs.Common.{◌≡◌, ◌∙◌, ◌++◌, ℕ, Bool, true, false, List, [], ◌∷◌, Option, Some, None, Ordering, Less, Equal, Greater, nat_cmp, bytes_eq, not, refl, sym, ap}
-use Rattle.std.proofs.lemmas.Bool.{and_parts, and_from, or_parts, or_left, or_right, true≢false}
+use Rattle.etcs_json.specs.Prelude.{◌≡◌, ◌∙◌, ◌++◌, ℕ, Bool, true, false, List, [], ◌∷◌, Option, Some, None, Ordering, Less, Equal, Greater, nat_cmp, bytes_eq, not, refl, sym, ap, and_parts, and_from, or_parts, or_left, or_right, true≢false, Data, Members, member, no_members, object, put, get_member}
 use Rattle.std.proofs.lemmas.Slice.Eq.{bytes_eq-Decides}
 use Rattle.std.specs.Cmp.Lexicographic.{slice_cmp}
 use Rattle.std.specs.Ordering.{match_ordering}
 use Rattle.serde_json.proofs.Views.{get_member-put, get_member-put_other}
-use Rattle.serde_json.specs.Data.{Data, Members, member, no_members, object, put}
-use Rattle.serde_json.specs.Find.{get_member}
 use Rattle.etcs_json.specs.Entries.{Entry, keys_of, object_of, put_or, members_onto, is_among, are_apart, are_known, Holds}
 
 -- ---- texts

@@ -1,13 +1,7 @@
 -- What packets have in common: their number, and those from track to train mostly Q_DIR, and Q_SCALE before
 -- distances (SUBSET-026, 7.4).
-use Rattle.std.specs.Prelude.{◌≡◌, ◌++◌, ◌<◌, ◌≤◌, ◌==◌, not, ℕ, true, List, codes}
-use Rattle.std.proofs.Common.{◌∙◌, refl, ap, sym, arith}
-use Rattle.std.proofs.lemmas.Bool.{and_from, le-leb, lt-ltb, true≢false}
+use Rattle.etcs_json.specs.Prelude.{◌≡◌, ◌++◌, ◌<◌, ◌≤◌, ◌==◌, not, ℕ, true, List, codes, ◌∙◌, refl, ap, sym, arith, and_from, le-leb, lt-ltb, true≢false, body_rows, pair_rows, Row, alone, q_dir, q_scale, only, ranged}
 use Rattle.etcs_bits.specs.declared.layout.fault.FaultKind.TheVariants.{Spare}
-use Rattle.etcs_bits.specs.layout.Combined.{body_rows, pair_rows}
-use Rattle.etcs_bits.specs.layout.Rows.{Row, alone}
-use Rattle.etcs_bits.specs.variables.VariableFormats.{q_dir, q_scale}
-use Rattle.etcs_bits.specs.variables.Variables.{only, ranged}
 use Rattle.etcs_json.specs.Chosen.{BehindNumber, with_number}
 use Rattle.etcs_json.specs.Shape.{Object, Part, closed, key, sized, unstated, whole, ◌then◌}
 use Rattle.etcs_json.specs.Variables.{direction, is_allowed, scale}

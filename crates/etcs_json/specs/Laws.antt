@@ -1,7 +1,5 @@
 -- The laws of forms: each telegram and each radio message is what its form is read as.
-use Rattle.std.specs.Prelude.{◌≡◌, true, List, Ok}
-use Rattle.std.specs.List.{flat_map}
-use Rattle.etcs_bits.specs.layout.Rows.{AreAllowed, Row}
+use Rattle.etcs_json.specs.Prelude.{◌≡◌, true, List, Ok, flat_map, AreAllowed, Row}
 use Rattle.etcs_packet.specs.Track.{track_packet}
 use Rattle.etcs_telegram.specs.Header.{header}
 use Rattle.etcs_telegram.specs.Record.{Telegram}

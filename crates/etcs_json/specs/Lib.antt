@@ -1,3 +1,4 @@
+pub mod Prelude
 pub mod Fault
 pub mod Path
 pub mod Entries

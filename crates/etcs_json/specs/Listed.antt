@@ -1,10 +1,6 @@
 -- Lists of any number of items, and records that may still be refused once they are read.
-use Rattle.std.specs.Prelude.{◌≡◌, ◌++◌, Bool, true, false, List, Option, Some, None, Result, Ok, Err}
-use Rattle.std.specs.List.{flat_map}
-use Rattle.serde_json.specs.Data.{Data, Items, array}
-use Rattle.serde_json.specs.Find.{as_array}
+use Rattle.etcs_json.specs.Prelude.{◌≡◌, ◌++◌, Bool, true, false, List, Option, Some, None, Result, Ok, Err, flat_map, Data, Items, array, as_array, AreAllowed, Row, alone}
 use Rattle.etcs_bits.specs.declared.layout.fault.FaultKind.TheVariants.{Spare}
-use Rattle.etcs_bits.specs.layout.Rows.{AreAllowed, Row, alone}
 use Rattle.etcs_json.specs.Fault.{Fault, Kind, here}
 use Rattle.etcs_json.specs.Reading.{data_list, items_at}
 use Rattle.etcs_json.specs.Shape.{Part, Shape, items_again, items_of, with_bits, within}

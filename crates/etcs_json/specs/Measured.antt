@@ -1,11 +1,6 @@
 -- L_PACKET and the body that it counts (SUBSET-026, 7.4.1): members of the form of a packet whose
 -- layout is not known.
-use Rattle.std.specs.Prelude.{◌≡◌, ◌+◌, ◌-◌, ◌^◌, ◌&&◌, ℕ, Bool, List, [], ◌∷◌, Some, Result, Ok, codes, length, ltb, nat_le, refl}
-use Rattle.std.proofs.Common.{ap, ◌∙◌, arith}
-use Rattle.serde_json.specs.Data.{Data, string}
-use Rattle.etcs_bits.specs.layout.Combined.{l_kept}
-use Rattle.etcs_bits.specs.layout.Format.{kept_bits}
-use Rattle.etcs_bits.specs.layout.Rows.{AreAllowed}
+use Rattle.etcs_json.specs.Prelude.{◌≡◌, ◌+◌, ◌-◌, ◌^◌, ◌&&◌, ℕ, Bool, List, [], ◌∷◌, Some, Result, Ok, codes, length, ltb, nat_le, refl, ap, ◌∙◌, arith, Data, string, l_kept, kept_bits, AreAllowed}
 use Rattle.etcs_json.specs.BodyText.{body_of, body_text}
 use Rattle.etcs_json.specs.BodyLemmas.{body_again}
 use Rattle.etcs_json.specs.Entries.{Holds}

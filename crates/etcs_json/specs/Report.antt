@@ -2,13 +2,9 @@
 -- standard names its variable, in small letters. The standard has the identity of a group as one
 -- variable, NID_LRBG or NID_PRVLRBG. Here its country and its number are two keys. Keys are in the order
 -- in which they are looked for.
-use Rattle.std.specs.Prelude.{◌≡◌, ◌+◌, ◌*◌, ◌/◌, ◌<◌, ◌==◌, ◌⊎◌, ℕ, true, List, [], ◌∷◌, codes, refl}
-use Rattle.std.proofs.Common.{inl, inr, arith}
+use Rattle.etcs_json.specs.Prelude.{◌≡◌, ◌+◌, ◌*◌, ◌/◌, ◌<◌, ◌==◌, ◌⊎◌, ℕ, true, List, [], ◌∷◌, codes, refl, inl, inr, arith, AreAllowed, alone, plain, nid_bg, nid_c}
 use Rattle.etcs_bits.specs.declared.variables.identity.Identity.{Identity}
-use Rattle.etcs_bits.specs.layout.Rows.{AreAllowed, alone}
 use Rattle.etcs_bits.specs.variables.Identity.{identity as identity_layout, identity_struct}
-use Rattle.etcs_bits.specs.variables.Variables.{plain}
-use Rattle.etcs_bits.specs.variables.VariableFormats.{nid_bg, nid_c}
 use Rattle.etcs_radio.specs.Integrity.{length_numbered, q_length}
 use Rattle.etcs_radio.specs.Lrbg.{lrbg_rows}
 use Rattle.etcs_radio.specs.Report.{WithOne, WithTwo, again, d_lrbg, l_doubtover, l_doubtunder, m_mode, numbered_of, report_of, report_variable, situation as situation_layout, v_train, with_one as with_one_layout, with_two as with_two_layout}

@@ -1,14 +1,7 @@
 -- The JSON form of a value in one value: what it is written as, what is read, and that what was written is read
 -- as the value that it was, if the rows of its bits are allowed.
-use Rattle.std.specs.Prelude.{◌≡◌, ◌≤◌, ◌+◌, ◌++◌, ◌==◌, ℕ, Bool, true, List, [], ◌∷◌, length, Option, Some, None, Result, Ok, Err, if◌then◌else◌, refl}
-use Rattle.std.specs.List.{flat_map}
-use Rattle.std.proofs.Common.{ap, ◌∙◌, arith}
-use Rattle.std.proofs.lemmas.Bool.{and_from, eq-eqb, le-leb}
-use Rattle.serde_json.specs.Data.{Data, Items, item, no_items, array, number, unsigned}
-use Rattle.etcs_bits.specs.layout.Combined.{body_rows, counted_rows, option_rows, pair_rows}
-use Rattle.etcs_bits.specs.layout.Fields.{l_packet}
+use Rattle.etcs_json.specs.Prelude.{◌≡◌, ◌≤◌, ◌+◌, ◌++◌, ◌==◌, ℕ, Bool, true, List, [], ◌∷◌, length, Option, Some, None, Result, Ok, Err, if◌then◌else◌, refl, flat_map, ap, ◌∙◌, arith, and_from, eq-eqb, le-leb, Data, Items, item, no_items, array, number, unsigned, body_rows, counted_rows, option_rows, pair_rows, l_packet, AreAllowed, Row, Variable, alone, width}
 use Rattle.etcs_bits.specs.layout.RowLemmas.{allowed_first, allowed_second}
-use Rattle.etcs_bits.specs.layout.Rows.{AreAllowed, Row, Variable, alone, width}
 use Rattle.etcs_bits.specs.layout.Struct.{Struct}
 use Rattle.etcs_json.specs.Entries.{Entry, keys_of, object_of, are_apart, Holds}
 use Rattle.etcs_json.specs.EntryLemmas.{object_holds, object_known, holds_parts, keys_of-append}

@@ -1,7 +1,5 @@
 -- The form of a packet from track to train, by its number (SUBSET-026, 7.4.2).
-use Rattle.std.specs.Prelude.{◌++◌, codes, length, refl}
-use Rattle.etcs_bits.specs.layout.Rows.{AreAllowed, alone}
-use Rattle.etcs_bits.specs.variables.Variables.{ranged}
+use Rattle.etcs_json.specs.Prelude.{◌++◌, codes, length, refl, AreAllowed, alone, ranged}
 use Rattle.etcs_packet.specs.PacketNumbers.{is_kept_number, nid_track}
 use Rattle.etcs_packet.specs.Raw.{other_of, others as other_bits, raw_packet as raw_layout}
 use Rattle.etcs_packet.specs.Track.{NumberedTrackPacket, again, parts_of, track_of}

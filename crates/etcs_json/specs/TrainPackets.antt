@@ -1,7 +1,5 @@
 -- The form of a packet from train to track (SUBSET-026, 7.4.3). NID_PACKET decides it.
-use Rattle.std.specs.Prelude.{◌++◌, codes, length, refl}
-use Rattle.etcs_bits.specs.layout.Rows.{AreAllowed, alone}
-use Rattle.etcs_bits.specs.variables.Variables.{ranged}
+use Rattle.etcs_json.specs.Prelude.{◌++◌, codes, length, refl, AreAllowed, alone, ranged}
 use Rattle.etcs_packet.specs.PacketNumbers.{nid_track as nid_train}
 use Rattle.etcs_radio.specs.RawTrain.{other_of, others as other_bits, raw_train_packet as raw_layout}
 use Rattle.etcs_radio.specs.TrainNumbers.{is_kept_number}

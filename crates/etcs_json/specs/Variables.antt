@@ -1,15 +1,11 @@
 -- The variables of the standard as whole numbers of JSON (SUBSET-026, 7.5.1).
-use Rattle.std.specs.Prelude.{◌≡◌, ℕ, ◌^◌, ◌&&◌, Bool, true, false, Ok, ltb, refl}
-use Rattle.std.proofs.lemmas.Bool.{and_from, lt-ltb}
+use Rattle.etcs_json.specs.Prelude.{◌≡◌, ℕ, ◌^◌, ◌&&◌, Bool, true, false, Ok, ltb, refl, and_from, lt-ltb, Fields, field, AreAllowed, IsAllowed, Variable, alone, row, dir_number, dir_variable, dup_number, duplicate_variable, plain, scale_number, scale_variable, version_number, version_variable}
 use Rattle.etcs_bits.specs.bits.Number.{worth}
 use Rattle.etcs_bits.specs.declared.layout.fault.FaultKind.TheVariants.{Spare}
-use Rattle.etcs_bits.specs.layout.Fields.{Fields, field}
-use Rattle.etcs_bits.specs.layout.Rows.{AreAllowed, IsAllowed, Variable, alone, row}
 use Rattle.etcs_bits.specs.declared.variables.direction.Dir.{Dir}
 use Rattle.etcs_bits.specs.declared.variables.duplicate.Dup.{Dup}
 use Rattle.etcs_bits.specs.declared.variables.scale.Scale.{Scale}
 use Rattle.etcs_bits.specs.declared.variables.version.Version.{Version}
-use Rattle.etcs_bits.specs.variables.Variables.{dir_number, dir_variable, dup_number, duplicate_variable, plain, scale_number, scale_variable, version_number, version_variable}
 use Rattle.etcs_bits.specs.variables.VariableLemmas.{AreNames, dir_names, dup_names, scale_names, version_names}
 use Rattle.etcs_bits.specs.variables.VariableValues.{dir_of, dup_of, flag_of, scale_of, version_of}
 use Rattle.etcs_json.specs.Reading.{allowed_number}

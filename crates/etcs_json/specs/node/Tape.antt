@@ -1,10 +1,8 @@
 -- What the tokens of a tape stand for.
-use Rattle.std.specs.Prelude.{◌+◌, ◌-◌, ℕ, Bool, true, false, List, [], ◌∷◌, length, Option, Some, None, nat_lt, option_map, option_and_then, is_some, if◌then◌else◌}
+use Rattle.etcs_json.specs.Prelude.{◌+◌, ◌-◌, ℕ, Bool, true, false, List, [], ◌∷◌, length, Option, Some, None, nat_lt, option_map, option_and_then, is_some, if◌then◌else◌, Data, Items, null, as_array}
 use Rattle.json.specs.Token.{Token, begin_object, end_object, begin_array, end_array, key, string, number, boolean, bad}
 use Rattle.json.specs.Token as token
 use Rattle.json.specs.Json.{value}
-use Rattle.serde_json.specs.Data.{Data, Items, null}
-use Rattle.serde_json.specs.Find.{as_array}
 use Rattle.serde_json.specs.Read.{max_depth, number_of, of_json}
 use Rattle.etcs_json.specs.Reading.{data_list}
 
