@@ -1,6 +1,5 @@
 -- What is sent of a movement authority: its members in the byte order of their keys.
-use Rattle.std.specs.Prelude.{List, [], ◌∷◌, Some, codes}
-use Rattle.serde_json.specs.Data.{array}
+use Rattle.etcs_json.specs.Prelude.{List, [], ◌∷◌, Some, codes, array}
 use Rattle.etcs_profile.specs.Authority.{AuthorityValue, authority_number}
 use Rattle.etcs_json.specs.Authority.{danger_point, end_timer, overlap, section, section_timer}
 use Rattle.etcs_json.specs.Entries.{Entry}

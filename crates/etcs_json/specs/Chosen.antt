@@ -1,12 +1,12 @@
 -- Values that a number distinguishes, such as packets by NID_PACKET. The number is looked at before any
 -- other key of the object, and decides the form of the whole object.
-use Rattle.etcs_json.specs.Prelude.{◌≡◌, ℕ, ◌++◌, ◌==◌, ◌⊎◌, Bool, true, false, List, ◌∷◌, Option, Some, None, Result, Ok, Err, if◌then◌else◌, refl, ap, inl, inr, subst, sym, ◌∙◌, ne_eqb, true≢false, Data, Members, as_object, get, AreAllowed, IsAllowed, Row, Variable, alone, row}
+use Rattle.etcs_json.specs.Prelude.{is_itself, ◌≡◌, ℕ, ◌++◌, ◌==◌, ◌⊎◌, Bool, true, false, List, ◌∷◌, Option, Some, None, Result, Ok, Err, if◌then◌else◌, refl, ap, inl, inr, subst, sym, ◌∙◌, ne_eqb, true≢false, Data, Members, as_object, get, AreAllowed, IsAllowed, Row, Variable, alone, row}
 use Rattle.etcs_bits.specs.layout.Choice.{either_allows, either_number, either_rows}
 use Rattle.etcs_json.specs.Entries.{Entry, Holds, are_apart, object_of}
 use Rattle.etcs_json.specs.EntryLemmas.{object_holds}
 use Rattle.etcs_json.specs.Fault.{Fault, Kind, Range, at_once, here, key as key_step}
 use Rattle.etcs_json.specs.Reading.{◌>>=◌, as_kind, allowed_number, at_key}
-use Rattle.etcs_json.specs.Shape.{ObjectOf, Part, Shape, allowed_behind, fixed, is_itself, key_again, named, number_again, number_data, object, ◌then◌}
+use Rattle.etcs_json.specs.Shape.{ObjectOf, Part, Shape, allowed_behind, fixed, key_again, named, number_again, number_data, object, ◌then◌}
 
 -- ---- what is looked at first
 
@@ -51,9 +51,6 @@ begins_with name n o x rest begins =
     let front = subst (λ es. Holds es (object_of (o.part.to x))) begins all in
     (refl, front.0)
 
-pub number_there : {name : List ℕ} {k : ℕ} {X : Type 0} {rows : X → List Row} (o : BehindNumber name k rows) (x : X) → HasNumber name k ((object (with_number o)).to x)
-number_there {name = name} {k = k} o x = begins_with name k (with_number o) x (o.part.to x) refl
-
 -- ---- what the number decides
 
 -- the numbers that have a form; the number of a value, which is that of the variable x in the bits, and the rows
@@ -80,7 +77,7 @@ last {name = name} {x = x} {k = k} {rows = rows} o = record {
   to = (object (with_number o)).to;
   of = last_of name k (object (with_number o)).of;
   is_number = λ _. is_itself k;
-  has_number = number_there o;
+  has_number = λ v. begins_with name k (with_number o) v (o.part.to v) refl;
   again = λ v allowed. rw (is_itself k) ((object (with_number o)).again v (allowed_behind x k (rows v) allowed));
 }
 
@@ -102,7 +99,7 @@ either_is_number k c (inr y) = rw (c.is_number y) (one_of_both (c.number y == k)
 
 pub either_has_number : {name : List ℕ} {x : Variable} {k : ℕ} {A B : Type 0} {rows : A → List Row} (o : BehindNumber name k rows) (c : Choice name x B) (v : A ⊎ B)
     → HasNumber name (either_number k c.number v) (by_kind (object (with_number o)).to c.to v)
-either_has_number o c (inl x) = number_there o x
+either_has_number {name = name} {k = k} o c (inl x) = begins_with name k (with_number o) x (o.part.to x) refl
 either_has_number o c (inr y) = c.has_number y
 
 is_another : (allows : ℕ → Bool) (k n : ℕ) → allows k ≡ false → allows n ≡ true → (n == k) ≡ false

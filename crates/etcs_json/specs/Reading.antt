@@ -70,13 +70,9 @@ at_key read name d = key_or read name (get name d)
 abbrev pub member_at : List ℕ → Data → Result Data Fault
 member_at name d = at_key (λ e. Ok e) name d
 
-abbrev pub as_some : {A : Type 0} → Result A Fault → Result (Option A) Fault
-as_some (Ok x) = Ok (Some x)
-as_some (Err f) = Err f
-
 abbrev pub option_or : {A : Type 0} → (Data → Result A Fault) → List ℕ → Option Data → Result (Option A) Fault
 option_or read name None = Ok None
-option_or read name (Some d) = as_some (under (key name) (read d))
+option_or read name (Some d) = as_kind (λ x. Some x) (under (key name) (read d))
 
 -- what may be left out
 unfoldable pub at_key_if : {A : Type 0} → (Data → Result A Fault) → List ℕ → Data → Result (Option A) Fault

@@ -1,12 +1,11 @@
 -- What is written of a value: the tokens of its text, behind the tokens that stand there. An object's
 -- members are written in the byte order of their keys.
-use Rattle.std.specs.Prelude.{◌≡◌, ◌++◌, ℕ, List, [], ◌∷◌, map, Option, Some, None}
+use Rattle.etcs_json.specs.Prelude.{◌≡◌, ◌++◌, ℕ, List, [], ◌∷◌, map, Option, Some, None, Data}
 use Rattle.std.specs.Cmp.Lexicographic.{slice_cmp}
 use Rattle.std.specs.Ordering.{nat_cmp, match_ordering}
 use Rattle.json.specs.Token.{Token, key}
 use Rattle.json.specs.Tree.{json_tokens}
 use Rattle.json.specs.Written.{Written}
-use Rattle.serde_json.specs.Data.{Data}
 use Rattle.serde_json.specs.Written.{outline}
 use Rattle.etcs_json.specs.Entries.{Entry, keys_of}
 

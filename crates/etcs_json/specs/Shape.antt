@@ -1,6 +1,6 @@
 -- The JSON form of a value in one value: what it is written as, what is read, and that what was written is read
 -- as the value that it was, if the rows of its bits are allowed.
-use Rattle.etcs_json.specs.Prelude.{◌≡◌, ◌≤◌, ◌+◌, ◌++◌, ◌==◌, ℕ, Bool, true, List, [], ◌∷◌, length, Option, Some, None, Result, Ok, Err, if◌then◌else◌, refl, flat_map, ap, ◌∙◌, arith, and_from, eq-eqb, le-leb, Data, Items, item, no_items, array, number, unsigned, body_rows, counted_rows, option_rows, pair_rows, l_packet, AreAllowed, Row, Variable, alone, width}
+use Rattle.etcs_json.specs.Prelude.{is_itself, ◌≡◌, ◌≤◌, ◌+◌, ◌++◌, ◌==◌, ℕ, Bool, true, List, [], ◌∷◌, length, Option, Some, None, Result, Ok, Err, if◌then◌else◌, refl, flat_map, ap, ◌∙◌, arith, and_from, le-leb, Data, Items, item, no_items, array, number, unsigned, body_rows, counted_rows, option_rows, pair_rows, l_packet, AreAllowed, Row, Variable, alone, width}
 use Rattle.etcs_bits.specs.layout.RowLemmas.{allowed_first, allowed_second}
 use Rattle.etcs_bits.specs.layout.Struct.{Struct}
 use Rattle.etcs_json.specs.Entries.{Entry, keys_of, object_of, are_apart, Holds}
@@ -190,9 +190,6 @@ unstated {rows = rows} x n a = with_bits (λ v. alone x n ++ rows v) (λ v. allo
 -- members whose bits stand behind L_PACKET
 abbrev pub sized : {X : Type 0} {rows : X → List Row} (before : ℕ) → Part rows → Part (body_rows before rows)
 sized {rows = rows} before a = with_bits (body_rows before rows) (λ x. allowed_behind l_packet (before + (13 + width (rows x))) (rows x)) a
-
-pub is_itself : (k : ℕ) → (k == k) ≡ true
-is_itself k = eq-eqb k k refl
 
 -- a key that has this number and no other; the bits of the number are not asked for
 abbrev pub fixed : List ℕ → ℕ → Part {X = Unit {0}} (λ _. [])

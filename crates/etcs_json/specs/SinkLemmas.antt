@@ -1,8 +1,7 @@
 -- Members that are taken one after the other: by a writer of JSON, and by an object in memory.
-use Rattle.std.proofs.Common.{◌≡◌, ◌∙◌, ◌++◌, List, [], ◌∷◌, refl, ap, sym, append_assoc, append-nil}
+use Rattle.etcs_json.specs.Prelude.{◌≡◌, ◌∙◌, ◌++◌, List, [], ◌∷◌, refl, ap, sym, append_assoc, append-nil, Members}
 use Rattle.json.specs.Token.{Token}
 use Rattle.json.specs.Written.{Written}
-use Rattle.serde_json.specs.Data.{Members}
 use Rattle.etcs_json.specs.Entries.{Entry, members_onto, put_or}
 use Rattle.etcs_json.specs.Sending.{Adds, entries_tokens, entry_tokens}
 
