@@ -9,8 +9,8 @@ use Rattle.etcs_form.proofs.ResultLemmas.{first_ok, form_ok, if_ok, not_ok, part
 use Rattle.etcs_form.proofs.ValueLemmas.{each_at, list_read, stands}
 use Rattle.etcs_form.specs.Document.{◌then◌, aspect_at, aspects_of, controlled_at, each_from, group_at, groups_of, has_count, in_form, list_at, only_aspect, only_values, others_of, path_of, telegram_at, telegrams_of, values_of, with_first}
 use Rattle.etcs_form.specs.DocumentFault.{bad_aspects, bad_count, bad_telegram}
-use Rattle.etcs_json.specs.Fault.{Step}
-use Rattle.etcs_json.specs.Reading.{at_key, object_with}
+use Rattle.etcs_schema.specs.Fault.{Step}
+use Rattle.etcs_schema.specs.Reading.{at_key, object_with}
 use Rattle.etcs_form.specs.Verdict.{IsOnlyTextOf, aspect_in, balise_text, text_in}
 use Rattle.etcs_group.specs.Places.{At}
 use Rattle.etcs_telegram.proofs.LawLemmas as telegrams

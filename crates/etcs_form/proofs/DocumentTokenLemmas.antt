@@ -15,9 +15,9 @@ use Rattle.etcs_form.proofs.TokenLemmas.{converted-object, converted_some, item_
 use Rattle.etcs_form.specs.Document.{◌then◌, aspect_at, aspects_of, controlled_at, each_from, group_at, has_count, in_form, message_at, only_aspect, only_values, path_of, telegram_at, telegrams_of, values_of}
 use Rattle.etcs_form.specs.DocumentFault.{DocumentFault, bad_message, bad_telegram}
 use Rattle.etcs_form.specs.DocumentTokens.{AreBalises, AreEach, AreFirst, HasGroup, IsAspect, IsAspects, IsBalises, IsFirst, IsGroup, IsList, IsMessage, IsOnlyAspect, IsTelegram}
-use Rattle.etcs_json.specs.Entries.{Entry, members_onto, object_of}
-use Rattle.etcs_json.specs.Fault.{Kind, here, key as key_step, under}
-use Rattle.etcs_json.specs.Reading.{at_key, data_list, object_with}
+use Rattle.etcs_schema.specs.Entries.{Entry, members_onto, object_of}
+use Rattle.etcs_schema.specs.Fault.{Kind, here, key as key_step, under}
+use Rattle.etcs_schema.specs.Reading.{at_key, data_list, object_with}
 use Rattle.etcs_group.specs.Controlled.{IsControlled}
 use Rattle.etcs_group.specs.Places.{At}
 use Rattle.etcs_form.specs.Tokens.{HasMembers, first_value, items_onto}

@@ -12,9 +12,9 @@ use Rattle.etcs_form.proofs.DocumentTokenLemmas.{each_read, first_more, list_tak
 use Rattle.etcs_form.proofs.TokenLemmas.{converted_some, key_stands, then_stand}
 use Rattle.etcs_form.specs.Document.{◌then◌, each_from, group_at, groups_of, in_form, json_of, line_of, line_of_text, message_at, messages_of}
 use Rattle.etcs_form.specs.DocumentTokens.{AreFirst, AreTaken, HasLine, IsChecked, IsFirst, IsGroup, IsList, IsMessage}
-use Rattle.etcs_json.specs.Entries.{object_of}
-use Rattle.etcs_json.specs.Fault.{key as key_step, under}
-use Rattle.etcs_json.specs.Reading.{at_key, object_with}
+use Rattle.etcs_schema.specs.Entries.{object_of}
+use Rattle.etcs_schema.specs.Fault.{key as key_step, under}
+use Rattle.etcs_schema.specs.Reading.{at_key, object_with}
 use Rattle.etcs_form.specs.Tokens.{HasMembers, first_value}
 use Rattle.etcs_form.specs.Verdict.{Summary, summary, summary_of_text, judged}
 use Rattle.etcs_radio.specs.declared.message.Message.{Message}

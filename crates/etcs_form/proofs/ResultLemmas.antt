@@ -4,8 +4,8 @@ use Rattle.std.specs.Prelude.{if◌then◌else◌}
 use Rattle.std.specs.Result.{result_map_both}
 use Rattle.etcs_form.specs.Document.{◌then◌, in_form, text_or, with_first}
 use Rattle.etcs_form.specs.DocumentFault.{DocumentFault}
-use Rattle.etcs_json.specs.Fault.{Fault, Step}
-use Rattle.etcs_json.specs.Reading.{◌>>=◌}
+use Rattle.etcs_schema.specs.Fault.{Fault, Step}
+use Rattle.etcs_schema.specs.Reading.{◌>>=◌}
 
 abbrev or_else : {A E : Type 0} → A → Result A E → A
 or_else x (Ok y) = y

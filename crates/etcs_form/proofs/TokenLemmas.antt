@@ -7,8 +7,8 @@ use Rattle.json.specs.Json.{after_end_array, items, parse_map, read_key, value}
 use Rattle.json.specs.Token.{Token}
 use Rattle.serde_json.specs.Data.{Data, Items, Members, array, item, no_items, no_members, object, put}
 use Rattle.serde_json.specs.Read.{converted, of_items, of_json, of_members}
-use Rattle.etcs_json.specs.Entries.{Entry, put_or}
-use Rattle.etcs_json.specs.Reading.{data_list}
+use Rattle.etcs_schema.specs.Entries.{Entry, put_or}
+use Rattle.etcs_schema.specs.Reading.{data_list}
 use Rattle.etcs_form.specs.Tokens.{HasItems, HasMembers, first_value, items_after, items_onto}
 
 -- ---- what was converted

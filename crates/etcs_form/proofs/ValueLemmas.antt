@@ -8,8 +8,8 @@ use Rattle.serde_json.specs.Find.{as_array, at, get, get_item}
 use Rattle.etcs_form.proofs.ResultLemmas.{first_ok, not_ok, same_ok, then_ok}
 use Rattle.etcs_form.specs.Document.{each_from, values_of, with_first}
 use Rattle.etcs_form.specs.DocumentFault.{DocumentFault}
-use Rattle.etcs_json.specs.Fault.{Kind, Step, here, key, under}
-use Rattle.etcs_json.specs.Reading.{at_key, data_list, key_or}
+use Rattle.etcs_schema.specs.Fault.{Kind, Step, here, key, under}
+use Rattle.etcs_schema.specs.Reading.{at_key, data_list, key_or}
 use Rattle.etcs_group.specs.Places.{At}
 
 -- ---- lists at keys

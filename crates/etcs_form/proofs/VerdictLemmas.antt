@@ -9,7 +9,7 @@ use Rattle.etcs_form.proofs.ResultLemmas.{form_ok, same_ok, text_ok, then_ok}
 use Rattle.etcs_form.proofs.ValueLemmas.{each_at, list_read, stands}
 use Rattle.etcs_form.specs.Document.{◌then◌, each_from, groups_of, in_form, json_of, line_of, line_of_text, list_at, message_at, messages_of}
 use Rattle.etcs_form.specs.DocumentFault.{bad_message}
-use Rattle.etcs_json.specs.Reading.{object_with}
+use Rattle.etcs_schema.specs.Reading.{object_with}
 use Rattle.etcs_form.specs.Verdict.{AreMixturesDecided, IsOnlyTextOf, IsReachedMessage, SaysYes, message_text}
 use Rattle.etcs_group.specs.Laws.{IsDecided}
 use Rattle.etcs_group.specs.Missed.{IsSetOf}

@@ -11,8 +11,8 @@ use Rattle.serde_json.specs.Data.{Data}
 use Rattle.serde_json.specs.Find.{as_array, as_str, get}
 use Rattle.serde_json.specs.Read.{read}
 use Rattle.etcs_form.specs.DocumentFault.{DocumentFault, bad_aspects, bad_count, bad_form, bad_message, bad_telegram, no_json}
-use Rattle.etcs_json.specs.Fault.{Fault, Kind, Step, fault, here, key, list_item}
-use Rattle.etcs_json.specs.Reading.{◌>>=◌, at_key, data_list, object_with}
+use Rattle.etcs_schema.specs.Fault.{Fault, Kind, Step, fault, here, key, list_item}
+use Rattle.etcs_schema.specs.Reading.{◌>>=◌, at_key, data_list, object_with}
 use Rattle.etcs_radio.specs.TextMeaning.{message_of_text}
 use Rattle.etcs_radio.specs.declared.message.Message.{Message}
 use Rattle.etcs_telegram.specs.Record.{Telegram}

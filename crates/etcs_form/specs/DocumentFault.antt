@@ -1,9 +1,9 @@
 -- What is wrong with bytes that are no document of a railway line, and where. Groups, aspects, balises
 -- and messages count from 0.
 use Rattle.std.specs.Prelude.{◌≡◌, ℕ, Option, Some, None, Result, Ok, Err, IsSomeAnd}
-use Rattle.etcs_json.specs.Fault.{Fault, fault_of}
-use Rattle.etcs_json.specs.declared.error.FormError.{FormError}
-use Rattle.etcs_json.specs.declared.error.FormError.TheVariants as forms
+use Rattle.etcs_schema.specs.Fault.{Fault, fault_of}
+use Rattle.etcs_schema.specs.declared.error.FormError.{FormError}
+use Rattle.etcs_schema.specs.declared.error.FormError.TheVariants as forms
 use Rattle.etcs_form.specs.declared.line_error.LineError.{LineError}
 use Rattle.etcs_form.specs.declared.line_error.LineError.TheVariants as errors
 use Rattle.etcs_radio.specs.declared.error.RadioTextError.{RadioTextError}

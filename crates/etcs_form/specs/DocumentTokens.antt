@@ -6,7 +6,7 @@ use Rattle.json.specs.Token.{Token}
 use Rattle.serde_json.specs.Data.{Data, array, no_items}
 use Rattle.etcs_check.specs.LineChecker.{CheckerState, HasChecked}
 use Rattle.etcs_form.specs.Document.{aspects_of, group_at, has_count, line_of, message_at, only_values, telegram_at, telegrams_of, values_of}
-use Rattle.etcs_json.specs.Entries.{Entry, object_of}
+use Rattle.etcs_schema.specs.Entries.{Entry, object_of}
 use Rattle.etcs_form.specs.Tokens.{HasItems, HasMembers, first_value, items_onto}
 use Rattle.etcs_radio.specs.declared.message.Message.{Message}
 use Rattle.etcs_telegram.specs.Record.{Telegram}

@@ -7,9 +7,9 @@ use Rattle.etcs_telegram.specs.declared.error.TextError.{TextError}
 use Rattle.etcs_telegram.specs.declared.error.TextError.TheVariants as texts
 use Rattle.etcs_radio.specs.declared.error.RadioTextError.{RadioTextError}
 use Rattle.etcs_radio.specs.declared.error.RadioTextError.TheVariants as radio
-use Rattle.etcs_json.specs.Fault.{Fault, Reason, Missing, Unknown, Kind, Range, fault_of}
-use Rattle.etcs_json.specs.Path.{path_words}
-use Rattle.etcs_json.specs.declared.error.FormError.{FormError}
+use Rattle.etcs_schema.specs.Fault.{Fault, Reason, Missing, Unknown, Kind, Range, fault_of}
+use Rattle.etcs_schema.specs.Path.{path_words}
+use Rattle.etcs_schema.specs.declared.error.FormError.{FormError}
 use Rattle.etcs_form.specs.declared.line_error.LineError.{LineError}
 use Rattle.etcs_form.specs.declared.line_error.LineError.TheVariants as documents
 use Rattle.etcs_form.specs.declared.refusal.LineFault.{LineFault}

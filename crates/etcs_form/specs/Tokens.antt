@@ -4,7 +4,7 @@ use Rattle.json.specs.Json.{items, members, value}
 use Rattle.json.specs.Token.{Token}
 use Rattle.serde_json.specs.Data.{Data, Items, Members, item}
 use Rattle.serde_json.specs.Read.{converted, of_items, of_json, of_members}
-use Rattle.etcs_json.specs.Entries.{Entry, members_onto}
+use Rattle.etcs_schema.specs.Entries.{Entry, members_onto}
 
 -- ---- one value
 

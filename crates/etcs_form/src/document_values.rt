@@ -3,15 +3,15 @@
 ghost use Rattle.std.specs.Prelude.{map};
 ghost use Rattle.serde_json.specs.View.{view};
 ghost use Rattle.etcs_form.specs.Document.{only_values, values_of};
-ghost use Rattle.etcs_json.specs.Fault.{Gives};
-ghost use Rattle.etcs_json.specs.Reading.{at_key};
+ghost use Rattle.etcs_schema.specs.Fault.{Gives};
+ghost use Rattle.etcs_schema.specs.Reading.{at_key};
 
 use etcs_json::{FormError, Step, check_keys};
 use serde_json::Value;
 use std::alloc::Global;
 
 // The values of a list.
-#[tactic(auto, using(etcs_json::proofs::AnyList::data_items), unfolding(crate::specs::Document::values_of))]
+#[tactic(auto, using(etcs_schema::proofs::AnyList::data_items), unfolding(crate::specs::Document::values_of))]
 fn values<'a>(alloc: Global, value: &'a Value) -> Result<&'a [Value], FormError>
     ensures { Gives (λ vs. map view vs.now) result (values_of (view value.now)) }
 {
@@ -22,7 +22,7 @@ fn values<'a>(alloc: Global, value: &'a Value) -> Result<&'a [Value], FormError>
 }
 
 /// The values in the list at a key that has to be there.
-#[tactic(auto, using(etcs_json::proofs::Objects::fails_as, etcs_json::proofs::Objects::fails_under), unfolding(etcs_json::specs::Reading::at_key))]
+#[tactic(auto, using(etcs_schema::proofs::Objects::fails_as, etcs_schema::proofs::Objects::fails_under), unfolding(etcs_schema::specs::Reading::at_key))]
 pub(crate) fn values_at<'a>(
     alloc: Global,
     value: &'a Value,

@@ -3,7 +3,7 @@
 ghost use Rattle.std.specs.Prelude.{◌≡◌, ◌++◌, IfSome, IsSomeAnd};
 ghost use Rattle.etcs_form.specs.Document.{path_of};
 ghost use Rattle.etcs_form.specs.DocumentFault.{IsOfForm};
-ghost use Rattle.etcs_json.specs.Fault.{fault, fault_of};
+ghost use Rattle.etcs_schema.specs.Fault.{fault, fault_of};
 ghost use Rattle.etcs_form.specs.declared.line_error.LineError.TheVariants as errors;
 
 use etcs_bits::Memory;

@@ -1,8 +1,8 @@
 //! `Refusal`: why an input is refused, and the line that says so.
 
 ghost use Rattle.std.specs.Prelude.{◌≡◌, ◌++◌, codes, map, string_bytes, IfOk};
-ghost use Rattle.etcs_json.specs.Fault.{step_of};
-ghost use Rattle.etcs_json.specs.Path.{path_words};
+ghost use Rattle.etcs_schema.specs.Fault.{step_of};
+ghost use Rattle.etcs_schema.specs.Path.{path_words};
 ghost use Rattle.etcs_form.specs.Refusal.{document_words, form_words, line_words, radio_words, refusal_words, stream_words, text_words};
 
 use crate::line_error::LineError;

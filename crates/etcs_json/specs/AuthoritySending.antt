@@ -3,9 +3,9 @@ use Rattle.std.specs.Prelude.{List, [], ◌∷◌, Some, codes}
 use Rattle.serde_json.specs.Data.{array}
 use Rattle.etcs_profile.specs.Authority.{AuthorityValue, authority_number}
 use Rattle.etcs_json.specs.Authority.{danger_point, end_timer, overlap, section, section_timer}
-use Rattle.etcs_json.specs.Entries.{Entry}
-use Rattle.etcs_json.specs.Shape.{items_of, object, optional, number_data}
-use Rattle.etcs_json.specs.Variables.{direction, scale}
+use Rattle.etcs_schema.specs.Entries.{Entry}
+use Rattle.etcs_schema.specs.Shape.{items_of, object, optional, number_data}
+use Rattle.etcs_schema.specs.Variables.{direction, scale}
 
 -- V_MAIN is there in packet 12 alone
 unfoldable pub sent_members : AuthorityValue → List Entry

@@ -12,11 +12,11 @@ use Rattle.etcs_radio.specs.Head.{m_ack, nid_engine, t_train}
 use Rattle.etcs_radio.specs.Record.{Movement, Position}
 use Rattle.etcs_radio.specs.Required.{has_authority, has_report}
 use Rattle.etcs_radio.specs.declared.train_packet.TrainPacket.{TrainPacket}
-use Rattle.etcs_json.specs.Chosen.{BehindNumber, behind}
-use Rattle.etcs_json.specs.Fault.{Fault, Range, at_once, key as key_step}
-use Rattle.etcs_json.specs.Listed.{holding, listed, rows_holding}
-use Rattle.etcs_json.specs.Shape.{Shape, key, named, ◌then◌}
-use Rattle.etcs_json.specs.Variables.{flag, number}
+use Rattle.etcs_schema.specs.Chosen.{BehindNumber, behind}
+use Rattle.etcs_schema.specs.Fault.{Fault, Range, at_once, key as key_step}
+use Rattle.etcs_schema.specs.Listed.{holding, listed, rows_holding}
+use Rattle.etcs_schema.specs.Shape.{Shape, key, named, ◌then◌}
+use Rattle.etcs_schema.specs.Variables.{flag, number}
 
 -- a message without the packet that its kind has to hold is refused
 abbrev pub no_packet : Fault

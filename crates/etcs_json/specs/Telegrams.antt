@@ -12,11 +12,11 @@ use Rattle.etcs_telegram.specs.Record.{Telegram}
 use Rattle.etcs_telegram.specs.Sizes.{user_bits}
 use Rattle.etcs_telegram.specs.declared.size.Size.{Size}
 use Rattle.etcs_telegram.specs.declared.size.Size.TheVariants.{Short, Long}
-use Rattle.etcs_json.specs.Listed.{listed}
+use Rattle.etcs_schema.specs.Listed.{listed}
 use Rattle.etcs_json.specs.Report.{identity}
-use Rattle.etcs_json.specs.Shape.{ObjectOf, Part, Shape, closed, key, named, names, struct, unstated, ◌then◌}
+use Rattle.etcs_schema.specs.Shape.{ObjectOf, Part, Shape, closed, key, named, names, struct, unstated, ◌then◌}
 use Rattle.etcs_json.specs.TrackPackets.{track_packet}
-use Rattle.etcs_json.specs.Variables.{duplicate, flag, number, version}
+use Rattle.etcs_schema.specs.Variables.{duplicate, flag, number, version}
 
 -- whether a telegram may have n user bits
 abbrev pub is_size : ℕ → Bool

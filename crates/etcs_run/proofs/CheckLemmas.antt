@@ -3,7 +3,7 @@ use Rattle.std.proofs.Common.{◌≡◌, ◌≢◌, ◌∙◌, ℕ, List, Result
 use Rattle.etcs_form.specs.DocumentFault.{DocumentFault, Fails}
 use Rattle.etcs_form.specs.Refusal.{document_words, refusal_words}
 use Rattle.etcs_form.specs.Verdict.{Summary, summary_of_text}
-use Rattle.etcs_json.specs.declared.error.FormError.TheVariants as forms
+use Rattle.etcs_schema.specs.declared.error.FormError.TheVariants as forms
 use Rattle.etcs_form.specs.declared.line_error.LineError.{LineError}
 use Rattle.etcs_form.specs.declared.line_error.LineError.TheVariants as errors
 use Rattle.etcs_radio.specs.declared.error.RadioTextError.TheVariants as radio

@@ -2,16 +2,15 @@
 
 ghost use Rattle.std.specs.Prelude.{IsOk};
 ghost use Rattle.etcs_json.specs.AnyMessage.{is_message};
-ghost use Rattle.etcs_json.specs.Chosen.{any_object};
+ghost use Rattle.etcs_schema.specs.Chosen.{any_object};
 
-use crate::error::FormError;
 use crate::form::{Form, InPieces};
-use crate::node::Node;
-use crate::node::reading::{Numbers, check_object, read_number};
+use crate::reading::{Numbers, read_number};
 use crate::record::InRange;
-use crate::writing::marks::Marks;
 use etcs_bits::Memory;
 use etcs_radio::Message;
+use etcs_schema::reading::check_object;
+use etcs_schema::{FormError, Marks, Node};
 use serde_json::Value;
 use std::alloc::Global;
 

@@ -1,0 +1,17 @@
+pub mod Fault
+pub mod Path
+pub mod Entries
+pub mod EntryLemmas
+pub mod Reading
+pub mod node
+pub mod Shape
+pub mod Sending
+pub mod SinkLemmas
+pub mod Variables
+pub mod KeyedVariables
+pub mod Chosen
+pub mod Head
+pub mod BodyText
+pub mod BodyLemmas
+pub mod Measured
+pub mod Listed
