@@ -5,4 +5,3 @@ pub mod SumLemmas
 pub mod AuthorityWidth
 pub mod RawLemmas
 pub mod LawLemmas
-pub mod PlainLemmas
