@@ -1,28 +1,8 @@
 //! Laws of forms and of documents, for users. They hold for any reader and any writer. Each law is the
 //! contract of a function that does nothing.
 
-ghost use Rattle.etcs_form.specs.Laws.{NoFindingMeansSoundText, NoFindingSaysYes};
-
-use etcs_check::laws::no_finding_means_sound_line;
+pub use etcs_document::laws::{no_finding_means_sound_text, no_finding_says_yes};
 pub use etcs_json::laws::{
     messages_are_read_again, messages_have_forms_of_their_own, telegrams_are_read_again,
     telegrams_have_forms_of_their_own,
 };
-
-/// Bytes are read as a line without a finding exactly if they are the document of a sound line.
-/// [`check_text`](crate::check_text) and [`check_in_order`](crate::check_in_order) answer what this
-/// reading gives, unless memory runs out.
-pub fn no_finding_means_sound_text()
-    ensures { NoFindingMeansSoundText }
-{
-    no_finding_means_sound_line();
-}
-
-/// Of bytes that are read as a line without a finding, all is true that a yes says: every telegram and
-/// message of the line has exactly one record, and for each aspect of every group, running direction and
-/// set of missed balises whose declared duplicates are read, the assembled message is accepted and equals
-/// that with nothing missed, every other set being refused; there, as in each radio message, every movement
-/// authority has gradient and speed profiles, all reaching at least its supervised location.
-pub fn no_finding_says_yes()
-    ensures { NoFindingSaysYes }
-{}

@@ -1,36 +1,13 @@
-//! The document of a railway line, read and checked, and the texts of what is found.
-//!
-//! [`read_line`] reads the document, and [`check_text`] finds all facts against the line: of these read
-//! `document.rt` first, with `specs/Document.antt`, and then `specs/Verdict.antt`, which states what a
-//! yes says. [`check_in_order`] checks a document group by group, and builds no JSON value. Its answer
-//! is that of [`check_text`], to which it leaves what it does not know (`in_order.rt`,
-//! `specs/DocumentTokens.antt`).
-//! [`report`] says what is found about a line, and [`refusal_text`] why an input is refused. The JSON
-//! forms of telegrams and messages are the forms of `etcs_json`, whose names are exported here too.
+//! JSON forms and documents of railway lines, for who writes programs: the names of `etcs_json`, which has
+//! the forms of telegrams and messages, of `etcs_document`, which reads and checks documents, and of
+//! `etcs_schema` below both. It has no code of its own.
 #![tactic(auto)]
 
-mod document;
-mod document_aspects;
-mod document_groups;
-mod document_messages;
-mod document_values;
-mod in_order;
-mod judging;
 pub mod laws;
-mod line_error;
-mod refusal;
-mod report_text;
-mod token_groups;
-mod token_reader;
-mod verdict;
 
-pub use document::read_line;
-pub use etcs_json::{
-    Form, FormError, InPieces, JsonError, JsonText, Node, Record, Step, TapeItems, TapeNode,
+pub use etcs_document::{
+    Checked, LineError, LineFault, Refusal, StreamFault, Verdict, check_in_order, check_text,
+    read_line, refusal_text, report, report_counts,
 };
-pub use in_order::{Checked, check_in_order};
-pub use judging::check_text;
-pub use line_error::LineError;
-pub use refusal::{LineFault, Refusal, StreamFault, refusal_text};
-pub use report_text::{report, report_counts};
-pub use verdict::Verdict;
+pub use etcs_json::{Form, InPieces, Record};
+pub use etcs_schema::{FormError, JsonError, JsonText, Node, Step, TapeItems, TapeNode};

@@ -3,9 +3,9 @@ use Rattle.std.proofs.Common.{◌≡◌, ◌<◌, ◌≤◌, ℕ, List, length, 
 use Rattle.serde_json.specs.Data.{Data}
 use Rattle.etcs_profile.specs.declared.section.Section.{Section}
 use Rattle.etcs_json.specs.Authority.{section}
-use Rattle.etcs_json.specs.Fault.{Fault}
-use Rattle.etcs_json.specs.Reading.{list_of}
-use Rattle.etcs_json.specs.Shape.{object}
+use Rattle.etcs_schema.specs.Fault.{Fault}
+use Rattle.etcs_schema.specs.Reading.{list_of}
+use Rattle.etcs_schema.specs.Shape.{object}
 use Rattle.etcs_json.proofs.ReadLemmas.{short_list}
 
 few_at : (r : Result (List Section) Fault) (xs : List Section) → IfOk r (λ ys. length ys ≤ 31) → r ≡ Ok xs → length xs < 32

@@ -7,7 +7,7 @@ use Rattle.etcs_bits.specs.layout.Fields.{nothing}
 use Rattle.etcs_bits.specs.variables.Level.{level_numbered, level_variable}
 use Rattle.etcs_bits.specs.variables.Variables.{plain, ranged}
 use Rattle.etcs_radio.specs.Integrity.{length_numbered, length_variable}
-use Rattle.etcs_json.specs.Variables.{is_allowed}
+use Rattle.etcs_schema.specs.Variables.{is_allowed}
 
 level_allows : (n : ℕ) → is_allowed (ranged 3 4 8) n ≡ is_allowed level_variable n
 level_allows n = grind (arith, nat_tests)

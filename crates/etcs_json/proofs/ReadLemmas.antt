@@ -6,11 +6,11 @@ use Rattle.std.proofs.lemmas.Bool.{and_parts}
 use Rattle.std.proofs.lemmas.Bool.Decides.{nat_tests}
 use Rattle.serde_json.specs.Data.{Data, Items}
 use Rattle.serde_json.specs.Find.{as_array, get}
-use Rattle.etcs_json.specs.Fault.{Fault, Range, Step, here, key, list_item, under}
-use Rattle.etcs_json.specs.Reading.{◌>>=◌, at_key, bounded_list_or, data_list, items_at, key_or, list_of, object_with, with_first}
+use Rattle.etcs_schema.specs.Fault.{Fault, Range, Step, here, key, list_item, under}
+use Rattle.etcs_schema.specs.Reading.{◌>>=◌, at_key, bounded_list_or, data_list, items_at, key_or, list_of, object_with, with_first}
 use Rattle.etcs_json.specs.Profiles.{difference, speed_element}
-use Rattle.etcs_json.specs.Shape.{Shape, both_of, first_and_others, first_and_rest, key as key_part, list, object}
-use Rattle.etcs_json.specs.Variables.{flag, number}
+use Rattle.etcs_schema.specs.Shape.{Shape, both_of, first_and_others, first_and_rest, key as key_part, list, object}
+use Rattle.etcs_schema.specs.Variables.{flag, number}
 use Rattle.etcs_profile.specs.Built.{IsReason}
 use Rattle.etcs_profile.specs.Speed.{d_static, v_static}
 use Rattle.etcs_profile.specs.declared.error.BuildError.{BuildError}

@@ -14,17 +14,17 @@ use Rattle.etcs_radio.specs.declared.report.Report.{Report}
 use Rattle.etcs_radio.specs.declared.train_packet.TrainPacket.TheVariants as train
 use Rattle.etcs_json.specs.Authority.{authority, either_authority, end_parts, terms, with_main, without_main}
 use Rattle.etcs_json.specs.AuthoritySending.{sent_members}
-use Rattle.etcs_json.specs.Chosen.{with_number}
+use Rattle.etcs_schema.specs.Chosen.{with_number}
 use Rattle.etcs_json.specs.Cover.{cover, cover_marker}
-use Rattle.etcs_json.specs.Entries.{Entry, members_onto}
-use Rattle.etcs_json.specs.Fault.{Fault}
-use Rattle.etcs_json.specs.Reading.{◌>>=◌, as_kind, object_with}
+use Rattle.etcs_schema.specs.Entries.{Entry, members_onto}
+use Rattle.etcs_schema.specs.Fault.{Fault}
+use Rattle.etcs_schema.specs.Reading.{◌>>=◌, as_kind, object_with}
 use Rattle.etcs_json.specs.Report.{either_report, report, situation, with_one, with_two}
 use Rattle.etcs_json.specs.ReportSending.{first_members as report_first, last_members as report_last, sent_members as sent_report}
-use Rattle.etcs_json.specs.Shape.{object}
+use Rattle.etcs_schema.specs.Shape.{object}
 use Rattle.etcs_json.specs.TrackPackets.{track_numbered, track_packet}
 use Rattle.etcs_json.specs.TrainPackets.{train_numbered, train_packet}
-use Rattle.etcs_json.proofs.SortedLemmas.{made_members, members_of}
+use Rattle.etcs_schema.proofs.SortedLemmas.{made_members, members_of}
 
 -- an empty object that has taken members in the byte order of their keys
 pub made_of : (es : List Entry) (old new : Members) (d e : Data) → members_onto no_members es ≡ members_of es → object_data (members_of es) ≡ e

@@ -1,12 +1,12 @@
 -- The form of a radio message, by its number (SUBSET-026, 8.6 and 8.7).
-use Rattle.etcs_json.specs.Prelude.{◌≡◌, ◌⊎◌, codes, refl, inl, inr}
+use Rattle.etcs_schema.specs.Prelude.{◌≡◌, ◌⊎◌, codes, refl, inl, inr}
 use Rattle.etcs_radio.specs.Head.{nid_message}
 use Rattle.etcs_radio.specs.Record.{Movement, Position}
 use Rattle.etcs_radio.specs.declared.message.Message.{Message}
 use Rattle.etcs_radio.specs.declared.message.Message.TheVariants as messages
-use Rattle.etcs_json.specs.Chosen.{Choice, by_kind, chosen, either, last}
+use Rattle.etcs_schema.specs.Chosen.{Choice, by_kind, chosen, either, last}
 use Rattle.etcs_json.specs.Messages.{movement, position}
-use Rattle.etcs_json.specs.Shape.{Shape, renamed}
+use Rattle.etcs_schema.specs.Shape.{Shape, renamed}
 use Rattle.etcs_json.specs.TrackPackets.{track_packet}
 use Rattle.etcs_json.specs.TrainPackets.{train_packet}
 

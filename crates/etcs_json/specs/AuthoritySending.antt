@@ -1,10 +1,10 @@
 -- What is sent of a movement authority: its members in the byte order of their keys.
-use Rattle.etcs_json.specs.Prelude.{List, [], ◌∷◌, Some, codes, array}
+use Rattle.etcs_schema.specs.Prelude.{List, [], ◌∷◌, Some, codes, array}
 use Rattle.etcs_profile.specs.Authority.{AuthorityValue, authority_number}
 use Rattle.etcs_json.specs.Authority.{danger_point, end_timer, overlap, section, section_timer}
-use Rattle.etcs_json.specs.Entries.{Entry}
-use Rattle.etcs_json.specs.Shape.{items_of, object, optional, number_data}
-use Rattle.etcs_json.specs.Variables.{direction, scale}
+use Rattle.etcs_schema.specs.Entries.{Entry}
+use Rattle.etcs_schema.specs.Shape.{items_of, object, optional, number_data}
+use Rattle.etcs_schema.specs.Variables.{direction, scale}
 
 -- V_MAIN is there in packet 12 alone
 unfoldable pub sent_members : AuthorityValue → List Entry

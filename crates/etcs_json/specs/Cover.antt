@@ -1,10 +1,10 @@
 -- The form of virtual balise cover markers, packet 0 (SUBSET-026, 7.4.2).
 use Rattle.std.specs.Prelude.{codes, refl}
 use Rattle.etcs_packet.specs.Cover.{cover_marker as cover_layout, cover_struct, nid_vbcmk}
-use Rattle.etcs_json.specs.Chosen.{behind}
-use Rattle.etcs_json.specs.Head.{Packet, numbered}
-use Rattle.etcs_json.specs.Shape.{ObjectOf, closed, key, struct}
-use Rattle.etcs_json.specs.Variables.{number}
+use Rattle.etcs_schema.specs.Chosen.{behind}
+use Rattle.etcs_schema.specs.Head.{Packet, numbered}
+use Rattle.etcs_schema.specs.Shape.{ObjectOf, closed, key, struct}
+use Rattle.etcs_schema.specs.Variables.{number}
 
 -- packet 0
 unfoldable pub cover : Packet 0 nid_vbcmk.rows

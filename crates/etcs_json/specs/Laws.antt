@@ -1,5 +1,5 @@
 -- The laws of forms: each telegram and each radio message is what its form is read as.
-use Rattle.etcs_json.specs.Prelude.{◌≡◌, true, List, Ok, flat_map, AreAllowed, Row}
+use Rattle.etcs_schema.specs.Prelude.{◌≡◌, true, List, Ok, flat_map, AreAllowed, Row}
 use Rattle.etcs_packet.specs.Track.{track_packet}
 use Rattle.etcs_telegram.specs.Header.{header}
 use Rattle.etcs_telegram.specs.Record.{Telegram}
@@ -8,7 +8,7 @@ use Rattle.etcs_radio.specs.Message.{is_complete, packet_rows}
 use Rattle.etcs_radio.specs.declared.message.Message.{Message}
 use Rattle.etcs_radio.specs.declared.message.Message.TheVariants as messages
 use Rattle.etcs_json.specs.AnyMessage.{message}
-use Rattle.etcs_json.specs.Shape.{object}
+use Rattle.etcs_schema.specs.Shape.{object}
 use Rattle.etcs_json.specs.Telegrams.{telegram}
 
 -- ---- telegrams

@@ -2,17 +2,17 @@
 -- is named as the standard names its variable, in small letters; `packets` is this project's. NID_LRBG
 -- is two keys, its country and its number there. L_MESSAGE follows from the packets, and is no key. Keys
 -- are in the order in which they are looked for.
-use Rattle.etcs_json.specs.Prelude.{Bool, List, codes, refl, flat_map, pair_rows, Row, nid_bg, nid_c}
+use Rattle.etcs_schema.specs.Prelude.{Bool, List, codes, refl, flat_map, pair_rows, Row, nid_bg, nid_c}
 use Rattle.etcs_packet.specs.declared.track.TrackPacket.{TrackPacket}
 use Rattle.etcs_radio.specs.Head.{m_ack, nid_engine, t_train}
 use Rattle.etcs_radio.specs.Record.{Movement, Position}
 use Rattle.etcs_radio.specs.Required.{has_authority, has_report}
 use Rattle.etcs_radio.specs.declared.train_packet.TrainPacket.{TrainPacket}
-use Rattle.etcs_json.specs.Chosen.{BehindNumber, behind}
-use Rattle.etcs_json.specs.Fault.{Fault, Range, at_once, key as key_step}
-use Rattle.etcs_json.specs.Listed.{holding, listed, rows_holding}
-use Rattle.etcs_json.specs.Shape.{Shape, key, named, ◌then◌}
-use Rattle.etcs_json.specs.Variables.{flag, number}
+use Rattle.etcs_schema.specs.Chosen.{BehindNumber, behind}
+use Rattle.etcs_schema.specs.Fault.{Fault, Range, at_once, key as key_step}
+use Rattle.etcs_schema.specs.Listed.{holding, listed, rows_holding}
+use Rattle.etcs_schema.specs.Shape.{Shape, key, named, ◌then◌}
+use Rattle.etcs_schema.specs.Variables.{flag, number}
 
 -- a message without the packet that its kind has to hold is refused
 abbrev pub no_packet : Fault

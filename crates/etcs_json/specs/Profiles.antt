@@ -2,7 +2,7 @@
 -- key is named as the standard names its variable, in small letters. `links`, `elements`
 -- and `differences` are this project's and name lists. `nc` is NC_CDDIFF or NC_DIFF. Keys are in the
 -- order in which they are looked for.
-use Rattle.etcs_json.specs.Prelude.{◌≡◌, ℕ, ◌+◌, Bool, true, List, Result, Ok, codes, nat_le, refl, arith, le-leb, Data, Format, AreAllowed, alone, width, nid_bg, nid_c}
+use Rattle.etcs_schema.specs.Prelude.{◌≡◌, ℕ, ◌+◌, Bool, true, List, Result, Ok, codes, nat_le, refl, arith, le-leb, Data, Format, AreAllowed, alone, width, nid_bg, nid_c}
 use Rattle.etcs_bits.specs.declared.variables.direction.Dir.{Dir}
 use Rattle.etcs_profile.specs.Elements.{elements, profile_struct}
 use Rattle.etcs_profile.specs.Gradient.{d_gradient, g_a, gradient_element as gradient_layout, gradient_struct}
@@ -10,12 +10,12 @@ use Rattle.etcs_profile.specs.Linking.{d_link, link as link_layout, link_struct,
 use Rattle.etcs_profile.specs.Packet.{rest}
 use Rattle.etcs_profile.specs.Profile.{Profile}
 use Rattle.etcs_profile.specs.Speed.{d_static, difference as difference_layout, difference_struct, nc_diff, q_diff, speed_element as speed_layout, speed_struct, v_diff, v_static}
-use Rattle.etcs_json.specs.Chosen.{behind}
-use Rattle.etcs_json.specs.Fault.{Fault, Range, here}
-use Rattle.etcs_json.specs.Head.{Packet, headed, scaled}
-use Rattle.etcs_json.specs.Reading.{◌>>=◌, at_key}
-use Rattle.etcs_json.specs.Shape.{ObjectOf, Part, both_of, closed, first_and_others, key, key_if, list, list_from_one, object, only, struct, within, ◌then◌}
-use Rattle.etcs_json.specs.Variables.{direction, flag, number, scale}
+use Rattle.etcs_schema.specs.Chosen.{behind}
+use Rattle.etcs_schema.specs.Fault.{Fault, Range, here}
+use Rattle.etcs_schema.specs.Head.{Packet, headed, scaled}
+use Rattle.etcs_schema.specs.Reading.{◌>>=◌, at_key}
+use Rattle.etcs_schema.specs.Shape.{ObjectOf, Part, both_of, closed, first_and_others, key, key_if, list, list_from_one, object, only, struct, within, ◌then◌}
+use Rattle.etcs_schema.specs.Variables.{direction, flag, number, scale}
 
 -- a packet of elements that has no more bits than L_PACKET counts, of which 23 are NID_PACKET, Q_DIR and L_PACKET
 abbrev pub is_short : {X : Type 0} → Format X → Dir × Profile X → Bool

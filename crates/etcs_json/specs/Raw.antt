@@ -3,9 +3,9 @@ use Rattle.std.specs.Prelude.{codes, refl}
 use Rattle.etcs_packet.specs.FoundRaw.{raw_with}
 use Rattle.etcs_packet.specs.PacketNumbers.{nid_raw}
 use Rattle.etcs_packet.specs.Raw.{raw_again, raw_packet as raw_layout}
-use Rattle.etcs_json.specs.Measured.{measured}
-use Rattle.etcs_json.specs.Shape.{ObjectOf, closed, key, named, ◌then◌}
-use Rattle.etcs_json.specs.Variables.{direction, variable}
+use Rattle.etcs_schema.specs.Measured.{measured}
+use Rattle.etcs_schema.specs.Shape.{ObjectOf, closed, key, named, ◌then◌}
+use Rattle.etcs_schema.specs.Variables.{direction, variable}
 
 -- a track packet whose number is neither a known packet's nor the end mark's; 10 bits stand before L_PACKET
 unfoldable pub raw_packet : ObjectOf raw_layout.rows

@@ -4,9 +4,9 @@ use Rattle.std.specs.Prelude.{codes, refl}
 use Rattle.etcs_radio.specs.FoundRaw.{raw_with}
 use Rattle.etcs_radio.specs.TrainNumbers.{nid_raw}
 use Rattle.etcs_radio.specs.RawTrain.{raw_again, raw_train_packet as raw_layout}
-use Rattle.etcs_json.specs.Measured.{measured}
-use Rattle.etcs_json.specs.Shape.{ObjectOf, closed, key, named, ◌then◌}
-use Rattle.etcs_json.specs.Variables.{variable}
+use Rattle.etcs_schema.specs.Measured.{measured}
+use Rattle.etcs_schema.specs.Shape.{ObjectOf, closed, key, named, ◌then◌}
+use Rattle.etcs_schema.specs.Variables.{variable}
 
 -- a train packet whose number is neither a position report's nor the end mark's; 8 bits stand before L_PACKET
 unfoldable pub raw_train_packet : ObjectOf raw_layout.rows

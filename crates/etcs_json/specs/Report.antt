@@ -2,7 +2,7 @@
 -- standard names its variable, in small letters. The standard has the identity of a group as one
 -- variable, NID_LRBG or NID_PRVLRBG. Here its country and its number are two keys. Keys are in the order
 -- in which they are looked for.
-use Rattle.etcs_json.specs.Prelude.{◌≡◌, ◌+◌, ◌*◌, ◌/◌, ◌<◌, ◌==◌, ◌⊎◌, ℕ, true, List, [], ◌∷◌, codes, refl, inl, inr, arith, AreAllowed, alone, plain, nid_bg, nid_c}
+use Rattle.etcs_schema.specs.Prelude.{◌≡◌, ◌+◌, ◌*◌, ◌/◌, ◌<◌, ◌==◌, ◌⊎◌, ℕ, true, List, [], ◌∷◌, codes, refl, inl, inr, arith, AreAllowed, alone, plain, nid_bg, nid_c}
 use Rattle.etcs_bits.specs.declared.variables.identity.Identity.{Identity}
 use Rattle.etcs_bits.specs.variables.Identity.{identity as identity_layout, identity_struct}
 use Rattle.etcs_radio.specs.Integrity.{length_numbered, q_length}
@@ -11,12 +11,12 @@ use Rattle.etcs_radio.specs.Report.{WithOne, WithTwo, again, d_lrbg, l_doubtover
 use Rattle.etcs_radio.specs.Train3.{train3_names, train3_number, train3_of, train3_variable}
 use Rattle.etcs_radio.specs.declared.report.Report.{Report}
 use Rattle.etcs_radio.specs.declared.train3.Train3.{Train3}
-use Rattle.etcs_json.specs.Chosen.{Choice, behind, chosen, either, last}
-use Rattle.etcs_json.specs.Head.{Packet}
-use Rattle.etcs_json.specs.KeyedVariables.{HasKeys, keys_by, variables_at}
-use Rattle.etcs_json.specs.Shape.{Part, Shape, key, renamed, sized, struct, with_bits, ◌then◌}
+use Rattle.etcs_schema.specs.Chosen.{Choice, behind, chosen, either, last}
+use Rattle.etcs_schema.specs.Head.{Packet}
+use Rattle.etcs_schema.specs.KeyedVariables.{HasKeys, keys_by, variables_at}
+use Rattle.etcs_schema.specs.Shape.{Part, Shape, key, renamed, sized, struct, with_bits, ◌then◌}
 use Rattle.etcs_json.specs.Transition.{level}
-use Rattle.etcs_json.specs.Variables.{is_allowed, named_numbers, number, scale}
+use Rattle.etcs_schema.specs.Variables.{is_allowed, named_numbers, number, scale}
 
 -- the identity of a group, as its country and its number there
 abbrev pub identity : List ℕ → List ℕ → Part identity_layout.rows

@@ -4,11 +4,11 @@ use Rattle.etcs_bits.specs.variables.Level.{level_number, m_level}
 use Rattle.etcs_radio.specs.Integrity.{length_number, q_length}
 use Rattle.etcs_radio.specs.Report.{report_number}
 use Rattle.etcs_radio.specs.declared.report.Report.{Report}
-use Rattle.etcs_json.specs.Entries.{Entry}
-use Rattle.etcs_json.specs.KeyedVariables.{number_in}
+use Rattle.etcs_schema.specs.Entries.{Entry}
+use Rattle.etcs_schema.specs.KeyedVariables.{number_in}
 use Rattle.etcs_json.specs.Report.{side}
-use Rattle.etcs_json.specs.Shape.{optional, number_data}
-use Rattle.etcs_json.specs.Variables.{scale}
+use Rattle.etcs_schema.specs.Shape.{optional, number_data}
+use Rattle.etcs_schema.specs.Variables.{scale}
 
 -- the members up to NID_PACKET
 unfoldable pub first_members : Report → List Entry

@@ -1,7 +1,7 @@
 -- The form of a telegram (SUBSET-026, 8.4.2). Each key is named as the standard names its variable, in
 -- small letters. NID_C and NID_BG are the identity of the balise's group. `user_bits` and `packets` are
 -- this project's. Keys are in the order in which they are looked for.
-use Rattle.etcs_json.specs.Prelude.{◌≡◌, ◌++◌, ℕ, ◌==◌, ◌||◌, Bool, true, List, [], Ok, codes, if◌then◌else◌, refl, ap, ◌∙◌, flat_map, Row}
+use Rattle.etcs_schema.specs.Prelude.{◌≡◌, ◌++◌, ℕ, ◌==◌, ◌||◌, Bool, true, List, [], Ok, codes, if◌then◌else◌, refl, ap, ◌∙◌, flat_map, Row}
 use Rattle.etcs_bits.specs.declared.layout.fault.FaultKind.TheVariants.{Downlink, Loop}
 use Rattle.etcs_bits.specs.variables.Variables.{only as only_number}
 use Rattle.etcs_packet.specs.Track.{track_packet as track_layout}
@@ -10,12 +10,12 @@ use Rattle.etcs_telegram.specs.Record.{Telegram}
 use Rattle.etcs_telegram.specs.Sizes.{user_bits}
 use Rattle.etcs_telegram.specs.declared.size.Size.{Size}
 use Rattle.etcs_telegram.specs.declared.size.Size.TheVariants.{Short, Long}
-use Rattle.etcs_json.specs.Listed.{listed}
-use Rattle.etcs_json.specs.Reading.{as_kind, allowed_number}
+use Rattle.etcs_schema.specs.Listed.{listed}
+use Rattle.etcs_schema.specs.Reading.{as_kind, allowed_number}
 use Rattle.etcs_json.specs.Report.{identity}
-use Rattle.etcs_json.specs.Shape.{ObjectOf, Part, Shape, closed, key, named, number_again, number_data, struct, unstated, ◌then◌}
+use Rattle.etcs_schema.specs.Shape.{ObjectOf, Part, Shape, closed, key, named, number_again, number_data, struct, unstated, ◌then◌}
 use Rattle.etcs_json.specs.TrackPackets.{track_packet}
-use Rattle.etcs_json.specs.Variables.{duplicate, flag, number, version}
+use Rattle.etcs_schema.specs.Variables.{duplicate, flag, number, version}
 
 -- whether a telegram may have n user bits
 abbrev pub is_size : ℕ → Bool

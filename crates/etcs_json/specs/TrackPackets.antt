@@ -1,19 +1,19 @@
 -- The form of a packet from track to train, by its number (SUBSET-026, 7.4.2).
-use Rattle.etcs_json.specs.Prelude.{◌++◌, codes, length, refl, AreAllowed, alone, ranged}
+use Rattle.etcs_schema.specs.Prelude.{◌++◌, codes, length, refl, AreAllowed, alone, ranged}
 use Rattle.etcs_packet.specs.PacketNumbers.{is_kept_number, nid_track}
 use Rattle.etcs_packet.specs.Raw.{other_of, others as other_bits, raw_packet as raw_layout}
 use Rattle.etcs_packet.specs.Track.{NumberedTrackPacket, again, parts_of, track_of}
 use Rattle.etcs_packet.specs.declared.raw.RawPacket.{RawPacket}
 use Rattle.etcs_packet.specs.declared.track.TrackPacket.{TrackPacket}
 use Rattle.etcs_json.specs.Authority.{with_main, without_main}
-use Rattle.etcs_json.specs.Chosen.{Choice, HasNumber, begins_with, chosen, either, others}
+use Rattle.etcs_schema.specs.Chosen.{Choice, HasNumber, begins_with, chosen, either, others}
 use Rattle.etcs_json.specs.Cover.{cover}
 use Rattle.etcs_json.specs.Profiles.{gradient, linking, speed_profile}
-use Rattle.etcs_json.specs.Head.{nid_range}
+use Rattle.etcs_schema.specs.Head.{nid_range}
 use Rattle.etcs_json.specs.Raw.{raw_packet}
-use Rattle.etcs_json.specs.Shape.{Shape, object, renamed}
+use Rattle.etcs_schema.specs.Shape.{Shape, object, renamed}
 use Rattle.etcs_json.specs.Transition.{transition}
-use Rattle.etcs_json.specs.Variables.{is_allowed}
+use Rattle.etcs_schema.specs.Variables.{is_allowed}
 
 pub raw_has : (p : RawPacket) → HasNumber (codes "nid_packet") p.number ((object raw_packet).to p)
 unfolding raw_packet

@@ -1,17 +1,17 @@
 -- The form of a packet from train to track (SUBSET-026, 7.4.3). NID_PACKET decides it.
-use Rattle.etcs_json.specs.Prelude.{◌++◌, codes, length, refl, AreAllowed, alone, ranged}
+use Rattle.etcs_schema.specs.Prelude.{◌++◌, codes, length, refl, AreAllowed, alone, ranged}
 use Rattle.etcs_packet.specs.PacketNumbers.{nid_track as nid_train}
 use Rattle.etcs_radio.specs.RawTrain.{other_of, others as other_bits, raw_train_packet as raw_layout}
 use Rattle.etcs_radio.specs.TrainNumbers.{is_kept_number}
 use Rattle.etcs_radio.specs.TrainPacket.{NumberedTrainPacket, again, parts_of, train_of}
 use Rattle.etcs_radio.specs.declared.raw_train.RawTrainPacket.{RawTrainPacket}
 use Rattle.etcs_radio.specs.declared.train_packet.TrainPacket.{TrainPacket}
-use Rattle.etcs_json.specs.Chosen.{Choice, HasNumber, begins_with, chosen, either, others}
-use Rattle.etcs_json.specs.Head.{nid_range}
+use Rattle.etcs_schema.specs.Chosen.{Choice, HasNumber, begins_with, chosen, either, others}
+use Rattle.etcs_schema.specs.Head.{nid_range}
 use Rattle.etcs_json.specs.RawTrain.{raw_train_packet}
 use Rattle.etcs_json.specs.Report.{with_one, with_two}
-use Rattle.etcs_json.specs.Shape.{Shape, object, renamed}
-use Rattle.etcs_json.specs.Variables.{is_allowed}
+use Rattle.etcs_schema.specs.Shape.{Shape, object, renamed}
+use Rattle.etcs_schema.specs.Variables.{is_allowed}
 
 pub raw_has : (p : RawTrainPacket) → HasNumber (codes "nid_packet") p.number ((object raw_train_packet).to p)
 unfolding raw_train_packet

@@ -4,11 +4,11 @@ use Rattle.std.specs.Prelude.{ℕ, ◌==◌, List, [], ◌∷◌, codes, refl}
 use Rattle.etcs_bits.specs.variables.Level.{level_numbered, m_level}
 use Rattle.etcs_profile.specs.Packet.{rest}
 use Rattle.etcs_profile.specs.Transition.{d_leveltr, l_ackleveltr, level_order as level_order_layout, level_order_struct, level_orders, orders_struct}
-use Rattle.etcs_json.specs.Chosen.{behind}
-use Rattle.etcs_json.specs.Head.{Packet, headed, scaled}
-use Rattle.etcs_json.specs.KeyedVariables.{HasKeys, keys_by, variables_at}
-use Rattle.etcs_json.specs.Shape.{ObjectOf, Part, closed, key, list_from_one, object, struct, ◌then◌}
-use Rattle.etcs_json.specs.Variables.{number}
+use Rattle.etcs_schema.specs.Chosen.{behind}
+use Rattle.etcs_schema.specs.Head.{Packet, headed, scaled}
+use Rattle.etcs_schema.specs.KeyedVariables.{HasKeys, keys_by, variables_at}
+use Rattle.etcs_schema.specs.Shape.{ObjectOf, Part, closed, key, list_from_one, object, struct, ◌then◌}
+use Rattle.etcs_schema.specs.Variables.{number}
 
 pub level_keys : (n : ℕ) → HasKeys (level_numbered.next n) (codes "nid_ntc" ∷ [])
 level_keys n = keys_by _ _ _ (n == 0) tt (keys_by _ _ _ (n == 1) (λ _. tt) (keys_by _ _ _ (n == 2) tt (keys_by _ _ _ (n == 3) tt tt)))

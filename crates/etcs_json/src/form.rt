@@ -3,13 +3,12 @@
 ghost use Rattle.std.specs.Prelude.{◌≡◌, ◌∷◌, [], Some, Ok, IfOk, OnErr, OnOk};
 ghost use Rattle.serde_json.specs.Data.{Data};
 ghost use Rattle.serde_json.specs.View.{view};
-ghost use Rattle.etcs_json.specs.Fault.{Gives, IfMemory};
-ghost use Rattle.etcs_json.specs.Sending.{SendsValue, entries_tokens, tokens_of};
-ghost use Rattle.etcs_json.specs.Shape.{Shape};
+ghost use Rattle.etcs_schema.specs.Fault.{Gives, IfMemory};
+ghost use Rattle.etcs_schema.specs.Sending.{SendsValue, entries_tokens, tokens_of};
+ghost use Rattle.etcs_schema.specs.Shape.{Shape};
 
-use crate::writing::marks::Marks;
-use crate::{FormError, Node};
 use etcs_bits::Memory;
+use etcs_schema::{FormError, Marks, Node};
 use json::{Token, Writer};
 use serde_json::Value;
 use std::alloc::Global;

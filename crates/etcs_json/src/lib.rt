@@ -12,20 +12,17 @@
 //! of a railway line.
 #![tactic(auto)]
 
-mod error;
 mod form;
 pub mod laws;
 mod members;
 mod messages;
-mod node;
 mod packets;
+mod reading;
 mod record;
 mod writing;
 
-pub use error::{FormError, Path, Step};
+pub use etcs_schema::{
+    FormError, JsonError, JsonText, Node, Path, Step, TapeItems, TapeNode, check_keys,
+};
 pub use form::{Form, InPieces};
-pub use node::Node;
-pub use node::json_text::{JsonError, JsonText};
-pub use node::keys::check_keys;
-pub use node::tape_node::{TapeItems, TapeNode};
 pub use record::Record;

@@ -3,16 +3,18 @@
 
 ghost use Rattle.std.specs.Prelude.{◌≡◌, ◌∷◌, ◌++◌, [], List, Some, Result, OnOk};
 ghost use Rattle.serde_json.specs.Data.{Data, array};
-ghost use Rattle.etcs_json.specs.Entries.{Entry};
-ghost use Rattle.etcs_json.specs.Fault.{Fault, Gives};
-ghost use Rattle.etcs_json.specs.Listed.{all_of};
-ghost use Rattle.etcs_json.specs.Reading.{at_key, at_key_if, list_of};
-ghost use Rattle.etcs_json.specs.Shape.{both_of, first_and_others, items_of, number_data, optional as data_if};
+ghost use Rattle.etcs_schema.specs.Entries.{Entry};
+ghost use Rattle.etcs_schema.specs.Fault.{Fault, Gives};
+ghost use Rattle.etcs_schema.specs.Listed.{all_of};
+ghost use Rattle.etcs_schema.specs.Reading.{at_key, at_key_if, list_of};
+ghost use Rattle.etcs_schema.specs.Shape.{both_of, first_and_others, items_of, number_data, optional as data_if};
 
-use crate::node::reading::{member, read_first_and, read_items, read_list, under};
+use crate::{Form, InPieces};
+use crate::reading::{read_first_and, read_items, read_list};
 use crate::writing::Sink;
-use crate::{Form, FormError, InPieces, Node, Step};
 use etcs_bits::{Items, Memory};
+use etcs_schema::reading::{member, under};
+use etcs_schema::{FormError, Node, Step};
 use std::alloc::Global;
 use std::marker::Model;
 
@@ -162,7 +164,7 @@ impl<T> Model for Listed<T> {
 impl<T: Form> FromNode for Listed<T> {
     ghost reads = { all_of T.shape.of };
 
-    #[tactic(auto, unfolding(crate::specs::Listed::all_of))]
+    #[tactic(auto, unfolding(etcs_schema::specs::Listed::all_of))]
     fn from_node<N: Node>(alloc: Global, node: &N) -> Result<Listed<T>, FormError> {
         match node.items() {
             None => Err(FormError::kind(alloc)),
@@ -220,7 +222,7 @@ impl<T: FromNode> ReadMembers for T {
     ghost reads = { λ key. at_key T.reads key.now };
 
     #[inline(always)]
-    #[tactic(auto, using(crate::proofs::Objects::member_read))]
+    #[tactic(auto, using(etcs_schema::proofs::Objects::member_read))]
     fn read<N: Node>(alloc: Global, node: &N, key: &'static str) -> Result<T, FormError> {
         let found = member(alloc, node, key)?;
         under(key, T::from_node(alloc, &found))
@@ -234,7 +236,7 @@ impl<T: FromNode> ReadMembers for Option<T> {
     ghost reads = { λ key. at_key_if T.reads key.now };
 
     #[inline(always)]
-    #[tactic(auto, using(crate::proofs::Objects::fails_under), unfolding(crate::specs::Reading::at_key_if))]
+    #[tactic(auto, using(etcs_schema::proofs::Objects::fails_under), unfolding(etcs_schema::specs::Reading::at_key_if))]
     fn read<N: Node>(alloc: Global, node: &N, key: &'static str) -> Result<Option<T>, FormError> {
         match node.member(key) {
             None => Ok(None),

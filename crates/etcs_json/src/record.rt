@@ -2,16 +2,16 @@
 
 ghost use Rattle.std.specs.Prelude.{◌≡◌, map, IsOk, OnOk};
 ghost use Rattle.etcs_bits.specs.layout.Rows.{AreAllowed};
-ghost use Rattle.etcs_json.specs.Fault.{Gives, IfMemory};
-ghost use Rattle.etcs_json.specs.Reading.{object_with};
-ghost use Rattle.etcs_json.specs.Shape.{Object, shape_of};
-ghost use Rattle.etcs_json.specs.Sending.{sorted, sorted_keys};
+ghost use Rattle.etcs_schema.specs.Fault.{Gives, IfMemory};
+ghost use Rattle.etcs_schema.specs.Reading.{object_with};
+ghost use Rattle.etcs_schema.specs.Shape.{Object, shape_of};
+ghost use Rattle.etcs_schema.specs.Sending.{sorted, sorted_keys};
 
+use crate::{Form, InPieces};
 use crate::writing::Sink;
 use crate::writing::building::NewObject;
-use crate::writing::marks::Marks;
-use crate::{Form, FormError, InPieces, Node, check_keys};
 use etcs_bits::{Layout, Memory};
+use etcs_schema::{FormError, Marks, Node, check_keys};
 use json::Token;
 use serde_json::Value;
 use std::alloc::Global;
@@ -69,7 +69,7 @@ pub(crate) fn prove_allowed<T: Layout>(value: &T)
 
 /// Refuses what is no object, and an object with a key that the record does not have. Neither refusal
 /// takes memory. The keys of the record stand in byte order, in which most objects have them.
-#[tactic(auto, using(crate::proofs::Keys::sorted_gives))]
+#[tactic(auto, using(etcs_schema::proofs::Keys::sorted_gives))]
 pub(crate) fn check_record<T: Record, N: Node>(
     alloc: Global,
     node: &N,

@@ -1,17 +1,16 @@
 //! What the members of an object are sent to. How a record is written is generic over [`Sink`], so
-//! that one description serves what takes marks ([`marks::Marks`]), which makes no value, and an object in
+//! that one description serves what takes marks ([`Marks`](etcs_schema::Marks)), which makes no value, and an object in
 //! memory.
 
 ghost use Rattle.std.specs.Prelude.{◌≡◌, ◌++◌, ◌∷◌, [], ℕ, List, Some, None, OnOk};
 ghost use Rattle.serde_json.specs.Data.{array, string};
-ghost use Rattle.etcs_json.specs.Entries.{Entry};
-ghost use Rattle.etcs_json.specs.Shape.{items_of, optional, number_data};
+ghost use Rattle.etcs_schema.specs.Entries.{Entry};
+ghost use Rattle.etcs_schema.specs.Shape.{items_of, optional, number_data};
 
-use crate::form::InPieces;
+use crate::InPieces;
 use etcs_bits::Memory;
 
 pub(crate) mod building;
-pub(crate) mod marks;
 mod sending;
 
 /// What takes the members of an object, one after the other, in the byte order of their keys. The

@@ -1,11 +1,11 @@
 -- How the refusal of a document is that of its fault.
 use Rattle.std.proofs.Common.{◌≡◌, ◌≢◌, ◌∙◌, ℕ, List, Result, Ok, Err, IfOk, refl, sym, ap}
-use Rattle.etcs_form.specs.DocumentFault.{DocumentFault, Fails}
-use Rattle.etcs_form.specs.Refusal.{document_words, refusal_words}
-use Rattle.etcs_form.specs.Verdict.{Summary, summary_of_text}
-use Rattle.etcs_json.specs.declared.error.FormError.TheVariants as forms
-use Rattle.etcs_form.specs.declared.line_error.LineError.{LineError}
-use Rattle.etcs_form.specs.declared.line_error.LineError.TheVariants as errors
+use Rattle.etcs_document.specs.DocumentFault.{DocumentFault, Fails}
+use Rattle.etcs_document.specs.Refusal.{document_words, refusal_words}
+use Rattle.etcs_document.specs.Verdict.{Summary, summary_of_text}
+use Rattle.etcs_schema.specs.declared.error.FormError.TheVariants as forms
+use Rattle.etcs_document.specs.declared.line_error.LineError.{LineError}
+use Rattle.etcs_document.specs.declared.line_error.LineError.TheVariants as errors
 use Rattle.etcs_radio.specs.declared.error.RadioTextError.TheVariants as radio
 use Rattle.etcs_telegram.specs.declared.error.TextError.TheVariants as texts
 use Rattle.etcs_run.specs.Checking.{check_output, checked, refused_as, reported}

@@ -11,12 +11,12 @@ use Rattle.etcs_radio.specs.declared.message.Message.{Message}
 use Rattle.etcs_radio.specs.Message.{IsTooBig as IsMessageTooBig, used_bits as message_bits}
 use Rattle.etcs_radio.specs.Text.{IsCanonicalText as IsMessageText}
 use Rattle.etcs_radio.proofs.EncodeLemmas.{encoding_message, never_too_big}
-use Rattle.etcs_json.specs.Fault.{Fault, Fails}
-use Rattle.etcs_json.specs.Shape.{Shape}
-use Rattle.etcs_form.specs.Refusal.{line_words}
-use Rattle.etcs_json.specs.declared.error.FormError.{FormError}
-use Rattle.etcs_json.specs.declared.error.FormError.TheVariants as forms
-use Rattle.etcs_form.specs.declared.refusal.LineFault.TheVariants.{Form, Json, Text, TooBig}
+use Rattle.etcs_schema.specs.Fault.{Fault, Fails}
+use Rattle.etcs_schema.specs.Shape.{Shape}
+use Rattle.etcs_document.specs.Refusal.{line_words}
+use Rattle.etcs_schema.specs.declared.error.FormError.{FormError}
+use Rattle.etcs_schema.specs.declared.error.FormError.TheVariants as forms
+use Rattle.etcs_document.specs.declared.refusal.LineFault.TheVariants.{Form, Json, Text, TooBig}
 use Rattle.etcs_telegram.specs.Record.{Telegram}
 use Rattle.etcs_telegram.specs.Sizes.{user_bits}
 use Rattle.etcs_telegram.specs.Telegram.{IsTooBig, used_bits}

@@ -15,9 +15,9 @@ use Rattle.etcs_radio.specs.Splitter.{IsTaken, state_of}
 use Rattle.etcs_radio.specs.declared.splitter.State.TheVariants.{Failed, More, Ready}
 use Rattle.etcs_radio.proofs.CuttingLemmas.{call-others, call-ready}
 use Rattle.etcs_radio.proofs.StateLemmas.{ready-whole, ready_is_not_more}
-use Rattle.etcs_form.specs.Refusal.{line_words, refusal_words}
-use Rattle.etcs_form.specs.declared.refusal.LineFault.TheVariants.{Text}
-use Rattle.etcs_form.specs.declared.refusal.StreamFault.TheVariants.{BelowThree, CutOff}
+use Rattle.etcs_document.specs.Refusal.{line_words, refusal_words}
+use Rattle.etcs_document.specs.declared.refusal.LineFault.TheVariants.{Text}
+use Rattle.etcs_document.specs.declared.refusal.StreamFault.TheVariants.{BelowThree, CutOff}
 use Rattle.etcs_telegram.specs.declared.error.TextError.TheVariants.{NotHex}
 use Rattle.etcs_run.specs.Output.{Output, answered, prepend}
 use Rattle.etcs_run.specs.RadioHeld.{Feeds}

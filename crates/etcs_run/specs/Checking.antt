@@ -2,13 +2,13 @@
 -- no document.
 use Rattle.std.specs.Prelude.{◌++◌, ℕ, List, [], ◌∷◌, codes, Some, None, Result, Ok, Err}
 use Rattle.etcs_check.specs.declared.finding.Finding.{Finding}
-use Rattle.etcs_form.specs.DocumentFault.{DocumentFault, bad_aspects, bad_count, bad_form, bad_message, bad_telegram, no_json}
-use Rattle.etcs_form.specs.Refusal.{form_fault_words, refusal_words}
-use Rattle.etcs_form.specs.ReportText.{report_words}
-use Rattle.etcs_form.specs.Verdict.{Summary, summary_of_text}
-use Rattle.etcs_form.specs.declared.line_error.LineError.{LineError}
-use Rattle.etcs_form.specs.declared.line_error.LineError.TheVariants as errors
-use Rattle.etcs_form.specs.declared.refusal.Refusal.TheVariants.{Document}
+use Rattle.etcs_document.specs.DocumentFault.{DocumentFault, bad_aspects, bad_count, bad_form, bad_message, bad_telegram, no_json}
+use Rattle.etcs_document.specs.Refusal.{form_fault_words, refusal_words}
+use Rattle.etcs_document.specs.ReportText.{report_words}
+use Rattle.etcs_document.specs.Verdict.{Summary, summary_of_text}
+use Rattle.etcs_document.specs.declared.line_error.LineError.{LineError}
+use Rattle.etcs_document.specs.declared.line_error.LineError.TheVariants as errors
+use Rattle.etcs_document.specs.declared.refusal.Refusal.TheVariants.{Document}
 use Rattle.etcs_run.specs.declared.status.Status.{Status}
 use Rattle.etcs_run.specs.declared.status.Status.TheVariants.{Done, Findings, Refused}
 

@@ -10,11 +10,11 @@ use Rattle.etcs_telegram.specs.Telegram.{used_bits}
 use Rattle.serde_json.specs.Data.{Data}
 use Rattle.serde_json.specs.Read.{read}
 use Rattle.etcs_json.specs.AnyMessage.{message}
-use Rattle.etcs_json.specs.Fault.{Fault}
-use Rattle.etcs_form.specs.Refusal.{form_fault_words, line_words}
-use Rattle.etcs_json.specs.Shape.{Shape, object}
+use Rattle.etcs_schema.specs.Fault.{Fault}
+use Rattle.etcs_document.specs.Refusal.{form_fault_words, line_words}
+use Rattle.etcs_schema.specs.Shape.{Shape, object}
 use Rattle.etcs_json.specs.Telegrams.{telegram}
-use Rattle.etcs_form.specs.declared.refusal.LineFault.TheVariants.{Json, TooBig}
+use Rattle.etcs_document.specs.declared.refusal.LineFault.TheVariants.{Json, TooBig}
 use Rattle.etcs_run.specs.HexText.{message_text, telegram_text}
 use Rattle.etcs_run.specs.TextLineMeaning.{Meaning}
 

@@ -13,11 +13,11 @@ use Rattle.etcs_radio.specs.declared.message.Message.{Message as RadioMessage}
 use Rattle.etcs_radio.specs.declared.splitter.State.{State}
 use Rattle.etcs_radio.specs.declared.splitter.State.TheVariants.{Failed}
 use Rattle.etcs_json.specs.AnyMessage.{message}
-use Rattle.etcs_form.specs.Refusal.{line_words, refusal_words}
-use Rattle.etcs_form.specs.declared.refusal.LineFault.TheVariants.{Text}
-use Rattle.etcs_form.specs.declared.refusal.Refusal.TheVariants.{Message}
-use Rattle.etcs_form.specs.declared.refusal.StreamFault.{StreamFault}
-use Rattle.etcs_form.specs.declared.refusal.StreamFault.TheVariants.{BelowThree, CutOff, Fault}
+use Rattle.etcs_document.specs.Refusal.{line_words, refusal_words}
+use Rattle.etcs_document.specs.declared.refusal.LineFault.TheVariants.{Text}
+use Rattle.etcs_document.specs.declared.refusal.Refusal.TheVariants.{Message}
+use Rattle.etcs_document.specs.declared.refusal.StreamFault.{StreamFault}
+use Rattle.etcs_document.specs.declared.refusal.StreamFault.TheVariants.{BelowThree, CutOff, Fault}
 use Rattle.etcs_run.specs.JsonLine.{json_line_of}
 use Rattle.etcs_run.specs.TextLineMeaning.{refusal_of}
 use Rattle.etcs_run.specs.Output.{Output, prepend}

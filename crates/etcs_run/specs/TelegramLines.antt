@@ -6,10 +6,10 @@ use Rattle.etcs_telegram.specs.TextMeaning.{telegram_of_text}
 use Rattle.etcs_telegram.specs.Record.{Telegram}
 use Rattle.etcs_telegram.specs.declared.error.TextError.{TextError}
 use Rattle.etcs_telegram.specs.declared.error.TextError.TheVariants as texts
-use Rattle.etcs_form.specs.Refusal.{line_words}
-use Rattle.etcs_json.specs.Shape.{object}
+use Rattle.etcs_document.specs.Refusal.{line_words}
+use Rattle.etcs_schema.specs.Shape.{object}
 use Rattle.etcs_json.specs.Telegrams.{telegram}
-use Rattle.etcs_form.specs.declared.refusal.LineFault.TheVariants.{Text}
+use Rattle.etcs_document.specs.declared.refusal.LineFault.TheVariants.{Text}
 use Rattle.etcs_run.specs.JsonLine.{json_line_of}
 use Rattle.etcs_run.specs.TextLineMeaning.{Meaning}
 

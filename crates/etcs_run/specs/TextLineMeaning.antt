@@ -1,7 +1,7 @@
 -- What a line of the input means to a command: the text that is written for it, or the reason why it
 -- is refused, in words.
 use Rattle.std.specs.Prelude.{◌≡◌, ◌++◌, ℕ, List, codes, decimal, Result, Ok, Err}
-use Rattle.etcs_form.specs.Refusal.{line_words}
+use Rattle.etcs_document.specs.Refusal.{line_words}
 use Rattle.etcs_run.specs.declared.text_line_meaning.Unwritten.{Unwritten}
 use Rattle.etcs_run.specs.declared.text_line_meaning.Unwritten.TheVariants.{Memory, Refused}
 

@@ -13,7 +13,7 @@ use crate::status::Status;
 use crate::whole_input::read_whole;
 use etcs_bits::Memory;
 use etcs_check::Finding;
-use etcs_form::{Checked, LineError, Refusal, check_in_order, refusal_text, report_counts};
+use etcs_document::{Checked, LineError, Refusal, check_in_order, refusal_text, report_counts};
 use std::alloc::Global;
 use std::io::{Read, Write};
 

@@ -1,7 +1,7 @@
 //! `EachTextLine`: a command that answers each line by what the line means.
 
 ghost use Rattle.std.specs.Prelude.{◌≡◌, [], Err, IfOk, string_bytes};
-ghost use Rattle.etcs_form.specs.Refusal.{line_words};
+ghost use Rattle.etcs_document.specs.Refusal.{line_words};
 ghost use Rattle.etcs_run.specs.Counted.{CanCount, FlushesNone, inner_of};
 ghost use Rattle.etcs_run.specs.TextLineMeaning.{refusal_of};
 ghost use Rattle.etcs_run.specs.LineReading.{CountsDevice};
@@ -17,7 +17,7 @@ use crate::text_line_command::TextLineCommand;
 use crate::text_line_meaning::{TextLineMeaning, Unwritten};
 use crate::turn::Turn;
 use etcs_bits::Memory;
-use etcs_form::{LineFault, Refusal, refusal_text};
+use etcs_document::{LineFault, Refusal, refusal_text};
 use std::alloc::Global;
 use std::io::Write;
 use std::mem;
@@ -34,7 +34,7 @@ pub(crate) fn trim(line: &[u8]) -> &[u8]
 }
 
 // The refusal of the line with this number, with its `\n`. Lines count from 1.
-#[tactic(auto, unfolding(crate::specs::TextLineMeaning::refusal_of, etcs_form::specs::Refusal::refusal_words))]
+#[tactic(auto, unfolding(crate::specs::TextLineMeaning::refusal_of, etcs_document::specs::Refusal::refusal_words))]
 fn refusal(alloc: Global, number: u64, why: LineFault) -> Result<String, Memory>
     ensures { IfOk result (λ s. string_bytes s ≡ refusal_of number (line_words why)) }
 {

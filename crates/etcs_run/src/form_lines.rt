@@ -8,8 +8,10 @@ ghost use Rattle.etcs_run.specs.TextLineMeaning.{Gives};
 
 use crate::text_line_meaning::{TextLineMeaning, Unwritten};
 use etcs_bits::Memory;
-use etcs_form::{Form, FormError, JsonError, JsonText, LineFault, Node};
+use etcs_document::LineFault;
+use etcs_json::Form;
 use etcs_radio::Message;
+use etcs_schema::{FormError, JsonError, JsonText, Node};
 use etcs_telegram::Telegram;
 use json::Scratch;
 use serde_json::Value;

@@ -5,7 +5,7 @@ ghost use Rattle.etcs_run.specs.JsonLine.{json_line_of};
 
 use etcs_bits::Memory;
 use etcs_digits::LineText;
-use etcs_form::InPieces;
+use etcs_json::InPieces;
 
 /// The JSON line of a value, with its `\n`, in the room of an earlier line, which is lost. The only error
 /// is that memory runs out; then the room is lost too.

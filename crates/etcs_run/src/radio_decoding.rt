@@ -19,7 +19,7 @@ use crate::status::Status;
 use crate::text_line_command::TextLineCommand;
 use crate::turn::Turn;
 use etcs_bits::DecodeError;
-use etcs_form::{LineFault, Refusal, StreamFault, refusal_text};
+use etcs_document::{LineFault, Refusal, StreamFault, refusal_text};
 use etcs_radio::{Splitter, State, decode};
 use etcs_telegram::TextError;
 use hex::FromHexError;

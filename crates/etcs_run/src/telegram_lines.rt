@@ -7,7 +7,7 @@ ghost use Rattle.etcs_run.specs.TelegramLines.{IsEarly};
 
 use crate::json_line::json_line;
 use crate::text_line_meaning::{TextLineMeaning, Unwritten};
-use etcs_form::LineFault;
+use etcs_document::LineFault;
 use etcs_telegram::{TextError, from_hex};
 use std::alloc::Global;
 

@@ -4,7 +4,7 @@ ghost use Rattle.std.specs.Prelude.{◌≡◌};
 ghost use Rattle.etcs_run.specs.TextLineMeaning.{Gives, Meaning};
 
 use etcs_bits::Memory;
-use etcs_form::LineFault;
+use etcs_document::LineFault;
 use std::alloc::Global;
 
 /// Why no text was made for a line.

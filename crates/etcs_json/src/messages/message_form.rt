@@ -2,14 +2,14 @@
 
 ghost use Rattle.std.specs.Prelude.{IsOk};
 ghost use Rattle.etcs_json.specs.AnyMessage.{numbered};
-ghost use Rattle.etcs_json.specs.Chosen.{any_object};
+ghost use Rattle.etcs_schema.specs.Chosen.{any_object};
 
-use crate::node::reading::{Numbers, check_object, read_number};
-use crate::record::InRange;
-use crate::writing::marks::Marks;
-use crate::{Form, FormError, InPieces, Node};
+use crate::{Form, InPieces};
+use crate::reading::{Numbers, read_number};
 use etcs_bits::Memory;
 use etcs_radio::Message;
+use etcs_schema::reading::check_object;
+use etcs_schema::{FormError, Marks, Node};
 use serde_json::Value;
 use std::alloc::Global;
 

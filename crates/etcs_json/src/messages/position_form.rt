@@ -1,20 +1,19 @@
 //! The form of message 136, the position report.
 
-use crate::members::{
-    ListMember, Listed, Member, NumberMember, ReadMembers, check_members, pairs, send_members,
-};
-use crate::node::reading::read_fixed;
+use crate::Record;
+use crate::members::{ListMember, Listed, Member, NumberMember, ReadMembers, check_members, pairs, send_members};
 use crate::record::{InRange, Members, prove_allowed};
 use crate::writing::Sink;
-use crate::{FormError, Node, Record};
 use etcs_bits::{Memory, are_allowed};
 use etcs_radio::PositionMessage;
+use etcs_schema::reading::read_fixed;
+use etcs_schema::{FormError, Node};
 use std::alloc::Global;
 
 impl Record for PositionMessage {
-    ghost use Rattle.etcs_json.specs.Chosen.{with_number};
+    ghost use Rattle.etcs_schema.specs.Chosen.{with_number};
     ghost use Rattle.etcs_json.specs.Messages.{position};
-    ghost use Rattle.etcs_json.specs.Shape.{whole};
+    ghost use Rattle.etcs_schema.specs.Shape.{whole};
     ghost use Rattle.etcs_json.specs.TrainPackets.{train_packet};
 
     ghost object = { whole (with_number (position train_packet)) };

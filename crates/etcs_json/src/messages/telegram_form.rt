@@ -4,14 +4,12 @@ ghost use Rattle.std.specs.Prelude.{◌≡◌};
 ghost use Rattle.etcs_telegram.specs.Sizes.{user_bits};
 ghost use Rattle.etcs_json.specs.Telegrams.{header};
 
-use crate::members::{
-    ListMember, Listed, Member, ReadMembers, check_members, pairs, read_record, send_members,
-};
+use crate::{Form, InPieces, Record};
+use crate::members::{ListMember, Listed, Member, ReadMembers, check_members, pairs, read_record, send_members};
 use crate::record::{InRange, Members, prove_allowed};
 use crate::writing::Sink;
-use crate::writing::marks::Marks;
-use crate::{Form, FormError, InPieces, Node, Record};
 use etcs_bits::{Memory, are_allowed};
+use etcs_schema::{FormError, Marks, Node};
 use etcs_telegram::{Header, Size, Telegram};
 use serde_json::Value;
 use std::alloc::Global;
@@ -26,7 +24,7 @@ fn user_bit_count(size: Size) -> u64
     }
 }
 
-#[tactic(auto, unfolding(crate::specs::Reading::allowed_number))]
+#[tactic(auto, unfolding(etcs_schema::specs::Reading::allowed_number))]
 impl Form for Size {
     ghost use Rattle.etcs_json.specs.Telegrams.{size};
 
@@ -78,7 +76,7 @@ impl ReadMembers for Header {
 }
 
 impl Record for Telegram {
-    ghost use Rattle.etcs_json.specs.Shape.{whole};
+    ghost use Rattle.etcs_schema.specs.Shape.{whole};
     ghost use Rattle.etcs_json.specs.Telegrams.{telegram};
 
     ghost object = { whole telegram };

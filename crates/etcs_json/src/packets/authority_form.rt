@@ -4,20 +4,21 @@ ghost use Rattle.std.specs.Prelude.{◌≡◌, OnOk};
 ghost use Rattle.etcs_profile.specs.Authority.{authority_number, authority_of_parts};
 ghost use Rattle.etcs_json.specs.Authority.{either_authority, with_main, without_main};
 ghost use Rattle.etcs_json.specs.AuthoritySending.{sent_members};
-ghost use Rattle.etcs_json.specs.Chosen.{with_number};
-ghost use Rattle.etcs_json.specs.Fault.{Gives};
-ghost use Rattle.etcs_json.specs.Reading.{as_kind, object_with};
+ghost use Rattle.etcs_schema.specs.Chosen.{with_number};
+ghost use Rattle.etcs_schema.specs.Fault.{Gives};
+ghost use Rattle.etcs_schema.specs.Reading.{as_kind, object_with};
 
+use crate::{Form, InPieces};
 use crate::members::{ListMember, Member, NumberMember, OptionalMember, ReadMembers, send_members};
-use crate::node::reading::{read_first, read_fixed};
 use crate::packets::terms_form::{Terms, authority_of};
+use crate::reading::read_first;
 use crate::record::prove_allowed;
 use crate::writing::Sink;
 use crate::writing::building::NewObject;
-use crate::writing::marks::Marks;
-use crate::{Form, FormError, InPieces, Node, check_keys};
 use etcs_bits::{Dir, Memory, Ranged, Scale, Speed};
 use etcs_profile::Authority;
+use etcs_schema::reading::read_fixed;
+use etcs_schema::{FormError, Marks, Node, check_keys};
 use json::Token;
 use serde_json::Value;
 use std::alloc::Global;
@@ -136,7 +137,7 @@ pub(crate) fn read_without_main<N: Node>(alloc: Global, node: &N) -> Result<Auth
 #[tactic(auto, unfolding(crate::specs::Authority::authority))]
 impl Form for Authority {
     ghost use Rattle.std.specs.Prelude.{IsOk};
-    ghost use Rattle.etcs_json.specs.Chosen.{any_object};
+    ghost use Rattle.etcs_schema.specs.Chosen.{any_object};
     ghost use Rattle.etcs_json.specs.Authority.{authority};
 
     ghost shape = { authority };

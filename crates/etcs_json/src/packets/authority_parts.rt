@@ -1,14 +1,15 @@
 //! The forms of the parts of movement authorities: sections and timers, danger point and overlap.
 
 ghost use Rattle.etcs_json.specs.Authority.{danger_point, end_timer, overlap, section, section_timer};
-ghost use Rattle.etcs_json.specs.Shape.{whole};
+ghost use Rattle.etcs_schema.specs.Shape.{whole};
 
+use crate::Record;
 use crate::members::{Member, OptionalMember, check_members, read_record, send_members};
 use crate::record::{LayoutRecord, Members};
 use crate::writing::Sink;
-use crate::{FormError, Node, Record};
 use etcs_bits::Memory;
 use etcs_profile::{DangerPoint, EndTimer, Overlap, Section, SectionTimer};
+use etcs_schema::{FormError, Node};
 use std::alloc::Global;
 
 impl Record for SectionTimer {

@@ -1,15 +1,16 @@
 //! L_PACKET and the body that it counts, in the forms of packets whose layout is not known.
 
 ghost use Rattle.std.specs.Prelude.{◌≡◌, ◌+◌, ◌≤◌, ◌<◌, codes, length, IfOk};
-ghost use Rattle.etcs_json.specs.BodyText.{body_of};
-ghost use Rattle.etcs_json.specs.Fault.{Gives};
-ghost use Rattle.etcs_json.specs.Measured.{is_length, measured_of};
-ghost use Rattle.etcs_json.specs.Reading.{at_key};
+ghost use Rattle.etcs_schema.specs.BodyText.{body_of};
+ghost use Rattle.etcs_schema.specs.Fault.{Gives};
+ghost use Rattle.etcs_schema.specs.Measured.{is_length, measured_of};
+ghost use Rattle.etcs_schema.specs.Reading.{at_key};
 
-use crate::node::reading::{Numbers, member, read_number, under};
 use crate::packets::body_text::body_in;
-use crate::{FormError, Node};
+use crate::reading::{Numbers, read_number};
 use etcs_bits::Bits;
+use etcs_schema::reading::{member, under};
+use etcs_schema::{FormError, Node};
 use std::alloc::Global;
 
 /// L_PACKET: how many bits a packet has. `head` is the number of bits before the body.
@@ -32,7 +33,7 @@ impl<const HEAD: u32> Numbers for PacketLength<HEAD> {
 }
 
 // Reads a body of `count` bits.
-#[tactic(auto, unfolding(crate::specs::BodyText::body_of))]
+#[tactic(auto, unfolding(etcs_schema::specs::BodyText::body_of))]
 fn read_text<N: Node>(alloc: Global, node: &N, count: usize) -> Result<Bits, FormError>
     requires { count ≤ 8170 }
     ensures gives { Gives (λ b. b) result (body_of count (N.shows node.now)) }
@@ -45,7 +46,7 @@ fn read_text<N: Node>(alloc: Global, node: &N, count: usize) -> Result<Bits, For
 }
 
 // Reads the member `body`.
-#[tactic(auto, using(crate::proofs::Objects::member_read, crate::proofs::Objects::under_keeps))]
+#[tactic(auto, using(etcs_schema::proofs::Objects::member_read, etcs_schema::proofs::Objects::under_keeps))]
 fn read_body<N: Node>(alloc: Global, node: &N, count: usize) -> Result<Bits, FormError>
     requires { count ≤ 8170 }
     ensures gives { Gives (λ b. b) result (at_key (body_of count) (codes "body") (N.shows node.now)) }

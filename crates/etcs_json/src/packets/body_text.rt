@@ -4,13 +4,13 @@ ghost use Rattle.std.specs.Prelude.{◌≡◌, ◌+◌, ◌*◌, ◌<◌, ◌≤
 ghost use Rattle.hex.specs.Hex.{decode_of};
 ghost use Rattle.serde_json.specs.Data.{string};
 ghost use Rattle.etcs_bits.specs.bits.Number.{num_of_bits};
-ghost use Rattle.etcs_json.specs.BodyText.{are_padded, body_bytes, body_text, bytes_for, decoded_or, filled_up, first_bits};
-ghost use Rattle.etcs_json.specs.Fault.{Gives};
+ghost use Rattle.etcs_schema.specs.BodyText.{are_padded, body_bytes, body_text, bytes_for, decoded_or, filled_up, first_bits};
+ghost use Rattle.etcs_schema.specs.Fault.{Gives};
 
-use crate::error::FormError;
 use crate::members::SendMembers;
 use crate::writing::Sink;
 use etcs_bits::{BitSlice, Bits, Memory};
+use etcs_schema::FormError;
 use hex::FromHexError;
 use std::alloc::Global;
 use std::marker::Model;

@@ -1,15 +1,16 @@
 //! The form of virtual balise cover markers, packet 0.
 
 ghost use Rattle.etcs_json.specs.Cover.{cover_marker};
-ghost use Rattle.etcs_json.specs.Shape.{whole};
+ghost use Rattle.etcs_schema.specs.Shape.{whole};
 
+use crate::Record;
 use crate::members::{Member, NumberMember, ReadMembers, check_members, send_members};
-use crate::node::reading::read_fixed;
 use crate::record::{LayoutRecord, Members};
 use crate::writing::Sink;
-use crate::{FormError, Node, Record};
 use etcs_bits::Memory;
 use etcs_packet::CoverMarker;
+use etcs_schema::reading::read_fixed;
+use etcs_schema::{FormError, Node};
 use std::alloc::Global;
 
 impl Record for CoverMarker {

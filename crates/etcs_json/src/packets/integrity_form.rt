@@ -2,16 +2,16 @@
 
 ghost use Rattle.std.specs.Prelude.{◌≡◌};
 ghost use Rattle.etcs_radio.specs.Integrity.{length_number as number_of_length, q_length};
-ghost use Rattle.etcs_json.specs.KeyedVariables.{number_in};
+ghost use Rattle.etcs_schema.specs.KeyedVariables.{number_in};
 ghost use Rattle.etcs_json.specs.Report.{integrity};
 
+use crate::{Form, InPieces};
 use crate::members::ReadMembers;
-use crate::node::reading::check_absent;
 use crate::packets::number_forms::read_number;
-use crate::writing::marks::Marks;
-use crate::{Form, FormError, InPieces, Node};
 use etcs_bits::{Distance, Memory, Plain};
 use etcs_radio::{Integrity, Train3};
+use etcs_schema::reading::check_absent;
+use etcs_schema::{FormError, Marks, Node};
 use serde_json::Value;
 use std::alloc::Global;
 
@@ -63,7 +63,7 @@ impl ReadMembers for Integrity {
     }
 }
 
-#[tactic(auto, unfolding(crate::specs::Reading::allowed_number))]
+#[tactic(auto, unfolding(etcs_schema::specs::Reading::allowed_number))]
 impl Form for Train3 {
     ghost use Rattle.etcs_json.specs.Report.{side};
 

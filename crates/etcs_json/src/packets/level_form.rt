@@ -2,13 +2,13 @@
 
 ghost use Rattle.std.specs.Prelude.{◌≡◌};
 ghost use Rattle.etcs_bits.specs.variables.Level.{m_level};
-ghost use Rattle.etcs_json.specs.KeyedVariables.{number_in};
+ghost use Rattle.etcs_schema.specs.KeyedVariables.{number_in};
 ghost use Rattle.etcs_json.specs.Transition.{level};
 
 use crate::members::ReadMembers;
-use crate::node::reading::check_absent;
-use crate::{FormError, Node};
 use etcs_bits::{Level, Plain, Ranged};
+use etcs_schema::reading::check_absent;
+use etcs_schema::{FormError, Node};
 use std::alloc::Global;
 
 /// The national system of level NTC: NID_NTC, 8 bits.

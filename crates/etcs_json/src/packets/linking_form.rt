@@ -1,18 +1,19 @@
 //! The form of linking, packet 5.
 
 ghost use Rattle.std.proofs.Common.{lit<};
-ghost use Rattle.etcs_json.specs.Head.{packet};
+ghost use Rattle.etcs_schema.specs.Head.{packet};
 ghost use Rattle.etcs_json.specs.Profiles.{link, linking};
-ghost use Rattle.etcs_json.specs.Shape.{whole};
+ghost use Rattle.etcs_schema.specs.Shape.{whole};
 
+use crate::Record;
 use crate::members::{Member, OptionalMember, check_members, read_record, send_members};
-use crate::node::reading::read_fixed;
 use crate::packets::profile_form::{read_profile, send_profile};
 use crate::record::{LayoutRecord, Members};
 use crate::writing::Sink;
-use crate::{FormError, Node, Record};
 use etcs_bits::Memory;
 use etcs_profile::{Link, Linking};
+use etcs_schema::reading::read_fixed;
+use etcs_schema::{FormError, Node};
 use std::alloc::Global;
 
 impl Record for Link {

@@ -1,12 +1,12 @@
 //! Variables as whole numbers.
-#![tactic(auto, unfolding(crate::specs::Reading::allowed_number))]
+#![tactic(auto, unfolding(etcs_schema::specs::Reading::allowed_number))]
 
 ghost use Rattle.etcs_bits.specs.variables.Variables.{plain, ranged};
-ghost use Rattle.etcs_json.specs.Variables.{direction, duplicate, flag, scale, variable, version};
+ghost use Rattle.etcs_schema.specs.Variables.{direction, duplicate, flag, scale, variable, version};
 
-use crate::writing::marks::Marks;
-use crate::{Form, FormError, InPieces, Node};
+use crate::{Form, InPieces};
 use etcs_bits::{Dir, Dup, Memory, Plain, Ranged, Scale, Version};
+use etcs_schema::{FormError, Marks, Node};
 use serde_json::Value;
 use std::alloc::Global;
 

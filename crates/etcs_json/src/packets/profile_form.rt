@@ -4,18 +4,17 @@ ghost use Rattle.std.specs.Prelude.{◌≡◌, ◌<◌, ◌∷◌, [], codes, le
 ghost use Rattle.std.specs.List.{AllByRecursion};
 ghost use Rattle.etcs_profile.specs.Elements.{profile as made_of};
 ghost use Rattle.serde_json.specs.Data.{Data, array};
-ghost use Rattle.etcs_json.specs.Fault.{Gives, Range, here};
+ghost use Rattle.etcs_schema.specs.Fault.{Gives, Range, here};
 ghost use Rattle.etcs_json.specs.Profiles.{is_short, profile_of};
-ghost use Rattle.etcs_json.specs.Shape.{items_of, only, number_data};
-ghost use Rattle.etcs_json.specs.Variables.{direction, scale};
+ghost use Rattle.etcs_schema.specs.Shape.{items_of, only, number_data};
+ghost use Rattle.etcs_schema.specs.Variables.{direction, scale};
 
-use crate::members::{
-    Member, NonEmpty, NonEmptyMember, NumberMember, ReadMembers, pairs, send_members,
-};
+use crate::{Form, InPieces};
+use crate::members::{Member, NonEmpty, NonEmptyMember, NumberMember, ReadMembers, pairs, send_members};
 use crate::writing::Sink;
-use crate::{Form, FormError, InPieces, Node};
 use etcs_bits::{Dir, Layout, Memory, Scale};
 use etcs_profile::{Elements, Packet};
+use etcs_schema::{FormError, Node};
 use std::alloc::Global;
 
 /// Sends the members of a packet of elements. `name` is the key of the list of its elements.

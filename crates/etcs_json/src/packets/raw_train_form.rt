@@ -2,18 +2,19 @@
 
 ghost use Rattle.etcs_radio.specs.TrainNumbers.{nid_raw};
 ghost use Rattle.etcs_json.specs.RawTrain.{raw_train_packet};
-ghost use Rattle.etcs_json.specs.Shape.{whole};
-ghost use Rattle.etcs_json.specs.Variables.{is_allowed};
+ghost use Rattle.etcs_schema.specs.Shape.{whole};
+ghost use Rattle.etcs_schema.specs.Variables.{is_allowed};
 
+use crate::Record;
 use crate::members::{NumberMember, check_members, send_members};
-use crate::node::reading::{Numbers, read_number};
 use crate::packets::body_form::{packet_length, read_measured};
 use crate::packets::body_text::BodyMember;
+use crate::reading::{Numbers, read_number};
 use crate::record::{InRange, Members, prove_allowed};
 use crate::writing::Sink;
-use crate::{FormError, Node, Record};
 use etcs_bits::Memory;
 use etcs_radio::RawTrainPacket;
+use etcs_schema::{FormError, Node};
 use std::alloc::Global;
 
 // How many bits stand before the body: NID_PACKET and L_PACKET.

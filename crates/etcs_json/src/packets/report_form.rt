@@ -2,26 +2,24 @@
 
 ghost use Rattle.std.specs.Prelude.{◌≡◌, OnOk};
 ghost use Rattle.etcs_radio.specs.Report.{report_of, report_with as what_is_with};
-ghost use Rattle.etcs_json.specs.Chosen.{with_number};
-ghost use Rattle.etcs_json.specs.Fault.{Gives};
-ghost use Rattle.etcs_json.specs.Reading.{as_kind, object_with};
+ghost use Rattle.etcs_schema.specs.Chosen.{with_number};
+ghost use Rattle.etcs_schema.specs.Fault.{Gives};
+ghost use Rattle.etcs_schema.specs.Reading.{as_kind, object_with};
 ghost use Rattle.etcs_json.specs.Report.{either_report, identity, situation, with_one, with_two};
 ghost use Rattle.etcs_json.specs.ReportSending.{first_members, last_members, sent_members};
 
-use crate::members::{
-    Member, NumberMember, OptionalMember, ReadMembers, make_record, pairs, read_record,
-    send_members,
-};
-use crate::node::reading::{read_first, read_fixed};
+use crate::{Form, InPieces};
+use crate::members::{Member, NumberMember, OptionalMember, ReadMembers, make_record, pairs, read_record, send_members};
 use crate::packets::integrity_form::{confirmed_length, length_number};
 use crate::packets::level_form::national_system_of;
+use crate::reading::read_first;
 use crate::record::prove_allowed;
 use crate::writing::Sink;
 use crate::writing::building::NewObject;
-use crate::writing::marks::Marks;
-use crate::{Form, FormError, InPieces, Node, check_keys};
 use etcs_bits::{Distance, Identity, Level, Memory, Plain, Scale};
 use etcs_radio::{Integrity, Report, Train3};
+use etcs_schema::reading::read_fixed;
+use etcs_schema::{FormError, Marks, Node, check_keys};
 use json::Token;
 use serde_json::Value;
 use std::alloc::Global;
@@ -195,7 +193,7 @@ fn send_report<S: Sink>(out: &mut S, report: &Report) -> Result<(), Memory>
 #[tactic(auto, unfolding(crate::specs::Report::report))]
 impl Form for Report {
     ghost use Rattle.std.specs.Prelude.{IsOk};
-    ghost use Rattle.etcs_json.specs.Chosen.{any_object};
+    ghost use Rattle.etcs_schema.specs.Chosen.{any_object};
     ghost use Rattle.etcs_json.specs.Report.{report};
 
     ghost shape = { report };

@@ -1,18 +1,19 @@
 //! The form of static speed profiles, packet 27.
 
 ghost use Rattle.std.proofs.Common.{lit<};
-ghost use Rattle.etcs_json.specs.Head.{packet};
+ghost use Rattle.etcs_schema.specs.Head.{packet};
 ghost use Rattle.etcs_json.specs.Profiles.{difference, speed_element, speed_profile};
-ghost use Rattle.etcs_json.specs.Shape.{whole};
+ghost use Rattle.etcs_schema.specs.Shape.{whole};
 
+use crate::Record;
 use crate::members::{ListMember, Member, check_members, read_record, send_members};
-use crate::node::reading::read_fixed;
 use crate::packets::profile_form::{read_profile, send_profile};
 use crate::record::{InRange, LayoutRecord, Members, prove_allowed};
 use crate::writing::Sink;
-use crate::{FormError, Node, Record};
 use etcs_bits::Memory;
 use etcs_profile::{Difference, SpeedElement, SpeedProfile};
+use etcs_schema::reading::read_fixed;
+use etcs_schema::{FormError, Node};
 use std::alloc::Global;
 
 impl Record for Difference {

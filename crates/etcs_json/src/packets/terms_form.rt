@@ -3,14 +3,14 @@
 ghost use Rattle.std.specs.Prelude.{◌≡◌};
 ghost use Rattle.etcs_profile.specs.Authority.{authority_value};
 ghost use Rattle.etcs_json.specs.Authority.{section, terms};
-ghost use Rattle.etcs_json.specs.Reading.{list_of};
-ghost use Rattle.etcs_json.specs.Shape.{object};
+ghost use Rattle.etcs_schema.specs.Reading.{list_of};
+ghost use Rattle.etcs_schema.specs.Shape.{object};
 
 use crate::members::{FromNode, ReadMembers, make_record, pairs};
-use crate::node::reading::read_list;
-use crate::{FormError, Node};
+use crate::reading::read_list;
 use etcs_bits::{Dir, Distance, Scale, Speed, Time};
 use etcs_profile::{Authority, DangerPoint, EndTimer, Overlap, Section, SectionTimer};
+use etcs_schema::{FormError, Node};
 use std::alloc::Global;
 use std::marker::Model;
 

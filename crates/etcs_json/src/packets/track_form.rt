@@ -4,13 +4,13 @@ ghost use Rattle.std.specs.Prelude.{◌≡◌, IfOk};
 ghost use Rattle.serde_json.specs.View.{view};
 ghost use Rattle.etcs_json.specs.TrackPackets.{track_packet};
 
-use crate::node::reading::read_first;
+use crate::{Form, InPieces};
 use crate::packets::authority_form::{read_with_main, read_without_main};
+use crate::reading::read_first;
 use crate::record::prove_allowed;
-use crate::writing::marks::Marks;
-use crate::{Form, FormError, InPieces, Node};
 use etcs_bits::{Memory, Ranged};
 use etcs_packet::TrackPacket;
+use etcs_schema::{FormError, Marks, Node};
 use serde_json::Value;
 use std::alloc::Global;
 
@@ -40,7 +40,7 @@ fn form_of(alloc: Global, packet: &TrackPacket) -> Result<Value, Memory>
 #[tactic(auto, using(crate::proofs::SumLemmas::with_main_read, crate::proofs::SumLemmas::without_main_read, crate::proofs::SumLemmas::cover_read), unfolding(crate::specs::Cover::cover_marker))]
 impl Form for TrackPacket {
     ghost use Rattle.std.specs.Prelude.{IsOk};
-    ghost use Rattle.etcs_json.specs.Chosen.{any_object};
+    ghost use Rattle.etcs_schema.specs.Chosen.{any_object};
 
     ghost shape = { track_packet };
 

@@ -4,13 +4,13 @@ ghost use Rattle.std.specs.Prelude.{◌≡◌, IfOk};
 ghost use Rattle.serde_json.specs.View.{view};
 ghost use Rattle.etcs_json.specs.TrainPackets.{train_packet};
 
-use crate::node::reading::read_first;
+use crate::{Form, InPieces};
 use crate::packets::report_form::{read_one, read_two};
+use crate::reading::read_first;
 use crate::record::prove_allowed;
-use crate::writing::marks::Marks;
-use crate::{Form, FormError, InPieces, Node};
 use etcs_bits::{Memory, Ranged};
 use etcs_radio::TrainPacket;
+use etcs_schema::{FormError, Marks, Node};
 use serde_json::Value;
 use std::alloc::Global;
 
@@ -28,7 +28,7 @@ fn form_of(alloc: Global, packet: &TrainPacket) -> Result<Value, Memory>
 #[tactic(auto, using(crate::proofs::SumLemmas::with_one_read, crate::proofs::SumLemmas::with_two_read))]
 impl Form for TrainPacket {
     ghost use Rattle.std.specs.Prelude.{IsOk};
-    ghost use Rattle.etcs_json.specs.Chosen.{any_object};
+    ghost use Rattle.etcs_schema.specs.Chosen.{any_object};
 
     ghost shape = { train_packet };
 

@@ -1,21 +1,19 @@
 //! The form of level transition orders, packet 41.
 
 ghost use Rattle.std.proofs.Common.{lit<};
-ghost use Rattle.etcs_json.specs.Head.{packet};
-ghost use Rattle.etcs_json.specs.Shape.{whole};
+ghost use Rattle.etcs_schema.specs.Head.{packet};
+ghost use Rattle.etcs_schema.specs.Shape.{whole};
 ghost use Rattle.etcs_json.specs.Transition.{level_order, transition};
 
-use crate::members::{
-    Member, NonEmpty, NonEmptyMember, NumberMember, OptionalMember, ReadMembers, check_members,
-    pairs, read_record, send_members,
-};
-use crate::node::reading::read_fixed;
+use crate::Record;
+use crate::members::{Member, NonEmpty, NonEmptyMember, NumberMember, OptionalMember, ReadMembers, check_members, pairs, read_record, send_members};
 use crate::packets::level_form::national_system_of;
 use crate::record::{LayoutRecord, Members};
 use crate::writing::Sink;
-use crate::{FormError, Node, Record};
 use etcs_bits::Memory;
 use etcs_profile::{LevelOrder, Transition};
+use etcs_schema::reading::read_fixed;
+use etcs_schema::{FormError, Node};
 use std::alloc::Global;
 
 impl Record for LevelOrder {

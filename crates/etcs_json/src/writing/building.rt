@@ -3,9 +3,9 @@
 ghost use Rattle.std.specs.Prelude.{◌≡◌, IfOk, OnOk};
 ghost use Rattle.serde_json.specs.Data.{no_members, object, put as with_member};
 ghost use Rattle.serde_json.specs.View.{items_view, members_view, view};
-ghost use Rattle.etcs_json.specs.Shape.{items_of};
+ghost use Rattle.etcs_schema.specs.Shape.{items_of};
 
-use crate::form::{Form, InPieces};
+use crate::{Form, InPieces};
 use crate::writing::Sink;
 use etcs_bits::Memory;
 use serde_json::{Map, Value, put};
@@ -60,8 +60,8 @@ fn build_items<T: Form>(alloc: Global, items: &[T]) -> Result<Vec<Value>, Memory
 }
 
 impl Sink for NewObject {
-    ghost use Rattle.etcs_json.specs.Entries.{members_onto};
-    ghost use Rattle.etcs_json.specs.SinkLemmas.{onto_then};
+    ghost use Rattle.etcs_schema.specs.Entries.{members_onto};
+    ghost use Rattle.etcs_schema.specs.SinkLemmas.{onto_then};
     ghost use Rattle.std.specs.Prelude.{refl};
 
     ghost takes = { λ es old new.

@@ -1,12 +1,12 @@
 //! How members are sent to what takes marks.
 
 ghost use Rattle.std.specs.Prelude.{OnOk};
-ghost use Rattle.etcs_json.specs.Sending.{each_tokens, entries_tokens};
+ghost use Rattle.etcs_schema.specs.Sending.{each_tokens, entries_tokens};
 
-use crate::form::InPieces;
+use crate::InPieces;
 use crate::writing::Sink;
-use crate::writing::marks::Marks;
 use etcs_bits::Memory;
+use etcs_schema::Marks;
 use json::Token;
 
 // Sends items one after the other, without the marks of a list.
@@ -20,7 +20,7 @@ fn send_items<M: Marks, T: InPieces>(out: &mut M, items: &[T]) -> Result<(), Mem
 }
 
 impl<M: Marks> Sink for M {
-    ghost use Rattle.etcs_json.specs.SinkLemmas.{sent_then};
+    ghost use Rattle.etcs_schema.specs.SinkLemmas.{sent_then};
 
     ghost takes = { λ es old new. M.adds (entries_tokens es) old new };
 

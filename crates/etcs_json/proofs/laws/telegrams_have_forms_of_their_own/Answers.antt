@@ -1,7 +1,7 @@
-use Rattle.etcs_json.specs.Shape.{object}
+use Rattle.etcs_schema.specs.Shape.{object}
 use Rattle.etcs_json.specs.Telegrams.{telegram}
 use Rattle.etcs_json.proofs.LawLemmas.{telegram_allowed}
-use Rattle.etcs_json.proofs.Objects.{own_form}
+use Rattle.etcs_schema.proofs.Objects.{own_form}
 use Rattle.etcs_json.proofs.laws.telegrams_have_forms_of_their_own.Goals as goal
 
 -- One form is read as one telegram.

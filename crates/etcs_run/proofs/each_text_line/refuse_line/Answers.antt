@@ -1,6 +1,6 @@
 use Rattle.std.proofs.Common.{◌≡◌, rules}
 use Rattle.std.proofs.lemmas.Result.{err_from_is_err_and}
-use Rattle.etcs_form.specs.Refusal.{line_words}
+use Rattle.etcs_document.specs.Refusal.{line_words}
 use Rattle.etcs_run.specs.TextLineMeaning.{refusal_of}
 use Rattle.etcs_run.proofs.AnswerLemmas.{begins_refused, put_failed}
 use Rattle.etcs_run.proofs.each_text_line.refuse_line.Goals as goal

@@ -2,7 +2,7 @@ use Rattle.std.proofs.Common.{◌∙◌, ◌++◌, ap}
 use Rattle.std.specs.Prelude.{codes}
 use Rattle.serde_json.proofs.Texts.{print-outline}
 use Rattle.etcs_digits.specs.LineText.{puts}
-use Rattle.etcs_json.specs.Sending.{tokens_of}
+use Rattle.etcs_schema.specs.Sending.{tokens_of}
 use Rattle.etcs_run.specs.JsonLine.{json_line_of}
 use Rattle.etcs_run.proofs.json_line.json_line.Goals as goal
 

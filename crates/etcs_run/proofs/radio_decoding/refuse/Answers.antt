@@ -1,7 +1,7 @@
 use Rattle.std.proofs.Common.{◌≡◌, rules}
 use Rattle.std.proofs.lemmas.Result.{err_from_is_err_and}
-use Rattle.etcs_form.specs.Refusal.{refusal_words}
-use Rattle.etcs_form.specs.declared.refusal.Refusal.TheVariants.{Message}
+use Rattle.etcs_document.specs.Refusal.{refusal_words}
+use Rattle.etcs_document.specs.declared.refusal.Refusal.TheVariants.{Message}
 use Rattle.etcs_run.proofs.RadioLemmas.{written_whole}
 use Rattle.etcs_run.proofs.RunLemmas.{Writes-begun}
 use Rattle.etcs_run.proofs.radio_decoding.refuse.Goals as goal

@@ -1,4 +1,4 @@
-use Rattle.etcs_json.proofs.SendingLemmas.{member_sent}
+use Rattle.etcs_schema.proofs.SendingLemmas.{member_sent}
 use Rattle.etcs_json.proofs.form.InPieces.send_at.Goals as goal
 
 -- the key, and the form behind it

@@ -1,4 +1,4 @@
-use Rattle.etcs_json.proofs.Objects.{member_missing}
+use Rattle.etcs_schema.proofs.Objects.{member_missing}
 use Rattle.etcs_json.proofs.members.AnyReadMembers.read.Goals as goal
 
 pub returns-in_err-found : goal.returns-in_err-found

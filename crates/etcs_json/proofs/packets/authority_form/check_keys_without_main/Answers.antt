@@ -1,7 +1,7 @@
 use Rattle.std.proofs.Common.{refl}
-use Rattle.etcs_json.specs.Chosen.{with_number}
+use Rattle.etcs_schema.specs.Chosen.{with_number}
 use Rattle.etcs_json.specs.Authority.{end_parts, terms, without_main}
-use Rattle.etcs_json.proofs.Keys.{sorted_gives}
+use Rattle.etcs_schema.proofs.Keys.{sorted_gives}
 use Rattle.etcs_json.proofs.packets.authority_form.check_keys_without_main.Goals as goal
 
 pub returns : goal.returns

@@ -1,4 +1,4 @@
-use Rattle.etcs_json.proofs.Objects.{member_missing}
+use Rattle.etcs_schema.proofs.Objects.{member_missing}
 use Rattle.etcs_json.proofs.packets.body_form.read_body.Goals as goal
 
 pub returns-in_err-found-clause-gives : goal.returns-in_err-found-clause-gives

@@ -1,7 +1,7 @@
 use Rattle.std.proofs.Common.{◌≡◌, ◌+◌, ◌-◌, ◌*◌, ◌^◌, ◌∙◌, ap, length, take, drop, arith, mod-eq_of_lt}
 use Rattle.etcs_bits.specs.bits.Number.{num_of_bits}
-use Rattle.etcs_json.specs.BodyText.{filled_up}
-use Rattle.etcs_json.proofs.BodyTextLemmas.{byte_small, last_byte, whole_byte}
+use Rattle.etcs_schema.specs.BodyText.{filled_up}
+use Rattle.etcs_schema.proofs.BodyTextLemmas.{byte_small, last_byte, whole_byte}
 use Rattle.etcs_json.proofs.packets.body_text.byte_at.Goals as goal
 
 -- eight bits are left

@@ -1,7 +1,7 @@
 use Rattle.std.proofs.Common.{◌≡◌, ◌∙◌, length, length-set, take, refl, subst, arith}
 use Rattle.std.proofs.lemmas.List.{length-replicate}
-use Rattle.etcs_json.specs.BodyText.{bytes_for, bytes_in, filled_up}
-use Rattle.etcs_json.proofs.BodyTextLemmas.{bytes_more}
+use Rattle.etcs_schema.specs.BodyText.{bytes_for, bytes_in, filled_up}
+use Rattle.etcs_schema.proofs.BodyTextLemmas.{bytes_more}
 use Rattle.etcs_json.proofs.packets.body_text.bytes_of.Goals as goal
 
 -- one more byte is made

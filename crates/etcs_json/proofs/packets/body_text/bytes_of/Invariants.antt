@@ -1,5 +1,5 @@
 use Rattle.std.proofs.Common.{◌≡◌, length, take}
-use Rattle.etcs_json.specs.BodyText.{bytes_in, filled_up}
+use Rattle.etcs_schema.specs.BodyText.{bytes_in, filled_up}
 use Rattle.etcs_json.proofs.packets.body_text.bytes_of.Given as goal
 
 -- the bytes so far

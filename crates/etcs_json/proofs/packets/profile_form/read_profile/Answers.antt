@@ -1,7 +1,7 @@
 use Rattle.std.specs.Prelude.{codes}
-use Rattle.etcs_json.specs.Reading.{at_key}
-use Rattle.etcs_json.specs.Shape.{both_of, first_and_others}
-use Rattle.etcs_json.specs.Variables.{direction, scale}
+use Rattle.etcs_schema.specs.Reading.{at_key}
+use Rattle.etcs_schema.specs.Shape.{both_of, first_and_others}
+use Rattle.etcs_schema.specs.Variables.{direction, scale}
 use Rattle.etcs_json.proofs.ReadLemmas.{both_read, first_and_read}
 use Rattle.etcs_json.proofs.packets.profile_form.read_profile.Goals as goal
 

@@ -1,7 +1,7 @@
 use Rattle.std.proofs.Common.{refl}
-use Rattle.etcs_json.specs.Chosen.{with_number}
+use Rattle.etcs_schema.specs.Chosen.{with_number}
 use Rattle.etcs_json.specs.Report.{situation, with_one}
-use Rattle.etcs_json.proofs.Keys.{sorted_gives}
+use Rattle.etcs_schema.proofs.Keys.{sorted_gives}
 use Rattle.etcs_json.proofs.packets.report_form.check_keys_with_one.Goals as goal
 
 pub returns : goal.returns

@@ -1,5 +1,5 @@
-use Rattle.etcs_json.specs.Shape.{shape_of}
-use Rattle.etcs_json.proofs.Objects.{made_object, read_again}
+use Rattle.etcs_schema.specs.Shape.{shape_of}
+use Rattle.etcs_schema.proofs.Objects.{made_object, read_again}
 use Rattle.etcs_json.proofs.record.AnyForm.to_form.Goals as goal
 
 -- the members were taken by an empty object

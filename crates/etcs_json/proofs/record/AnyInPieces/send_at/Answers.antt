@@ -1,5 +1,5 @@
-use Rattle.etcs_json.specs.Entries.{object_of}
-use Rattle.etcs_json.proofs.SendingLemmas.{member_sent}
+use Rattle.etcs_schema.specs.Entries.{object_of}
+use Rattle.etcs_schema.proofs.SendingLemmas.{member_sent}
 use Rattle.etcs_json.proofs.record.AnyInPieces.send_at.Goals as goal
 
 -- the key, and the object behind it

@@ -1,4 +1,4 @@
-use Rattle.etcs_json.proofs.SendingLemmas.{object_sent}
+use Rattle.etcs_schema.proofs.SendingLemmas.{object_sent}
 use Rattle.etcs_json.proofs.record.AnyInPieces.send_to.Goals as goal
 
 -- the members between the two marks of an object

@@ -1,5 +1,5 @@
 use Rattle.std.proofs.Common.{rules}
-use Rattle.etcs_json.proofs.ListLemmas.{built_more}
+use Rattle.etcs_schema.proofs.ListLemmas.{built_more}
 use Rattle.etcs_json.proofs.writing.building.build_items.Goals as goal
 
 -- one item more is built

@@ -1,6 +1,6 @@
 use Rattle.std.proofs.Common.{◌≡◌, take}
 use Rattle.serde_json.specs.View.{items_view}
-use Rattle.etcs_json.specs.Shape.{items_of}
+use Rattle.etcs_schema.specs.Shape.{items_of}
 use Rattle.etcs_json.proofs.writing.building.build_items.Given as goal
 
 -- the items so far are built

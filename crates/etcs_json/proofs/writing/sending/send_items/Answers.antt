@@ -1,5 +1,5 @@
 use Rattle.std.proofs.Common.{rules}
-use Rattle.etcs_json.proofs.SendingLemmas.{each_more}
+use Rattle.etcs_schema.proofs.SendingLemmas.{each_more}
 use Rattle.etcs_json.proofs.writing.sending.send_items.Goals as goal
 
 -- nothing was sent yet

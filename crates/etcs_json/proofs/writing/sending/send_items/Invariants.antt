@@ -1,5 +1,5 @@
 use Rattle.std.proofs.Common.{take}
-use Rattle.etcs_json.specs.Sending.{each_tokens}
+use Rattle.etcs_schema.specs.Sending.{each_tokens}
 use Rattle.etcs_json.proofs.writing.sending.send_items.Given as goal
 
 -- the items so far were sent

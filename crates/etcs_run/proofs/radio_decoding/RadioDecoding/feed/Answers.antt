@@ -1,7 +1,7 @@
 use Rattle.std.proofs.Common.{◌∙◌, ◌+◌, [], Ok, ap, arith, drop, length, rules, sym}
 use Rattle.std.proofs.lemmas.List.{take_rest}
 use Rattle.std.proofs.lemmas.Result.{err_from_is_err_and}
-use Rattle.etcs_form.specs.declared.refusal.StreamFault.TheVariants.{BelowThree}
+use Rattle.etcs_document.specs.declared.refusal.StreamFault.TheVariants.{BelowThree}
 use Rattle.etcs_radio.specs.Meaning.{message_of}
 use Rattle.etcs_run.specs.Output.{Output}
 use Rattle.etcs_run.specs.RadioStream.{bytes_output, line_for, refused_message, message_output}

@@ -1,7 +1,7 @@
 use Rattle.etcs_radio.specs.declared.message.Message.TheVariants as messages
 use Rattle.etcs_json.specs.AnyMessage.{message}
 use Rattle.etcs_json.proofs.LawLemmas.{movement_in, position_in}
-use Rattle.etcs_json.proofs.Objects.{written_again}
+use Rattle.etcs_schema.proofs.Objects.{written_again}
 use Rattle.etcs_json.proofs.messages.message_form.MessageForm.to_form.Goals as goal
 
 -- a message of each kind is read again

@@ -1,6 +1,6 @@
 use Rattle.etcs_json.specs.Authority.{authority}
 use Rattle.etcs_json.specs.AuthoritySending.{sent_members}
-use Rattle.etcs_json.proofs.Objects.{read_again}
+use Rattle.etcs_schema.proofs.Objects.{read_again}
 use Rattle.etcs_json.proofs.SumLemmas.{authority_in_order, authority_sent, made_of}
 use Rattle.etcs_json.proofs.packets.authority_form.AuthorityForm.to_form.Goals as goal
 

@@ -1,5 +1,5 @@
 use Rattle.etcs_json.specs.AuthoritySending.{sent_members}
-use Rattle.etcs_json.proofs.SendingLemmas.{sent_as}
+use Rattle.etcs_schema.proofs.SendingLemmas.{sent_as}
 use Rattle.etcs_json.proofs.SumLemmas.{authority_sent}
 use Rattle.etcs_json.proofs.packets.authority_form.AuthorityInPieces.send_to.Goals as goal
 

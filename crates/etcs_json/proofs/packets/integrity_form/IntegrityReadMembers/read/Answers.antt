@@ -1,6 +1,6 @@
 use Rattle.std.proofs.Common.{refl}
 use Rattle.etcs_json.proofs.KeyedLemmas.{length_ends, length_numbers}
-use Rattle.etcs_json.proofs.Objects.{fails_up}
+use Rattle.etcs_schema.proofs.Objects.{fails_up}
 use Rattle.etcs_json.proofs.packets.integrity_form.IntegrityReadMembers.read.Goals as goal
 
 -- the length follows 1 and 2

@@ -1,6 +1,6 @@
 use Rattle.std.proofs.Common.{refl}
 use Rattle.etcs_json.proofs.KeyedLemmas.{level_ends, level_numbers}
-use Rattle.etcs_json.proofs.Objects.{fails_up}
+use Rattle.etcs_schema.proofs.Objects.{fails_up}
 use Rattle.etcs_json.proofs.packets.level_form.LevelReadMembers.read.Goals as goal
 
 -- no national system follows the number

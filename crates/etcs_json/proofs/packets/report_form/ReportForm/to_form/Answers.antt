@@ -1,6 +1,6 @@
 use Rattle.etcs_json.specs.Report.{report}
 use Rattle.etcs_json.specs.ReportSending.{sent_members}
-use Rattle.etcs_json.proofs.Objects.{read_again}
+use Rattle.etcs_schema.proofs.Objects.{read_again}
 use Rattle.etcs_json.proofs.SumLemmas.{report_in_order, report_sent, made_of}
 use Rattle.etcs_json.proofs.packets.report_form.ReportForm.to_form.Goals as goal
 

@@ -1,5 +1,5 @@
 use Rattle.etcs_json.specs.ReportSending.{sent_members}
-use Rattle.etcs_json.proofs.SendingLemmas.{sent_as}
+use Rattle.etcs_schema.proofs.SendingLemmas.{sent_as}
 use Rattle.etcs_json.proofs.SumLemmas.{report_sent}
 use Rattle.etcs_json.proofs.packets.report_form.ReportInPieces.send_to.Goals as goal
 

@@ -1,5 +1,5 @@
 use Rattle.etcs_json.specs.TrainPackets.{train_packet}
-use Rattle.etcs_json.proofs.Objects.{written_again}
+use Rattle.etcs_schema.proofs.Objects.{written_again}
 use Rattle.etcs_json.proofs.packets.train_form.TrainPacketForm.to_form.Goals as goal
 
 -- the packet is in range

@@ -1,5 +1,5 @@
 use Rattle.std.proofs.Common.{◌∷◌}
-use Rattle.etcs_json.proofs.SendingLemmas.{array_sent}
+use Rattle.etcs_schema.proofs.SendingLemmas.{array_sent}
 use Rattle.etcs_json.proofs.writing.sending.AnySink.send_first_and.Goals as goal
 
 -- the key, and the first item and the further ones between the two marks of a list

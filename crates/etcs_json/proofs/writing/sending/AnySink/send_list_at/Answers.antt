@@ -1,4 +1,4 @@
-use Rattle.etcs_json.proofs.SendingLemmas.{array_sent}
+use Rattle.etcs_schema.proofs.SendingLemmas.{array_sent}
 use Rattle.etcs_json.proofs.writing.sending.AnySink.send_list_at.Goals as goal
 
 -- the key, and the items between the two marks of a list

@@ -1,4 +1,4 @@
-use Rattle.etcs_json.proofs.SendingLemmas.{member_sent}
+use Rattle.etcs_schema.proofs.SendingLemmas.{member_sent}
 use Rattle.serde_json.specs.Data.{string}
 use Rattle.etcs_json.proofs.writing.sending.AnySink.send_text.Goals as goal
 

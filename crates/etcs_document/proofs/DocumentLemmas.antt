@@ -1,0 +1,54 @@
+-- What is read of a document's values, and when bytes are JSON.
+use Rattle.std.proofs.Common.{◌≡◌, ◌+◌, ℕ, suc, Bool, true, false, List, [], ◌∷◌, ◌++◌, length, Option, Some, None, Result, Ok, Err, refl, ap, sym, subst, ◌∙◌}
+use Rattle.std.specs.Prelude.{◌↔◌, IsTrue, if◌then◌else◌}
+use Rattle.std.specs.Option.{ok_or}
+use Rattle.std.specs.Str.{IsUtf8, is_utf8}
+use Rattle.std.proofs.lemmas.Str.{IsUtf8-from_is_utf8, is_utf8-from_IsUtf8}
+use Rattle.serde_json.specs.Data.{Data}
+use Rattle.serde_json.specs.Read.{read as read_text}
+use Rattle.etcs_document.proofs.ResultLemmas.{same_ok}
+use Rattle.etcs_document.specs.Document.{◌then◌, each_from, json_of, with_first}
+use Rattle.etcs_document.specs.DocumentFault.{DocumentFault, no_json}
+
+abbrev OnlyFalse : Bool → Type 0
+OnlyFalse true = ⊥
+OnlyFalse false = Unit {0}
+
+-- ---- bytes that are JSON
+
+pub is_json : (bytes : List ℕ) (d : Data) → IsUtf8 bytes → read_text bytes ≡ Some d → json_of bytes ≡ Ok d
+unfolding json_of
+is_json bytes d utf8 is = rw (is_utf8-from_IsUtf8 bytes utf8, is) refl
+
+no_value : (utf8 : Bool) (value : Option Data) → (utf8 ≡ true → value ≡ None) → (if utf8 then ok_or value no_json else Err no_json) ≡ Err no_json
+no_value false value none = refl
+no_value true value none = rw (none refl) refl
+
+pub is_no_json : (bytes : List ℕ) → (IsUtf8 bytes → read_text bytes ≡ None) → json_of bytes ≡ Err no_json
+unfolding json_of
+is_no_json bytes none = no_value (is_utf8 bytes) (read_text bytes) (λ utf8. none (IsUtf8-from_is_utf8 bytes utf8))
+
+pub not_readable : (bytes : List ℕ) → is_utf8 bytes ≡ false → IsUtf8 bytes → ⊥
+not_readable bytes unreadable utf8 = subst OnlyFalse (sym unreadable ∙ is_utf8-from_IsUtf8 bytes utf8) tt
+
+-- ---- values that are read one after the other
+
+-- what was found, and then what is read
+abbrev pub with_front : {A : Type 0} → List A → Result (List A) DocumentFault → Result (List A) DocumentFault
+with_front front (Ok xs) = Ok (front ++ xs)
+with_front front (Err f) = Err f
+
+as_many : {A : Type 0} (r : Result A DocumentFault) (rest : Result (List A) DocumentFault) (n : ℕ) → ((ys : List A) → rest ≡ Ok ys → length ys ≡ n)
+    → (xs : List A) → (r then λ x. with_first x rest) ≡ Ok xs → length xs ≡ suc n
+as_many (Err f) rest n h xs is = cc
+as_many (Ok x) (Err f) n h xs is = cc
+as_many (Ok x) (Ok ys) n h xs is = ap length (same_ok xs (x ∷ ys) (Ok (x ∷ ys)) is refl) ∙ ap suc (h ys refl)
+
+-- as many are read as there are values
+pub read_count : {A : Type 0} (read : ℕ → Data → Result A DocumentFault) (i : ℕ) (ds : List Data) (xs : List A) → each_from read i ds ≡ Ok xs → length xs ≡ length ds
+read_count read i [] xs is = ap length (same_ok xs [] (Ok []) is refl)
+read_count read i (d ∷ ds) xs is = as_many (read i d) (each_from read (i + 1) ds) (length ds) (read_count read (i + 1) ds) xs is
+
+-- a test that fails decides against what it tests
+pub is_not : {P : Type 0} (b : Bool) → IsTrue b ↔ P → b ≡ false → P → ⊥
+is_not b tests is p = subst OnlyFalse (sym is ∙ tests.1 p) tt

@@ -1,0 +1,15 @@
+pub mod TokenLemmas
+pub mod TokenReaderLemmas
+pub mod DocumentTokenLemmas
+pub mod InOrderLemmas
+pub mod ResultLemmas
+pub mod DocumentLemmas
+pub mod EmptyLemmas
+pub mod AspectLemmas
+pub mod ValueLemmas
+pub mod BaliseLemmas
+pub mod VerdictLemmas
+pub mod SoundLemmas
+pub mod YesLemmas
+pub mod ReportLemmas
+pub mod PlainLemmas

@@ -1,0 +1,142 @@
+-- The document of a railway line: a JSON object with its groups and its messages. A group is an object
+-- with its balises, or one with its aspects, each of which is an object with its balises. Each balise
+-- and each message is the text of its hexadecimal digits. The form is this project's. The first fault
+-- is the answer, where each group and each aspect is read whole before the next, and all groups before
+-- the messages.
+use Rattle.std.specs.Prelude.{ℕ, ◌+◌, ◌++◌, ◌==◌, ◌&&◌, Bool, true, if◌then◌else◌, nat_le, nat_lt, codes, List, [], ◌∷◌, length, Option, Some, None, option_map, Result, Ok, Err}
+use Rattle.std.specs.Option.{is_some, ok_or}
+use Rattle.std.specs.Result.{result_map_both}
+use Rattle.std.specs.Str.{is_utf8}
+use Rattle.serde_json.specs.Data.{Data}
+use Rattle.serde_json.specs.Find.{as_array, as_str, get}
+use Rattle.serde_json.specs.Read.{read}
+use Rattle.etcs_document.specs.DocumentFault.{DocumentFault, bad_aspects, bad_count, bad_form, bad_message, bad_telegram, no_json}
+use Rattle.etcs_schema.specs.Fault.{Fault, Kind, Step, fault, here, key, list_item}
+use Rattle.etcs_schema.specs.Reading.{◌>>=◌, at_key, data_list, object_with}
+use Rattle.etcs_radio.specs.TextMeaning.{message_of_text}
+use Rattle.etcs_radio.specs.declared.message.Message.{Message}
+use Rattle.etcs_telegram.specs.Record.{Telegram}
+use Rattle.etcs_telegram.specs.TextMeaning.{telegram_of_text}
+use Rattle.etcs_group.specs.Group.{Telegrams, Aspects}
+
+-- ---- one part after the other
+
+infixl 10 ◌then◌
+-- what is read next, unless there was a fault
+abbrev pub ◌then◌ : {A B : Type 0} → Result A DocumentFault → (A → Result B DocumentFault) → Result B DocumentFault
+(Ok x) then next = next x
+(Err f) then next = Err f
+
+-- a fault in the form of what stands at this path of the document
+abbrev pub in_form : {A : Type 0} → List Step → Result A Fault → Result A DocumentFault
+in_form path r = result_map_both (λ x. x) (λ f. bad_form (fault f.reason (path ++ f.path))) r
+
+abbrev pub with_first : {A : Type 0} → A → Result (List A) DocumentFault → Result (List A) DocumentFault
+with_first x r = r then λ xs. Ok (x ∷ xs)
+
+-- what is read of each value and its place, where the first value has this place
+abbrev pub each_from : {A : Type 0} → (ℕ → Data → Result A DocumentFault) → ℕ → List Data → Result (List A) DocumentFault
+each_from read i [] = Ok []
+each_from read i (d ∷ ds) = read i d then λ x. with_first x (each_from read (i + 1) ds)
+
+-- the values of a list
+unfoldable pub values_of : Data → Result (List Data) Fault
+values_of d = ok_or (option_map data_list (as_array d)) (here Kind)
+
+-- what is read of the text at this path, where `bad` is the fault that its error is
+abbrev pub text_or : {A E : Type 0} → List Step → (List ℕ → Result A E) → (E → DocumentFault) → Option (List ℕ) → Result A DocumentFault
+text_or path read bad o = ok_or o (bad_form (fault Kind path)) then λ text. result_map_both (λ x. x) bad (read text)
+
+-- the list at this key of an object that has no other key
+unfoldable pub only_values : List ℕ → Data → Result (List Data) Fault
+only_values name d = object_with (name ∷ []) d >>= λ _. at_key values_of name d
+
+-- ---- balises
+
+-- the path of group g, or of aspect a of that group
+abbrev pub path_of : ℕ → Option ℕ → List Step
+path_of g None = key (codes "groups") ∷ list_item g ∷ []
+path_of g (Some a) = key (codes "groups") ∷ list_item g ∷ key (codes "aspects") ∷ list_item a ∷ []
+
+-- balise b of that group or aspect: a text, which is a telegram
+unfoldable pub telegram_at : ℕ → Option ℕ → ℕ → Data → Result Telegram DocumentFault
+telegram_at g a b d =
+    text_or (path_of g a ++ key (codes "balises") ∷ list_item b ∷ []) telegram_of_text (bad_telegram g a b) (as_str d)
+
+-- ---- aspects
+
+-- whether the aspect has as many balises as the first one; the first itself, and a group without a list of
+-- aspects, may have any count
+abbrev pub has_count : Option ℕ → ℕ → Bool
+has_count None count = true
+has_count (Some first) count = count == first
+
+-- The balises of group g, or of aspect a of that group: one to eight of them, and as many as the first
+-- aspect has. These are looked at before the balises.
+unfoldable pub telegrams_of : ℕ → Option ℕ → Option ℕ → List Data → Result Telegrams DocumentFault
+telegrams_of g a first ds =
+    if nat_lt 0 (length ds) && nat_le (length ds) 8
+    then (if has_count first (length ds) then each_from (telegram_at g a) 0 ds else Err (bad_aspects g))
+    else Err (bad_count g)
+
+-- group g, or aspect a of that group: first its form, then the count of its balises, and then each of
+-- these
+unfoldable pub aspect_at : ℕ → Option ℕ → Option ℕ → Data → Result Telegrams DocumentFault
+aspect_at g first a d = in_form (path_of g a) (only_values (codes "balises") d) then telegrams_of g a first
+
+-- the aspects after the first, which has `count` balises
+abbrev pub others_of : ℕ → ℕ → List Data → Result Aspects DocumentFault
+others_of g count ds = each_from (λ a. aspect_at g (Some count) (Some a)) 1 ds
+
+-- the aspects of group g, of which there is one or more
+unfoldable pub aspects_of : ℕ → List Data → Result Aspects DocumentFault
+aspects_of g [] = Err (bad_aspects g)
+aspects_of g (d ∷ ds) = aspect_at g None (Some 0) d then λ first. with_first first (others_of g (length first) ds)
+
+-- ---- groups
+
+-- the one aspect of a group without a list of aspects
+unfoldable pub only_aspect : ℕ → Data → Result Aspects DocumentFault
+only_aspect g d = aspect_at g None None d then λ only. Ok (only ∷ [])
+
+-- a group with a list of aspects
+unfoldable pub controlled_at : ℕ → Data → Result Aspects DocumentFault
+controlled_at g d = in_form (path_of g None) (only_values (codes "aspects") d) then aspects_of g
+
+-- the aspects of group g, which has a list of them where the key `aspects` is there
+unfoldable pub group_at : ℕ → Data → Result Aspects DocumentFault
+group_at g d = if is_some (get (codes "aspects") d) then controlled_at g d else only_aspect g d
+
+-- ---- messages
+
+-- message m: a text, which is a radio message
+unfoldable pub message_at : ℕ → Data → Result Message DocumentFault
+message_at m d = text_or (key (codes "messages") ∷ list_item m ∷ []) message_of_text (bad_message m) (as_str d)
+
+-- ---- the document
+
+-- the JSON value that bytes are: UTF-8, one value, and at most 127 levels
+unfoldable pub json_of : List ℕ → Result Data DocumentFault
+json_of bytes = if is_utf8 bytes then ok_or (read bytes) no_json else Err no_json
+
+-- the values in the list at a key of the document
+abbrev pub list_at : List ℕ → Data → Result (List Data) DocumentFault
+list_at name d = in_form [] (at_key values_of name d)
+
+-- the groups of a document, and the messages
+unfoldable pub groups_of : Data → Result (List Aspects) DocumentFault
+groups_of d = list_at (codes "groups") d then each_from group_at 0
+
+unfoldable pub messages_of : Data → Result (List Message) DocumentFault
+messages_of d = list_at (codes "messages") d then each_from message_at 0
+
+-- the line of a document: an object with the two keys; the groups, and then the messages
+unfoldable pub line_of : Data → Result (List Aspects × List Message) DocumentFault
+line_of d =
+    in_form [] (object_with (codes "groups" ∷ codes "messages" ∷ []) d)
+    then (λ _. groups_of d)
+    then (λ groups. messages_of d then λ messages. Ok (groups, messages))
+
+-- the line of bytes, or their first fault
+unfoldable pub line_of_text : List ℕ → Result (List Aspects × List Message) DocumentFault
+line_of_text bytes = json_of bytes then line_of

@@ -1,0 +1,54 @@
+-- What is wrong with bytes that are no document of a railway line, and where. Groups, aspects, balises
+-- and messages count from 0.
+use Rattle.std.specs.Prelude.{◌≡◌, ℕ, Option, Some, None, Result, Ok, Err, IsSomeAnd}
+use Rattle.etcs_schema.specs.Fault.{Fault, fault_of}
+use Rattle.etcs_schema.specs.declared.error.FormError.{FormError}
+use Rattle.etcs_schema.specs.declared.error.FormError.TheVariants as forms
+use Rattle.etcs_document.specs.declared.line_error.LineError.{LineError}
+use Rattle.etcs_document.specs.declared.line_error.LineError.TheVariants as errors
+use Rattle.etcs_radio.specs.declared.error.RadioTextError.{RadioTextError}
+use Rattle.etcs_radio.specs.declared.error.RadioTextError.TheVariants as radio
+use Rattle.etcs_telegram.specs.declared.error.TextError.{TextError}
+use Rattle.etcs_telegram.specs.declared.error.TextError.TheVariants as texts
+
+-- what is wrong with the bytes
+pub data DocumentFault : Type 0 where
+  -- they are no JSON
+  no_json : DocumentFault
+  -- the value has not the form of a line
+  bad_form : Fault → DocumentFault
+  -- this group has no balise, or more than eight
+  bad_count : ℕ → DocumentFault
+  -- this group has an empty list of aspects, or aspects whose counts of balises differ
+  bad_aspects : ℕ → DocumentFault
+  -- in this group, and in this aspect of it if it has such a list, the text of this balise is no telegram
+  bad_telegram : ℕ → Option ℕ → ℕ → TextError → DocumentFault
+  -- the text of this message is no message
+  bad_message : ℕ → RadioTextError → DocumentFault
+
+-- ---- the fault of an error
+
+-- reading gives the fault that the error names; want of memory names none, and stands inside no other
+-- error
+abbrev pub Fails : {Y : Type 0} → LineError → Result Y DocumentFault → Type 0
+Fails errors.Memory reading = Unit {0}
+Fails errors.NotJson reading = reading ≡ Err no_json
+Fails (errors.Form e) reading = IsSomeAnd (fault_of e) (λ f. reading ≡ Err (bad_form f))
+Fails (errors.Count g) reading = reading ≡ Err (bad_count g)
+Fails (errors.Aspects g) reading = reading ≡ Err (bad_aspects g)
+Fails (errors.Telegram g b texts.Memory) reading = ⊥
+Fails (errors.Telegram g b e) reading = reading ≡ Err (bad_telegram g None b e)
+Fails (errors.AspectTelegram g a b texts.Memory) reading = ⊥
+Fails (errors.AspectTelegram g a b e) reading = reading ≡ Err (bad_telegram g (Some a) b e)
+Fails (errors.Message m radio.Memory) reading = ⊥
+Fails (errors.Message m e) reading = reading ≡ Err (bad_message m e)
+
+-- the error of a document whose form has this error
+abbrev pub IsOfForm : FormError → LineError → Type 0
+IsOfForm forms.Memory e = e ≡ errors.Memory
+IsOfForm form e = e ≡ errors.Form form
+
+-- What a call returned, seen by `view`, is what reading gives, unless memory ran out.
+abbrev pub Gives : {X Y : Type 0} → (X → Y) → Result X LineError → Result Y DocumentFault → Type 0
+Gives view (Ok x) reading = reading ≡ Ok (view x)
+Gives view (Err e) reading = Fails e reading

@@ -1,0 +1,101 @@
+-- The document of a railway line read from the tokens of its text, and checked group by group and message by
+-- message, with no value and no line built for it. A text that this reader does not know is left to the reader
+-- of values.
+use Rattle.std.specs.Prelude.{◌≡◌, ℕ, true, List, [], ◌∷◌, codes, length, Option, Some, Ok}
+use Rattle.json.specs.Token.{Token}
+use Rattle.serde_json.specs.Data.{Data, array, no_items}
+use Rattle.etcs_check.specs.LineChecker.{CheckerState, HasChecked}
+use Rattle.etcs_document.specs.Document.{aspects_of, group_at, has_count, line_of, message_at, only_values, telegram_at, telegrams_of, values_of}
+use Rattle.etcs_schema.specs.Entries.{Entry, object_of}
+use Rattle.etcs_document.specs.Tokens.{HasItems, HasMembers, first_value, items_onto}
+use Rattle.etcs_radio.specs.declared.message.Message.{Message}
+use Rattle.etcs_telegram.specs.Record.{Telegram}
+use Rattle.etcs_group.specs.Group.{Telegrams, Aspects}
+
+-- ---- what a value is, at whatever place it stands
+
+-- the text of this telegram
+abbrev pub IsTelegram : Data → Telegram → Type 0
+IsTelegram d t = (g : ℕ) (a : Option ℕ) (b : ℕ) → telegram_at g a b d ≡ Ok t
+
+-- the text of this message
+abbrev pub IsMessage : Data → Message → Type 0
+IsMessage d m = (i : ℕ) → message_at i d ≡ Ok m
+
+-- the values of these balises
+abbrev pub AreBalises : List Data → Telegrams → Type 0
+AreBalises ds group = (g : ℕ) (a first : Option ℕ) → has_count first (length group) ≡ true
+    → telegrams_of g a first ds ≡ Ok group
+
+-- the list of these balises
+abbrev pub IsBalises : Data → Telegrams → Type 0
+IsBalises d group = (ds : List Data) × (values_of d ≡ Ok ds) × AreBalises ds group
+
+-- the list of balises of the one aspect
+abbrev pub IsOnlyAspect : Data → Aspects → Type 0
+IsOnlyAspect d aspects = (group : Telegrams) × (aspects ≡ group ∷ []) × IsBalises d group
+
+-- the object with these balises
+abbrev pub IsAspect : Data → Telegrams → Type 0
+IsAspect d group = (ds : List Data) × (only_values (codes "balises") d ≡ Ok ds) × AreBalises ds group
+
+-- the list of these aspects
+abbrev pub IsAspects : Data → Aspects → Type 0
+IsAspects d aspects = (ds : List Data) × (values_of d ≡ Ok ds) × ((g : ℕ) → aspects_of g ds ≡ Ok aspects)
+
+-- the group with these aspects
+abbrev pub IsGroup : Data → Aspects → Type 0
+IsGroup d aspects = (g : ℕ) → group_at g d ≡ Ok aspects
+
+-- ---- values that come first
+
+-- the first value of the tokens is that of x
+pub record IsFirst {X : Type 0} (Is : Data → X → Type 0) (depth : ℕ) (old : List Token) (x : X) (new : List Token) : Type 0 where
+  pub found : Data
+  pub stands : first_value depth old ≡ Some (found, new)
+  pub is : Is found x
+
+-- each value is that of its x
+abbrev pub AreEach : {X : Type 0} → (Data → X → Type 0) → List Data → List X → Type 0
+AreEach Is [] [] = Unit {0}
+AreEach Is [] (x ∷ xs) = ⊥
+AreEach Is (d ∷ ds) [] = ⊥
+AreEach Is (d ∷ ds) (x ∷ xs) = Is d x × AreEach Is ds xs
+
+-- the first items that the tokens have are the items of xs
+pub record AreFirst {X : Type 0} (Is : Data → X → Type 0) (depth : ℕ) (old : List Token) (xs : List X) (new : List Token) : Type 0 where
+  pub found : List Data
+  pub stand : HasItems depth found old new
+  pub are : AreEach Is found xs
+
+-- the list of these
+abbrev pub IsList : {X : Type 0} → (Data → X → Type 0) → Data → List X → Type 0
+IsList Is d xs = (ds : List Data) × (d ≡ array (items_onto ds no_items)) × AreEach Is ds xs
+
+-- the one member of a group with these aspects
+pub record HasGroup (depth : ℕ) (old : List Token) (aspects : Aspects) (new : List Token) : Type 0 where
+  pub name : List ℕ
+  pub found : Data
+  pub stand : HasMembers depth ((name, Some found) ∷ []) old new
+  pub is : IsGroup (object_of ((name, Some found) ∷ [])) aspects
+
+-- ---- what was handed to a checker
+
+-- Some items are read. A checker that held the one takes them, and holds the other then.
+pub record AreTaken {X : Type 0} (AreRead : List X → Type 0) (Takes : CheckerState → List X → CheckerState → Type 0) (was is : CheckerState) : Type 0 where
+  pub items : List X
+  pub read : AreRead items
+  pub takes : Takes was items is
+
+-- The value is the document of a line. A checker holds this that has taken its groups and messages.
+pub record IsChecked (d : Data) (state : CheckerState) : Type 0 where
+  pub groups : List Aspects
+  pub messages : List Message
+  pub line : line_of d ≡ Ok (groups, messages)
+  pub checked : HasChecked state groups messages
+
+-- the first members are the members of such a document
+pub record HasLine (depth : ℕ) (old : List Token) (state : CheckerState) (new : List Token) : Type 0 where
+  pub entries : List Entry
+  pub stand : HasMembers depth entries old new
+  pub is : IsChecked (object_of entries) state

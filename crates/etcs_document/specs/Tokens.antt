@@ -1,0 +1,35 @@
+-- Values, members and items read from the tokens of a text, with no JSON value built for them.
+use Rattle.std.specs.Prelude.{◌≡◌, ◌≤◌, ℕ, List, [], ◌∷◌, length, Option, Some, option_and_then}
+use Rattle.json.specs.Json.{items, members, value}
+use Rattle.json.specs.Token.{Token}
+use Rattle.serde_json.specs.Data.{Data, Items, Members, item}
+use Rattle.serde_json.specs.Read.{converted, of_items, of_json, of_members}
+use Rattle.etcs_schema.specs.Entries.{Entry, members_onto}
+
+-- ---- one value
+
+-- the first value of the tokens, nested no deeper than `depth`
+abbrev pub first_value : ℕ → List Token → Option (Data × List Token)
+first_value depth tokens = converted of_json (value depth tokens)
+
+-- ---- the members of an object
+
+-- these entries are the first members that the tokens have
+pub record HasMembers (depth : ℕ) (es : List Entry) (old new : List Token) : Type 0 where
+  pub one_by_one : (ms : Members) (turns : ℕ) → length old ≤ turns → (left : ℕ) × (length new ≤ left)
+      × (converted (λ r. of_members r ms) (members (value depth) turns old)
+      ≡ converted (λ r. of_members r (members_onto ms es)) (members (value depth) left new))
+
+-- ---- the items of a list
+
+abbrev pub items_onto : List Data → Items → Items
+items_onto [] rest = rest
+items_onto (d ∷ ds) rest = item d (items_onto ds rest)
+
+abbrev pub items_after : List Data → Option (Items × List Token) → Option (Items × List Token)
+items_after ds found = option_and_then (λ p. Some (items_onto ds p.0, p.1)) found
+
+-- these values are the first items that the tokens have
+pub record HasItems (depth : ℕ) (ds : List Data) (old new : List Token) : Type 0 where
+  pub one_by_one : (turns : ℕ) → length old ≤ turns → (left : ℕ) × (length new ≤ left)
+      × (converted of_items (items (value depth) turns old) ≡ items_after ds (converted of_items (items (value depth) left new)))

@@ -1,0 +1,112 @@
+//! The aspects of a group, each with its balises.
+
+ghost use Rattle.std.specs.Prelude.{◌≡◌, map};
+ghost use Rattle.serde_json.specs.View.{view};
+ghost use Rattle.etcs_document.specs.Document.{aspect_at, each_from, has_count, telegram_at, telegrams_of};
+ghost use Rattle.etcs_document.specs.DocumentFault.{Gives};
+
+use crate::document_values::only_values;
+use crate::line_error::{LineError, in_group};
+use etcs_group::Group;
+use etcs_schema::{FormError, Step};
+use etcs_telegram::{Telegram, TextError, from_hex};
+use serde_json::Value;
+use std::alloc::Global;
+
+// Reads a balise of the group, or of an aspect of the group: a text, which is a telegram.
+#[tactic(auto, unfolding(crate::specs::Document::telegram_at))]
+fn read_telegram(
+    alloc: Global,
+    group: usize,
+    aspect: Option<usize>,
+    place: usize,
+    value: &Value,
+) -> Result<Telegram, LineError>
+    ensures { Gives (λ t. t) result (telegram_at group aspect place (view value.now)) }
+{
+    let Some(text) = value.as_str() else {
+        let error = FormError::kind(alloc).under(Step::Place(place));
+        let error = error.under(Step::Key("balises"));
+        return Err(LineError::from(in_group(error, group, aspect)));
+    };
+    match (from_hex(alloc, text.as_bytes()), aspect) {
+        (Ok(telegram), _) => Ok(telegram),
+        (Err(TextError::Memory), _) => Err(LineError::Memory),
+        (Err(why), None) => Err(LineError::Telegram(group, place, why)),
+        (Err(why), Some(aspect)) => Err(LineError::AspectTelegram(group, aspect, place, why)),
+    }
+}
+
+// Reads balises, one after the other. All of them are kept, so their lists of packets give back the room
+// that they do not need.
+fn read_telegrams(
+    alloc: Global,
+    group: usize,
+    aspect: Option<usize>,
+    values: &[Value],
+) -> Result<Vec<Telegram>, LineError>
+    ensures { Gives (λ v. v.items) result (each_from (telegram_at group aspect) 0 (map view values.now)) }
+{
+    let mut telegrams = Vec::new(alloc);
+    'balises: for (place, value) in values.iter().enumerate() {
+        let mut telegram = read_telegram(alloc, group, aspect, place, value)?;
+        telegram.packets.shrink_to_fit();
+        if telegrams.push(telegram).is_err() {
+            return Err(LineError::Memory);
+        }
+    }
+    Ok(telegrams)
+}
+
+// Whether there are as many as the first aspect has.
+fn is_count(first: Option<usize>, count: usize) -> bool
+    ensures { result ≡ has_count first count }
+{
+    match first {
+        None => true,
+        Some(first) => count == first,
+    }
+}
+
+// Reads the balises of the group, or of an aspect of the group. Their count comes before them: it is
+// one to eight, and that of the first aspect.
+#[tactic(auto, unfolding(crate::specs::Document::telegrams_of))]
+fn read_counted(
+    alloc: Global,
+    group: usize,
+    aspect: Option<usize>,
+    first: Option<usize>,
+    values: &[Value],
+) -> Result<Group, LineError>
+    ensures { Gives (λ g. g) result (telegrams_of group aspect first (map view values.now)) }
+{
+    if values.is_empty() || values.len() > 8 {
+        return Err(LineError::Count(group));
+    }
+    if !is_count(first, values.len()) {
+        return Err(LineError::Aspects(group));
+    }
+    let telegrams = read_telegrams(alloc, group, aspect, values)?;
+    match Group::new(telegrams) {
+        Ok(group) => Ok(group),
+        Err(_) => Err(LineError::Count(group)),
+    }
+}
+
+/// Reads the group, or the aspect of the group: its form, the count of its balises, and then each of
+/// these.
+#[tactic(auto, unfolding(crate::specs::Document::aspect_at))]
+pub(crate) fn read_aspect(
+    alloc: Global,
+    group: usize,
+    first: Option<usize>,
+    aspect: Option<usize>,
+    value: &Value,
+) -> Result<Group, LineError>
+    ensures { Gives (λ g. g) result (aspect_at group first aspect (view value.now)) }
+{
+    match only_values(alloc, value, "balises") {
+        Ok(balises) => read_counted(alloc, group, aspect, first, balises),
+        Err(error) => Err(LineError::from(in_group(error, group, aspect))),
+    }
+}

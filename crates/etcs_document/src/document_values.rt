@@ -1,0 +1,53 @@
+//! The lists of a document, before their values are looked at.
+
+ghost use Rattle.std.specs.Prelude.{map};
+ghost use Rattle.serde_json.specs.View.{view};
+ghost use Rattle.etcs_document.specs.Document.{only_values, values_of};
+ghost use Rattle.etcs_schema.specs.Fault.{Gives};
+ghost use Rattle.etcs_schema.specs.Reading.{at_key};
+
+use etcs_schema::{FormError, Step, check_keys};
+use serde_json::Value;
+use std::alloc::Global;
+
+// The values of a list.
+#[tactic(auto, using(etcs_schema::proofs::AnyList::data_items), unfolding(crate::specs::Document::values_of))]
+fn values<'a>(alloc: Global, value: &'a Value) -> Result<&'a [Value], FormError>
+    ensures { Gives (λ vs. map view vs.now) result (values_of (view value.now)) }
+{
+    match value.as_array() {
+        None => Err(FormError::kind(alloc)),
+        Some(found) => Ok(found.as_slice()),
+    }
+}
+
+/// The values in the list at a key that has to be there.
+#[tactic(auto, using(etcs_schema::proofs::Objects::fails_as, etcs_schema::proofs::Objects::fails_under), unfolding(etcs_schema::specs::Reading::at_key))]
+pub(crate) fn values_at<'a>(
+    alloc: Global,
+    value: &'a Value,
+    name: &'static str,
+) -> Result<&'a [Value], FormError>
+    ensures { Gives (λ vs. map view vs.now) result (at_key values_of name.now (view value.now)) }
+{
+    match value.get(name) {
+        None => Err(FormError::missing(alloc, name)),
+        Some(found) => match values(alloc, found) {
+            Ok(found) => Ok(found),
+            Err(error) => Err(error.under(Step::Key(name))),
+        },
+    }
+}
+
+/// The values in the list at this key of an object that has no other key.
+#[tactic(auto, unfolding(crate::specs::Document::only_values))]
+pub(crate) fn only_values<'a>(
+    alloc: Global,
+    value: &'a Value,
+    name: &'static str,
+) -> Result<&'a [Value], FormError>
+    ensures { Gives (λ vs. map view vs.now) result (only_values name.now (view value.now)) }
+{
+    check_keys(alloc, &value, &[name])?;
+    values_at(alloc, value, name)
+}

@@ -1,0 +1,66 @@
+//! The document of a railway line, checked.
+
+ghost use Rattle.std.specs.Prelude.{◌≡◌, ◌≢◌, ◌↔◌, ℕ, Bool, false, [], Option, IfOk};
+ghost use Rattle.std.specs.Str.{is_utf8};
+ghost use Rattle.etcs_packet.specs.declared.run.Run.{Run};
+ghost use Rattle.etcs_group.specs.Laws.{IsDecided, IsMixtureDecided};
+ghost use Rattle.etcs_group.specs.Missed.{IsSetOf};
+ghost use Rattle.etcs_group.specs.Mixture.{Fits};
+ghost use Rattle.etcs_group.specs.Places.{At};
+ghost use Rattle.etcs_group.specs.Reading.{reading_of};
+ghost use Rattle.etcs_group.specs.Group.{Telegrams, Aspects};
+ghost use Rattle.etcs_check.specs.Soundness.{IsSoundControlled, IsSoundGroup};
+ghost use Rattle.etcs_document.specs.DocumentFault.{Gives};
+ghost use Rattle.etcs_document.specs.Verdict.{IsSoundText, IsYes, NamesTheUnsoundIn, SaysYes, verdict_of_text};
+
+use crate::document::read_line;
+use crate::line_error::LineError;
+use crate::verdict::Verdict;
+use etcs_check::check;
+use std::alloc::Global;
+
+/// Reads the document of a railway line, and finds all facts against the line. Where none is found,
+/// the answer is yes: every telegram and message of the line has exactly one record, and for each
+/// aspect of every group, running direction and set of missed balises whose declared duplicates are
+/// read, the assembled message is accepted and equals that with nothing missed, every other set being
+/// refused; there, as in each radio message, every movement authority has gradient and speed profiles,
+/// all reaching at least its supervised location.
+///
+/// Where a unit switches a group while a train passes, the train reads a mixture of aspects. A yes also
+/// says that a mixture is accepted exactly where it is covered and one aspect has, at their places, all
+/// the telegrams that it shows. Its packets are then those of that aspect with nothing missed.
+///
+/// The error is that of [`read_line`]. Findings take memory too. After an error neither line nor
+/// findings are returned.
+pub fn check_text(alloc: Global, bytes: &[u8]) -> Result<Verdict, LineError>
+    ensures exact { Gives (λ v. ((v.line.groups.items, v.line.messages.items), v.findings.items)) result
+        (verdict_of_text bytes.now) }
+
+    // Yes means a sound line, and a sound line means yes.
+    ensures yes { result ≢ Err LineError.Memory → IsYes result ↔ IsSoundText bytes.now }
+    ensures says { IfOk result (λ v. v.findings.items ≡ []
+        → SaysYes bytes.now v.line.groups.items v.line.messages.items) }
+
+    // A group or a message is sound exactly where no finding names it, whatever is found elsewhere. Of two
+    // groups with one identity the later one is named.
+    ensures unnamed { IfOk result (λ v. NamesTheUnsoundIn bytes.now v.findings.items) }
+
+    // Each reading of a sound aspect is accepted or refused by what was missed alone, whatever else is found.
+    ensures decided { IfOk result (λ v. (g a : ℕ) (aspects : Aspects) (group : Telegrams)
+        (run : Run) (missed : ℕ → Bool) → At v.line.groups.items g aspects → At aspects a group
+        → IsSoundGroup group → IsSetOf group missed → IsDecided run group missed (reading_of run missed group)) }
+
+    // A mixture of a sound group's aspects is accepted exactly where it is covered and one aspect has all
+    // that it shows, whatever else is found. Its packets are then the packets of that aspect.
+    ensures mixtures { IfOk result (λ v. (g : ℕ) (aspects : Aspects) (run : Run)
+        (shown : ℕ → Option ℕ) → At v.line.groups.items g aspects → IsSoundControlled aspects
+        → Fits aspects shown → IsMixtureDecided run aspects shown) }
+
+    // An empty input is not JSON, nor is one that is not UTF-8, whatever memory there is.
+    ensures empty { bytes.now ≡ [] → result ≡ Err LineError.NotJson }
+    ensures unreadable { is_utf8 bytes.now ≡ false → result ≡ Err LineError.NotJson }
+{
+    let line = read_line(alloc, bytes)?;
+    let findings = check(alloc, &line)?;
+    Ok(Verdict { line, findings })
+}

@@ -1,0 +1,79 @@
+//! Why bytes are no line document.
+
+ghost use Rattle.std.specs.Prelude.{◌≡◌, ◌++◌, IfSome, IsSomeAnd};
+ghost use Rattle.etcs_document.specs.Document.{path_of};
+ghost use Rattle.etcs_document.specs.DocumentFault.{IsOfForm};
+ghost use Rattle.etcs_schema.specs.Fault.{fault, fault_of};
+ghost use Rattle.etcs_document.specs.declared.line_error.LineError.TheVariants as errors;
+
+use etcs_bits::Memory;
+use etcs_radio::RadioTextError;
+use etcs_schema::{FormError, Step};
+use etcs_telegram::TextError;
+use thiserror::Error;
+
+/// Why bytes are not the document of a railway line: their first fault, depth first. Groups,
+/// aspects, balises and messages count from 0.
+#[derive(Debug, Drop, Error)]
+pub enum LineError {
+    /// Memory ran out. A fault may then go unseen. No other error holds this one.
+    #[error("out of memory")]
+    Memory,
+    /// The bytes are not UTF-8, are no JSON, hold more than one value, or nest more than 127 levels.
+    #[error("not JSON")]
+    NotJson,
+    /// The value does not have the form of a line.
+    #[error("{0}")]
+    Form(FormError),
+    /// The group with this number has no balise, or more than eight (SUBSET-026, 3.4.1).
+    #[error("group {0}: count")]
+    Count(usize),
+    /// In the group with the first number, the balise with the second has a text that is no
+    /// telegram.
+    #[error("group {0} balise {1}: {2}")]
+    Telegram(usize, usize, TextError),
+    /// The text of the message with this number is no radio message.
+    #[error("message {0}: {1}")]
+    Message(usize, RadioTextError),
+    /// The group with this number has an empty list of aspects, or an aspect whose count of balises
+    /// differs from that of aspect 0.
+    #[error("group {0}: aspects")]
+    Aspects(usize),
+    /// In the group with the first number, in the aspect with the second, the balise with the third
+    /// has a text that is no telegram.
+    #[error("group {0} aspect {1} balise {2}: {3}")]
+    AspectTelegram(usize, usize, usize, TextError),
+}
+
+impl From<Memory> for LineError {
+    ghost from_gives = { λ _ error. error ≡ errors.Memory };
+
+    fn from(_memory: Memory) -> LineError {
+        LineError::Memory
+    }
+}
+
+impl From<FormError> for LineError {
+    ghost from_gives = { λ form error. IsOfForm form error };
+
+    fn from(error: FormError) -> LineError {
+        match error {
+            FormError::Memory => LineError::Memory,
+            fault => LineError::Form(fault),
+        }
+    }
+}
+
+/// A fault as the document has it: the way to it leads through this group, or this aspect of the group.
+pub(crate) fn in_group(error: FormError, group: usize, aspect: Option<usize>) -> FormError
+    ensures { IfSome (fault_of result) (λ f. IsSomeAnd (fault_of error)
+        (λ inner. f ≡ fault inner.reason (path_of group aspect ++ inner.path))) }
+{
+    match aspect {
+        None => error.under(Step::Place(group)).under(Step::Key("groups")),
+        Some(aspect) => {
+            let error = error.under(Step::Place(aspect)).under(Step::Key("aspects"));
+            error.under(Step::Place(group)).under(Step::Key("groups"))
+        }
+    }
+}

@@ -1,0 +1,272 @@
+//! The tokens of a document, read one by one from its bytes. They are those that `json` gives of the text. A string is
+//! read only where each of its bytes stands for itself. Where a function here answers no, it says nothing about the
+//! text.
+
+ghost use Rattle.std.specs.Prelude.{◌≡◌, ◌≤◌, ◌∷◌, [], false, length, None, Some, IfSome, IsFalse, IsTrue};
+ghost use Rattle.std.specs.Bool.{MatchBool};
+ghost use Rattle.json.specs.Json.{after_end_array, read_key};
+ghost use Rattle.json.specs.Lex.{after_value, begins_colon, between, colon, lex, punctuate, token, tokens};
+ghost use Rattle.json.specs.Token.{begin_array, begin_object, string as string_token};
+ghost use Rattle.json.specs.Word.{is_space};
+ghost use Rattle.etcs_document.specs.TokenReader.{ArePlain, begins_at, closes_at, quote_place, text_len, tokens_at};
+
+use std::marker::Model;
+
+// Where the bytes that are left begin: where a value or a mark may stand, behind a value, or behind a comma.
+#[derive(Clone, Copy, Drop)]
+enum Place {
+    Fresh,
+    AfterValue,
+    AfterComma,
+}
+
+/// Which kind of text is due.
+#[derive(Clone, Copy, Drop)]
+pub(crate) enum TextKind {
+    /// A telegram.
+    Telegram,
+    /// A message.
+    Message,
+}
+
+/// A reader. A clause sees the tokens that are still to come.
+#[derive(Drop)]
+pub(crate) struct TokenReader<'a> {
+    rest: &'a [u8],
+    place: Place,
+}
+
+impl<'a> Model for TokenReader<'a> {
+    ghost use Rattle.std.specs.Prelude.{List};
+    ghost use Rattle.json.specs.Token.{Token, tokens_code};
+
+    ghost Value = { List Token };
+
+    ghost coded = { tokens_code };
+
+    ghost use Rattle.etcs_document.specs.TokenReader.{tokens_at};
+
+    ghost view = { λ a. tokens_at a.place a.rest.now };
+}
+
+fn is_blank(byte: u8) -> bool
+    ensures { result ≡ is_space byte }
+{
+    matches!(byte, b' ' | b'\t' | b'\n' | b'\r')
+}
+
+// The bytes behind blanks.
+#[inline]
+fn pass_blanks(rest: &[u8]) -> &[u8]
+    ensures { lex between result.now ≡ lex between rest.now }
+{
+    let mut at = 0;
+    'blanks: while at < rest.len() && is_blank(rest[at]) {
+        at += 1;
+    }
+    &rest[at..]
+}
+
+// The bytes behind this byte, if it is the next one behind blanks.
+#[inline]
+fn pass_byte(rest: &[u8], byte: u8) -> Option<&[u8]>
+    ensures { IfSome result (λ r. lex between rest.now ≡ lex between (byte ∷ r.now)) }
+{
+    let begun = pass_blanks(rest);
+    if begun.is_empty() || begun[0] != byte {
+        return None;
+    }
+    Some(&begun[1..])
+}
+
+// The bytes behind this key and its colon, if it is next.
+fn pass_name<'a>(rest: &'a [u8], name: &str) -> Option<&'a [u8]>
+    requires plain { ArePlain name.now }
+    ensures { IfSome result (λ r. lex between rest.now ≡ token (string_token name.now) ∷ colon ∷ lex between r.now) }
+{
+    let begun = pass_byte(rest, b'"')?;
+    let ended = begun.strip_prefix(name.as_bytes())?;
+    if ended.is_empty() || ended[0] != b'"' {
+        return None;
+    }
+    pass_byte(&ended[1..], b':')
+}
+
+// How many bytes stand before the first quote.
+fn quote_place(bytes: &[u8]) -> usize
+    ensures { result ≡ quote_place bytes.now }
+{
+    let mut at = 0;
+    'bytes: while at < bytes.len() && bytes[at] != b'"' {
+        at += 1;
+    }
+    at
+}
+
+// How many bytes a text of this kind has, of which these bytes are the rest behind the first quote. A short telegram
+// has 54 digits and a long one 208, so that no quote has to be looked for.
+fn text_len(kind: TextKind, begun: &[u8]) -> usize
+    ensures { result ≡ text_len kind begun.now }
+{
+    match kind {
+        TextKind::Telegram if begun.len() > 54 && begun[54] == b'"' => 54,
+        TextKind::Telegram => 208,
+        TextKind::Message => quote_place(begun),
+    }
+}
+
+// What follows a text of a list, up to the next item or the end of the list.
+fn pass_text(rest: &[u8]) -> Option<(&[u8], Place)>
+    ensures { IfSome result (λ r. (tokens_at r.1 r.0.now ≡ punctuate after_value (lex between rest.now))
+        × (begins_colon (lex between rest.now) ≡ false)) }
+{
+    let behind = pass_blanks(rest);
+    if behind.is_empty() {
+        return None;
+    }
+    match behind[0] {
+        b',' => Some((&behind[1..], Place::AfterComma)),
+        b']' => Some((behind, Place::AfterValue)),
+        _ => None,
+    }
+}
+
+impl Place {
+    fn may_begin(self) -> bool
+        ensures { result ≡ begins_at self }
+    {
+        !matches!(self, Place::AfterValue)
+    }
+
+    fn may_close(self) -> bool
+        ensures { result ≡ closes_at self }
+    {
+        !matches!(self, Place::AfterComma)
+    }
+}
+
+impl<'a> TokenReader<'a> {
+    /// A reader of all tokens of a text.
+    pub(crate) fn new(text: &'a [u8]) -> TokenReader<'a>
+        ensures { result ≡ tokens text.now }
+    {
+        TokenReader {
+            rest: text,
+            place: Place::Fresh,
+        }
+    }
+
+    // Goes on behind a value, which these bytes follow.
+    #[inline]
+    fn go_on(&mut self, rest: &'a [u8])
+        ensures { self.new ≡ punctuate after_value (lex between rest.now) }
+    {
+        match pass_byte(rest, b',') {
+            Some(rest) => {
+                self.rest = rest;
+                self.place = Place::AfterComma;
+            }
+            None => {
+                self.rest = rest;
+                self.place = Place::AfterValue;
+            }
+        }
+    }
+
+    /// Passes the mark at which an object begins.
+    pub(crate) fn pass_begin(&mut self) -> bool
+        ensures { IsTrue result → self.old ≡ begin_object ∷ self.new }
+    {
+        let Some(rest) = pass_byte(self.rest, b'{') else {
+            return false;
+        };
+        if !self.place.may_begin() {
+            return false;
+        }
+        self.rest = rest;
+        self.place = Place::Fresh;
+        true
+    }
+
+    /// Passes the mark at which a list begins.
+    pub(crate) fn pass_list(&mut self) -> bool
+        ensures { IsTrue result → self.old ≡ begin_array ∷ self.new }
+    {
+        let Some(rest) = pass_byte(self.rest, b'[') else {
+            return false;
+        };
+        if !self.place.may_begin() {
+            return false;
+        }
+        self.rest = rest;
+        self.place = Place::Fresh;
+        true
+    }
+
+    /// Passes the mark at which an object ends.
+    pub(crate) fn pass_end(&mut self) -> bool
+        ensures { IsTrue result → read_key self.old ≡ Some (None, self.new) }
+    {
+        let Some(rest) = pass_byte(self.rest, b'}') else {
+            return false;
+        };
+        if !self.place.may_close() {
+            return false;
+        }
+        self.go_on(rest);
+        true
+    }
+
+    /// Passes the mark at which a list ends. If it says no, nothing changes.
+    pub(crate) fn take_end_array(&mut self) -> bool
+        ensures { MatchBool result (after_end_array self.old ≡ Some self.new) (self.new ≡ self.old) }
+    {
+        let Some(rest) = pass_byte(self.rest, b']') else {
+            return false;
+        };
+        if !self.place.may_close() {
+            return false;
+        }
+        self.go_on(rest);
+        true
+    }
+
+    /// Passes this key. If it says no, nothing changes.
+    pub(crate) fn pass_key(&mut self, name: &str) -> bool
+        requires plain { ArePlain name.now }
+        ensures yes { IsTrue result → read_key self.old ≡ Some (Some name.now, self.new) }
+        ensures no { IsFalse result → self.new ≡ self.old }
+    {
+        let Some(rest) = pass_name(self.rest, name) else {
+            return false;
+        };
+        if !self.place.may_begin() {
+            return false;
+        }
+        self.rest = rest;
+        self.place = Place::Fresh;
+        true
+    }
+
+    /// Reads a text of a list, which is the next string if each of its bytes stands for itself.
+    pub(crate) fn text(&mut self, kind: TextKind) -> Option<&'a [u8]>
+        ensures { IfSome result (λ s. ArePlain s.now → self.old ≡ string_token s.now ∷ self.new) }
+    {
+        let begun = pass_byte(self.rest, b'"')?;
+        let len = text_len(kind, begun);
+        if begun.len() <= len || begun[len] != b'"' || !self.place.may_begin() {
+            return None;
+        }
+        let (rest, place) = pass_text(&begun[len + 1..])?;
+        self.rest = rest;
+        self.place = place;
+        Some(&begun[..len])
+    }
+
+    /// Whether no token is left.
+    pub(crate) fn is_at_end(&self) -> bool
+        ensures { IsTrue result → self.now ≡ [] }
+    {
+        self.place.may_close() && pass_blanks(self.rest).is_empty()
+    }
+}

@@ -1,9 +1,0 @@
-use Rattle.etcs_form.proofs.DocumentTokenLemmas.{telegram_taken}
-use Rattle.etcs_json.proofs.PlainLemmas.{telegram_plain}
-use Rattle.etcs_form.proofs.token_groups.telegram.Goals as goal
-
--- the text of a telegram is one of digits
-pub returns-in-Ok : goal.returns-in-Ok
-returns-in-Ok c =
-    let is = c.in-Ok.ensures.exact in
-    telegram_taken _ c.in_ok-text.text.now _ _ _ (c.in_ok-text.ensures (telegram_plain _ _ is)) is

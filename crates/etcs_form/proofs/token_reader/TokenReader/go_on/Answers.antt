@@ -1,6 +1,0 @@
-use Rattle.etcs_form.proofs.TokenReaderLemmas.{comma_passed}
-use Rattle.etcs_form.proofs.token_reader.TokenReader.go_on.Goals as goal
-
--- the comma is passed
-pub returns-in-Some : goal.returns-in-Some
-returns-in-Some c = comma_passed c.args.rest.now c.in-Some.rest.now c.in-Some.ensures

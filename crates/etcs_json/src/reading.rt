@@ -1,0 +1,126 @@
+//! How the parts of a form are read.
+
+ghost use Rattle.std.specs.Prelude.{◌≡◌, ◌==◌, ℕ, Bool, true, IfOk, IsOk};
+ghost use Rattle.etcs_schema.specs.Chosen.{any_object, first_at};
+ghost use Rattle.etcs_schema.specs.Fault.{Gives, IfMemory, IsUnder, key};
+ghost use Rattle.etcs_schema.specs.Reading.{at_key, at_key_if, items_at, list_of, member_at, no_key, allowed_number};
+ghost use Rattle.etcs_schema.specs.Shape.{first_and_others, fixed};
+
+use crate::Form;
+use etcs_schema::reading::{check_object, member, under};
+use etcs_schema::{FormError, Node, Step};
+use std::alloc::Global;
+
+/// Reads the member at a key that has to be there, whatever other keys the object has. It decides
+/// what the others are. A value that is no object is refused without memory.
+pub(crate) fn read_first<T: Form, N: Node>(
+    alloc: Global,
+    node: &N,
+    name: &'static str,
+) -> Result<T, FormError>
+    ensures first { Gives (λ x. x) result (first_at T.shape.of name.now (N.shows node.now)) }
+    ensures memory { IfMemory result (IsOk (any_object (N.shows node.now))) }
+{
+    check_object(alloc, node)?;
+    T::read(alloc, node, name)
+}
+
+/// Reads the items of a list that are left, one after the other.
+pub(crate) fn read_items<T: Form, N: Node>(
+    alloc: Global,
+    items: N::Items,
+) -> Result<Vec<T>, FormError>
+    ensures { Gives (λ v. v.items) result (items_at T.shape.of 0 (N.rest items)) }
+{
+    let mut items = items;
+    let mut found = Vec::new(alloc);
+    'items: while let Some(node) = N::next_item(&mut items) {
+        match T::of_node(alloc, &node) {
+            Ok(item) => {
+                if found.push(item).is_err() {
+                    return Err(FormError::Memory);
+                }
+            }
+            Err(error) => return Err(error.under(Step::Place(found.len()))),
+        }
+    }
+    Ok(found)
+}
+
+/// Reads a list of from `low` to `high` items. Its count comes before its items.
+pub(crate) fn read_list<T: Form, N: Node>(
+    alloc: Global,
+    node: &N,
+    low: usize,
+    high: usize,
+) -> Result<Vec<T>, FormError>
+    ensures { Gives (λ v. v.items) result (list_of T.shape.of low high (N.shows node.now)) }
+{
+    match node.has_between(low, high) {
+        None => Err(FormError::kind(alloc)),
+        Some(fits) => {
+            if fits {
+                match node.items() {
+                    None => Err(FormError::kind(alloc)),
+                    Some(items) => read_items::<T, N>(alloc, items),
+                }
+            } else {
+                Err(FormError::range(alloc))
+            }
+        }
+    }
+}
+
+/// Reads a list of from 1 to `high` items, as its first and the further ones.
+pub(crate) fn read_first_and<T: Form, N: Node>(
+    alloc: Global,
+    node: &N,
+    high: usize,
+) -> Result<(T, Vec<T>), FormError>
+    ensures { Gives (λ p. (p.0, p.1.items)) result
+        (first_and_others T.shape.of high (N.shows node.now)) }
+{
+    let mut items = read_list(alloc, node, 1, high)?;
+    if items.is_empty() {
+        return Err(FormError::range(alloc));
+    }
+    let first = items.remove(0);
+    Ok((first, items))
+}
+
+/// Some of the numbers of a variable.
+pub(crate) trait Numbers {
+    /// Which they are.
+    ghost test: { ℕ → Bool };
+
+    /// Whether a number is one of them.
+    fn has(number: u64) -> bool
+        ensures { result ≡ test number };
+}
+
+// Reads one of these numbers.
+#[tactic(auto, unfolding(etcs_schema::specs::Reading::allowed_number))]
+fn number_in<T: Numbers, N: Node>(alloc: Global, node: &N) -> Result<u64, FormError>
+    ensures gives { Gives (λ n. n) result (allowed_number T.test (N.shows node.now)) }
+    ensures has { IfOk result (λ n. T.test n ≡ true) }
+{
+    match node.number() {
+        None => Err(FormError::kind(alloc)),
+        Some(number) if T::has(number) => Ok(number),
+        Some(_) => Err(FormError::range(alloc)),
+    }
+}
+
+/// Reads the member at a key that has to be there: one of these numbers.
+#[tactic(auto, using(etcs_schema::proofs::Objects::member_read, etcs_schema::proofs::Objects::under_keeps))]
+pub(crate) fn read_number<T: Numbers, N: Node>(
+    alloc: Global,
+    node: &N,
+    name: &'static str,
+) -> Result<u64, FormError>
+    ensures gives { Gives (λ n. n) result (at_key (allowed_number T.test) name.now (N.shows node.now)) }
+    ensures has { IfOk result (λ n. T.test n ≡ true) }
+{
+    let found = member(alloc, node, name)?;
+    under(name, number_in::<T, N>(alloc, &found))
+}

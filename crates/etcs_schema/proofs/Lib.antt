@@ -1,0 +1,15 @@
+pub mod Keys
+pub mod NumberLemmas
+pub mod TapeLemmas
+pub mod MemberLemmas
+pub mod ItemLemmas
+pub mod KeyLemmas
+pub mod PassLemmas
+pub mod TextLemmas
+pub mod SortedLemmas
+pub mod Objects
+pub mod ListLemmas
+pub mod SendingLemmas
+pub mod BodyTextLemmas
+pub mod PathLemmas
+pub mod AnyList

@@ -1,0 +1,14 @@
+use Rattle.std.proofs.Common.{◌≡◌, ◌+◌, ◌≤◌, Some, option_map, length}
+use Rattle.serde_json.specs.Find.{as_array}
+use Rattle.etcs_schema.specs.Reading.{data_list}
+use Rattle.etcs_schema.proofs.node.Node.has_between.Given as goal
+
+-- the items so far and those that are left are the list's
+abbrev pub invariant-items : goal.invariant-items
+invariant-items g l = record {
+  few : l.count ≤ l.high;
+  all : option_map (λ ds. length (data_list ds)) (as_array (g.Self.Node.shows l.self)) ≡ Some (l.count + length (g.Self.Node.rest l.items));
+}
+
+abbrev pub decreases-items : goal.decreases-items
+decreases-items g l = length (g.Self.Node.rest l.items)

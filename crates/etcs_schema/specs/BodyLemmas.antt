@@ -1,0 +1,71 @@
+-- The text of a body is read as that body again.
+use Rattle.etcs_schema.specs.Prelude.{◌≡◌, ◌∙◌, ℕ, zero, suc, ◌-◌, ◌*◌, ◌^◌, ◌<◌, ◌≤◌, ◌==◌, Bool, true, false, List, ◌++◌, length, take, drop, replicate, Ok, refl, sym, ap, ap₂, subst, arith, eq-eqb, string}
+use Rattle.std.proofs.lemmas.List.{drop_at, length-append, length-drop, length-replicate, length-take, length-take-le, nil_from_length, take_at, take-append-drop}
+use Rattle.std.proofs.Math.Pow.{pow_mono}
+use Rattle.std.proofs.lemmas.Nat.{pow_pos}
+use Rattle.hex.specs.Hex.{IsBytes}
+use Rattle.hex.proofs.HexLemmas.{decode_of-encode_lower}
+use Rattle.etcs_bits.specs.bits.Number.{bits_of_bytes, num, num_of_bits}
+use Rattle.etcs_bits.proofs.NumberLemmas.{num-num_of_bits, num_of_bits-lt, num_of_bits-small}
+use Rattle.etcs_bits.proofs.ViewLemmas.{zeros_are}
+use Rattle.etcs_schema.specs.BodyText.{are_padded, body_bytes, body_of, body_text, bytes_for, bytes_in, decoded_or, filled_up, first_bits}
+
+-- ---- bytes of bits
+
+pub length-bytes_in : (n : ℕ) (bits : List Bool) → length (bytes_in n bits) ≡ n
+unfolding bytes_in
+length-bytes_in zero bits = refl
+length-bytes_in (suc n) bits = ap suc (length-bytes_in n (drop 8 bits))
+
+byte_small : (bits : List Bool) → num_of_bits (take 8 bits) < 256
+byte_small bits =
+    let small = num_of_bits-lt (take 8 bits) in
+    let few : length (take 8 bits) ≤ 8 = rw length-take (omega arith) in
+    let top : 2 ^ length (take 8 bits) ≤ 2 ^ 8 = pow_mono few in
+    omega (arith, small, top)
+
+pub are_bytes : (n : ℕ) (bits : List Bool) → IsBytes (bytes_in n bits)
+unfolding bytes_in
+are_bytes zero bits i = omega arith
+are_bytes (suc n) bits zero = byte_small bits
+are_bytes (suc n) bits (suc i) = are_bytes n (drop 8 bits) i
+
+-- whole bytes of bits, and their bits again
+pub bits_again : (n : ℕ) (bits : List Bool) → length bits ≡ 8 * n → bits_of_bytes (bytes_in n bits) ≡ bits
+unfolding bytes_in bits_of_bytes
+bits_again zero bits none = sym (nil_from_length bits none)
+bits_again (suc n) bits count =
+    let front : length (take 8 bits) ≡ 8 = length-take-le 8 bits (omega (arith, count)) in
+    let byte : num 8 (num_of_bits (take 8 bits)) ≡ take 8 bits = subst (λ k. num k (num_of_bits (take 8 bits)) ≡ take 8 bits) front (num-num_of_bits (take 8 bits)) in
+    let rest = bits_again n (drop 8 bits) (rw length-drop (omega (arith, count))) in
+    ap₂ (λ x y. x ++ y) byte rest ∙ take-append-drop 8 bits
+
+-- ---- a body
+
+-- the bits and the zeros are whole bytes
+pub filled_length : (bits : List Bool) → length (filled_up bits) ≡ 8 * bytes_for (length bits)
+filled_length bits = rw (length-append, length-replicate) (omega arith)
+
+pub body_bits : (body : List Bool) → bits_of_bytes (body_bytes body) ≡ filled_up body
+body_bits body = bits_again (bytes_for (length body)) (filled_up body) (filled_length body)
+
+zeros_padded : (count : ℕ) (body : List Bool) → length body ≡ count → are_padded count (body_bytes body) ≡ true
+zeros_padded count body is =
+    let k = 8 * bytes_for (length body) - length body in
+    let none : num_of_bits (replicate k false) ≡ 0 = ap num_of_bits (sym (zeros_are k)) ∙ num_of_bits-small k 0 (pow_pos k) in
+    ap (λ bits. num_of_bits (drop count bits) == 0) (body_bits body)
+    ∙ ap (λ bits. num_of_bits bits == 0) (drop_at body (replicate k false) count is)
+    ∙ ap (λ n. n == 0) none
+
+bits_first : (body : List Bool) → first_bits (length body) (body_bytes body) ≡ Ok body
+bits_first body =
+    let count : length (body_bytes body) ≡ bytes_for (length body) = length-bytes_in (bytes_for (length body)) (filled_up body) in
+    let padded = zeros_padded (length body) body refl in
+    let same : take (length body) (bits_of_bytes (body_bytes body)) ≡ body = ap (take (length body)) (body_bits body) ∙ take_at body _ (length body) refl in
+    rw (count, eq-eqb (bytes_for (length body)) (bytes_for (length body)) refl, padded, same) refl
+
+-- the text of a body is read as the body
+pub body_again : (body : List Bool) → body_of (length body) (string (body_text body)) ≡ Ok body
+unfolding body_of
+body_again body =
+    ap (decoded_or (length body)) (decode_of-encode_lower (body_bytes body) (are_bytes (bytes_for (length body)) (filled_up body))) ∙ bits_first body

@@ -1,0 +1,50 @@
+-- The text of a packet's body. Zeros after the last bit fill the body up to a whole byte. Then each
+-- byte is two hexadecimal digits: lower case is written, and either case is read.
+use Rattle.etcs_schema.specs.Prelude.{ℕ, zero, suc, ◌+◌, ◌-◌, ◌*◌, ◌/◌, ◌==◌, ◌&&◌, Bool, false, List, [], ◌∷◌, ◌++◌, length, take, drop, replicate, Option, Some, None, Result, Ok, Err, if◌then◌else◌, Data, as_str}
+use Rattle.hex.specs.Hex.{decode_of, encode_lower}
+use Rattle.hex.specs.declared.error.FromHexError.{FromHexError}
+use Rattle.etcs_bits.specs.bits.Number.{bits_of_bytes, num_of_bits}
+use Rattle.etcs_schema.specs.Fault.{Fault, Kind, Range, here}
+
+-- how many bytes hold this number of bits
+abbrev pub bytes_for : ℕ → ℕ
+bytes_for bits = (bits + 7) / 8
+
+-- the bits, and then zeros up to a whole byte
+abbrev pub filled_up : List Bool → List Bool
+filled_up bits = bits ++ replicate (8 * bytes_for (length bits) - length bits) false
+
+-- the first n bytes that the bits make, eight bits for each
+unfoldable pub bytes_in : ℕ → List Bool → List ℕ
+bytes_in zero bits = []
+bytes_in (suc n) bits = num_of_bits (take 8 bits) ∷ bytes_in n (drop 8 bits)
+
+-- the bytes of a body
+abbrev pub body_bytes : List Bool → List ℕ
+body_bytes body = bytes_in (bytes_for (length body)) (filled_up body)
+
+-- the text of a body
+abbrev pub body_text : List Bool → List ℕ
+body_text body = encode_lower (body_bytes body)
+
+-- whether the bits after the first `count` are zeros
+abbrev pub are_padded : ℕ → List ℕ → Bool
+are_padded count bytes = num_of_bits (drop count (bits_of_bytes bytes)) == 0
+
+-- the first bits of bytes that are as many as hold them, where no other bit is set
+abbrev pub first_bits : ℕ → List ℕ → Result (List Bool) Fault
+first_bits count bytes =
+    if (length bytes == bytes_for count) && are_padded count bytes
+    then Ok (take count (bits_of_bytes bytes)) else Err (here Range)
+
+abbrev pub decoded_or : ℕ → Result (List ℕ) FromHexError → Result (List Bool) Fault
+decoded_or count (Err e) = Err (here Kind)
+decoded_or count (Ok bytes) = first_bits count bytes
+
+abbrev pub digits_or : ℕ → Option (List ℕ) → Result (List Bool) Fault
+digits_or count None = Err (here Kind)
+digits_or count (Some digits) = decoded_or count (decode_of digits)
+
+-- a body of `count` bits
+unfoldable pub body_of : ℕ → Data → Result (List Bool) Fault
+body_of count d = digits_or count (as_str d)

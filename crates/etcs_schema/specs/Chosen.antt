@@ -1,0 +1,162 @@
+-- Values that a number distinguishes, such as packets by NID_PACKET. The number is looked at before any
+-- other key of the object, and decides the form of the whole object.
+use Rattle.etcs_schema.specs.Prelude.{is_itself, ◌≡◌, ℕ, ◌++◌, ◌==◌, ◌⊎◌, Bool, true, false, List, ◌∷◌, Option, Some, None, Result, Ok, Err, if◌then◌else◌, refl, ap, inl, inr, subst, sym, ◌∙◌, ne_eqb, true≢false, Data, Members, as_object, get, AreAllowed, IsAllowed, Row, Variable, alone, row}
+use Rattle.etcs_bits.specs.layout.Choice.{either_allows, either_number, either_rows}
+use Rattle.etcs_schema.specs.Entries.{Entry, Holds, are_apart, object_of}
+use Rattle.etcs_schema.specs.EntryLemmas.{object_holds}
+use Rattle.etcs_schema.specs.Fault.{Fault, Kind, Range, at_once, here, key as key_step}
+use Rattle.etcs_schema.specs.Reading.{◌>>=◌, as_kind, allowed_number, at_key}
+use Rattle.etcs_schema.specs.Shape.{ObjectOf, Part, Shape, allowed_behind, fixed, key_again, named, number_again, number_data, object, ◌then◌}
+
+-- ---- what is looked at first
+
+abbrev pub object_or : Option Members → Result (Unit {0}) Fault
+object_or None = Err (here Kind)
+object_or (Some ms) = Ok tt
+
+-- an object, of whatever keys
+unfoldable pub any_object : Data → Result (Unit {0}) Fault
+any_object d = object_or (as_object d)
+
+-- what has to be there, whatever other keys there are
+abbrev pub first_at : {A : Type 0} → (Data → Result A Fault) → List ℕ → Data → Result A Fault
+first_at read name d = any_object d >>= λ u. at_key read name d
+
+-- ---- an object with a number
+
+-- the members of an object behind its number k, which stands at the key `name`
+pub record BehindNumber (name : List ℕ) (k : ℕ) {X : Type 0} (rows : X → List Row) : Type 0 where
+  pub part : Part rows
+  pub apart : are_apart (name ∷ part.keys) ≡ true
+
+abbrev pub behind : {name : List ℕ} {k : ℕ} {X : Type 0} {rows : X → List Row} (part : Part rows) → are_apart (name ∷ part.keys) ≡ true → BehindNumber name k rows
+behind part apart = record { part = part; apart = apart }
+
+-- the number, which has to be k, and the members behind it
+abbrev pub with_number : {name : List ℕ} {k : ℕ} {X : Type 0} {rows : X → List Row} → BehindNumber name k rows → ObjectOf rows
+with_number {name = name} {k = k} o = record {
+  part = named (λ p. p.1) (λ x. (tt, x)) (λ _. refl) (fixed name k then o.part);
+  apart = o.apart;
+}
+
+-- an object with this number at the key
+abbrev pub HasNumber : List ℕ → ℕ → Data → Type 0
+HasNumber name n d = (any_object d ≡ Ok tt) × (get name d ≡ Some (number_data n))
+
+-- the members of an object begin with this number
+pub begins_with : {X : Type 0} {rows : X → List Row} (name : List ℕ) (n : ℕ) (o : ObjectOf rows) (x : X) (rest : List Entry) → o.part.to x ≡ (name, Some (number_data n)) ∷ rest → HasNumber name n ((object o).to x)
+unfolding any_object
+begins_with name n o x rest begins =
+    let all = object_holds (o.part.to x) (ap are_apart (o.part.has_keys x) ∙ o.apart) in
+    let front = subst (λ es. Holds es (object_of (o.part.to x))) begins all in
+    (refl, front.0)
+
+-- ---- what the number decides
+
+-- the numbers that have a form; the number of a value, which is that of the variable x in the bits, and the rows
+-- behind it; its form, which has that number at the key; and what is read of an object with a number
+pub record Choice (name : List ℕ) (x : Variable) (X : Type 0) : Type 0 where
+  pub allows : ℕ → Bool
+  pub number : X → ℕ
+  pub rows : X → List Row
+  pub to : X → Data
+  pub of : ℕ → Data → Result X Fault
+  pub is_number : (v : X) → allows (number v) ≡ true
+  pub has_number : (v : X) → HasNumber name (number v) (to v)
+  pub again : (v : X) → AreAllowed (alone x (number v) ++ rows v) → of (number v) (to v) ≡ Ok v
+
+abbrev pub last_of : {A : Type 0} → List ℕ → ℕ → (Data → Result A Fault) → ℕ → Data → Result A Fault
+last_of name k read n d = if n == k then read d else Err (at_once Range (key_step name))
+
+-- the number k and no other
+abbrev pub last : {name : List ℕ} {x : Variable} {k : ℕ} {A : Type 0} {rows : A → List Row} → BehindNumber name k rows → Choice name x A
+last {name = name} {x = x} {k = k} {rows = rows} o = record {
+  allows = λ n. n == k;
+  number = λ _. k;
+  rows = rows;
+  to = (object (with_number o)).to;
+  of = last_of name k (object (with_number o)).of;
+  is_number = λ _. is_itself k;
+  has_number = λ v. begins_with name k (with_number o) v (o.part.to v) refl;
+  again = λ v allowed. rw (is_itself k) ((object (with_number o)).again v (allowed_behind x k (rows v) allowed));
+}
+
+-- a function of either kind
+abbrev pub by_kind : {A B C : Type 0} → (A → C) → (B → C) → A ⊎ B → C
+by_kind f g (inl x) = f x
+by_kind f g (inr y) = g y
+
+abbrev pub either_of : {A B : Type 0} → ℕ → (Data → Result A Fault) → (ℕ → Data → Result B Fault) → ℕ → Data → Result (A ⊎ B) Fault
+either_of k read rest n d = if n == k then as_kind inl (read d) else as_kind inr (rest n d)
+
+one_of_both : (b : Bool) → (if b then true else true) ≡ true
+one_of_both true = refl
+one_of_both false = refl
+
+pub either_is_number : {name : List ℕ} {x : Variable} {A B : Type 0} (k : ℕ) (c : Choice name x B) (v : A ⊎ B) → either_allows k c.allows (either_number k c.number v) ≡ true
+either_is_number k c (inl x) = rw (is_itself k) refl
+either_is_number k c (inr y) = rw (c.is_number y) (one_of_both (c.number y == k))
+
+pub either_has_number : {name : List ℕ} {x : Variable} {k : ℕ} {A B : Type 0} {rows : A → List Row} (o : BehindNumber name k rows) (c : Choice name x B) (v : A ⊎ B)
+    → HasNumber name (either_number k c.number v) (by_kind (object (with_number o)).to c.to v)
+either_has_number {name = name} {k = k} o c (inl x) = begins_with name k (with_number o) x (o.part.to x) refl
+either_has_number o c (inr y) = c.has_number y
+
+is_another : (allows : ℕ → Bool) (k n : ℕ) → allows k ≡ false → allows n ≡ true → (n == k) ≡ false
+is_another allows k n fresh is = ne_eqb n k (λ same. true≢false (sym is ∙ ap allows same ∙ fresh))
+
+pub either_again : {name : List ℕ} {x : Variable} {k : ℕ} {A B : Type 0} {rows : A → List Row} (o : BehindNumber name k rows) (c : Choice name x B) → c.allows k ≡ false
+    → (v : A ⊎ B) → AreAllowed (alone x (either_number k c.number v) ++ either_rows rows c.rows v)
+    → either_of k (object (with_number o)).of c.of (either_number k c.number v) (by_kind (object (with_number o)).to c.to v) ≡ Ok v
+either_again {x = x} {k = k} {rows = rows} o c fresh (inl v) allowed =
+    rw (is_itself k) (ap (as_kind inl) ((object (with_number o)).again v (allowed_behind x k (rows v) allowed)))
+either_again {k = k} o c fresh (inr v) allowed = rw (is_another c.allows k (c.number v) fresh (c.is_number v)) (ap (as_kind inr) (c.again v allowed))
+
+-- the number k, or one of other numbers
+abbrev pub either : {name : List ℕ} {x : Variable} {k : ℕ} {A B : Type 0} {rows : A → List Row} → BehindNumber name k rows → (c : Choice name x B) → c.allows k ≡ false
+    → Choice name x (A ⊎ B)
+either {k = k} {rows = rows} o c fresh = record {
+  allows = either_allows k c.allows;
+  number = either_number k c.number;
+  rows = either_rows rows c.rows;
+  to = by_kind (object (with_number o)).to c.to;
+  of = either_of k (object (with_number o)).of c.of;
+  is_number = either_is_number k c;
+  has_number = either_has_number o c;
+  again = either_again o c fresh;
+}
+
+-- every number that passes the test; the value keeps its number, and its object has it
+abbrev pub others : {name : List ℕ} {x : Variable} {X : Type 0} {own : X → List Row} (test : ℕ → Bool) (number : X → ℕ) (rows : X → List Row) (o : ObjectOf own)
+    → ((v : X) → test (number v) ≡ true) → ((v : X) → HasNumber name (number v) ((object o).to v)) → ((v : X) → AreAllowed (alone x (number v) ++ rows v) → AreAllowed (own v)) → Choice name x X
+others test number rows o is_number has_number keeps = record {
+  allows = test;
+  number = number;
+  rows = rows;
+  to = (object o).to;
+  of = λ _ d. (object o).of d;
+  is_number = is_number;
+  has_number = has_number;
+  again = λ v allowed. (object o).again v (keeps v allowed);
+}
+
+-- ---- the number first, and then the form that it decides
+
+abbrev pub chosen_of : {X : Type 0} → List ℕ → (ℕ → Bool) → (ℕ → Data → Result X Fault) → Data → Result X Fault
+chosen_of name allowed of d = first_at (allowed_number allowed) name d >>= λ n. of n d
+
+pub chosen_again : {X : Type 0} {x : Variable} (name : List ℕ) (test : ℕ → Bool) (c : Choice name x X) → ((v : X) → IsAllowed (row x (c.number v)) → test (c.number v) ≡ true)
+    → (v : X) → AreAllowed (alone x (c.number v) ++ c.rows v) → chosen_of name test c.of (c.to v) ≡ Ok v
+unfolding alone
+chosen_again name test c passes v allowed =
+    let number = c.has_number v in
+    rw (number.0, key_again number_data (allowed_number test) name (c.number v) (c.to v) (number_again test (c.number v) (passes v allowed.0)) (number.1, tt)) (c.again v allowed)
+
+-- an object whose number passes the test, as it does where it is allowed in the bits
+abbrev pub chosen : {X : Type 0} {x : Variable} (name : List ℕ) (test : ℕ → Bool) (c : Choice name x X) → ((v : X) → IsAllowed (row x (c.number v)) → test (c.number v) ≡ true) → Shape X
+chosen {x = x} name test c passes = record {
+  rows = λ v. alone x (c.number v) ++ c.rows v;
+  to = c.to;
+  of = chosen_of name test c.of;
+  again = chosen_again name test c passes;
+}

@@ -1,0 +1,43 @@
+-- The members of an object as a list of keys, each with its value or none, in any order.
+use Rattle.etcs_schema.specs.Prelude.{◌≡◌, ◌&&◌, ℕ, Bool, true, not, List, [], ◌∷◌, Option, Some, None, list_any, Data, Members, member, no_members, object, put, get}
+use Rattle.std.specs.Str.{bytes_eq}
+
+-- a key, and its value; None where the key is left out
+abbrev pub Entry : Type 0
+Entry = List ℕ × Option Data
+
+abbrev pub keys_of : List Entry → List (List ℕ)
+keys_of [] = []
+keys_of (e ∷ es) = e.0 ∷ keys_of es
+
+abbrev pub is_among : List ℕ → List (List ℕ) → Bool
+is_among k ls = list_any (λ l. bytes_eq k l) ls
+
+-- no key stands twice
+abbrev pub are_apart : List (List ℕ) → Bool
+are_apart [] = true
+are_apart (k ∷ ks) = not (is_among k ks) && are_apart ks
+
+-- each key of the object is one of these
+abbrev pub are_known : List (List ℕ) → Members → Bool
+are_known keys no_members = true
+are_known keys (member k d ms) = is_among k keys && are_known keys ms
+
+-- at each of these keys the object has this value, or none
+abbrev pub Holds : List Entry → Data → Type 0
+Holds [] d = Unit {0}
+Holds (e ∷ es) d = (get e.0 d ≡ e.1) × Holds es d
+
+-- ---- one member after the other put into an object
+
+abbrev pub put_or : List ℕ → Option Data → Members → Members
+put_or k None ms = ms
+put_or k (Some d) ms = put k d ms
+
+abbrev pub members_onto : Members → List Entry → Members
+members_onto ms [] = ms
+members_onto ms (e ∷ es) = members_onto (put_or e.0 e.1 ms) es
+
+-- the object of these entries; its text has the keys in byte order
+abbrev pub object_of : List Entry → Data
+object_of es = object (members_onto no_members es)

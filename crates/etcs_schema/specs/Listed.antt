@@ -1,0 +1,44 @@
+-- Lists of any number of items, and records that may still be refused once they are read.
+use Rattle.etcs_schema.specs.Prelude.{◌≡◌, ◌++◌, Bool, true, false, List, Option, Some, None, Result, Ok, Err, flat_map, Data, Items, array, as_array, AreAllowed, Row, alone}
+use Rattle.etcs_bits.specs.declared.layout.fault.FaultKind.TheVariants.{Spare}
+use Rattle.etcs_schema.specs.Fault.{Fault, Kind, here}
+use Rattle.etcs_schema.specs.Reading.{data_list, items_at}
+use Rattle.etcs_schema.specs.Shape.{Part, Shape, items_again, items_of, with_bits, within}
+
+-- ---- lists
+
+abbrev pub items_or : {A : Type 0} → (Data → Result A Fault) → Option Items → Result (List A) Fault
+items_or read None = Err (here Kind)
+items_or read (Some ds) = items_at read 0 (data_list ds)
+
+-- the items of a list, in their order
+unfoldable pub all_of : {A : Type 0} → (Data → Result A Fault) → Data → Result (List A) Fault
+all_of read d = items_or read (as_array d)
+
+pub listed_again : {X : Type 0} (s : Shape X) (xs : List X) → AreAllowed (flat_map s.rows xs) → all_of s.of (array (items_of s.to xs)) ≡ Ok xs
+unfolding all_of
+listed_again s xs allowed = items_again s 0 xs allowed
+
+-- a list of any number of items
+abbrev pub listed : {X : Type 0} → Shape X → Shape (List X)
+listed s = record {
+  rows = flat_map s.rows;
+  to = λ xs. array (items_of s.to xs);
+  of = all_of s.of;
+  again = listed_again s;
+}
+
+-- ---- records that are refused after all
+
+-- a row of no bits, which is allowed where a test holds, and the other rows of a record
+abbrev pub rows_holding : {X : Type 0} → (X → Bool) → (X → List Row) → X → List Row
+rows_holding holds rows x = alone (record { width = 0; allows = λ _. holds x; refusal = Spare; closes = false }) 0 ++ rows x
+
+pub held : {X : Type 0} (holds : X → Bool) (rows : X → List Row) (x : X) → AreAllowed (rows_holding holds rows x) → (holds x ≡ true) × AreAllowed (rows x)
+unfolding alone
+held holds rows x allowed = (allowed.0.1, allowed.1)
+
+-- the members of records that have to have a property; one without it has the fault
+abbrev pub holding : {X : Type 0} {rows : X → List Row} → Fault → (holds : X → Bool) → Part rows → Part (rows_holding holds rows)
+holding {rows = rows} fault holds a =
+    within fault holds (λ x allowed. (held holds rows x allowed).0) (with_bits (rows_holding holds rows) (λ x allowed. (held holds rows x allowed).1) a)

@@ -1,0 +1,63 @@
+-- The variables of the standard as whole numbers of JSON (SUBSET-026, 7.5.1).
+use Rattle.etcs_schema.specs.Prelude.{◌≡◌, ℕ, ◌^◌, ◌&&◌, Bool, true, false, Ok, ltb, refl, and_from, lt-ltb, Fields, field, AreAllowed, IsAllowed, Variable, alone, row, dir_number, dir_variable, dup_number, duplicate_variable, plain, scale_number, scale_variable, version_number, version_variable}
+use Rattle.etcs_bits.specs.bits.Number.{worth}
+use Rattle.etcs_bits.specs.declared.layout.fault.FaultKind.TheVariants.{Spare}
+use Rattle.etcs_bits.specs.declared.variables.direction.Dir.{Dir}
+use Rattle.etcs_bits.specs.declared.variables.duplicate.Dup.{Dup}
+use Rattle.etcs_bits.specs.declared.variables.scale.Scale.{Scale}
+use Rattle.etcs_bits.specs.declared.variables.version.Version.{Version}
+use Rattle.etcs_bits.specs.variables.VariableLemmas.{AreNames, dir_names, dup_names, scale_names, version_names}
+use Rattle.etcs_bits.specs.variables.VariableValues.{dir_of, dup_of, flag_of, scale_of, version_of}
+use Rattle.etcs_schema.specs.Reading.{allowed_number}
+use Rattle.etcs_schema.specs.Shape.{Shape, number_again, number_data, renamed}
+
+-- whether a number fits in the bits of a variable and is allowed
+abbrev pub is_allowed : Variable → ℕ → Bool
+is_allowed x n = ltb n (2 ^ x.width) && x.allows n
+
+pub number_allowed : (x : Variable) (n : ℕ) → IsAllowed (row x n) → is_allowed x n ≡ true
+number_allowed x n allowed = and_from _ _ (lt-ltb n (2 ^ x.width) allowed.0) allowed.1
+
+pub variable_again : (x : Variable) (n : ℕ) → AreAllowed (alone x n) → allowed_number (is_allowed x) (number_data n) ≡ Ok n
+unfolding alone
+variable_again x n allowed = number_again (is_allowed x) n (number_allowed x n allowed.0)
+
+-- a variable, seen as its number
+abbrev pub variable : Variable → Shape ℕ
+variable x = record { rows = alone x; to = number_data; of = allowed_number (is_allowed x); again = variable_again x }
+
+-- the variable that fields of bits begin with; where they begin with none, no number is allowed
+abbrev pub variable_of : Fields → Variable
+variable_of (field x next) = x
+variable_of other = record { width = 0; allows = λ _. false; refusal = Spare; closes = false }
+
+abbrev pub number : Fields → Shape ℕ
+number f = variable (variable_of f)
+
+-- a variable whose numbers have names
+abbrev pub named_numbers : {X : Type 0} (x : Variable) (tag : X → ℕ) (of : ℕ → X) → AreNames x tag of → Shape X
+named_numbers x tag of are = renamed of tag (λ v. (are v).0) (variable x)
+
+pub flag_names : AreNames (plain 1) worth flag_of
+flag_names true = (refl, refl)
+flag_names false = (refl, refl)
+
+-- a flag is the number of its bit
+abbrev pub flag : Shape Bool
+flag = named_numbers (plain 1) worth flag_of flag_names
+
+-- Q_DIR: the running directions that a packet is for
+abbrev pub direction : Shape Dir
+direction = named_numbers dir_variable dir_number dir_of dir_names
+
+-- Q_SCALE: the unit of distances
+abbrev pub scale : Shape Scale
+scale = named_numbers scale_variable scale_number scale_of scale_names
+
+-- M_DUP: which neighbour the balise duplicates
+abbrev pub duplicate : Shape Dup
+duplicate = named_numbers duplicate_variable dup_number dup_of dup_names
+
+-- M_VERSION: the version of the ETCS system
+abbrev pub version : Shape Version
+version = named_numbers version_variable version_number version_of version_names

@@ -1,0 +1,158 @@
+//! Why a JSON value is the form of no record, and where in the value.
+
+ghost use Rattle.std.specs.Prelude.{◌≡◌, ◌∷◌, Some, IfOk, map};
+ghost use Rattle.etcs_schema.specs.Fault.{IsDeeper, IsFault, Kind, Missing, OfMemory, Range, Unknown, at_once, here, key, step_of};
+
+use etcs_bits::Memory;
+use std::alloc::Global;
+use std::fmt;
+use thiserror::Error;
+
+/// One step of the way from a JSON value to a value inside it.
+#[derive(Clone, Copy, Debug, PartialEq, Eq)]
+pub enum Step {
+    /// To the value at this key of an object.
+    Key(&'static str),
+    /// To the value at this place of a list, counted from 0.
+    Place(usize),
+}
+
+/// Why a JSON value is not the form of a record: its first fault. Each fault has the way to it, from
+/// the whole value inwards. The way of `Missing` ends with the key that is missing.
+#[derive(Debug, Drop, Error)]
+pub enum FormError {
+    /// Memory ran out. A fault may then go unseen.
+    #[error("out of memory")]
+    Memory,
+    /// The object lacks a key.
+    #[error("form missing key at {path}", path = Path(.0.as_slice()))]
+    Missing(Vec<Step>),
+    /// The object has a key that its form does not have.
+    #[error("form unknown key at {path}", path = Path(.0.as_slice()))]
+    Unknown(Vec<Step>),
+    /// The value is of another kind than the one that is wanted, such as a text for a number. A
+    /// number with a sign, a point or an exponent, and a number above 2^64 - 1, is of another kind
+    /// than a variable.
+    #[error("form kind at {path}", path = Path(.0.as_slice()))]
+    Kind(Vec<Step>),
+    /// The value is of the right kind, but it is not allowed. It may be a number that its variable
+    /// does not have, or a list with too many items.
+    #[error("form range at {path}", path = Path(.0.as_slice()))]
+    Range(Vec<Step>),
+}
+
+impl fmt::Display for Step {
+    ghost use Rattle.etcs_schema.specs.Path.{step_words};
+
+    ghost output = { λ step. Some (step_words (step_of step)) };
+
+    fn fmt<W: fmt::Write>(&self, f: &mut fmt::Formatter<W>) -> fmt::Result {
+        match self {
+            Step::Key(name) => write!(f, "/{name}"),
+            Step::Place(place) => write!(f, "/{place}"),
+        }
+    }
+}
+
+/// The way to a value, printed as `/packets/0`. A slash alone is the whole value.
+#[derive(Clone, Copy)]
+pub struct Path<'a>(pub &'a [Step]);
+
+impl fmt::Display for Path<'_> {
+    ghost use Rattle.etcs_schema.specs.Path.{path_words};
+
+    ghost output = { λ path. Some (path_words (map step_of path.0.now)) };
+
+    fn fmt<W: fmt::Write>(&self, f: &mut fmt::Formatter<W>) -> fmt::Result {
+        if self.0.is_empty() {
+            return write!(f, "/");
+        }
+        'steps: for step in self.0 {
+            write!(f, "{step}")?;
+        }
+        Ok(())
+    }
+}
+
+impl From<Memory> for FormError {
+    ghost use Rattle.etcs_schema.specs.declared.error.FormError.TheVariants as errors;
+
+    ghost from_gives = { λ _ error. error ≡ errors.Memory };
+
+    fn from(_memory: Memory) -> FormError {
+        FormError::Memory
+    }
+}
+
+// The way with one step more in front of it.
+fn longer(path: Vec<Step>, step: Step) -> Result<Vec<Step>, Memory>
+    ensures { IfOk result (λ p. p.items ≡ step ∷ path.items) }
+{
+    let mut path = path;
+    path.insert(0, step)?;
+    Ok(path)
+}
+
+impl FormError {
+    /// The value itself is of another kind.
+    pub fn kind(alloc: Global) -> FormError
+        ensures fault { IsFault result (here Kind) }
+        ensures memory { OfMemory result ⊥ }
+    {
+        FormError::Kind(Vec::new(alloc))
+    }
+
+    /// The value itself is not allowed.
+    pub fn range(alloc: Global) -> FormError
+        ensures fault { IsFault result (here Range) }
+        ensures memory { OfMemory result ⊥ }
+    {
+        FormError::Range(Vec::new(alloc))
+    }
+
+    /// The value is an object with a key that its form does not have.
+    pub fn unknown(alloc: Global) -> FormError
+        ensures fault { IsFault result (here Unknown) }
+        ensures memory { OfMemory result ⊥ }
+    {
+        FormError::Unknown(Vec::new(alloc))
+    }
+
+    /// The value is an object that lacks this key.
+    pub fn missing(alloc: Global, name: &'static str) -> FormError
+        ensures { IsFault result (at_once Missing (key name.now)) }
+    {
+        FormError::Missing(Vec::new(alloc)).under(Step::Key(name))
+    }
+
+    /// What stands at this key is not allowed.
+    pub fn range_at(alloc: Global, name: &'static str) -> FormError
+        ensures { IsFault result (at_once Range (key name.now)) }
+    {
+        let here = FormError::Range(Vec::new(alloc));
+        here.under(Step::Key(name))
+    }
+
+    // The same fault, seen from the enclosing value: its path gets this step in front.
+    fn moved(self, step: Step) -> Result<FormError, Memory>
+        ensures { IfOk result (λ e. IsDeeper (step_of step) self e) }
+    {
+        match self {
+            FormError::Memory => Ok(FormError::Memory),
+            FormError::Missing(path) => Ok(FormError::Missing(longer(path, step)?)),
+            FormError::Unknown(path) => Ok(FormError::Unknown(longer(path, step)?)),
+            FormError::Kind(path) => Ok(FormError::Kind(longer(path, step)?)),
+            FormError::Range(path) => Ok(FormError::Range(longer(path, step)?)),
+        }
+    }
+
+    /// The same fault, seen from the enclosing value: its path gets this step in front.
+    pub fn under(self, step: Step) -> FormError
+        ensures { IsDeeper (step_of step) self result }
+    {
+        match self.moved(step) {
+            Ok(error) => error,
+            Err(Memory) => FormError::Memory,
+        }
+    }
+}

@@ -1,0 +1,75 @@
+//! Texts that are JSON, held as tapes.
+
+ghost use Rattle.std.specs.Prelude.{◌≡◌, ◌<◌, ◌+◌, ◌⊎◌, ◌↔◌, length, vec_capacity, Some, None, Err, IfOk, true};
+ghost use Rattle.json.specs.Lex.{tokens};
+ghost use Rattle.json.specs.Scratch.{tape_room};
+ghost use Rattle.serde_json.specs.Read.{read};
+ghost use Rattle.etcs_schema.specs.node.Tape.{is_sound};
+
+use crate::node::tape_range::are_in_range;
+use crate::{Node, TapeNode};
+use json::{Scratch, Tape};
+
+// The most bytes of a text that has a tape.
+const LONGEST: usize = 4_294_967_040;
+
+/// Why a text was not read.
+#[derive(Clone, Copy, Debug, Drop, PartialEq, Eq)]
+pub enum JsonError {
+    /// Memory ran out.
+    Memory,
+    /// The text has more than 4,294,967,040 bytes. It is not looked at.
+    TooLong,
+    /// The text is no JSON, a number is out of range, or lists and objects nest deeper than 127.
+    NotJson,
+}
+
+/// A text that is JSON, all of whose numbers are in range, and that nests at most 127 deep.
+#[derive(Drop)]
+pub struct JsonText<'a> {
+    tape: Tape<'a>,
+    ghost sound: { is_sound tape ≡ true },
+}
+
+impl<'a> JsonText<'a> {
+    ghost use Rattle.etcs_schema.specs.node.Texts.{text_data};
+
+    /// Reads a text as `serde_json` does. The tokens go into `room`, which is emptied first and
+    /// grows where it is too small, and strings with escapes into the scratch.
+    pub fn read(
+        text: &'a str,
+        scratch: &'a mut Scratch,
+        room: Vec<json::Node<'a>>,
+    ) -> Result<JsonText<'a>, JsonError>
+        ensures ok { IfOk result (λ t. read text.now ≡ Some (text_data t)) }
+        ensures not_json { result ≡ Err JsonError.NotJson → read text.now ≡ None }
+
+        // Not where room and scratch are large enough, whatever the text is.
+        ensures memory { result ≡ Err JsonError.Memory
+            → (vec_capacity room.entry < length (tokens text.now))
+            ⊎ (tape_room scratch.old < length text.now + 64) }
+        ensures too_long { result ≡ Err JsonError.TooLong ↔ (4_294_967_040 < length text.now) }
+    {
+        if LONGEST < text.len() {
+            return Err(JsonError::TooLong);
+        }
+        let tape = match Tape::parse(text, scratch, room) {
+            Ok(tape) => tape,
+            Err(json::Error::OutOfMemory) => return Err(JsonError::Memory),
+            Err(json::Error::Invalid) => return Err(JsonError::NotJson),
+            Err(json::Error::TooLong | json::Error::DuplicateKey) => unreachable!(),
+        };
+        if are_in_range(tape.nodes()) {
+            Ok(JsonText { tape })
+        } else {
+            Err(JsonError::NotJson)
+        }
+    }
+
+    /// The value that the text is.
+    pub fn root(&self) -> TapeNode<'_>
+        ensures { ⟦<TapeNode<'a> as Node>⟧.shows result ≡ text_data self.now }
+    {
+        TapeNode::new(self.tape.root())
+    }
+}

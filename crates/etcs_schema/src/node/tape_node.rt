@@ -1,0 +1,93 @@
+//! Values of a tape that are looked at.
+
+ghost use Rattle.std.specs.Prelude.{◌≡◌, ◌∷◌, true};
+ghost use Rattle.json.specs.Token.{begin_array};
+ghost use Rattle.etcs_schema.specs.node.Tape.{is_sound};
+
+use crate::node::Node;
+use crate::node::keys::place_after;
+use crate::node::numbers::whole_number;
+use json::{Element, Items};
+
+/// A value of a tape, all of whose numbers are in range.
+#[derive(Drop)]
+pub struct TapeNode<'t> {
+    element: Element<'t, 't>,
+    ghost sound: { is_sound element ≡ true },
+}
+
+/// The items of a list that are left.
+#[derive(Drop)]
+pub struct TapeItems<'t> {
+    items: Items<'t, 't>,
+    ghost sound: { is_sound (begin_array ∷ items) ≡ true },
+}
+
+impl<'t> TapeNode<'t> {
+    /// The value that begins at this element.
+    pub(crate) fn new(element: Element<'t, 't>) -> TapeNode<'t>
+        requires { is_sound element ≡ true }
+        ensures { result.element ≡ element.entry }
+    {
+        TapeNode { element }
+    }
+}
+
+impl<'t> Node for TapeNode<'t> {
+    ghost use Rattle.etcs_schema.specs.node.Tape.{data_of, items_data};
+
+    type Items = TapeItems<'t>;
+
+    ghost shows = { λ n. data_of n.element };
+
+    ghost rest = { λ i. items_data i.items };
+
+    fn number(&self) -> Option<u64> {
+        match self.element.as_number() {
+            None => None,
+            Some(text) => whole_number(text),
+        }
+    }
+
+    fn text(&self) -> Option<&str> {
+        self.element.as_str()
+    }
+
+    fn member(&self, name: &str) -> Option<TapeNode<'t>> {
+        match self.element.get(name) {
+            None => None,
+            Some(element) => Some(TapeNode::new(element)),
+        }
+    }
+
+    fn has_only(&self, keys: &[&str]) -> Option<bool> {
+        match self.element.members() {
+            None => None,
+            Some(found) => {
+                let mut members = found;
+                let mut place = 0;
+                'members: while let Some((name, _)) = members.next() {
+                    match place_after(name, keys, place) {
+                        None => return Some(false),
+                        Some(after) => place = after,
+                    }
+                }
+                Some(true)
+            }
+        }
+    }
+
+    fn items(&self) -> Option<TapeItems<'t>> {
+        match self.element.items() {
+            None => None,
+            Some(items) => Some(TapeItems { items }),
+        }
+    }
+
+    fn next_item(items: &mut TapeItems<'t>) -> Option<TapeNode<'t>> {
+        match items.items.next() {
+            None => None,
+            Some(element) => Some(TapeNode::new(element)),
+        }
+    }
+}

@@ -1,0 +1,80 @@
+//! How members of an object are found and read.
+
+ghost use Rattle.std.specs.Prelude.{◌≡◌, ◌==◌};
+ghost use Rattle.etcs_schema.specs.Chosen.{any_object};
+ghost use Rattle.etcs_schema.specs.Fault.{Gives, IfMemory, IsUnder, key};
+ghost use Rattle.etcs_schema.specs.Reading.{allowed_number, member_at, no_key};
+ghost use Rattle.etcs_schema.specs.Shape.{fixed};
+
+use crate::error::{FormError, Step};
+use crate::node::Node;
+use std::alloc::Global;
+
+/// The member at a key that has to be there.
+#[tactic(auto, using(crate::proofs::Objects::fails_as), unfolding(crate::specs::Reading::at_key))]
+pub fn member<N: Node>(alloc: Global, node: &N, name: &'static str) -> Result<N, FormError>
+    ensures { Gives N.shows result (member_at name.now (N.shows node.now)) }
+{
+    match node.member(name) {
+        None => Err(FormError::missing(alloc, name)),
+        Some(found) => Ok(found),
+    }
+}
+
+/// What was read of the member at a key. A fault gets the step to that member.
+pub fn under<X>(name: &'static str, read: Result<X, FormError>) -> Result<X, FormError>
+    ensures { IsUnder (key name.now) read result }
+{
+    match read {
+        Ok(found) => Ok(found),
+        Err(error) => Err(error.under(Step::Key(name))),
+    }
+}
+
+/// Refuses a value that is no object.
+#[tactic(auto, using(crate::proofs::Objects::fails_as, crate::proofs::Objects::some_object), unfolding(crate::specs::Chosen::any_object))]
+pub fn check_object<N: Node>(alloc: Global, node: &N) -> Result<(), FormError>
+    ensures object { Gives (λ u. u) result (any_object (N.shows node.now)) }
+    ensures memory { IfMemory result ⊥ }
+{
+    match node.has_only(&[]) {
+        None => Err(FormError::kind(alloc)),
+        Some(_) => Ok(()),
+    }
+}
+
+// Refuses a value that is not this number.
+#[tactic(auto, unfolding(crate::specs::Reading::allowed_number))]
+fn check_number<N: Node>(alloc: Global, node: &N, number: u64) -> Result<(), FormError>
+    ensures { Gives (λ _. number) result (allowed_number (λ n. n == number) (N.shows node.now)) }
+{
+    match node.number() {
+        None => Err(FormError::kind(alloc)),
+        Some(found) if found == number => Ok(()),
+        Some(_) => Err(FormError::range(alloc)),
+    }
+}
+
+/// Reads the member at a key that has to be there, and to have this number.
+pub fn read_fixed<N: Node>(
+    alloc: Global,
+    node: &N,
+    name: &'static str,
+    number: u64,
+) -> Result<(), FormError>
+    ensures { Gives (λ u. u) result ((fixed name.now number).of (N.shows node.now)) }
+{
+    let found = member(alloc, node, name)?;
+    under(name, check_number(alloc, &found, number))
+}
+
+/// Refuses a key that must not be there.
+#[tactic(auto, using(crate::proofs::Objects::fails_as), unfolding(crate::specs::Reading::no_key))]
+pub fn check_absent<N: Node>(alloc: Global, node: &N, name: &'static str) -> Result<(), FormError>
+    ensures { Gives (λ u. u) result (no_key name.now (N.shows node.now)) }
+{
+    match node.member(name) {
+        None => Ok(()),
+        Some(_) => Err(FormError::range_at(alloc, name)),
+    }
+}
