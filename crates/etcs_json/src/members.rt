@@ -9,9 +9,9 @@ ghost use Rattle.etcs_schema.specs.Listed.{all_of};
 ghost use Rattle.etcs_schema.specs.Reading.{at_key, at_key_if, list_of};
 ghost use Rattle.etcs_schema.specs.Shape.{both_of, first_and_others, items_of, number_data, optional as data_if};
 
-use crate::{Form, InPieces};
 use crate::reading::{read_first_and, read_items, read_list};
 use crate::writing::Sink;
+use crate::{Form, InPieces};
 use etcs_bits::{Items, Memory};
 use etcs_schema::reading::{member, under};
 use etcs_schema::{FormError, Node, Step};

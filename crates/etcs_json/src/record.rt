@@ -7,9 +7,9 @@ ghost use Rattle.etcs_schema.specs.Reading.{object_with};
 ghost use Rattle.etcs_schema.specs.Shape.{Object, shape_of};
 ghost use Rattle.etcs_schema.specs.Sending.{sorted, sorted_keys};
 
-use crate::{Form, InPieces};
 use crate::writing::Sink;
 use crate::writing::building::NewObject;
+use crate::{Form, InPieces};
 use etcs_bits::{Layout, Memory};
 use etcs_schema::{FormError, Marks, Node, check_keys};
 use json::Token;

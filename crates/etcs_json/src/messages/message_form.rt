@@ -4,8 +4,8 @@ ghost use Rattle.std.specs.Prelude.{IsOk};
 ghost use Rattle.etcs_json.specs.AnyMessage.{numbered};
 ghost use Rattle.etcs_schema.specs.Chosen.{any_object};
 
-use crate::{Form, InPieces};
 use crate::reading::{Numbers, read_number};
+use crate::{Form, InPieces};
 use etcs_bits::Memory;
 use etcs_radio::Message;
 use etcs_schema::reading::check_object;

@@ -1,7 +1,9 @@
 //! The form of message 3, the movement authority.
 
 use crate::Record;
-use crate::members::{ListMember, Listed, Member, NumberMember, ReadMembers, check_members, pairs, send_members};
+use crate::members::{
+    ListMember, Listed, Member, NumberMember, ReadMembers, check_members, pairs, send_members,
+};
 use crate::record::{InRange, Members, prove_allowed};
 use crate::writing::Sink;
 use etcs_bits::{Identity, Memory, are_allowed};

@@ -1,7 +1,9 @@
 //! The form of message 136, the position report.
 
 use crate::Record;
-use crate::members::{ListMember, Listed, Member, NumberMember, ReadMembers, check_members, pairs, send_members};
+use crate::members::{
+    ListMember, Listed, Member, NumberMember, ReadMembers, check_members, pairs, send_members,
+};
 use crate::record::{InRange, Members, prove_allowed};
 use crate::writing::Sink;
 use etcs_bits::{Memory, are_allowed};

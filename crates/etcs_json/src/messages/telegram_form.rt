@@ -4,10 +4,12 @@ ghost use Rattle.std.specs.Prelude.{◌≡◌};
 ghost use Rattle.etcs_telegram.specs.Sizes.{user_bits};
 ghost use Rattle.etcs_json.specs.Telegrams.{header};
 
-use crate::{Form, InPieces, Record};
-use crate::members::{ListMember, Listed, Member, ReadMembers, check_members, pairs, read_record, send_members};
+use crate::members::{
+    ListMember, Listed, Member, ReadMembers, check_members, pairs, read_record, send_members,
+};
 use crate::record::{InRange, Members, prove_allowed};
 use crate::writing::Sink;
+use crate::{Form, InPieces, Record};
 use etcs_bits::{Memory, are_allowed};
 use etcs_schema::{FormError, Marks, Node};
 use etcs_telegram::{Header, Size, Telegram};

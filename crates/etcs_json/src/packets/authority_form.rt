@@ -8,13 +8,13 @@ ghost use Rattle.etcs_schema.specs.Chosen.{with_number};
 ghost use Rattle.etcs_schema.specs.Fault.{Gives};
 ghost use Rattle.etcs_schema.specs.Reading.{as_kind, object_with};
 
-use crate::{Form, InPieces};
 use crate::members::{ListMember, Member, NumberMember, OptionalMember, ReadMembers, send_members};
 use crate::packets::terms_form::{Terms, authority_of};
 use crate::reading::read_first;
 use crate::record::prove_allowed;
 use crate::writing::Sink;
 use crate::writing::building::NewObject;
+use crate::{Form, InPieces};
 use etcs_bits::{Dir, Memory, Ranged, Scale, Speed};
 use etcs_profile::Authority;
 use etcs_schema::reading::read_fixed;

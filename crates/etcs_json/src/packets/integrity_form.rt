@@ -5,9 +5,9 @@ ghost use Rattle.etcs_radio.specs.Integrity.{length_number as number_of_length, 
 ghost use Rattle.etcs_schema.specs.KeyedVariables.{number_in};
 ghost use Rattle.etcs_json.specs.Report.{integrity};
 
-use crate::{Form, InPieces};
 use crate::members::ReadMembers;
 use crate::packets::number_forms::read_number;
+use crate::{Form, InPieces};
 use etcs_bits::{Distance, Memory, Plain};
 use etcs_radio::{Integrity, Train3};
 use etcs_schema::reading::check_absent;

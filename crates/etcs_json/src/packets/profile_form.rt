@@ -9,9 +9,11 @@ ghost use Rattle.etcs_json.specs.Profiles.{is_short, profile_of};
 ghost use Rattle.etcs_schema.specs.Shape.{items_of, only, number_data};
 ghost use Rattle.etcs_schema.specs.Variables.{direction, scale};
 
-use crate::{Form, InPieces};
-use crate::members::{Member, NonEmpty, NonEmptyMember, NumberMember, ReadMembers, pairs, send_members};
+use crate::members::{
+    Member, NonEmpty, NonEmptyMember, NumberMember, ReadMembers, pairs, send_members,
+};
 use crate::writing::Sink;
+use crate::{Form, InPieces};
 use etcs_bits::{Dir, Layout, Memory, Scale};
 use etcs_profile::{Elements, Packet};
 use etcs_schema::{FormError, Node};

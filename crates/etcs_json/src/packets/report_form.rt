@@ -8,14 +8,17 @@ ghost use Rattle.etcs_schema.specs.Reading.{as_kind, object_with};
 ghost use Rattle.etcs_json.specs.Report.{either_report, identity, situation, with_one, with_two};
 ghost use Rattle.etcs_json.specs.ReportSending.{first_members, last_members, sent_members};
 
-use crate::{Form, InPieces};
-use crate::members::{Member, NumberMember, OptionalMember, ReadMembers, make_record, pairs, read_record, send_members};
+use crate::members::{
+    Member, NumberMember, OptionalMember, ReadMembers, make_record, pairs, read_record,
+    send_members,
+};
 use crate::packets::integrity_form::{confirmed_length, length_number};
 use crate::packets::level_form::national_system_of;
 use crate::reading::read_first;
 use crate::record::prove_allowed;
 use crate::writing::Sink;
 use crate::writing::building::NewObject;
+use crate::{Form, InPieces};
 use etcs_bits::{Distance, Identity, Level, Memory, Plain, Scale};
 use etcs_radio::{Integrity, Report, Train3};
 use etcs_schema::reading::read_fixed;

@@ -4,10 +4,10 @@ ghost use Rattle.std.specs.Prelude.{◌≡◌, IfOk};
 ghost use Rattle.serde_json.specs.View.{view};
 ghost use Rattle.etcs_json.specs.TrackPackets.{track_packet};
 
-use crate::{Form, InPieces};
 use crate::packets::authority_form::{read_with_main, read_without_main};
 use crate::reading::read_first;
 use crate::record::prove_allowed;
+use crate::{Form, InPieces};
 use etcs_bits::{Memory, Ranged};
 use etcs_packet::TrackPacket;
 use etcs_schema::{FormError, Marks, Node};

@@ -4,10 +4,10 @@ ghost use Rattle.std.specs.Prelude.{◌≡◌, IfOk};
 ghost use Rattle.serde_json.specs.View.{view};
 ghost use Rattle.etcs_json.specs.TrainPackets.{train_packet};
 
-use crate::{Form, InPieces};
 use crate::packets::report_form::{read_one, read_two};
 use crate::reading::read_first;
 use crate::record::prove_allowed;
+use crate::{Form, InPieces};
 use etcs_bits::{Memory, Ranged};
 use etcs_radio::TrainPacket;
 use etcs_schema::{FormError, Marks, Node};

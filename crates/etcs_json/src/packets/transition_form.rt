@@ -6,7 +6,10 @@ ghost use Rattle.etcs_schema.specs.Shape.{whole};
 ghost use Rattle.etcs_json.specs.Transition.{level_order, transition};
 
 use crate::Record;
-use crate::members::{Member, NonEmpty, NonEmptyMember, NumberMember, OptionalMember, ReadMembers, check_members, pairs, read_record, send_members};
+use crate::members::{
+    Member, NonEmpty, NonEmptyMember, NumberMember, OptionalMember, ReadMembers, check_members,
+    pairs, read_record, send_members,
+};
 use crate::packets::level_form::national_system_of;
 use crate::record::{LayoutRecord, Members};
 use crate::writing::Sink;

@@ -5,8 +5,8 @@ ghost use Rattle.serde_json.specs.Data.{no_members, object, put as with_member};
 ghost use Rattle.serde_json.specs.View.{items_view, members_view, view};
 ghost use Rattle.etcs_schema.specs.Shape.{items_of};
 
-use crate::{Form, InPieces};
 use crate::writing::Sink;
+use crate::{Form, InPieces};
 use etcs_bits::Memory;
 use serde_json::{Map, Value, put};
 use std::alloc::Global;
