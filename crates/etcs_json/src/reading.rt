@@ -7,6 +7,7 @@ ghost use Rattle.etcs_schema.specs.Reading.{at_key, at_key_if, items_at, list_of
 ghost use Rattle.etcs_schema.specs.Shape.{first_and_others, fixed};
 
 use crate::Form;
+use crate::members::ReadMembers;
 use etcs_schema::reading::{check_object, member, under};
 use etcs_schema::{FormError, Node, Step};
 use std::alloc::Global;

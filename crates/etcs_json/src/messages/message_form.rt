@@ -5,6 +5,7 @@ ghost use Rattle.etcs_json.specs.AnyMessage.{numbered};
 ghost use Rattle.etcs_schema.specs.Chosen.{any_object};
 
 use crate::reading::{Numbers, read_number};
+use crate::record::InRange;
 use crate::{Form, InPieces};
 use etcs_bits::Memory;
 use etcs_radio::Message;
