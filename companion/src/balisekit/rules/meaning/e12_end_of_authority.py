@@ -19,8 +19,10 @@ What may happen. The train stops beyond the signal, or some metres in rear of it
 How to correct it. Compare the sum of the lengths with the distance to the signal.
 
 Correct data that gets it. Buffer stops, and marker boards without balises. A signal or border whose group is more than
-50 m from it. A route that ends in rear of the signal, such as a calling-on route. A route to another track, if no
-`point` of the track plan says where trains may leave the track. Parallel tracks without names in the column `track`.
+50 m from it, or not in the table. A route that ends in rear of the signal, such as a calling-on route, or a limit of
+authority (V_LOA above 0). A route to another track, if no `point` of the track plan says where trains may leave the
+track. Parallel tracks without names in the column `track`. Distances of a sum that are all rounded to one side.
+Kilometres that jump or follow another axis: see E14.
 
 Example. At green the authority of signal 3 ends at km 16.050, and three others that lead to signal 5 end at km 16.000.
 
