@@ -129,7 +129,10 @@ def test_e11_of_a_balise_without_a_kilometre(program: Program, tmp_path: Path) -
         own = [row for row in rows if row.group == "Signal 4"]
         for row in own:
             row.form["n_total"], row.place = 2, 14_500 + 8 * row.balise
-        rows.append(replace(own[0], place=14_516, balise=2, form={**own[0].form, "n_pig": 2, "packets": []}))
+        rows.insert(
+            rows.index(own[-1]) + 1,
+            replace(own[0], name="Signal 4 3", place=14_516, balise=2, form={**own[0].form, "n_pig": 2, "packets": []}),
+        )
 
     path = written(program, tmp_path / "t.csv", Line(), third)
     path.write_text(path.read_text("utf-8").replace(",14.508,", ",,"), "utf-8")

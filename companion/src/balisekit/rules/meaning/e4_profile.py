@@ -20,8 +20,7 @@ Correct data that gets it. A speed of 0 km/h beyond a buffer stop. A stop aspect
 End marks that a tool puts after the first one to fill up the packet. An element that repeats the one before it because
 a tool begins one at each boundary of its data.
 
-Example. The third element of the gradient profile of Signal B has D_GRADIENT 0 m, as if it were at the place of the
-second one.
+Example. In the gradient profile of Signal B the third element has D_GRADIENT 0 m, the place of the second one.
 
 How sure. 90 %.
 """
