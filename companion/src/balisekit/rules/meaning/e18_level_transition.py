@@ -15,8 +15,7 @@ Usual cause. D_LEVELTR is mistyped. Announcements did not follow a border that w
 What may happen. A driver acknowledges at one place and the train changes at another. The train goes on in a level whose
 trackside equipment has ended, or is braked.
 
-How to correct it. Compare D_LEVELTR of each announcement with the kilometre of the border. Put a packet 41 into its
-group.
+How to correct it. Compare each D_LEVELTR with the kilometre of the border. Put a packet 41 into its group.
 
 Correct data that gets it. A line on which only the last announcement makes the train change its level. A group that has
 D_LEVELTR 32,767 some metres from the border. Two borders within 500 m of each other, a border on another route, or one
