@@ -9,6 +9,8 @@ import pytest
 from cases_of_program import TOP
 from conftest import Run
 
+from balisekit.cli import main as cli
+
 html5lib = pytest.importorskip("html5lib")
 pytest.importorskip("jinja2")
 LINE = TOP / "examples" / "table" / "line.csv"
@@ -24,11 +26,12 @@ def parsed(path: Path) -> Any:
     return page
 
 
-@pytest.fixture(params=REPORTS, ids=lambda words: " ".join(map(str, words[:1])) or "usual")
-def page(request: pytest.FixtureRequest, run: Run, tmp_path: Path) -> Any:
+@pytest.fixture(scope="module", params=REPORTS, ids=lambda words: " ".join(map(str, words[:1])) or "usual")
+def page(request: pytest.FixtureRequest, tmp_path_factory: pytest.TempPathFactory) -> Any:
     """A report on the example."""
-    assert run("report", LINE, "--html", tmp_path / "r.html", *request.param)[0] == 2
-    return parsed(tmp_path / "r.html")
+    path = tmp_path_factory.mktemp("report") / "r.html"
+    assert cli.main(["report", *map(str, [LINE, "--html", path, *request.param])]) == 2
+    return parsed(path)
 
 
 def test_landmarks(page: Any) -> None:
