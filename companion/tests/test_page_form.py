@@ -91,7 +91,8 @@ def test_the_page_of_a_diff(run: Run, tmp_path: Path) -> None:
     other = tmp_path / "other.csv"
     other.write_text(LINE.read_text("utf-8").replace("Signal A", "Signal Z"), "utf-8")
     run("diff", LINE, other, "--html", tmp_path / "d.html")
-    assert parsed(tmp_path / "d.html").find("body/h1").text
+    body = parsed(tmp_path / "d.html").find("body")
+    assert [one.tag for one in body] == ["main"] and body.find("main/h1").text
 
 
 def test_a_wrong_form_is_found(run: Run, tmp_path: Path) -> None:
