@@ -173,7 +173,7 @@ class Reader:
             made = (self.stated if body.startswith("record") else self.term)(found, dict(zip(parameters, given)))
         except (AttributeError, IndexError, TypeError, ValueError):
             made = None
-        if not isinstance(made, KINDS[found.kind]):
+        if not isinstance(made, KINDS.get(found.kind, ())):
             raise Stopped(f"{found.place}: {found.name} has another form: {body[:80]}")
         if found.kind == "Variable":
             return made._replace(names=found.names() or made.names)
