@@ -97,7 +97,8 @@ def main():
             packets += len(record["packets"])
             size += len(text)
     with open(counts_path, "w") as counts:
-        counts.write(f"movements {met[MOVEMENT]} positions {met[POSITION]} packets {packets} refused 0 bytes {size} held 0\n")
+        movements, positions = met[MOVEMENT], met[POSITION]
+        counts.write(f"movements {movements} positions {positions} packets {packets} refused 0 bytes {size} held 0\n")
 
 
 if __name__ == "__main__":

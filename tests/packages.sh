@@ -14,7 +14,7 @@ valgrind              valgrind               counts of instructions
 python3-jsonschema    python:jsonschema      JSON schemas
 python3-pytest        python:pytest          tests of balisekit
 python3-pytest-xdist  python:xdist           tests of balisekit side by side
-python3-pytest-cov    python:pytest_cov      coverage of balisekit
+python3-coverage      python:coverage        coverage of balisekit
 python3-hypothesis    python:hypothesis      made tables
 python3-junitparser   python:junitparser     JUnit
 python3-jinja2        python:jinja2          pages and pictures

@@ -1,13 +1,15 @@
 """What the tests share: the program, rooms with tables, and runs of the command line."""
 from __future__ import annotations
 
+import gc
 import os
 import sys
 from importlib.util import find_spec
 from pathlib import Path
-from typing import Callable, List, Tuple
+from typing import Callable, Iterator, List, Tuple
 
 import pytest
+from covered import COVERAGE
 
 from balisekit.cli import main as cli
 from balisekit.engine import find_program
@@ -39,10 +41,34 @@ def pytest_collection_modifyitems(items: List[pytest.Item]) -> None:
     items.sort(key=lambda item: item.get_closest_marker("slow") is not None)
 
 
-def pytest_runtest_setup() -> None:
-    """The processes that a test starts run without coverage, which would take as long as all that they do."""
-    for name in [name for name in os.environ if name.startswith("COV_CORE_")]:
-        del os.environ[name]
+def pytest_configure(config: pytest.Config) -> None:
+    """Where other processes run the tests, this one has nothing to cover."""
+    if COVERAGE and config.getoption("dist", "no") != "no":
+        COVERAGE.stop()
+
+
+def pytest_collection_finish() -> None:
+    """The objects of all tests stay: no collection of garbage looks at them again."""
+    gc.collect()
+    gc.freeze()
+
+
+@pytest.hookimpl(hookwrapper=True)  # type: ignore[misc]
+def pytest_runtest_protocol(item: pytest.Item) -> Iterator[None]:
+    """Slow tests and those of many cases run without coverage, which would slow them: the others have to reach it."""
+    is_left_out = COVERAGE and (item.get_closest_marker("many") or item.get_closest_marker("slow"))
+    if is_left_out:
+        COVERAGE.stop()
+    yield
+    if is_left_out:
+        COVERAGE.start()
+
+
+def pytest_sessionfinish(session: pytest.Session) -> None:
+    """What was covered is written."""
+    if COVERAGE and session.config.getoption("dist", "no") == "no":
+        COVERAGE.stop()
+        COVERAGE.save()
 
 
 @pytest.fixture(scope="session")

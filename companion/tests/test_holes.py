@@ -47,6 +47,7 @@ def pages_of(program: Program, tmp_path: Path, monkeypatch: pytest.MonkeyPatch) 
     return written
 
 
+@pytest.mark.many
 @pytest.mark.parametrize("name", ["both directions", "falling", "level borders", "restrictions", "close"])
 def test_a_page_is_the_same(name: str, pages: Callable[[str], Iterator[str]]) -> None:
     """For groups that say the same at kilometres of several lengths, below 0 and of parts of a decimetre."""

@@ -3,6 +3,7 @@ from __future__ import annotations
 
 import copy
 import json
+from dataclasses import replace
 from decimal import Decimal
 from pathlib import Path
 from typing import Any, Callable, List
@@ -119,6 +120,23 @@ def test_e11(program: Program, tmp_path: Path, metres: int, fast: int, found: in
     options = Options(line_speed=fast or None)
     made = remarks(program, written(program, tmp_path / "t.csv", Line(), _moved(metres)), options)
     assert [(each.rule, each.values["spacing_m"]) for each in made] == [("E11", Decimal(metres))] * found
+
+
+def test_e11_of_a_balise_without_a_kilometre(program: Program, tmp_path: Path) -> None:
+    """The balises on both sides of it are no neighbours, and may be more than 12 m apart."""
+
+    def third(rows: List[Row]) -> None:
+        own = [row for row in rows if row.group == "Signal 4"]
+        for row in own:
+            row.form["n_total"], row.place = 2, 14_500 + 8 * row.balise
+        rows.insert(
+            rows.index(own[-1]) + 1,
+            replace(own[0], name="Signal 4 3", place=14_516, balise=2, form={**own[0].form, "n_pig": 2, "packets": []}),
+        )
+
+    path = written(program, tmp_path / "t.csv", Line(), third)
+    path.write_text(path.read_text("utf-8").replace(",14.508,", ",,"), "utf-8")
+    assert not remarks(program, path)
 
 
 def test_e11_and_the_column_nominal(run: Run, program: Program, tmp_path: Path) -> None:

@@ -462,6 +462,17 @@ def test_e17_of_a_linked_group_whose_kilometre_is_rounded_up(found: Found, metre
     assert ("Signal 2" in groups) == is_remarked
 
 
+def test_e17_of_groups_that_are_not_linked(found: Found) -> None:
+    """Groups with Q_LINK 0 need no link."""
+
+    def unlinked(rows: List[Row]) -> None:
+        meaning_mistakes.links_shortened(rows)
+        for row in rows:
+            row.form["q_link"] = 0
+
+    assert not found("E17", SHORT, unlinked)
+
+
 @pytest.mark.parametrize("identity, groups", [(16_383, []), (16_382, ["Signal 4"])])
 def test_e17_of_repositioning(found: Found, identity: int, groups: List[str]) -> None:
     """The authority of signal 4 goes beyond its last link. One with NID_BG 16,383 leads to one that names the rest."""

@@ -9,6 +9,8 @@ import pytest
 from cases_of_program import TOP
 from conftest import Run
 
+from balisekit.cli import main as cli
+
 html5lib = pytest.importorskip("html5lib")
 pytest.importorskip("jinja2")
 LINE = TOP / "examples" / "table" / "line.csv"
@@ -24,11 +26,12 @@ def parsed(path: Path) -> Any:
     return page
 
 
-@pytest.fixture(params=REPORTS, ids=lambda words: " ".join(map(str, words[:1])) or "usual")
-def page(request: pytest.FixtureRequest, run: Run, tmp_path: Path) -> Any:
+@pytest.fixture(scope="module", params=REPORTS, ids=lambda words: " ".join(map(str, words[:1])) or "usual")
+def page(request: pytest.FixtureRequest, tmp_path_factory: pytest.TempPathFactory) -> Any:
     """A report on the example."""
-    assert run("report", LINE, "--html", tmp_path / "r.html", *request.param)[0] == 2
-    return parsed(tmp_path / "r.html")
+    path = tmp_path_factory.mktemp("report") / "r.html"
+    assert cli.main(["report", *map(str, [LINE, "--html", path, *request.param])]) == 2
+    return parsed(path)
 
 
 def test_landmarks(page: Any) -> None:
@@ -88,7 +91,8 @@ def test_the_page_of_a_diff(run: Run, tmp_path: Path) -> None:
     other = tmp_path / "other.csv"
     other.write_text(LINE.read_text("utf-8").replace("Signal A", "Signal Z"), "utf-8")
     run("diff", LINE, other, "--html", tmp_path / "d.html")
-    assert parsed(tmp_path / "d.html").find("body/h1").text
+    body = parsed(tmp_path / "d.html").find("body")
+    assert [one.tag for one in body] == ["main"] and body.find("main/h1").text
 
 
 def test_a_wrong_form_is_found(run: Run, tmp_path: Path) -> None:

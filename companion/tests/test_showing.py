@@ -108,6 +108,7 @@ def test_bits_of_another_form_are_no_answer() -> None:
         list(bit_lines(case.text, form))
 
 
+@pytest.mark.many
 def test_lines_are_not_too_long() -> None:
     """No line but one with a long value is wider than a page."""
     for case in READ:

@@ -110,6 +110,7 @@ def test_wrong_distances_are_red() -> None:
     )
     assert [one.title.split(";")[0] for one in looks(picture, "arc wrong")] == ["A links B: 1010 m by D_LINK, nominal"]
     assert len(looks(picture, "arc")) == 1 and len(looks(picture, "arc back")) == 1
+    assert len(looks(picture, "way red")) == 1 and len(looks(picture, "way")) == 2
     assert [one.text for one in looks(picture, "red middle")] == ["L2: 1010 m, by km 1000 m"]
 
 

@@ -56,6 +56,7 @@ QUADRATIC: Dict[str, Tuple[Callable[[int], Iterator[str]], int, str]] = {
 }
 
 
+@pytest.mark.many
 @pytest.mark.parametrize("name", QUADRATIC)
 def test_refusals_in_proportion_to_the_table(table: Write, name: str) -> None:
     """A refusal takes a few seconds at most, and its lines are short."""
@@ -83,6 +84,7 @@ def test_rows_that_are_many_are_counted(table: Write) -> None:
     assert last == f"rows {shown} and 2 more" and len(raised.value.lines()) == 21
 
 
+@pytest.mark.many
 def test_many_aspects(table: Write) -> None:
     """10,000 aspects of a group are read, and each row is described, in a few seconds."""
     count = 10_000
@@ -177,12 +179,14 @@ def test_order_of_positions() -> None:
     assert [row.number for row in ordered.rows()] == [3, 4, 2] and ordered.places == {3: 0, 4: 1, 2: 2}
 
 
-def test_the_short_way_of_groups() -> None:
+@pytest.mark.many
+@pytest.mark.parametrize("count", [4_000, pytest.param(20_000, marks=pytest.mark.slow)])
+def test_the_short_way_of_groups(count: int) -> None:
     """What is found at once of a group without a fault is what all the checks find of it."""
     draw = random.Random(7)
     plain = 0
-    for _ in range(20_000):
-        count = draw.randint(1, 5)
+    for _ in range(count):
+        size = draw.randint(1, 5)
         use = [draw.random() < 0.5 for _ in range(5)]
         rows = [
             Row(
@@ -195,14 +199,14 @@ def test_the_short_way_of_groups() -> None:
                 km=draw.choice([None, Decimal(1), Decimal(2), Decimal(3)]) if use[3] else None,
                 track=draw.choice(["", "t", "u"]) if use[4] else "",
             )
-            for number in range(2, 2 + count)
+            for number in range(2, 2 + size)
         ]
         aspects = grouping._plain_aspects("A", rows)
         if aspects is not None:
             plain += 1
             assert grouping._aspects("A", rows, False) == (aspects, [])
             assert grouping._aspects("A", rows, True) == (aspects, [])
-    assert plain > 1000
+    assert plain > count // 20
 
 
 def test_files_that_are_too_large(run: Run, tmp_path: Path) -> None:

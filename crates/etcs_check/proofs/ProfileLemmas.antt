@@ -128,18 +128,8 @@ said-long reach group run long j p at =
 
 pub gradient-21 : (p : TrackPacket) → is_some (gradient_reach p) ≡ true → track_number p ≡ 21
 gradient-21 (packets.Gradient g) h = refl
-gradient-21 (packets.Cover g) h = absurd (both_ways _ refl h)
-gradient-21 (packets.Linking g) h = absurd (both_ways _ refl h)
-gradient-21 (packets.Authority g) h = absurd (both_ways _ refl h)
-gradient-21 (packets.Speed g) h = absurd (both_ways _ refl h)
-gradient-21 (packets.Transition g) h = absurd (both_ways _ refl h)
-gradient-21 (packets.Raw g) h = absurd (both_ways _ refl h)
+gradient-21 p h = absurd (both_ways _ refl h)
 
 pub speed-27 : (p : TrackPacket) → is_some (speed_reach p) ≡ true → track_number p ≡ 27
 speed-27 (packets.Speed g) h = refl
-speed-27 (packets.Cover g) h = absurd (both_ways _ refl h)
-speed-27 (packets.Linking g) h = absurd (both_ways _ refl h)
-speed-27 (packets.Authority g) h = absurd (both_ways _ refl h)
-speed-27 (packets.Gradient g) h = absurd (both_ways _ refl h)
-speed-27 (packets.Transition g) h = absurd (both_ways _ refl h)
-speed-27 (packets.Raw g) h = absurd (both_ways _ refl h)
+speed-27 p h = absurd (both_ways _ refl h)

@@ -304,7 +304,7 @@ def _arc(sheet: Sheet, arc: Arc, high: int, words: str) -> None:
     edges = (sheet.x(sheet.least) - begin) / long, (sheet.x(sheet.greatest) - begin) / long
     first, last = max(0.0, min(edges)), min(1.0, max(edges))
     sheet.path(_look(arc), _said(arc), curve.path(first, last))
-    sheet.path("way", "", curve.arrow(first + (last - first) / 2))
+    sheet.path("way red" if arc.wrong else "way", "", curve.arrow(first + (last - first) / 2))
     if words and (last - first >= PART or 0 < first < last < 1):
         points = (curve.point(first + (last - first) * part) for part in (0.5, 0.4, 0.6, 0.3, 0.7))
         style = "red middle" if arc.wrong else "middle"

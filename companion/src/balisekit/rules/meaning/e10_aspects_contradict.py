@@ -14,8 +14,8 @@ What may happen. The train gets a speed that is too great, or a gradient that is
 How to correct it. Compare both profiles with the track, and correct the wrong one.
 
 Correct data that gets it. Aspects for routes that part before the last group that both name, or that end at one
-distance without packets 5. Gradients that are merged in the longer authority. A speed profile that includes the speed
-of the aspect. A profile of a stop aspect, which no train uses.
+distance without packets 5. Gradients that are merged at one aspect. A speed profile that includes the speed of the
+aspect. A profile of a stop aspect, which no train uses.
 
 Example. At Signal B yellow has 120 km/h from 500 m to 1,000 m, and green 100 km/h.
 

@@ -40,6 +40,8 @@ LEAST, LEAST_FAST, GREATEST = Decimal("2.3"), Decimal("3.0"), Decimal(12)
 FAST = 180
 """Above this line speed in km/h the greater least spacing holds."""
 WORDS = {"rising": 1, "falling": -1}
+Place = Tuple[Row, Decimal]
+"""A balise with its kilometre."""
 
 
 def find(line: Line, options: Options) -> Result:
@@ -47,25 +49,28 @@ def find(line: Line, options: Options) -> Result:
     least = LEAST_FAST if options.line_speed is not None and options.line_speed > FAST else LEAST
     unit, found, looked_at = Decimal(line.decoded.resolution) / 10, [], 0
     for group in line.groups:
-        places = _places(group)
-        if len({km for _, km in places}) > 1:
-            looked_at += len(places) - 1
-            found += [*_spacing(group, places, least, unit), *_direction(group, places)]
+        known = _places(group)
+        if len({km for _, km in known.values()}) > 1:
+            neighbours = [(known[each - 1], known[each]) for each in known if each - 1 in known]
+            looked_at += len(neighbours)
+            found += [*_spacing(group, neighbours, least, unit), *_direction(group, list(known.values()))]
     return Result(found, looked_at)
 
 
-def _places(group: BaliseGroup) -> List[Tuple[Row, Decimal]]:
+def _places(group: BaliseGroup) -> Dict[int, Place]:
     """The first row of each balise that has a kilometre, in nominal order."""
-    known: Dict[int, Tuple[Row, Decimal]] = {}
+    known: Dict[int, Place] = {}
     for aspect in group.group.aspects:
         for position, row in enumerate(aspect.rows):
             if row.km is not None:
                 known.setdefault(position, (row, row.km))
-    return [known[position] for position in sorted(known)]
+    return {position: known[position] for position in sorted(known)}
 
 
-def _spacing(group: BaliseGroup, places: List[Tuple[Row, Decimal]], least: Decimal, unit: Decimal) -> Iterator[Remark]:
-    for (before, from_km), (row, km) in zip(places, places[1:]):
+def _spacing(
+    group: BaliseGroup, neighbours: List[Tuple[Place, Place]], least: Decimal, unit: Decimal
+) -> Iterator[Remark]:
+    for (before, from_km), (row, km) in neighbours:
         metres = abs(km - from_km) * 1000
         if least - unit <= metres <= GREATEST + unit:
             continue
@@ -84,7 +89,7 @@ def _number(value: Decimal) -> str:
     return text.rstrip("0").rstrip(".") if "." in text else text
 
 
-def _direction(group: BaliseGroup, places: List[Tuple[Row, Decimal]]) -> Iterator[Remark]:
+def _direction(group: BaliseGroup, places: List[Place]) -> Iterator[Remark]:
     """The column `nominal` beside the kilometres, if these go one way."""
     steps = {(km > before) - (km < before) for (_, before), (_, km) in zip(places, places[1:])} - {0}
     rows = [row for row in group.group.rows() if row.nominal]

@@ -1,26 +1,26 @@
 """E12: end of authority.
 
 What it says. An end of authority is the kilometre of the group and the sum of L_SECTION and L_ENDSECTION of a packet 12
-with V_MAIN above 0, or of a packet 15. Authorities of one track and way whose packets 5 lead to one group end at
-different places. That group is the linked one nearest to the end, within 200 m. If none is so near, it is the last one
-before the end, if another one is beyond it. Without packets 5 ends within 20 m of each other are compared. Or a packet
-12 ends between the first and the last signal of the table, more than 50 m and the tolerance from the first balise of
-each group, and a group is within 200 m. The tolerance is `--tolerance` (1 m without it), the unit of each packet by
-Q_SCALE, half a unit for each further length of a sum, and one unit of the last decimal of the kilometres (SUBSET-026,
-3.8 and 7.4.2).
+with V_MAIN above 0, or a packet 15. Authorities of one track and way whose packets 5 lead to one group end at different
+places. That group is the linked one nearest to the end, within 200 m. If none is so near, it is the last one before the
+end, if another one is beyond it. Without packets 5 ends within 20 m of each other are compared. Or a packet 12 ends
+between the first and the last signal of the table, more than 50 m and the tolerance from the first balise of each
+group, and a group is within 200 m. The tolerance is `--tolerance` (else 1 m), the unit of each packet by Q_SCALE, half
+a unit for each further length, and one unit of the last decimal of the kilometres (SUBSET-026, 3.8 and 7.4.2).
 
 How urgent. At worst wrong information: a train may pass the signal at which it has to stop.
 
-Usual cause. A length was mistyped, or has the Q_SCALE of another packet. A signal was moved, and not all groups in rear
-of it were made anew.
+Usual cause. A length was mistyped, or has a wrong Q_SCALE. A signal was moved, and not all groups in rear were changed.
 
 What may happen. The train stops beyond the signal, or some metres in rear of it.
 
 How to correct it. Compare the sum of the lengths with the distance to the signal.
 
 Correct data that gets it. Buffer stops, and marker boards without balises. A signal or border whose group is more than
-50 m from it. A route that ends in rear of the signal, such as a calling-on route. A route to another track, if no
-`point` of the track plan says where trains may leave the track. Parallel tracks without names in the column `track`.
+50 m from it, or not in the table. A route that ends in rear of the signal, such as a calling-on route, or a limit of
+authority (V_LOA above 0). A route to another track, if no `point` of the track plan says where trains may leave the
+track. Parallel tracks without names in the column `track`. Distances of a sum that are all rounded to one side.
+Kilometres that jump or follow another axis: see E14.
 
 Example. At green the authority of signal 3 ends at km 16.050, and three others that lead to signal 5 end at km 16.000.
 

@@ -16,9 +16,11 @@ metres. The kilometre of the table is wrong.
 What may happen. The train believes that it is some metres from where it is, and all places that count from there move.
 
 How to correct it. Correct D_LINK or the kilometre. Give jumps of the kilometres by `--jumps` or in the track plan.
+State a greater `--tolerance` if the kilometres follow another axis.
 
 Correct data that gets it. Kilometres that jump, if neither `--jumps` nor a track plan says so. Curves and second
-tracks, whose kilometres are those of another axis.
+tracks, whose kilometres are those of another axis. A route through another track. Distances of a sum that are all
+rounded to one side.
 
 Example. Signal 5 is 1,504 m from signal 4 by D_LINK and 1,500 m by the kilometres, and Q_LOCACC is 5 m.
 

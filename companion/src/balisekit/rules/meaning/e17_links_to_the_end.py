@@ -1,11 +1,12 @@
 """E17: links that end before the authority.
 
 What it says. A packet 12 with V_MAIN above 0 allows a train to go on for more than 50 m beyond the last group that
-packets 5 name: those of the same passage, and those of groups before it on that track and way. Only groups that say
-something in the direction of passage count. The rule is silent if no such group is between that place and 50 m beyond
-the end of the authority, or if the end is beyond the last such group of the track. It is also silent if the last link
-of the passage has NID_BG 16,383, because the group with repositioning information there names the next ones. If that
-group names too few of them, nothing is found. A table without any packet 5 gets one remark for all (SUBSET-026, 3.4.4).
+packets 5 name: those of the same passage, and those of groups before it on that track and way. Only linked groups that
+say something in the direction of passage count. The rule is silent if no such group is between that place and 50 m
+beyond the end of the authority, or if the end is beyond the last such group of the track. It is also silent if the last
+link of the passage has NID_BG 16,383, because the group with repositioning information there names the next ones. If
+that group names too few of them, nothing is found. A table without any packet 5 gets one remark for all (SUBSET-026,
+3.4.4).
 
 How urgent. At worst a wrong position of the train: a train misses a group and goes on.
 
@@ -17,7 +18,8 @@ not correct its position there.
 How to correct it. Name all groups to the end of the authority in the packet 5.
 
 Correct data that gets it. A line that never uses linking, or that uses it on a part only, such as in rear of a level 2
-area. Packets 5 that each lead only to the next signal, which has a packet 5 of its own.
+area. Packets 5 that each lead only to the next signal, which has a packet 5 of its own. Links of groups that the table
+does not have. Kilometres that jump or follow another axis: see E14.
 
 Example. The authority of signal 3 ends at km 16.000, and its packet 5 names groups to km 14.500 only.
 
@@ -97,7 +99,8 @@ def _lanes(decoded: Decoded) -> Dict[Lane, Reach]:
         if way is None or data is None or data.place is None:
             continue
         lane = lanes.setdefault(lane_of(passage), Reach())
-        if (data, way) not in known and not passage.message and any(each.number < 254 for each in passage.said):
+        is_new = (data, way) not in known and not passage.message
+        if is_new and data.group.linked and any(each.number < 254 for each in passage.said):
             known.add((data, way))
             lane.groups.append(data.place * way)
         named = names_of(decoded, passage)

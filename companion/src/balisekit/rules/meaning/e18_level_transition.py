@@ -15,12 +15,12 @@ Usual cause. D_LEVELTR is mistyped. Announcements did not follow a border that w
 What may happen. A driver acknowledges at one place and the train changes at another. The train goes on in a level whose
 trackside equipment has ended, or is braked.
 
-How to correct it. Compare D_LEVELTR of each announcement with the kilometre of the border, and put a packet 41 into the
-group at the border.
+How to correct it. Compare each D_LEVELTR with the kilometre of the border. Put a packet 41 into its group.
 
 Correct data that gets it. A line on which only the last announcement makes the train change its level. A group that has
-D_LEVELTR 32,767 some metres from the border. Two borders within 500 m of each other, or a border on another route. An
-order of the level in rear of the border, within 500 m of it, for trains that start there.
+D_LEVELTR 32,767 some metres from the border. Two borders within 500 m of each other, a border on another route, or one
+whose group is not in the table. An order of the level in rear of the border, within 500 m of it, for trains that start
+there. Kilometres that jump or follow another axis: see E14.
 
 Example. Signal 4 announces level 0 at km 16.750, and the group at the border, at km 16.700, has it at once.
 

@@ -12,8 +12,8 @@ What may happen. The train reaches the border without a movement authority by ra
 
 How to correct it. Put a packet 42 with Q_RBC 1 into a group far enough before the border.
 
-Correct data that gets it. Trains that come with a session, from a line that is not among the data. Trains that open
-their session at the start of mission.
+Correct data that gets it. Trains that come with a session, from another track or a line that is not among the data.
+Trains that open their session at the start of mission.
 
 Example. Signal 4 announces level 2 in 2,200 m, and no group before it has a packet 42.
 

@@ -14,7 +14,8 @@ With a wrong NID_C the group is another one for the train.
 
 How to correct it. Correct the header.
 
-Correct data that gets it. A border between two countries or versions.
+Correct data that gets it. A border between two countries or versions, also if their groups alternate. Versions that
+differ by balise on purpose.
 
 Example. Row 14 has M_VERSION 32, and the 44 other telegrams have 33.
 

@@ -15,8 +15,8 @@ or too late.
 
 How to correct it. Correct the value. If the line is faster, state its greatest speed with `--line-speed`.
 
-Correct data that gets it. A line that is faster or steeper, or has greater release speeds, than these limits. A V_MAIN
-above all profiles, by which a project says that it does not restrict. A V_DIFF of tilting trains, if `--line-speed` is
+Correct data that gets it. A line that is faster or steeper, or has greater release speeds, than these limits. A V_MAIN,
+V_LOA or V_MAMODE by which a project says that it does not restrict. A V_DIFF of tilting trains, if `--line-speed` is
 the speed of other trains.
 
 Example. V_STATIC of the first element at Signal B is 500 km/h, sent as 100: 100 km/h are sent as 20.

@@ -18,8 +18,8 @@ border or the restriction is then on both sides of the group.
 How to correct it. Set Q_DIR to 1 or 0. A group of one balise gets its direction if it is linked, or by a second balise.
 
 Correct data that gets it. What holds over the same length on both sides of the group, such as a level track, one speed,
-big metal masses or a temporary speed restriction around it. A stop aspect of a group that serves signals of both
-directions.
+big metal masses or a temporary speed restriction around it. A track that trains use in one direction only. A stop
+aspect of a group that serves signals of both directions.
 
 Example. The level transition order of group D has Q_DIR 2 and D_LEVELTR 500 m.
 

@@ -18,10 +18,10 @@ aspect says nothing to its train. Without packet 137 a train in staff responsibl
 
 How to correct it. Compare the telegram of the aspect with those of the others, and add the packet or correct Q_DIR.
 
-Correct data that gets it. Aspects for one route only, on which the packet is not needed. A group for both directions,
-one aspect of which is for another direction than all others. A stop aspect without packet 137, which a train in staff
-responsible mode may pass. A signal with a stop aspect at which shunting is allowed, if that aspect has a packet 132 at
-another group.
+Correct data that gets it. Aspects for one route only, or calling-on aspects, that do not need the packet. A group for
+both directions, one aspect of which is for another direction than all others. A stop aspect without packet 137, which a
+train in staff responsible mode may pass. A signal with a stop aspect at which shunting is allowed, if that aspect has a
+packet 132 at another group.
 
 Example. The aspects red and yellow of Signal B have packets 12 for the nominal direction, and green for the reverse
 one.

@@ -16,8 +16,9 @@ with a V_MAIN above 0 does not stop the train.
 How to correct it. Exchange the telegrams of the two aspects, or correct their names.
 
 Correct data that gets it. A signal in rear of a buffer stop or a level border: the authorities of both aspects end
-there, and are equal. An aspect that one signal uses otherwise than all others. Names of routes, such as "1" and "2",
-which do not stand for an order.
+there, and are equal. An aspect that one signal uses otherwise than all others. Exit signals of a station that are
+staggered: a route to another track may be the longer one. Names of routes, such as "1" and "2", which do not stand for
+an order.
 
 Example. In 14 of 15 cases yellow ends before green, and at Signal B green ends at 1,400 m and yellow at 2,900 m.
 

@@ -16,7 +16,9 @@ What may happen. The train stops beyond the signal, or too far in rear of it.
 How to correct it. Correct L_SECTION and L_ENDSECTION, or the row of the plan.
 
 Correct data that gets it. An authority that ends on purpose in rear of a signal, such as at a marker board or on a
-calling-on route. Write its place into the plan.
+calling-on route, or a limit of authority (V_LOA above 0). Write its place into the plan. A route to another track, if
+no `point` of the plan says where trains may leave it. Distances of a sum that are all rounded to one side. Kilometres
+that jump or follow another axis: see E14.
 
 Example. The authority of signal A at green ends at km 15.350, and the nearest signal of the plan is at km 15.300.
 """

@@ -15,7 +15,8 @@ What may happen. The train runs farther or faster than the route that is set for
 
 How to correct it. Correct the packet 12, or the row of the plan.
 
-Correct data that gets it. None, if the rows of the plan for a group with both directions state their `way`.
+Correct data that gets it. Distances of a sum that are all rounded to one side. Nothing else, if the rows of the plan
+for a group with both directions state their `way`.
 
 Example. Signal B has V_MAIN 160 km/h at yellow, and the plan has 120 km/h.
 """
