@@ -1,6 +1,6 @@
 use Rattle.std.proofs.Common.{refl}
 use Rattle.etcs_json.specs.Authority.{end_timer}
-use Rattle.etcs_json.proofs.Objects.{fails_up}
+use Rattle.etcs_schema.proofs.Objects.{fails_up}
 use Rattle.etcs_json.proofs.packets.authority_parts.EndTimerMembers.of_members.Goals as goal
 
 -- the keys are known, and the members are those that were read

@@ -1,6 +1,6 @@
 use Rattle.std.proofs.Common.{Ok, ap, refl}
 use Rattle.etcs_json.specs.Raw.{raw_packet}
-use Rattle.etcs_json.proofs.Objects.{fails_up}
+use Rattle.etcs_schema.proofs.Objects.{fails_up}
 use Rattle.etcs_json.proofs.RawLemmas.{raw_made}
 use Rattle.etcs_json.proofs.packets.raw_form.RawPacketMembers.of_members.Goals as goal
 

@@ -1,6 +1,6 @@
 use Rattle.std.proofs.Common.{Ok, ap, refl}
 use Rattle.etcs_json.specs.RawTrain.{raw_train_packet}
-use Rattle.etcs_json.proofs.Objects.{fails_up}
+use Rattle.etcs_schema.proofs.Objects.{fails_up}
 use Rattle.etcs_json.proofs.RawLemmas.{raw_train_made}
 use Rattle.etcs_json.proofs.packets.raw_train_form.RawTrainPacketMembers.of_members.Goals as goal
 
