@@ -35,7 +35,7 @@ from balisekit.rules.decoded import GRADIENTS, SPEEDS, Decoded, Packet, allowanc
 from balisekit.rules.line import Line
 from balisekit.rules.meaning.along import leaves
 from balisekit.rules.meaning.profiles import Piece, Profiles, lanes_of, longest_difference, pairs, pieces_of
-from balisekit.rules.meaning.words import source
+from balisekit.rules.meaning.words import more_stretches, source
 from balisekit.rules.rule import Options, Remark, Result, Rule
 from balisekit.rules.urgency import Urgency
 
@@ -114,8 +114,7 @@ def _remark(decoded: Decoded, some: Sequence[Tuple[Difference, bool]]) -> Remark
     sentence = (
         f"{name} is {shown[0]} from {decoded.km(track, piece.low * way)} to {decoded.km(track, piece.high * way)}, and "
         f"{shown[1]} by "
-        f"{source(other.passage, other.packet)}{_cause(*groups, piece, is_rear)}"
-        + (f"; they differ on {more} other stretch{'es' if more > 1 else ''} too" if more else "")
+        f"{source(other.passage, other.packet)}{_cause(*groups, piece, is_rear)}{more_stretches(more)}"
     )
     values = {f"{name.lower()}": Decimal(own_value * factor), f"other_{name.lower()}": Decimal(other_value * factor)}
     alike = [each.packet.row for each in piece.alike(own) if each.packet.row]
