@@ -192,7 +192,7 @@ def test_e12_of_messages(found: Found, program: Program) -> None:
         checked = checking.check(program, reader.read(str(path)), messages_file.read(str(radio)))
         made = RULES["E12"].find(LineOfTable.of(checked), Options()).found
         assert len(made) == count
-    assert made[0].location.message and "ends at km 14.550, 1550 m from the group" in made[0].sentence
+    assert made[0].location.message and "ends at km 14.550 (1550 m from the group)" in made[0].sentence
 
 
 def elements(aspects: Sequence[str], number: int, place: int, **values: Any) -> Change:

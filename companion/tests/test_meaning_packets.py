@@ -80,7 +80,7 @@ def test_e2(program: Program, tmp_path: Path) -> None:
     ]
     made = found(program, tmp_path / "t.csv", "E2", changes)
     assert [each for each in made if each[0] != row_of(5, YELLOW)] == [
-        (row_of(1, YELLOW), "V_MAIN is 500 km/h [100], above 350 km/h (--line-speed)"),
+        (row_of(1, YELLOW), "V_MAIN is 500 km/h [100], above 350 km/h (--line-speed); 100 km/h are sent as 20"),
         (row_of(4, YELLOW), "V_RELEASEOL is 45 km/h [9], above 40 km/h (--release-speed)"),
         (row_of(3, YELLOW), "G_A of the first element is 41 ‰, above 40 ‰"),
         (

@@ -116,10 +116,10 @@ def _fault(values: Sequence[Value], options: Options) -> Fault:
     if key == "g_a":
         words = f"G_A{where} is {raw} ‰, above {STEEPEST} ‰"
         return Fault(f"{words}{more}", {"g_a_per_mille": Decimal(raw)})
-    limit, name = options.greatest_speed, "--line-speed"
-    if key in RELEASE:
-        limit, name = options.release_speed, "--release-speed"
-    words = f"{key.upper()}{where} is {speed(raw)}, above {limit} km/h ({name})"
+    by_line = options.greatest_speed, "--line-speed"
+    limit, name = (options.release_speed, "--release-speed") if key in RELEASE else by_line
+    meant = f"; {raw} km/h are sent as {raw // 5}" if raw % 5 == 0 and raw <= limit else ""
+    words = f"{key.upper()}{where} is {speed(raw)}, above {limit} km/h ({name}){meant}"
     return Fault(f"{words}{more}", {f"{key}_kmh": kmh(raw), "limit_kmh": Decimal(limit)})
 
 
