@@ -26,6 +26,10 @@ LINE_SPEED, RELEASE_SPEED = 350, 40
 """In km/h, if the user says nothing."""
 
 
+Field = Tuple[int, int, str, Optional[int]]
+"""A field of a telegram: its row, the place of its packet, its key, and which element it is of, counted from 0."""
+
+
 @dataclass(frozen=True)
 class Options:
     """What a user says of the line."""
@@ -75,6 +79,10 @@ class Remark(NamedTuple):
     """The rows that the sentence names beside its own."""
     aspects: Sequence[str] = ()
     """The aspects that the sentence is about, if it is not about the row of its location."""
+    blamed: Sequence[Field] = ()
+    """The fields that look wrong, as far as the rule knows them."""
+    beside: Sequence[Field] = ()
+    """The fields with which it has compared them."""
 
 
 class Result(NamedTuple):

@@ -32,7 +32,7 @@ from balisekit.etcs.variables import metres
 from balisekit.rules.decoded import GRADIENTS, LINKING, SPEEDS, Decoded, Packet, Passage
 from balisekit.rules.line import Line
 from balisekit.rules.meaning.along import leaves
-from balisekit.rules.meaning.sent import by_culprit, contrary, distance, speed, tolerance
+from balisekit.rules.meaning.sent import by_culprit, contrary, distance, field_at, speed, tolerance
 from balisekit.rules.meaning.siblings import common_reach
 from balisekit.rules.meaning.words import between, more_stretches
 from balisekit.rules.rule import Options, Remark, Result, Rule
@@ -127,7 +127,10 @@ def _remark(decoded: Decoded, one: Passage, pairs: Pairs, culprit: str, others: 
     compared = {f"value_{place}": Decimal(value * step) for place, value in enumerate(sent, 1)}
     values = {"begin_m": distance(begin), "end_m": distance(end), **compared}
     rows = sorted({packet.row.number for each in longest.values() for packet in each.packets if packet.row})
-    return Remark("E10", one.at(), sentence, values=values, rows=rows, aspects=[culprit, *others])
+    fields = [
+        [each for some in longest.values() for each in field_at(some.packets[side], some.begin)] for side in (0, 1)
+    ]
+    return Remark("E10", one.at(), sentence, None, values, (), None, rows, (), [culprit, *others], *fields)
 
 
 def _words(packet: Packet, value: int) -> str:

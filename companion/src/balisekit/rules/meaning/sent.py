@@ -3,12 +3,13 @@ from __future__ import annotations
 
 from collections import Counter
 from decimal import Decimal
-from typing import Callable, Dict, Iterator, List, Mapping, NamedTuple, Sequence, Tuple, TypeVar, Union
+from typing import Callable, Dict, Iterator, List, Mapping, NamedTuple, Optional, Sequence, Tuple, TypeVar, Union
 
+from balisekit.etcs.geometry import ELEMENT_KEYS
 from balisekit.rules.decoded import Decoded, GroupData, Packet, Passage, Stretch, allowance
 from balisekit.rules.line import Line
 from balisekit.rules.location import Location
-from balisekit.rules.rule import Options, Remark, Result
+from balisekit.rules.rule import Field, Options, Remark, Result
 
 Owner = Union[GroupData, Passage]
 """The group, or the message, that sends a packet."""
@@ -20,6 +21,8 @@ class Fault(NamedTuple):
 
     words: str
     values: Mapping[str, Decimal]
+    fields: Sequence[Tuple[str, Optional[int]]] = ()
+    """The keys of the fields that look wrong, and of which element each is, counted from 0."""
 
 
 def sent(decoded: Decoded, *numbers: int) -> Iterator[Tuple[Owner, Packet]]:
@@ -52,7 +55,15 @@ def remark(rule: str, location: Location, faults: Sequence[Fault]) -> Remark:
     for fault in faults:
         for name, value in fault.values.items():
             values[name if name not in values else f"{name}_{len(values)}"] = value
-    return Remark(rule, location, "; ".join(fault.words for fault in faults), values=values)
+    keys = [key for fault in faults for key in fault.fields]
+    blamed = [(location.row.number, location.packet or 0, *key) for key in keys] if location.row else []
+    return Remark(rule, location, "; ".join(fault.words for fault in faults), values=values, blamed=blamed)
+
+
+def field_at(packet: Packet, distance: int) -> List[Field]:
+    """The speed or gradient of a profile at a distance. One of a message is in no row."""
+    place = sum(each.begin <= distance for each in packet.stretches) - 1
+    return [(packet.row.number, packet.place, ELEMENT_KEYS[packet.number][1], place)] if packet.row else []
 
 
 def tolerance(line: Line, options: Options, *parts: Tuple[Packet, int]) -> int:
