@@ -94,7 +94,7 @@ def test_the_page_has_all_that_was_said(
     text = "".join(seen.texts)
     for line in said[1:]:
         told = line.strip().replace("program: ", "").replace("left out: ", "")
-        told = re.sub("^(findings of|links, by|remarks on).*proved:.*", lambda found: _title(found[0]), told)
+        told = re.sub("^(findings that|(findings of|links, by|remarks on).*proved).*:.*", lambda found: _title(found[0]), told)
         assert told in text, line
     assert said[-1:] == closing and f'<p class="verdict">{escape(closing[0])}</p>' in page
     assert hashlib.sha256(table.read_bytes()).hexdigest() in text
@@ -569,6 +569,7 @@ def test_the_order_of_the_page(tmp_path: Path) -> None:
         "Findings of the program, proved",
         f"Links, {own} L1 to L9, not proved",
         f"Remarks on what the data mean, {own}, not proved",
+        "Findings that correct data can get; check each",
         "What the rules say",
     ]
     chapters = ["Overview", "The track", "Findings and remarks", "Groups and messages", "What a yes means"]

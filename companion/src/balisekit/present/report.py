@@ -85,6 +85,8 @@ class ListedPart(NamedTuple):
     accepted: Sequence[Listed]
     behind: Sequence[str]
     """What is said behind the entries: how many there are, or notes and what was compared."""
+    none: str = "None"
+    """What is said if there are none."""
 
     @property
     def all(self) -> Sequence[Listed]:
@@ -131,9 +133,12 @@ class Block(NamedTuple):
 
 
 def listed(outcome: Outcome) -> List[ListedPart]:
-    """The entries of each family of rules, those that were accepted with their reasons."""
+    """The entries of each family of rules, then those of correct data. Those that were accepted have their reasons."""
     ids = {group.name: f"g{index}" for index, group in enumerate(outcome.checked.table.groups)}
-    return [_listed_part(outcome, part, ids) for part in outcome.parts]
+    parts = [_listed_part(outcome, part, ids) for part in outcome.parts]
+    expected = [_listed(entry, ids, "", outcome.acceptances(entry)) for entry in outcome.expected]
+    title = headings.CORRECT[0].upper() + headings.CORRECT[1:-1]
+    return [*parts, *([ListedPart(title, expected, (), ())] if expected else [])]
 
 
 def _listed_part(outcome: Outcome, part: Part, ids: Mapping[str, str]) -> ListedPart:
@@ -142,10 +147,11 @@ def _listed_part(outcome: Outcome, part: Part, ids: Mapping[str, str]) -> Listed
             _listed(entry, ids, heading, outcome.acceptances(entry))
             for entry, heading in zip(some, headings.first_of_each(some))
         ]
-        for some in (part.open, part.accepted)
+        for some in ([entry for entry in part.open if not entry.expected], part.accepted)
     )
     title = part.family.title[0].upper() + part.family.title[1:]
-    return ListedPart(title, still_open, accepted, list(behind(outcome, part)))
+    none = "None" + " but those of correct data" * any(entry.expected for entry in part.open)
+    return ListedPart(title, still_open, accepted, list(behind(outcome, part)), none)
 
 
 def _listed(entry: Entry, ids: Mapping[str, str], heading: str, acceptances: Sequence[Acceptance]) -> Listed:

@@ -106,8 +106,13 @@ class Outcome:
 
     @property
     def entries(self) -> Sequence[Entry]:
-        """The entries of all parts."""
-        return [entry for part in self.parts for entry in part.entries]
+        """The entries of all parts, those of correct data last."""
+        return sorted((entry for part in self.parts for entry in part.entries), key=lambda entry: bool(entry.expected))
+
+    @property
+    def expected(self) -> Sequence[Entry]:
+        """The open entries of correct data, which all parts have."""
+        return [entry for part in self.parts for entry in part.open if entry.expected]
 
     @property
     def items(self) -> Sequence[Item]:
