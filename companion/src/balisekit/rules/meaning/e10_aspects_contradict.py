@@ -130,7 +130,7 @@ def _remark(decoded: Decoded, one: Passage, pairs: Pairs, culprit: str, others: 
     fields = [
         [each for some in longest.values() for each in field_at(some.packets[side], some.begin)] for side in (0, 1)
     ]
-    return Remark("E10", one.at(), sentence, None, values, (), None, rows, (), [culprit, *others], *fields)
+    return Remark("E10", one.at(), sentence, None, values, (), None, rows, (), [culprit, *others], (), *fields)
 
 
 def _words(packet: Packet, value: int) -> str:

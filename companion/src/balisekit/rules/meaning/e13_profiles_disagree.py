@@ -120,11 +120,11 @@ def _remark(decoded: Decoded, some: Sequence[Tuple[Difference, bool]]) -> Remark
     alike = [each.packet.row for each in piece.alike(own) if each.packet.row]
     rows = tuple(sorted({row.number for row in alike}))
     aspects = tuple(dict.fromkeys(row.aspect for row in alike if row.aspect not in ("", "*")))
-    others = tuple(dict.fromkeys(_row(each, is_own) for each, is_own in some))
-    named = tuple(sorted(set(others) - {0, *rows}))
+    named = tuple(sorted({_row(*each) for each in some} - {0, *rows}))
     sides = [[(each.packet, piece.low - each.origin) for each in piece.alike(side)] for side in (own, other)]
     fields = ([field for at in some for field in field_at(*at)] for some in sides)
-    return Remark("E13", own.passage.at(own.packet), sentence, None, values, (), None, rows, named, aspects, *fields)
+    where = own.passage.at(own.packet)
+    return Remark("E13", where, sentence, None, values, (), None, rows, named, aspects, (), *fields)
 
 
 def _row(difference: Difference, is_rear: bool) -> int:

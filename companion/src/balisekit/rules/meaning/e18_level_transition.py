@@ -40,9 +40,8 @@ from balisekit.rules.meaning.words import at_place, merged, source
 from balisekit.rules.rule import Options, Remark, Result, Rule
 from balisekit.rules.urgency import Urgency
 
-BOTH_DIRECTIONS = 2
-NOW, NEAR = 32_767, 5000
-"""D_LEVELTR for at once, and in decimetres how near two announcements of one transition are."""
+BOTH_DIRECTIONS, NOW, NEAR = 2, 32_767, 5000
+"""Q_DIR, D_LEVELTR for at once, and in decimetres how near two announcements of one transition are."""
 
 
 class Order(NamedTuple):
@@ -137,7 +136,8 @@ def _compare(decoded: Decoded, options: Options, orders: Sequence[Order]) -> Ite
             sentence = f"the levels are {order.words}, and {by} {usual.words} at {decoded.km(track, usual.place)}"
         else:
             continue
-        yield Remark("E18", where, sentence, None, values, others=others)
+        marks = [(order.packet.row, where.direction, abs(order.place - (order.passage.place(0) or 0)))]
+        yield Remark("E18", where, sentence, None, values, others=others, marks=marks)
     if not usual.is_now and decoded.is_inside(track, usual.place):
         sentence = (
             f"it announces {usual.words} at {decoded.km(track, usual.place)}, and no group within {NEAR // 10} m of "

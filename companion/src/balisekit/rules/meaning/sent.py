@@ -45,8 +45,33 @@ def of_packets(rule: str, line: Line, numbers: Sequence[int], look_at: Callable[
         count += 1
         faults = look_at(packet)
         if faults:
-            found.append(remark(rule, located(owner, packet), faults))
+            places = [_place(owner, packet, fault) for fault in faults]
+            placed = [_with_km(line.decoded, fault, at) for fault, at in zip(faults, places)]
+            marks = [(packet.row, at[0].direction, at[1]) for at in places if at]
+            found.append(remark(rule, located(owner, packet), placed)._replace(marks=marks))
     return Result(found, count)
+
+
+def _place(owner: Owner, packet: Packet, fault: Fault) -> Optional[Tuple[Passage, int]]:
+    """In which direction a fault is, and how far from the group, if it is about a field in one direction."""
+    passages = owner.passages if isinstance(owner, GroupData) else [owner]
+    passage = next((each for each in passages if packet in each.said), None)
+    if passage is None or not fault.fields or packet.form.get("q_dir") == 2:
+        return None
+    element, keys = fault.fields[0][1], ELEMENT_KEYS.get(packet.number)
+    if element is None:
+        return passage, 0
+    if keys is None:
+        return None
+    return passage, sum(each[keys[0]] for each in packet.form["elements"][: element + 1]) * packet.unit
+
+
+def _with_km(decoded: Decoded, fault: Fault, at: Optional[Tuple[Passage, int]]) -> Fault:
+    """The same fault with the kilometre of its element, if that is known."""
+    place = at[0].place(at[1]) if at and fault.fields[0][1] is not None else None
+    if at is None or place is None:
+        return fault
+    return fault._replace(words=f"at {decoded.km(at[0].track, place)}, {fault.words}")
 
 
 def remark(rule: str, location: Location, faults: Sequence[Fault]) -> Remark:
