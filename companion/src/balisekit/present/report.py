@@ -239,13 +239,16 @@ def _marked(entries: Sequence[Listed]) -> Set[str]:
 
 
 def _link_marks(entries: Sequence[Listed], forms: Mapping[int, Form]) -> Iterator[LinkMark]:
-    """The links of a group of which rules L have found something that is not accepted."""
+    """The links of a group of which rules L have found something, and places of other remarks, if not accepted."""
     for remark in (each.entry.remark for each in entries if each.entry.remark and not each.accepted):
         where = remark.location
         if remark.rule[0] == "L" and where.row and where.link is not None and where.row.number in forms:
             packet = forms[where.row.number]["packets"][where.packet or 0]
             place = sum(link["d_link"] for link in packet["links"][: where.link + 1]) * unit_dm(packet)
-            yield LinkMark(where.row.number, where.direction, place, remark.rule, clean(remark.sentence))
+            yield LinkMark(where.row.number, where.direction, place, remark.rule, clean(remark.sentence), " by D_LINK")
+        for row, direction, place in remark.marks:
+            if row and row.number in forms:
+                yield LinkMark(row.number, direction, place, remark.rule, clean(remark.sentence))
 
 
 def _findings(some: Iterable[Listed]) -> List[Finding]:
