@@ -18,6 +18,7 @@ from test_links import FOLDER
 
 from balisekit.engine.program import Program, Text
 from balisekit.io import csv_writing
+from balisekit.present import headings
 from balisekit.rules import families
 from balisekit.rules.accepted import COLUMNS, ON_CORRECT_DATA
 from balisekit.rules.links import RULES
@@ -334,3 +335,13 @@ def test_checksums_of_remarks(run: Run, program: Program, tmp_path: Path) -> Non
     (row,) = proposed(run, path, tmp_path / "p.csv")
     (digits,) = [one.split(",")[-1] for one in path.read_text("utf-8").splitlines() if one.startswith("A,A1")]
     assert row["sha256"] == digest([digits, "metres_by_d_link 1010", "metres_by_kilometres 1000"])
+
+
+def test_findings_of_correct_data_come_last(run: Run, tmp_path: Path) -> None:
+    """A packet 136 of a sound infill is F9: a remark that needs action comes before it, and the counts are apart."""
+    status, out, _ = run("check", TOP / "examples/meaning/mistakes/E15.csv", "--json", tmp_path / "j.json")
+    places = [next(at for at, said in enumerate(out) if words in said) for words in (": E15: ", "infill: expected")]
+    assert status == 1 and places == sorted(places) and out[places[1] - 1] == headings.CORRECT
+    assert "3 findings of 1 cause, 0 to correct, 3 expected of correct data: F9 3; 6 of 7 groups without finding" in out
+    made = json.loads((tmp_path / "j.json").read_text("utf-8"))["entries"]
+    assert [entry["rule"] for entry in made] == ["E15", "F9"]

@@ -81,7 +81,7 @@ def test_e7(run: Run, program: Program, tmp_path: Path) -> None:
     speed = change(Line().rows, "Signal 4", "green", 12)["v_main"] * 5
     assert status == 1 and out[-1] == 'program: "yes: groups 15, messages 0"; remarks: 1 found (E7 1)'
     assert (
-        'rows 16 to 17  Signal 4  km 14.500  aspects "yellow", "green": E7: the aspects "yellow", "green" have the '
+        'rows 16 to 17  Signal 4  km 14.503  aspects "yellow", "green": E7: the aspects "yellow", "green" have the '
         f"same packets in every balise, with V_MAIN {speed} km/h: one of them may be a copy"
     ) in out
 

@@ -192,7 +192,7 @@ def test_e12_of_messages(found: Found, program: Program) -> None:
         checked = checking.check(program, reader.read(str(path)), messages_file.read(str(radio)))
         made = RULES["E12"].find(LineOfTable.of(checked), Options()).found
         assert len(made) == count
-    assert made[0].location.message and "ends at km 14.550, 1550 m from the group" in made[0].sentence
+    assert made[0].location.message and "ends at km 14.550 (1550 m from the group)" in made[0].sentence
 
 
 def elements(aspects: Sequence[str], number: int, place: int, **values: Any) -> Change:
@@ -651,3 +651,22 @@ def test_a_finding_may_be_the_cause(run: Run, program: Program, tmp_path: Path) 
         group = end.split("found in ")[1].split(":")[0]
         assert any(one.endswith(end) for one in said)
         assert all(one.endswith(end) == (group in one) for one in said)
+
+
+@pytest.mark.parametrize(
+    "group, speed, named",
+    [("Signal 4", 100, {"E10": "E2", "E15": "E2"}), ("Signal 4", 4, {"E15": "E10"}), ("Infill of Signal 4", 100, {"E15": "E2"})],
+)
+def test_one_field_may_be_the_cause(
+    run: Run, program: Program, tmp_path: Path, group: str, speed: int, named: Dict[str, str]
+) -> None:
+    """What copies the signal may copy a wrong speed: the remark names the one that blames the same field of a row."""
+    wrong = meaning_mistakes.set_in_item(group, "yellow", 27, "elements", 0, v_static=speed)
+    path = written(program, tmp_path / "t.csv", meaning_mistakes.INFILL, wrong)
+    rows = [each.split(",")[0::4] for each in path.read_text("utf-8").splitlines()]
+    row = 1 + next(at for at, (name, aspect, *_) in enumerate(rows) if (name, aspect) == (group, "yellow"))
+    out = run("check", path, "--only", "E")[1]
+    for rule in ("E2", "E10", "E15"):
+        (one,) = [line for line in out if f": {rule}: " in line] or [""]
+        cause = f"; {named.get(rule)} is about the same V_STATIC of row {row}, and may be the cause: look there first"
+        assert one.endswith(cause) == (rule in named), one

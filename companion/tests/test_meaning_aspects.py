@@ -214,9 +214,23 @@ def test_e10(program: Program, tmp_path: Path) -> None:
         (YELLOW, [row_of(signal, aspect) for aspect in (RED, YELLOW, GREEN)]) for signal in (1, 2)
     ]
     assert made[0].sentence == (
-        'from 0 m to 200 m from the group, "yellow" has V_STATIC 120 km/h [24], and "red" has V_STATIC 100 km/h [20]; '
-        '"yellow" differs from "green" too'
+        f'from 0 m to 1700 m from the group (km 10.000 to km 11.700), "yellow", row {row_of(1, YELLOW)}, has V_STATIC '
+        f'120 km/h [24], and "green", row {row_of(1, GREEN)}, has V_STATIC 100 km/h [20]; "yellow" differs from "red" too'
     )
+
+
+def test_e10_names_the_longest_stretch(program: Program, tmp_path: Path) -> None:
+    """Red is known for the overlap only, and yellow has two speeds where green has one."""
+
+    def parted(rows: List[Row]) -> None:
+        (first, *others) = change(rows, "Signal 1", YELLOW, 27)["elements"]
+        wrong = [{**first, "v_static": speed, "d_static": at} for speed, at in ((24, 0), (26, 500))]
+        others[0]["d_static"] -= 500
+        change(rows, "Signal 1", YELLOW, 27)["elements"] = [*wrong, *others]
+
+    (one,) = found(program, tmp_path / "t.csv", "E10", parted)
+    assert (one.values["begin_m"], one.values["end_m"], one.values["value_1"]) == (500, 1700, 130)
+    assert "; they differ on 1 other stretch too; " in one.sentence
 
 
 def test_e10_as_far_as_both_name_the_same_groups(program: Program, tmp_path: Path) -> None:

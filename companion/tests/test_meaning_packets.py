@@ -80,13 +80,13 @@ def test_e2(program: Program, tmp_path: Path) -> None:
     ]
     made = found(program, tmp_path / "t.csv", "E2", changes)
     assert [each for each in made if each[0] != row_of(5, YELLOW)] == [
-        (row_of(1, YELLOW), "V_MAIN is 500 km/h [100], above 350 km/h (--line-speed)"),
+        (row_of(1, YELLOW), "V_MAIN is 500 km/h [100], above 350 km/h (--line-speed); 100 km/h are sent as 20"),
         (row_of(4, YELLOW), "V_RELEASEOL is 45 km/h [9], above 40 km/h (--release-speed)"),
-        (row_of(3, YELLOW), "G_A of the first element is 41 ‰, above 40 ‰"),
+        (row_of(3, YELLOW), "at km 13.000, G_A of the first element is 41 ‰, above 40 ‰"),
         (
             row_of(2, YELLOW),
-            "V_STATIC of the first element is 355 km/h [71], above 350 km/h (--line-speed); V_DIFF of "
-            "the first element is 360 km/h [72], above 350 km/h (--line-speed)",
+            "at km 11.500, V_STATIC of the first element is 355 km/h [71], above 350 km/h (--line-speed); "
+            "at km 11.500, V_DIFF of the first element is 360 km/h [72], above 350 km/h (--line-speed)",
         ),
         (row_of(5, RED), "V_TSR is 355 km/h [71], above 350 km/h (--line-speed)"),
     ]
@@ -208,13 +208,19 @@ def test_e4(program: Program, tmp_path: Path) -> None:
         packet_with(5, GREEN, 27, elements=with_differences((0, 2, 19), (1, 0, 10))),
     ]
     assert found(program, tmp_path / "t.csv", "E4", changes) == [
-        (row_of(1, YELLOW), "D_GRADIENT of the second element is 0 m: it begins where the one before it does"),
+        (
+            row_of(1, YELLOW),
+            "at km 10.000, D_GRADIENT of the second element is 0 m: it begins where the one before it does",
+        ),
         (row_of(2, YELLOW), "2 elements follow the end mark, the second element"),
         (row_of(3, YELLOW), "the end mark is the first element"),
-        (row_of(4, YELLOW), "the second element repeats the one before it, +3 ‰"),
-        (row_of(5, YELLOW), "D_GRADIENT of the third element is 0 m: it begins where the one before it does"),
-        (row_of(1, GREEN), "V_STATIC of the second element is 0 km/h"),
-        (row_of(2, GREEN), "the second element repeats the one before it, V_STATIC 100 km/h [20]"),
+        (row_of(4, YELLOW), "at km 15.000, the second element repeats the one before it, +3 ‰"),
+        (
+            row_of(5, YELLOW),
+            "at km 17.700, D_GRADIENT of the third element is 0 m: it begins where the one before it does",
+        ),
+        (row_of(1, GREEN), "at km 11.000, V_STATIC of the second element is 0 km/h"),
+        (row_of(2, GREEN), "at km 12.500, the second element repeats the one before it, V_STATIC 100 km/h [20]"),
         (row_of(3, GREEN), "the first element has a train category twice"),
         (
             row_of(4, GREEN),
@@ -251,7 +257,7 @@ def test_e4_of_what_one_distance_cannot_hold(program: Program, tmp_path: Path) -
         for signal, (one, other) in enumerate(line, 1)
     ]
     made = found(program, tmp_path / "t.csv", "E4", changes)
-    assert made == [(row_of(1, GREEN), "the second element repeats the one before it, +3 ‰")]
+    assert made == [(row_of(1, GREEN), "at km 11.600, the second element repeats the one before it, +3 ‰")]
 
 
 def level(direction: int, distance: int) -> Any:

@@ -94,7 +94,9 @@ def test_the_page_has_all_that_was_said(
     text = "".join(seen.texts)
     for line in said[1:]:
         told = line.strip().replace("program: ", "").replace("left out: ", "")
-        told = re.sub("^(findings of|links, by|remarks on).*proved:.*", lambda found: _title(found[0]), told)
+        told = re.sub(
+            "^(findings that|(findings of|links, by|remarks on).*proved).*:.*", lambda found: _title(found[0]), told
+        )
         assert told in text, line
     assert said[-1:] == closing and f'<p class="verdict">{escape(closing[0])}</p>' in page
     assert hashlib.sha256(table.read_bytes()).hexdigest() in text
@@ -571,6 +573,7 @@ def test_the_order_of_the_page(tmp_path: Path) -> None:
         "Findings of the program, proved",
         f"Links, {own} L1 to L9, not proved",
         f"Remarks on what the data mean, {own}, not proved",
+        "Findings that correct data can get; check each",
         "What the rules say",
     ]
     chapters = ["Overview", "The track", "Findings and remarks", "Groups and messages", "What a yes means"]
@@ -613,3 +616,10 @@ def test_any_name_makes_a_picture() -> None:
 def _svg(name: str) -> str:
     picture = draw(name, [Content(name, [{"m_dup": 0, "packets": [_profile(1, (0, 20), (1000, 127))]}])], Kilometres())
     return "".join(pieces("group.svg", ["picture.css"], picture=picture))
+
+
+def test_places_of_remarks_are_marked(tmp_path: Path) -> None:
+    """E2 at the group, E9 at both ends of authority, E18 at the level transition."""
+    for name, marks in (("E2", ["E2: 0 m"]), ("E9", ["E9: 1500 m", "E9: 3000 m"]), ("E18", ["E18: 2250 m"])):
+        _, page = _report(TOP / f"examples/meaning/mistakes/{name}.csv", tmp_path / "r.html", "--only", "E")
+        assert sorted(re.findall(rf">({name}: [0-9]+ m)<", page)) == marks, name

@@ -49,12 +49,13 @@ EXAMPLES = {
     "no-gradient": "nominal: no packet 21 (gradient profile) with packet 12 (movement authority of level 1, V_MAIN "
     "100 km/h) of balise (N_PIG 0)",
     "gradient-short": "balise (N_PIG 0)  nominal: packet 21 (gradient profile), second in the telegram, reaches 990 m, "
-    "and the supervised location, the end of the authority of packet 12, is at 1000 m: 10 m missing",
+    "and the supervised location, the end of the authority of packet 12, is at 1000 m: 10 m missing, "
+    "by the profile or by a length of the authority",
     "no-speed-profile": "nominal: no packet 27 (international static speed profile) with packet 12 (movement "
     "authority of level 1, V_MAIN 100 km/h) of balise (N_PIG 0)",
     "speed-profile-short": "balise (N_PIG 0)  nominal: packet 27 (international static speed profile), third in the "
     "telegram, reaches 1000 m, and the supervised location, the danger point (D_DP 50 m) of packet 12, is at 1050 m: "
-    "50 m missing",
+    "50 m missing, by the profile or by a length of the authority",
     "identity-used-before": "the identity 1/1 (NID_C/NID_BG) is also that of G0, row 2",
     "marks-differ": 'balise (N_PIG 0): M_DUP is 0 (no duplicate), and 1 (duplicate of the next balise) in aspect "0", '
     "row 2",
@@ -487,7 +488,8 @@ MISTAKES: Dict[Mistake, Tuple[str, str]] = {
     overlap_longer: (
         "F11",
         "packet 21 (gradient profile), second in the telegram, reaches 1650 m (km 15.500), and the supervised "
-        "location, the end of the overlap (D_OL 300 m) of packet 12, is at 1750 m (km 15.600): 100 m missing",
+        "location, the end of the overlap (D_OL 300 m) of packet 12, is at 1750 m (km 15.600): 100 m missing, "
+        "by the profile or by a length of the authority",
     ),
     identity_twice: ("F14", "the identity 352/101 (NID_C/NID_BG) is also that of Signal A (km 12.300), rows 2 to 5"),
     exchanged: ("F1", "their telegrams or their rows look exchanged: N_PIG is 1 and 0 instead of 0 and 1"),
@@ -591,7 +593,7 @@ def test_kilometres_of_a_message(program: Program, tmp_path: Path) -> None:
         checked = checking.check(program, reader.read(str(path), None, False), messages_file.read(str(file)))
         (said,) = [entry.sentence for entry in entries(checked) if entry.rule == "F11"]
         assert f"reaches 500 m{reach}, and the supervised location" in said
-        assert f"is at 800 m{end}: 300 m missing" in said
+        assert f"is at 800 m{end}: 300 m missing, by the profile or by a length of the authority" in said
 
 
 def test_an_authority_without_profiles_is_one_entry(program: Program, tmp_path: Path) -> None:

@@ -245,7 +245,7 @@ def test_x1(run: Run, program: Program, tmp_path: Path) -> None:
     assert status == 1 and out[-1].startswith("track plan: 2 found (X1 2), ")
     first, second = out.index("at worst wrong information:") + 1, out.index("at worst the train brakes:") + 1
     assert out[first].startswith(
-        'row 21  Signal 5  km 16.000  aspect "green"  balise "Signal 5 2" (N_PIG 1)  nominal: X1: '
+        'row 21  Signal 5  km 16.003  aspect "green"  balise "Signal 5 2" (N_PIG 1)  nominal: X1: '
     )
     assert (
         "V_STATIC is 600 km/h from km 16.000 to km 17.990, and the line speed is 160 km/h by row 4 of the p"

@@ -62,15 +62,17 @@ KEPT: Kept[Picture] = Kept(1 << 7)
 
 
 class LinkMark(NamedTuple):
-    """A link of which a rule L has found something."""
+    """A link of which a rule L has found something, or the place of another remark."""
 
     row: int
     """That of the telegram."""
     direction: str
     place: int
-    """The sum of D_LINK."""
+    """The sum of D_LINK, or a distance from the group."""
     rule: str
     title: str
+    by: str = ""
+    """By which variable, of a link. Another remark marks the place that it is about."""
 
 
 @dataclass(frozen=True)
@@ -282,7 +284,7 @@ def _links(drawing: WayDrawing, marks: Sequence[LinkMark]) -> None:
     """A ring at the end of each link of which a rule has found something, or at the edge behind which it ends."""
     sheet = drawing.sheet
     for mark in marks:
-        lane, words = _lane(sheet, "link", LINE), f"{mark.rule}: {metres(mark.place)} by D_LINK"
+        lane, words = _lane(sheet, "link" if mark.by else "place", LINE), f"{mark.rule}: {metres(mark.place)}{mark.by}"
         x, wide = sheet.nearest(drawing.at(mark.place)), width("red", words)
         sheet.path("links", mark.title, f"M{tenths(x)} {lane.bottom}v-3a4 4 0 1 1 .1 0")
         sheet.text("red", words, x + 70 if x + 70 + wide < EDGES[1] else x - 70 - wide, lane.bottom - 3)

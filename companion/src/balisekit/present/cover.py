@@ -8,7 +8,7 @@ from typing import Iterator, List, NamedTuple, Optional, Sequence, Set, Tuple
 from balisekit import __version__
 from balisekit.etcs.raw_layouts import layout_of
 from balisekit.io import clock
-from balisekit.present import NOT_PROVED
+from balisekit.present import NOT_PROVED, headings
 from balisekit.present.accepted_text import fault_lines
 from balisekit.present.links_text import empty_rules, lacking
 from balisekit.present.outcome_text import closing_lines, not_looked_at, unnamed_lines
@@ -125,7 +125,8 @@ def _counts(outcome: Outcome) -> Iterator[str]:
         where = [f"{len(groups)} of {counted(len(checked.kept), 'group')}"] if groups else []
         where += [counted(len(messages), "message")] if messages else []
         findings = counted(len(checked.findings), "finding")
-        yield f"{findings} in {' and '.join(where)}" if where else "no findings"
+        separated = headings.separated(outcome.parts[0].open)
+        yield f"{findings} in {' and '.join(where)}{separated}" if where else "no findings"
     others = {part.family.letter: len(part.items) for part in outcome.parts if part.applied}
     if others:
         of_families = ", ".join(f"{letter} {count}" for letter, count in others.items() if count)

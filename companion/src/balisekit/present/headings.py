@@ -82,6 +82,12 @@ def finding_lines(place: Place, before: str = "") -> List[str]:
     return [before + finding_words(place), f"    program: {place.finding.line}"]
 
 
+def separated(found: Sequence[Entry]) -> str:
+    """How many findings are to be corrected, and how many correct data can get, if there are any of these."""
+    counts = Counter(bool(entry.expected) for entry in found for _ in entry.findings)
+    return f", {counts[False]} to correct, {counts[True]} expected of correct data" if counts[True] else ""
+
+
 def summary(checked: Checked, found: Sequence[Entry], are_open: bool) -> Iterator[str]:
     """How many findings each rule has and how many causes they have, and how many groups have none, or no open one."""
     if not found:
@@ -93,7 +99,7 @@ def summary(checked: Checked, found: Sequence[Entry], are_open: bool) -> Iterato
     total, groups = len(checked.kept), {place.group.name for place in findings if place.group}
     sound = f"; {total - len(groups)} of {counted(total, 'group')} without {open_}finding" if total else ""
     of_rules = ", ".join(f"{rule} {count}" for rule, count in counts.items())
-    yield f"{counted(len(findings), f'{open_}finding')}{causes}: {of_rules}{sound}"
+    yield f"{counted(len(findings), f'{open_}finding')}{causes}{separated(found)}: {of_rules}{sound}"
 
 
 DECODED = {True: "decoded only by balisekit", False: "decoded only by balisekit, layout not certain"}

@@ -28,6 +28,7 @@ def lines(outcome: Outcome, explained: bool = False, proposed: bool = False) -> 
         if outcome.letters != PROVED:
             yield f"{part.family.title}:{'' if part.items else ' none'}"
         yield from _part(outcome, part)
+    yield from _listed(outcome.expected)
     if explained:
         yield from page_lines(explained_rules(outcome))
     yield from not_decoded(outcome)
@@ -38,8 +39,8 @@ def lines(outcome: Outcome, explained: bool = False, proposed: bool = False) -> 
 
 
 def _part(outcome: Outcome, part: Part) -> Iterator[str]:
-    """The entries of a part, the open ones first, and what its rules have looked at."""
-    yield from _listed(part.open)
+    """The entries of a part but those of correct data, the open ones first, and what its rules have looked at."""
+    yield from _listed([entry for entry in part.open if not entry.expected])
     yield from ["accepted:"] if part.accepted else []
     for entry in part.accepted:
         yield from headings.entry_lines(entry)

@@ -85,6 +85,8 @@ class ListedPart(NamedTuple):
     accepted: Sequence[Listed]
     behind: Sequence[str]
     """What is said behind the entries: how many there are, or notes and what was compared."""
+    none: str = "None"
+    """What is said if there are none."""
 
     @property
     def all(self) -> Sequence[Listed]:
@@ -131,9 +133,12 @@ class Block(NamedTuple):
 
 
 def listed(outcome: Outcome) -> List[ListedPart]:
-    """The entries of each family of rules, those that were accepted with their reasons."""
+    """The entries of each family of rules, then those of correct data. Those that were accepted have their reasons."""
     ids = {group.name: f"g{index}" for index, group in enumerate(outcome.checked.table.groups)}
-    return [_listed_part(outcome, part, ids) for part in outcome.parts]
+    parts = [_listed_part(outcome, part, ids) for part in outcome.parts]
+    expected = [_listed(entry, ids, "", outcome.acceptances(entry)) for entry in outcome.expected]
+    title = headings.CORRECT[0].upper() + headings.CORRECT[1:-1]
+    return [*parts, *([ListedPart(title, expected, (), ())] if expected else [])]
 
 
 def _listed_part(outcome: Outcome, part: Part, ids: Mapping[str, str]) -> ListedPart:
@@ -142,10 +147,11 @@ def _listed_part(outcome: Outcome, part: Part, ids: Mapping[str, str]) -> Listed
             _listed(entry, ids, heading, outcome.acceptances(entry))
             for entry, heading in zip(some, headings.first_of_each(some))
         ]
-        for some in (part.open, part.accepted)
+        for some in ([entry for entry in part.open if not entry.expected], part.accepted)
     )
     title = part.family.title[0].upper() + part.family.title[1:]
-    return ListedPart(title, still_open, accepted, list(behind(outcome, part)))
+    none = "None" + " but those of correct data" * any(entry.expected for entry in part.open)
+    return ListedPart(title, still_open, accepted, list(behind(outcome, part)), none)
 
 
 def _listed(entry: Entry, ids: Mapping[str, str], heading: str, acceptances: Sequence[Acceptance]) -> Listed:
@@ -233,13 +239,16 @@ def _marked(entries: Sequence[Listed]) -> Set[str]:
 
 
 def _link_marks(entries: Sequence[Listed], forms: Mapping[int, Form]) -> Iterator[LinkMark]:
-    """The links of a group of which rules L have found something that is not accepted."""
+    """The links of a group of which rules L have found something, and places of other remarks, if not accepted."""
     for remark in (each.entry.remark for each in entries if each.entry.remark and not each.accepted):
         where = remark.location
         if remark.rule[0] == "L" and where.row and where.link is not None and where.row.number in forms:
             packet = forms[where.row.number]["packets"][where.packet or 0]
             place = sum(link["d_link"] for link in packet["links"][: where.link + 1]) * unit_dm(packet)
-            yield LinkMark(where.row.number, where.direction, place, remark.rule, clean(remark.sentence))
+            yield LinkMark(where.row.number, where.direction, place, remark.rule, clean(remark.sentence), " by D_LINK")
+        for row, direction, place in remark.marks:
+            if row and row.number in forms:
+                yield LinkMark(row.number, direction, place, remark.rule, clean(remark.sentence))
 
 
 def _findings(some: Iterable[Listed]) -> List[Finding]:

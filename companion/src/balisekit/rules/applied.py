@@ -3,12 +3,14 @@ from __future__ import annotations
 
 from dataclasses import dataclass
 from functools import cached_property
-from typing import Callable, Iterator, Mapping, Sequence, Tuple
+from typing import Callable, Dict, Iterator, Mapping, Sequence, Tuple
 
 from balisekit.rules.line import Line
 from balisekit.rules.location import BaliseGroup
-from balisekit.rules.rule import Options, Remark, Result, Rule
+from balisekit.rules.rule import Field, Options, Remark, Result, Rule
 
+BY_FIELD = ("E2", "E10", "E13", "E15")
+"""Rules that may remark on one field. A remark names the first of them that blames a field of it."""
 FOLLOWS = {"E10": 3, "E12": 3, "E19": 1}
 """The rule of the program whose findings may be the cause of a remark of the same rows."""
 Notes = Callable[[Line], Iterator[str]]
@@ -42,7 +44,29 @@ class Applied:
 def look_for(line: Line, options: Options, rules: Sequence[Rule], notes: Notes = no_notes) -> Applied:
     """Applies these rules to a line."""
     results = {rule: _with_causes(line, rule, rule.find(line, options)) for rule in rules}
+    _name_causes({rule.name: rule for rule in results}, results)
     return Applied(line, results, (*notes(line), *(note for result in results.values() for note in result.notes)))
+
+
+def _name_causes(rules: Mapping[str, Rule], results: Dict[Rule, Result]) -> None:
+    """Remarks on a field of a row that an earlier rule blames say so: one correction may be enough for both."""
+    blamed: Dict[Field, str] = {}
+    for name in BY_FIELD if sum(bool(rules.get(name) and results[rules[name]].found) for name in BY_FIELD) > 1 else ():
+        rule = rules.get(name)
+        if rule is not None:
+            found = results[rule].found
+            results[rule] = results[rule]._replace(found=[_with_field(each, blamed) for each in found])
+            for field in (field for each in found for field in each.blamed):
+                blamed.setdefault(field, name)
+
+
+def _with_field(remark: Remark, blamed: Mapping[Field, str]) -> Remark:
+    """The same remark, and which rule blames a field of it."""
+    field = next((each for each in (*remark.blamed, *remark.beside) if each in blamed), None)
+    if field is None:
+        return remark
+    words = f"; {blamed[field]} is about the same {field[2].upper()} of row {field[0]}, and may be the cause"
+    return remark._replace(sentence=f"{remark.sentence}{words}: look there first")
 
 
 def _with_causes(line: Line, rule: Rule, result: Result) -> Result:

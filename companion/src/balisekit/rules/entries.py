@@ -135,7 +135,7 @@ def _entry(cause: Cause) -> Entry:
         balises.pop() if len(balises) == 1 else None,
         said.packet,
         directions.pop() or "" if len(directions) == 1 else "",
-        _kilometre(group, rows),
+        kilometre_of(group, rows),
         places[0].message,
         said.values,
         places,
@@ -154,7 +154,7 @@ def _expected(cause: Cause) -> str:
     return "" if others or case == "earlier group" and cause.statement.others else CORRECT.get(case, "")
 
 
-def _kilometre(group: Optional[Group], rows: Collection[int]) -> Optional[Decimal]:
+def kilometre_of(group: Optional[Group], rows: Collection[int]) -> Optional[Decimal]:
     """The kilometre of the first of these rows."""
     known = {row.number: row.km for row in group.rows()} if group else {}
     return known.get(min(rows, default=0))

@@ -14,7 +14,7 @@ from balisekit.rules import links, meaning, track_plan
 from balisekit.rules.accepted import Acceptance, Entries, Item, Judged, identities, judge
 from balisekit.rules.applied import Applied, Notes, look_for, no_notes
 from balisekit.rules.checking import Checked, Place
-from balisekit.rules.entries import Entry, entries
+from balisekit.rules.entries import Entry, entries, kilometre_of
 from balisekit.rules.line import Line
 from balisekit.rules.location import Identity
 from balisekit.rules.own import RULES
@@ -106,8 +106,13 @@ class Outcome:
 
     @property
     def entries(self) -> Sequence[Entry]:
-        """The entries of all parts."""
-        return [entry for part in self.parts for entry in part.entries]
+        """The entries of all parts, those of correct data last."""
+        return sorted((entry for part in self.parts for entry in part.entries), key=lambda entry: bool(entry.expected))
+
+    @property
+    def expected(self) -> Sequence[Entry]:
+        """The open entries of correct data, which all parts have."""
+        return [entry for part in self.parts for entry in part.open if entry.expected]
 
     @property
     def items(self) -> Sequence[Item]:
@@ -214,6 +219,7 @@ def entry_of_remark(remark: Remark) -> Entry:
     """The entry of a remark."""
     where, group, row = remark.location, remark.location.group, remark.location.row
     rows = [row] if row else group.group.rows() if group else []
+    numbers = tuple(sorted(remark.rows or {row.number for row in rows}))
     aspects = (row.aspect,) if row and row.aspect not in ("", "*") else ()
     places = group.group.places if group else {}
     name = BaliseName(row.name, where.n_pig) if row and where.n_pig is not None else None
@@ -221,13 +227,13 @@ def entry_of_remark(remark: Remark) -> Entry:
         remark.rule,
         RULES[remark.rule].urgency if remark.urgency is None else remark.urgency,
         f"{where.packet_words}{remark.sentence}",
-        tuple(sorted(remark.rows or {row.number for row in rows})),
+        numbers,
         group.group if group else None,
         tuple(remark.aspects) or aspects,
         places[row.number] if row and group else None,
         where.number,
         where.direction,
-        group.km if group else None,
+        kilometre_of(group.group, numbers) if group else None,
         where.message,
         {name: f"{value:f}" for name, value in remark.values.items()},
         remark=remark,

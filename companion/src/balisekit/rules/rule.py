@@ -15,6 +15,7 @@ from balisekit.rules.line import Line
 from balisekit.rules.location import BaliseGroup, Location
 from balisekit.rules.passages import Chain
 from balisekit.rules.urgency import Urgency
+from balisekit.tables.model import Row
 from balisekit.tables.plan import Plan
 
 REFUSED = "refused"
@@ -24,6 +25,10 @@ ALL = "all"
 """Asks for all rules."""
 LINE_SPEED, RELEASE_SPEED = 350, 40
 """In km/h, if the user says nothing."""
+
+
+Field = Tuple[int, int, str, Optional[int]]
+"""A field of a telegram: its row, the place of its packet, its key, and which element it is of, counted from 0."""
 
 
 @dataclass(frozen=True)
@@ -75,6 +80,12 @@ class Remark(NamedTuple):
     """The rows that the sentence names beside its own."""
     aspects: Sequence[str] = ()
     """The aspects that the sentence is about, if it is not about the row of its location."""
+    marks: Sequence[Tuple[Optional[Row], str, int]] = ()
+    """The places in a picture that it is about: the row, the direction, and the distance from the group."""
+    blamed: Sequence[Field] = ()
+    """The fields that look wrong, as far as the rule knows them."""
+    beside: Sequence[Field] = ()
+    """The fields with which it has compared them."""
 
 
 class Result(NamedTuple):

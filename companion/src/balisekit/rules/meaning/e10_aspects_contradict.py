@@ -3,7 +3,8 @@
 What it says. For one stretch of track two aspects of a group have different V_STATIC, or signed gradients more than 5 ‰
 apart. They are compared as far as the packets 5 of both name the same groups, or without packets 5 if both authorities
 end at the same place. Passed over are stretches shorter than `--tolerance` and the rounding of the lengths, and what
-lies beyond a `point` of the track plan. One remark names the aspect that most others disagree with (SUBSET-026, 3.11).
+lies beyond a `point` of the track plan. One remark names the aspect that most others disagree with, and the longest
+stretch (SUBSET-026, 3.11).
 
 How urgent. At worst wrong information: one of the aspects has a speed or gradient that the track does not have.
 
@@ -25,16 +26,18 @@ from __future__ import annotations
 
 from decimal import Decimal
 from itertools import combinations, product
-from typing import Dict, Iterable, Iterator, List, NamedTuple, Optional, Sequence, Tuple
+from typing import Dict, Iterable, Iterator, List, NamedTuple, Sequence, Tuple
 
 from balisekit.etcs.variables import metres
-from balisekit.rules.decoded import GRADIENTS, LINKING, SPEEDS, Packet, Passage
+from balisekit.rules.decoded import GRADIENTS, LINKING, SPEEDS, Decoded, Packet, Passage
 from balisekit.rules.line import Line
 from balisekit.rules.meaning.along import leaves
-from balisekit.rules.meaning.sent import by_culprit, contrary, distance, speed, tolerance
+from balisekit.rules.meaning.sent import by_culprit, contrary, distance, field_at, speed, tolerance
+from balisekit.rules.meaning.siblings import common_reach
+from balisekit.rules.meaning.words import between, more_stretches
 from balisekit.rules.rule import Options, Remark, Result, Rule
 from balisekit.rules.urgency import Urgency
-from balisekit.tables.names import listed, quoted
+from balisekit.tables.names import listed, quoted, rows_words
 
 STEEPER = 5
 """By so many per mille gradients may differ."""
@@ -55,9 +58,7 @@ class Contrary(NamedTuple):
         return self._replace(packets=self.packets[::-1], values=self.values[::-1])
 
 
-Pairs = Dict[Tuple[str, str], Contrary]
-Linked = Tuple[Passage, Sequence[Packet]]
-"""A passage with its packets 5."""
+Pairs = Dict[Tuple[str, str], List[Contrary]]
 
 
 def find(line: Line, options: Options) -> Result:
@@ -77,7 +78,7 @@ def find(line: Line, options: Options) -> Result:
 
 def _of_group(line: Line, options: Options, some: Sequence[Passage]) -> Iterator[Remark]:
     links = [passage.of(LINKING) for passage in some]
-    common = [_common(line, options, *pair) for pair in combinations(zip(some, links), 2)]
+    common = [common_reach(line, options, *pair) for pair in combinations(zip(some, links), 2)]
     for number in (SPEEDS, GRADIENTS):
         pairs: Pairs = {}
         said = [(passage, passage.of(number)) for passage in some]
@@ -86,63 +87,54 @@ def _of_group(line: Line, options: Options, some: Sequence[Passage]) -> Iterator
             if differing:
                 pairs[one.aspect, other.aspect] = differing
         for culprit, others in by_culprit(list(pairs)):
-            yield _remark(some, pairs, culprit, others)
-
-
-def _common(line: Line, options: Options, one: Linked, other: Linked) -> int:
-    """How far the packets 5 of both name the same groups, or both authorities go if no packet 5 is there."""
-    (here, mine), (there, its) = one, other
-    if mine and [packet.form for packet in mine] == [packet.form for packet in its]:
-        return max([sum([link["d_link"] for link in packet.form["links"]]) * packet.unit for packet in mine])
-    if mine or its:
-        reach = 0
-        for own, theirs in zip(line.decoded.reached(here), line.decoded.reached(there)):
-            if own.identity != theirs.identity:
-                break
-            reach = min(own.distance, theirs.distance)
-        return reach
-    if not (here.authorities and there.authorities):
-        return 0
-    ends = [max(each.authorities, key=lambda packet: packet.end) for each in (here, there)]
-    first, second = (packet.end for packet in ends)
-    is_same = abs(first - second) <= tolerance(line, options, *((packet, packet.lengths) for packet in ends))
-    return min(first, second) if is_same else 0
+            yield _remark(line.decoded, some[0], pairs, culprit, others)
 
 
 def _compared(
     line: Line, options: Options, one: Passage, pairs: Iterable[Tuple[Packet, Packet]], reach: int
-) -> Optional[Contrary]:
-    """The first stretch before a point of the track plan of which both packets of a pair say different things."""
+) -> List[Contrary]:
+    """The stretches before a point of the track plan of which both packets of a pair say different things."""
+    found = []
     for packets in pairs:
         if packets[0] is packets[1]:
             continue  # of a fixed balise
         apart = STEEPER if packets[0].number == GRADIENTS else 0
+        least = tolerance(line, options, *((each, len(each.stretches)) for each in packets))
         for begin, end, *values in contrary(packets[0].stretches, packets[1].stretches, reach, apart):
-            least = tolerance(line, options, *((each, len(each.stretches)) for each in packets))
             place = one.place(begin + least)
             if end - begin > least and (place is None or not leaves(options, line.decoded, one, place)):
-                return Contrary(packets, begin, end, (values[0], values[1]))
-    return None
+                found.append(Contrary(packets, begin, end, (values[0], values[1])))
+    return found
 
 
-def _remark(some: Sequence[Passage], pairs: Pairs, culprit: str, others: Sequence[str]) -> Remark:
-    """The aspect that differs, with the first stretch on which it does."""
-    own = [pairs.get((culprit, other)) or pairs[other, culprit].turned for other in others]
-    first = own[0]
-    number = first.packets[0].number
-    said = [f"{quoted(name)} has {_words(number, value)}" for name, value in zip((culprit, others[0]), first.values)]
-    more = f"; {quoted(culprit)} differs from {listed([quoted(name) for name in others[1:]], NAMED)} too"
-    sentence = f"from {metres(first.begin)} to {metres(first.end)} from the group, {said[0]}, and {said[1]}"
-    step = 5 if number == SPEEDS else 1
-    compared = {f"value_{place}": Decimal(value * step) for place, value in enumerate(first.values, 1)}
-    values = {"begin_m": distance(first.begin), "end_m": distance(first.end), **compared}
-    rows = sorted({packet.row.number for each in own for packet in each.packets if packet.row})
-    sentence += more if others[1:] else ""
-    return Remark("E10", some[0].at(), sentence, values=values, rows=rows, aspects=[culprit, *others])
+def _remark(decoded: Decoded, one: Passage, pairs: Pairs, culprit: str, others: Sequence[str]) -> Remark:
+    """The aspect that differs, with the longest stretch on which it does."""
+    own = {name: pairs.get((culprit, name)) or [each.turned for each in pairs[name, culprit]] for name in others}
+    longest = {name: max(some, key=lambda each: each.end - each.begin) for name, some in own.items()}
+    other = max(others, key=lambda name: longest[name].end - longest[name].begin)
+    packets, begin, end, sent = longest[other]
+    said = [
+        f"{quoted(name)}{f', {rows_words([packet.row.number])},' if packet.row else ''} has {_words(packet, value)}"
+        for name, packet, value in zip((culprit, other), packets, sent)
+    ]
+    rest = [quoted(name) for name in others if name != other]
+    sentence = (
+        f"from {metres(begin)} to {metres(end)} from the group{between(decoded, one, begin, end)}, {said[0]}, and "
+        f"{said[1]}{more_stretches(len(own[other]) - 1)}"
+        + (f"; {quoted(culprit)} differs from {listed(rest, NAMED)} too" if rest else "")
+    )
+    step = 5 if packets[0].number == SPEEDS else 1
+    compared = {f"value_{place}": Decimal(value * step) for place, value in enumerate(sent, 1)}
+    values = {"begin_m": distance(begin), "end_m": distance(end), **compared}
+    rows = sorted({packet.row.number for each in longest.values() for packet in each.packets if packet.row})
+    fields = [
+        [each for some in longest.values() for each in field_at(some.packets[side], some.begin)] for side in (0, 1)
+    ]
+    return Remark("E10", one.at(), sentence, None, values, (), None, rows, (), [culprit, *others], (), *fields)
 
 
-def _words(number: int, value: int) -> str:
-    return f"V_STATIC {speed(value)}" if number == SPEEDS else f"a gradient of {value:+} ‰" if value else "0 ‰"
+def _words(packet: Packet, value: int) -> str:
+    return f"V_STATIC {speed(value)}" if packet.number == SPEEDS else f"a gradient of {value:+} ‰" if value else "0 ‰"
 
 
 RULE = Rule("E10", "groups with several aspects", __doc__ or "", find, Urgency.WRONG_INFORMATION)

@@ -36,7 +36,7 @@ from balisekit.etcs.variables import metres
 from balisekit.rules.decoded import Decoded, GroupData, allowance
 from balisekit.rules.line import Line
 from balisekit.rules.meaning.along import End, Lane, ends_of, extents_of, lane_of, leaves, names_of
-from balisekit.rules.meaning.words import merged, source
+from balisekit.rules.meaning.words import at_place, merged, source
 from balisekit.rules.rule import Options, Remark, Result, Rule
 from balisekit.rules.urgency import Urgency
 
@@ -118,12 +118,11 @@ def _compare(
     same = len(ends) - len(differing)
     where = f" that lead{'s' if same == 1 else ''} to {target.group}" if target else " nearby"
     for end in differing:
-        track = end.passage.track
         sentence = (
-            f"the authority ends at {decoded.km(track, end.place)}, {metres(end.distance)} from the "
-            f"group by L_SECTION and L_ENDSECTION; {same} other{'s' if same > 1 else ''}{where}, such as that of "
-            f"{source(usual.passage, usual.packet)}, end{'s' if same == 1 else ''} at "
-            f"{decoded.km(track, usual.place)}: they differ by {metres(abs(end.place - usual.place))}"
+            f"the authority ends at {at_place(decoded, end.passage, end.place)} by L_SECTION and L_ENDSECTION; {same} "
+            f"other{'s' if same > 1 else ''}{where}, such as that of {source(usual.passage, usual.packet)}, "
+            f"end{'s' if same == 1 else ''} at {at_place(decoded, end.passage, usual.place)}: they differ by "
+            f"{metres(abs(end.place - usual.place))}"
         )
         values = {"end_m": Decimal(end.place) / 10, "other_end_m": Decimal(usual.place) / 10}
         others = (usual.packet.row.number,) if usual.packet.row else ()
@@ -132,15 +131,15 @@ def _compare(
 
 def _between(decoded: Decoded, options: Options, end: End) -> Iterator[Remark]:
     """An end of a packet 12 that is near a group, and not at it."""
-    track, group = end.passage.track, decoded.nearest(end.passage.track, end.place)
+    group = decoded.nearest(end.passage.track, end.place)
     if end.packet.number != 12 or group is None or group.place is None:
         return
     apart = abs(group.place - end.place)
     tolerance = decoded.tolerance(options.tolerance_of_places, allowance(end.packet, end.packet.lengths))
     if STANDS + tolerance < apart <= NEAR:
         sentence = (
-            f"the authority ends at {decoded.km(track, end.place)}, {metres(end.distance)} from the group "
-            f"by L_SECTION and L_ENDSECTION: the nearest group, {group.group}, is {metres(apart)} from there"
+            f"the authority ends at {at_place(decoded, end.passage, end.place)} by L_SECTION and L_ENDSECTION: the "
+            f"nearest group, {group.group}, is {metres(apart)} from there"
         )
         values = {"end_m": Decimal(end.place) / 10, "nearest_group_m": Decimal(group.place) / 10}
         yield Remark("E12", end.passage.at(end.packet), sentence, group.group, values)

@@ -35,7 +35,8 @@ from balisekit.rules.decoded import GRADIENTS, SPEEDS, Decoded, Packet, allowanc
 from balisekit.rules.line import Line
 from balisekit.rules.meaning.along import leaves
 from balisekit.rules.meaning.profiles import Piece, Profiles, lanes_of, longest_difference, pairs, pieces_of
-from balisekit.rules.meaning.words import source
+from balisekit.rules.meaning.sent import field_at
+from balisekit.rules.meaning.words import more_stretches, source
 from balisekit.rules.rule import Options, Remark, Result, Rule
 from balisekit.rules.urgency import Urgency
 
@@ -113,18 +114,17 @@ def _remark(decoded: Decoded, some: Sequence[Tuple[Difference, bool]]) -> Remark
     shown = [f"{value * factor:{'+' if factor == 1 else ''}} {unit}" for value in (own_value, other_value)]
     sentence = (
         f"{name} is {shown[0]} from {decoded.km(track, piece.low * way)} to {decoded.km(track, piece.high * way)}, and "
-        f"{shown[1]} by "
-        f"{source(other.passage, other.packet)}{_cause(*groups, piece, is_rear)}"
-        + (f"; they differ on {more} other stretch{'es' if more > 1 else ''} too" if more else "")
+        f"{shown[1]} by {source(other.passage, other.packet)}{_cause(*groups, piece, is_rear)}{more_stretches(more)}"
     )
     values = {f"{name.lower()}": Decimal(own_value * factor), f"other_{name.lower()}": Decimal(other_value * factor)}
     alike = [each.packet.row for each in piece.alike(own) if each.packet.row]
     rows = tuple(sorted({row.number for row in alike}))
     aspects = tuple(dict.fromkeys(row.aspect for row in alike if row.aspect not in ("", "*")))
-    others = tuple(dict.fromkeys(_row(each, is_own) for each, is_own in some))
+    named = tuple(sorted({_row(*each) for each in some} - {0, *rows}))
+    sides = [[(each.packet, piece.low - each.origin) for each in piece.alike(side)] for side in (own, other)]
+    fields = ([field for at in some for field in field_at(*at)] for some in sides)
     where = own.passage.at(own.packet)
-    named = tuple(sorted(set(others) - {0, *rows}))
-    return Remark("E13", where, sentence, None, values, rows=rows, others=named, aspects=aspects)
+    return Remark("E13", where, sentence, None, values, (), None, rows, named, aspects, (), *fields)
 
 
 def _row(difference: Difference, is_rear: bool) -> int:

@@ -15,7 +15,8 @@ aspect.
 
 What may happen. A train releases its brake for an aspect that the signal does not show.
 
-How to correct it. Copy the packets of the signal after packet 136, aspect by aspect.
+How to correct it. Compare both with the design. If the signal is right, copy its packets after packet 136, aspect by
+aspect.
 
 Correct data that gets it. Infill that says less than its signal on purpose, such as a lower V_MAIN, that has another
 section timer, or that has a V_MAIN above 0 and no length for a signal at danger. A signal that the table does not have,
@@ -39,7 +40,7 @@ from balisekit.rules.location import NOT_KNOWN, Identity
 from balisekit.rules.meaning.along import Extent, extents_of, lane_of
 from balisekit.rules.meaning.fields import fields_apart
 from balisekit.rules.meaning.words import merged, source
-from balisekit.rules.rule import Options, Remark, Result, Rule
+from balisekit.rules.rule import Field, Options, Remark, Result, Rule
 from balisekit.rules.urgency import Urgency
 from balisekit.tables.names import clean, describe_identity
 
@@ -110,6 +111,7 @@ def _differences(passage: Passage, target: GroupData) -> Iterator[Remark]:
     others: List[int] = []
     values: Dict[str, Decimal] = {}
     first: Optional[Packet] = None
+    fields: List[Field] = []
     for number in COMPARED if signal else ():
         for packet, other in zip((each for each in passage.infill if each.number == number), _of(signal, number)):
             apart = next(fields_apart(packet, other), None)
@@ -119,9 +121,10 @@ def _differences(passage: Passage, target: GroupData) -> Iterator[Remark]:
                 words.append(f"{apart.name} is {apart.own} in the infill, and {apart.other} in {of}")
                 values = {**apart.values, **values}
                 others += [other.row.number] if other.row else []
+                fields += [*apart.field_of(packet), *apart.field_of(other)]
     if first is not None:
         rows = tuple(dict.fromkeys(others))
-        yield Remark("E15", passage.at(first), "; ".join(words), target.group, values, others=rows)
+        yield Remark("E15", passage.at(first), "; ".join(words), target.group, values, others=rows, beside=fields)
 
 
 def _of(signal: Optional[Passage], number: int) -> Sequence[Packet]:

@@ -36,13 +36,12 @@ from balisekit.etcs.variables import Around, metres, value_words
 from balisekit.rules.decoded import LEVELS, Decoded, Packet, Passage
 from balisekit.rules.line import Line
 from balisekit.rules.meaning.along import Lane, lane_of
-from balisekit.rules.meaning.words import merged, source
+from balisekit.rules.meaning.words import at_place, merged, source
 from balisekit.rules.rule import Options, Remark, Result, Rule
 from balisekit.rules.urgency import Urgency
 
-BOTH_DIRECTIONS = 2
-NOW, NEAR = 32_767, 5000
-"""D_LEVELTR for at once, and in decimetres how near two announcements of one transition are."""
+BOTH_DIRECTIONS, NOW, NEAR = 2, 32_767, 5000
+"""Q_DIR, D_LEVELTR for at once, and in decimetres how near two announcements of one transition are."""
 
 
 class Order(NamedTuple):
@@ -124,26 +123,27 @@ def _compare(decoded: Decoded, options: Options, orders: Sequence[Order]) -> Ite
         apart, where = abs(order.place - usual.place), order.passage.at(order.packet)
         others = (usual.packet.row.number,) if usual.packet.row else ()
         values = {"place_m": Decimal(order.place) / 10, "other_place_m": Decimal(usual.place) / 10}
-        by = f"{source(usual.passage, usual.packet)}, {'has' if usual.is_now else 'announces'}"
         if order.is_now and usual.is_now and order.along > usual.along and order.levels == usual.levels:
             continue  # repeated for trains that have missed the first one
         if apart > tolerance:
+            places = [at_place(decoded, order.passage, each.place) for each in (order, usual)]
             sentence = (
-                f"the level transition is at {decoded.km(track, order.place)} by D_LEVELTR, and at "
-                f"{decoded.km(track, usual.place)} by {source(usual.passage, usual.packet)}: they differ by "
-                f"{metres(apart)}"
+                f"the level transition is at {places[0]} by D_LEVELTR, and at {places[1]} by "
+                f"{source(usual.passage, usual.packet)}: they differ by {metres(apart)}"
             )
-            yield Remark("E18", where, sentence, None, values, others=others)
         elif order.levels != usual.levels:
+            by = f"{source(usual.passage, usual.packet)}, {'has' if usual.is_now else 'announces'}"
             sentence = f"the levels are {order.words}, and {by} {usual.words} at {decoded.km(track, usual.place)}"
-            yield Remark("E18", where, sentence, None, values, others=others)
+        else:
+            continue
+        marks = [(order.packet.row, where.direction, abs(order.place - (order.passage.place(0) or 0)))]
+        yield Remark("E18", where, sentence, None, values, others=others, marks=marks)
     if not usual.is_now and decoded.is_inside(track, usual.place):
         sentence = (
             f"it announces {usual.words} at {decoded.km(track, usual.place)}, and no group within {NEAR // 10} m of "
             "that place has a packet 41 with D_LEVELTR 0 or 32,767"
         )
-        values = {"place_m": Decimal(usual.place) / 10}
-        yield Remark("E18", usual.passage.at(usual.packet), sentence, None, values)
+        yield Remark("E18", usual.passage.at(usual.packet), sentence, None, {"place_m": Decimal(usual.place) / 10})
 
 
 RULE = Rule("E18", "level transitions", __doc__ or "", find, Urgency.WRONG_INFORMATION, needs_kilometres=True)

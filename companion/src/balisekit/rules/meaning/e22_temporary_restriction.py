@@ -31,7 +31,7 @@ from balisekit.etcs.variables import Values, metres
 from balisekit.rules.decoded import Decoded, Packet, Passage
 from balisekit.rules.line import Line
 from balisekit.rules.meaning.along import lane_of
-from balisekit.rules.meaning.words import merged, source
+from balisekit.rules.meaning.words import at_place, merged, source
 from balisekit.rules.rule import Options, Remark, Result, Rule
 from balisekit.rules.urgency import Urgency
 
@@ -60,9 +60,9 @@ class Restriction(NamedTuple):
         """What is compared."""
         return self[:3]
 
-    def words(self, decoded: Decoded) -> str:
-        """It in words."""
-        return f"{decoded.km(self.passage.track, self.place)}, {metres(self.length)} with {self.speed} km/h"
+    def words(self, decoded: Decoded, passage: Passage) -> str:
+        """It in words, with its distance from the group of a passage."""
+        return f"{at_place(decoded, passage, self.place)}, {metres(self.length)} with {self.speed} km/h"
 
 
 def find(line: Line, options: Options) -> Result:
@@ -120,8 +120,8 @@ def _compare(decoded: Decoded, options: Options, some: Sequence[Restriction]) ->
         apart = max(abs(each.place - usual.place), abs(each.length - usual.length))
         if (apart > tolerance or each.speed != usual.speed) and not _is_rest(each, usual, tolerance):
             sentence = (
-                f"the restriction with NID_TSR {each.number} is at {each.words(decoded)}, and by "
-                f"{source(usual.passage, usual.packet)} at {usual.words(decoded)}"
+                f"the restriction with NID_TSR {each.number} is at {each.words(decoded, each.passage)}, and by "
+                f"{source(usual.passage, usual.packet)} at {usual.words(decoded, each.passage)}"
             )
             values = {"d_tsr_m": Decimal(each.place) / 10, "l_tsr_m": Decimal(each.length) / 10}
             others = (usual.packet.row.number,) if usual.packet.row else ()

@@ -110,17 +110,17 @@ def _of_body(form: Mapping[str, Any]) -> Iterator[Value]:
 
 
 def _fault(values: Sequence[Value], options: Options) -> Fault:
-    key, place, raw = values[0]
+    (key, place, raw), fields = values[0], [value[:2] for value in values]
     where = "" if place is None else f" of the {ordinal(place)} element"
     more = f", and {len(values) - 1} more of the packet {'are' if len(values) > 2 else 'is'} too" if values[1:] else ""
     if key == "g_a":
         words = f"G_A{where} is {raw} ‰, above {STEEPEST} ‰"
-        return Fault(f"{words}{more}", {"g_a_per_mille": Decimal(raw)})
-    limit, name = options.greatest_speed, "--line-speed"
-    if key in RELEASE:
-        limit, name = options.release_speed, "--release-speed"
-    words = f"{key.upper()}{where} is {speed(raw)}, above {limit} km/h ({name})"
-    return Fault(f"{words}{more}", {f"{key}_kmh": kmh(raw), "limit_kmh": Decimal(limit)})
+        return Fault(f"{words}{more}", {"g_a_per_mille": Decimal(raw)}, fields)
+    by_line = options.greatest_speed, "--line-speed"
+    limit, name = (options.release_speed, "--release-speed") if key in RELEASE else by_line
+    meant = f"; {raw} km/h are sent as {raw // 5}" if raw % 5 == 0 and raw <= limit else ""
+    words = f"{key.upper()}{where} is {speed(raw)}, above {limit} km/h ({name}){meant}"
+    return Fault(f"{words}{more}", {f"{key}_kmh": kmh(raw), "limit_kmh": Decimal(limit)}, fields)
 
 
 def _above_profiles(line: Line, most: int) -> Iterator[Remark]:

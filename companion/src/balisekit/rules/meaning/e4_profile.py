@@ -88,12 +88,11 @@ def _steps(packet: Packet, own: Sequence[Form]) -> Iterator[Fault]:
     for place, (before, each) in enumerate(zip(all_of_them, all_of_them[1:]), 1):
         name = f"the {ordinal(place)} element"
         if each[key] == 0:
-            yield Fault(
-                f"{key.upper()} of {name} is 0 m: it begins where the one before it does", {"distance_m": Decimal()}
-            )
+            words = f"{key.upper()} of {name} is 0 m: it begins where the one before it does"
+            yield Fault(words, {"distance_m": Decimal()}, [(key, place)])
         elif place < len(own) and _said(packet, before) == _said(packet, each) and _fits(all_of_them, place, key):
             value, words = _value(packet, each)
-            yield Fault(f"{name} repeats the one before it, {words}", {"value": Decimal(value)})
+            yield Fault(f"{name} repeats the one before it, {words}", {"value": Decimal(value)}, [(key, place)])
 
 
 def _fits(elements: Sequence[Values], place: int, key: str) -> bool:
@@ -121,7 +120,7 @@ def _speeds(packet: Packet, own: Sequence[Form]) -> Iterator[Fault]:
     for place, element in enumerate(own if packet.number == SPEEDS else ()):
         name = f"the {ordinal(place)} element"
         if element["v_static"] == 0:
-            yield Fault(f"V_STATIC of {name} is 0 km/h", {"v_static_kmh": kmh(0)})
+            yield Fault(f"V_STATIC of {name} is 0 km/h", {"v_static_kmh": kmh(0)}, [("v_static", place)])
         if element["differences"]:
             yield from _categories(element, name)
 

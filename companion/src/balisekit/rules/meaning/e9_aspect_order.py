@@ -92,7 +92,8 @@ def _remark(pair: Pair, words: str, urgency: Optional[Urgency] = None) -> Remark
     values = {"first_end_m": distance(pair.first.end), "second_end_m": distance(pair.second.end)}
     rows = [case.packet.row.number for case in cases if case.packet.row]
     aspects = [case.passage.aspect for case in cases]
-    return Remark("E9", where, words, values=values, urgency=urgency, rows=rows, aspects=aspects)
+    marks = [(case.packet.row, where.direction, case.end) for case in cases]
+    return Remark("E9", where, words, None, values, (), urgency, rows, (), aspects, marks)
 
 
 def _stops(cases: Sequence[Sequence[Case]]) -> Iterator[Remark]:
@@ -115,7 +116,8 @@ def _stop(case: Case, count: int, of_how_many: int, usual: str) -> Remark:
         f"V_MAIN of the aspect {quoted(case.passage.aspect)} is {speed(main)}, and in {count} of {of_how_many} cases "
         f"of the table it is {usual}"
     )
-    return Remark("E9", case.passage.at(case.packet), words, values={"v_main_kmh": kmh(main)})
+    where = case.passage.at(case.packet)
+    return Remark("E9", where, words, values={"v_main_kmh": kmh(main)}, marks=[(where.row, where.direction, 0)])
 
 
 RULE = Rule("E9", "groups with several aspects", __doc__ or "", find, Urgency.WRONG_INFORMATION)

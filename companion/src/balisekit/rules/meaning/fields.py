@@ -2,10 +2,11 @@
 from __future__ import annotations
 
 from decimal import Decimal
-from typing import Any, Iterator, List, Mapping, NamedTuple, Sequence, Tuple
+from typing import Any, Iterator, List, Mapping, NamedTuple, Optional, Sequence, Tuple
 
 from balisekit.etcs.variables import Around, value_words, variable_name
 from balisekit.rules.decoded import Packet
+from balisekit.rules.rule import Field
 from balisekit.tables.names import ordinal
 
 NOT_COMPARED = {"q_dir", "q_scale", "l_packet", "body", "nid_packet"}
@@ -21,6 +22,14 @@ class Apart(NamedTuple):
     other: str
     values: Mapping[str, Decimal] = {}
     """Both numbers as they are sent."""
+    key: str = ""
+    place: Optional[int] = None
+    """Of which element it is, counted from 0."""
+
+    def field_of(self, packet: Packet) -> Sequence[Field]:
+        """It in one of the two packets. The sign of a gradient is a part of the gradient."""
+        key = "g_a" if self.key == "q_gdir" else self.key
+        return [(packet.row.number, packet.place, key, self.place)] if packet.row else []
 
 
 def fields_apart(one: Packet, other: Packet) -> Iterator[Apart]:
@@ -41,7 +50,7 @@ def _compared(own: Any, theirs: Any, packets: Tuple[Packet, Packet], where: str,
         elif isinstance(values[0], list) and isinstance(values[1], list):
             for place, (mine, its) in enumerate(zip(*values)):
                 words = f" of the {ordinal(place)} {key.removesuffix('s')}{where}"
-                yield from _compared(mine, its, packets, words, allowed)
+                yield from (each._replace(place=place) for each in _compared(mine, its, packets, words, allowed))
             if len(values[0]) != len(values[1]):
                 yield Apart(f"the number of {key}{where}", str(len(values[0])), str(len(values[1])))
         elif _differ(key, values, packets, allowed):
@@ -50,7 +59,7 @@ def _compared(own: Any, theirs: Any, packets: Tuple[Packet, Packet], where: str,
             )
             numbers = {key: values[0], f"{key}_of_signal": values[1]}
             sent = {name: Decimal(value) for name, value in numbers.items() if isinstance(value, int)}
-            yield Apart(f"{variable_name(key, own)}{where}", mine, its, sent)
+            yield Apart(f"{variable_name(key, own)}{where}", mine, its, sent, key)
 
 
 def _differ(key: str, values: Sequence[Any], packets: Sequence[Packet], allowed: int) -> bool:

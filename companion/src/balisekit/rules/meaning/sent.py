@@ -3,12 +3,13 @@ from __future__ import annotations
 
 from collections import Counter
 from decimal import Decimal
-from typing import Callable, Dict, Iterator, List, Mapping, NamedTuple, Sequence, Tuple, TypeVar, Union
+from typing import Callable, Dict, Iterator, List, Mapping, NamedTuple, Optional, Sequence, Tuple, TypeVar, Union
 
+from balisekit.etcs.geometry import ELEMENT_KEYS
 from balisekit.rules.decoded import Decoded, GroupData, Packet, Passage, Stretch, allowance
 from balisekit.rules.line import Line
 from balisekit.rules.location import Location
-from balisekit.rules.rule import Options, Remark, Result
+from balisekit.rules.rule import Field, Options, Remark, Result
 
 Owner = Union[GroupData, Passage]
 """The group, or the message, that sends a packet."""
@@ -20,6 +21,8 @@ class Fault(NamedTuple):
 
     words: str
     values: Mapping[str, Decimal]
+    fields: Sequence[Tuple[str, Optional[int]]] = ()
+    """The keys of the fields that look wrong, and of which element each is, counted from 0."""
 
 
 def sent(decoded: Decoded, *numbers: int) -> Iterator[Tuple[Owner, Packet]]:
@@ -42,8 +45,33 @@ def of_packets(rule: str, line: Line, numbers: Sequence[int], look_at: Callable[
         count += 1
         faults = look_at(packet)
         if faults:
-            found.append(remark(rule, located(owner, packet), faults))
+            places = [_place(owner, packet, fault) for fault in faults]
+            placed = [_with_km(line.decoded, fault, at) for fault, at in zip(faults, places)]
+            marks = [(packet.row, at[0].direction, at[1]) for at in places if at]
+            found.append(remark(rule, located(owner, packet), placed)._replace(marks=marks))
     return Result(found, count)
+
+
+def _place(owner: Owner, packet: Packet, fault: Fault) -> Optional[Tuple[Passage, int]]:
+    """In which direction a fault is, and how far from the group, if it is about a field in one direction."""
+    passages = owner.passages if isinstance(owner, GroupData) else [owner]
+    passage = next((each for each in passages if packet in each.said), None)
+    if passage is None or not fault.fields or packet.form.get("q_dir") == 2:
+        return None
+    element, keys = fault.fields[0][1], ELEMENT_KEYS.get(packet.number)
+    if element is None:
+        return passage, 0
+    if keys is None:
+        return None
+    return passage, sum(each[keys[0]] for each in packet.form["elements"][: element + 1]) * packet.unit
+
+
+def _with_km(decoded: Decoded, fault: Fault, at: Optional[Tuple[Passage, int]]) -> Fault:
+    """The same fault with the kilometre of its element, if that is known."""
+    place = at[0].place(at[1]) if at and fault.fields[0][1] is not None else None
+    if at is None or place is None:
+        return fault
+    return fault._replace(words=f"at {decoded.km(at[0].track, place)}, {fault.words}")
 
 
 def remark(rule: str, location: Location, faults: Sequence[Fault]) -> Remark:
@@ -52,7 +80,15 @@ def remark(rule: str, location: Location, faults: Sequence[Fault]) -> Remark:
     for fault in faults:
         for name, value in fault.values.items():
             values[name if name not in values else f"{name}_{len(values)}"] = value
-    return Remark(rule, location, "; ".join(fault.words for fault in faults), values=values)
+    keys = [key for fault in faults for key in fault.fields]
+    blamed = [(location.row.number, location.packet or 0, *key) for key in keys] if location.row else []
+    return Remark(rule, location, "; ".join(fault.words for fault in faults), values=values, blamed=blamed)
+
+
+def field_at(packet: Packet, distance: int) -> List[Field]:
+    """The speed or gradient of a profile at a distance. One of a message is in no row."""
+    place = sum(each.begin <= distance for each in packet.stretches) - 1
+    return [(packet.row.number, packet.place, ELEMENT_KEYS[packet.number][1], place)] if packet.row else []
 
 
 def tolerance(line: Line, options: Options, *parts: Tuple[Packet, int]) -> int:

@@ -1,11 +1,14 @@
-"""Which packets the aspects of a group have in each direction, beside each other: for the rule E8."""
+"""The aspects of a group beside each other: which packets they have, for E8, and how far they go together, for E10."""
 from __future__ import annotations
 
 from collections import Counter
 from typing import Dict, FrozenSet, List, Sequence, Set, Tuple
 
 from balisekit.etcs.geometry import DIRECTIONS
-from balisekit.rules.decoded import GRADIENTS, LINKING, SPEEDS, GroupData
+from balisekit.rules.decoded import GRADIENTS, LINKING, SPEEDS, GroupData, Packet, Passage
+from balisekit.rules.line import Line
+from balisekit.rules.meaning.sent import tolerance
+from balisekit.rules.rule import Options
 
 AUTHORITY = 12
 NUMBERS = frozenset({LINKING, AUTHORITY, GRADIENTS, SPEEDS})
@@ -13,6 +16,8 @@ SIBLINGS = 3
 """So many aspects of a group are compared at least."""
 Said = Dict[str, Tuple[FrozenSet[int], ...]]
 """By aspect: which of NUMBERS it has in each of the DIRECTIONS."""
+Linked = Tuple[Passage, Sequence[Packet]]
+"""A passage with its packets 5."""
 Moving = Sequence[Set[str]]
 """By direction: the aspects that have a V_MAIN above 0."""
 
@@ -57,3 +62,23 @@ def lacking_in(said: Said, moving: Moving) -> Dict[Tuple[str, str, str], List[in
                 words = "" if number == AUTHORITY or moving[index] == either else " in it"
                 found.setdefault((without[0], direction, words), []).append(number)
     return found
+
+
+def common_reach(line: Line, options: Options, one: Linked, other: Linked) -> int:
+    """How far the packets 5 of both name the same groups, or both authorities go if no packet 5 is there."""
+    (here, mine), (there, its) = one, other
+    if mine and [packet.form for packet in mine] == [packet.form for packet in its]:
+        return max([sum([link["d_link"] for link in packet.form["links"]]) * packet.unit for packet in mine])
+    if mine or its:
+        reach = 0
+        for own, theirs in zip(line.decoded.reached(here), line.decoded.reached(there)):
+            if own.identity != theirs.identity:
+                break
+            reach = min(own.distance, theirs.distance)
+        return reach
+    if not (here.authorities and there.authorities):
+        return 0
+    ends = [max(each.authorities, key=lambda packet: packet.end) for each in (here, there)]
+    first, second = (packet.end for packet in ends)
+    is_same = abs(first - second) <= tolerance(line, options, *((packet, packet.lengths) for packet in ends))
+    return min(first, second) if is_same else 0

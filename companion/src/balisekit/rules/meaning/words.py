@@ -3,7 +3,8 @@ from __future__ import annotations
 
 from typing import Dict, Iterable, List, Optional, Sequence, Tuple
 
-from balisekit.rules.decoded import Packet, Passage
+from balisekit.etcs.variables import metres
+from balisekit.rules.decoded import Decoded, Packet, Passage
 from balisekit.rules.location import BaliseGroup
 from balisekit.rules.rule import Remark
 from balisekit.tables.model import Row
@@ -26,6 +27,26 @@ def source(passage: Passage, packet: Packet) -> str:
         return f"the message in {describe_message(passage.message)}" if passage.message else "a message"
     aspect = f", aspect {quoted(packet.row.aspect)}" if packet.row.aspect not in ("", "*") else ""
     return f"{passage.group.group}{aspect}, {rows_words([packet.row.number])}"
+
+
+def at_place(decoded: Decoded, passage: Passage, place: int) -> str:
+    """A place by its kilometre, and by its distance from the group of a passage."""
+    apart = (place - (passage.place(0) or 0)) * (passage.way or 1)
+    side = "in rear of" if apart < 0 else "from"
+    return f"{decoded.km(passage.track, place)} ({metres(abs(apart))} {side} the group)"
+
+
+def between(decoded: Decoded, passage: Passage, begin: int, end: int) -> str:
+    """The kilometres of these distances from the group, if they are known."""
+    low, high = passage.place(begin), passage.place(end)
+    if low is None or high is None:
+        return ""
+    return f" ({decoded.km(passage.track, low)} to {decoded.km(passage.track, high)})"
+
+
+def more_stretches(count: int) -> str:
+    """That profiles differ on this many stretches beside the one that is named."""
+    return f"; they differ on {count} other stretch{'es' if count > 1 else ''} too" if count else ""
 
 
 def merged(remarks: Iterable[Remark]) -> Sequence[Remark]:

@@ -74,7 +74,8 @@ def profile_short(scene: Scene) -> Statement:
     values["missing_m"] = metres(missing)[: -len(" m")]
     sentence = (
         f"{packet_words(forms[site.balise], site.packet)}, reaches {words[0]}, and the supervised location, "
-        f"{_what(farthest)}, is at {words[1]}: {metres(missing)} missing"
+        f"{_what(farthest)}, is at {words[1]}: {metres(missing)} missing, "
+        "by the profile or by a length of the authority"
     )
     return Statement(sentence, values=values, packet=packet["nid_packet"])
 
