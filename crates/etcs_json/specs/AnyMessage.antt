@@ -1,5 +1,6 @@
 -- The form of a radio message, by its number (SUBSET-026, 8.6 and 8.7).
-use Rattle.etcs_schema.specs.Prelude.{◌≡◌, ◌⊎◌, codes, refl, inl, inr}
+use Rattle.std.specs.Prelude.{◌≡◌, ◌⊎◌, codes, refl}
+use Rattle.etcs_schema.specs.Prelude.{inl, inr}
 use Rattle.etcs_radio.specs.Head.{nid_message}
 use Rattle.etcs_radio.specs.Record.{Movement, Position}
 use Rattle.etcs_radio.specs.declared.message.Message.{Message}

@@ -3,7 +3,8 @@
 -- and T_LOA, are this project's, and so are the keys of `sections` and of the parts. A part that may be
 -- left out has no qualifier in the form: its key is there or not. Keys are in the order in which they
 -- are looked for.
-use Rattle.etcs_schema.specs.Prelude.{◌≡◌, ◌⊎◌, true, codes, refl, inl, inr, option_rows, pair_rows, ranged}
+use Rattle.std.specs.Prelude.{◌≡◌, ◌⊎◌, true, codes, refl}
+use Rattle.etcs_schema.specs.Prelude.{inl, inr, option_rows, pair_rows, ranged}
 use Rattle.etcs_profile.specs.Authority.{AuthorityValue, WithMain, WithoutMain, again, authority_variable, numbered_of, authority_of_parts, v_main, with_main as with_main_layout, without_main as without_main_layout}
 use Rattle.etcs_profile.specs.Parts.{d_dp, d_endtimerstartloc, d_ol, d_sectiontimerstoploc, d_startol, danger_point as danger_point_layout, danger_point_struct, end_timer as end_timer_layout, end_timer_struct, l_section, overlap as overlap_layout, overlap_struct, section as section_layout, section_struct, section_timer as section_timer_layout, section_timer_struct, t_endtimer, t_ol, t_sectiontimer, v_releasedp, v_releaseol}
 use Rattle.etcs_profile.specs.Terms.{conditions_struct, l_endsection, t_loa, terms as terms_layout, v_loa}

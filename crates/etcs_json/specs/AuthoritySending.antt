@@ -1,5 +1,6 @@
 -- What is sent of a movement authority: its members in the byte order of their keys.
-use Rattle.etcs_schema.specs.Prelude.{List, [], ◌∷◌, Some, codes, array}
+use Rattle.std.specs.Prelude.{List, [], ◌∷◌, Some, codes}
+use Rattle.etcs_schema.specs.Prelude.{array}
 use Rattle.etcs_profile.specs.Authority.{AuthorityValue, authority_number}
 use Rattle.etcs_json.specs.Authority.{danger_point, end_timer, overlap, section, section_timer}
 use Rattle.etcs_schema.specs.Entries.{Entry}

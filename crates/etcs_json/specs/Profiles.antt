@@ -2,7 +2,8 @@
 -- key is named as the standard names its variable, in small letters. `links`, `elements`
 -- and `differences` are this project's and name lists. `nc` is NC_CDDIFF or NC_DIFF. Keys are in the
 -- order in which they are looked for.
-use Rattle.etcs_schema.specs.Prelude.{◌≡◌, ℕ, ◌+◌, Bool, true, List, Result, Ok, codes, nat_le, refl, arith, le-leb, Data, Format, AreAllowed, alone, width, nid_bg, nid_c}
+use Rattle.std.specs.Prelude.{◌≡◌, ℕ, ◌+◌, Bool, true, List, Result, Ok, codes, nat_le, refl}
+use Rattle.etcs_schema.specs.Prelude.{arith, le-leb, Data, Format, AreAllowed, alone, width, nid_bg, nid_c}
 use Rattle.etcs_bits.specs.declared.variables.direction.Dir.{Dir}
 use Rattle.etcs_profile.specs.Elements.{elements, profile_struct}
 use Rattle.etcs_profile.specs.Gradient.{d_gradient, g_a, gradient_element as gradient_layout, gradient_struct}

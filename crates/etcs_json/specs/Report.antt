@@ -2,7 +2,8 @@
 -- standard names its variable, in small letters. The standard has the identity of a group as one
 -- variable, NID_LRBG or NID_PRVLRBG. Here its country and its number are two keys. Keys are in the order
 -- in which they are looked for.
-use Rattle.etcs_schema.specs.Prelude.{◌≡◌, ◌+◌, ◌*◌, ◌/◌, ◌<◌, ◌==◌, ◌⊎◌, ℕ, true, List, [], ◌∷◌, codes, refl, inl, inr, arith, AreAllowed, alone, plain, nid_bg, nid_c}
+use Rattle.std.specs.Prelude.{◌≡◌, ◌+◌, ◌*◌, ◌/◌, ◌<◌, ◌==◌, ◌⊎◌, ℕ, true, List, [], ◌∷◌, codes, refl}
+use Rattle.etcs_schema.specs.Prelude.{inl, inr, arith, AreAllowed, alone, plain, nid_bg, nid_c}
 use Rattle.etcs_bits.specs.declared.variables.identity.Identity.{Identity}
 use Rattle.etcs_bits.specs.variables.Identity.{identity as identity_layout, identity_struct}
 use Rattle.etcs_radio.specs.Integrity.{length_numbered, q_length}

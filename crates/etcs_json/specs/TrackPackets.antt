@@ -1,5 +1,6 @@
 -- The form of a packet from track to train, by its number (SUBSET-026, 7.4.2).
-use Rattle.etcs_schema.specs.Prelude.{◌++◌, codes, length, refl, AreAllowed, alone, ranged}
+use Rattle.std.specs.Prelude.{◌++◌, codes, length, refl}
+use Rattle.etcs_schema.specs.Prelude.{AreAllowed, alone, ranged}
 use Rattle.etcs_packet.specs.PacketNumbers.{is_kept_number, nid_track}
 use Rattle.etcs_packet.specs.Raw.{other_of, others as other_bits, raw_packet as raw_layout}
 use Rattle.etcs_packet.specs.Track.{NumberedTrackPacket, again, parts_of, track_of}

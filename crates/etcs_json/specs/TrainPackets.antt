@@ -1,5 +1,6 @@
 -- The form of a packet from train to track (SUBSET-026, 7.4.3). NID_PACKET decides it.
-use Rattle.etcs_schema.specs.Prelude.{◌++◌, codes, length, refl, AreAllowed, alone, ranged}
+use Rattle.std.specs.Prelude.{◌++◌, codes, length, refl}
+use Rattle.etcs_schema.specs.Prelude.{AreAllowed, alone, ranged}
 use Rattle.etcs_packet.specs.PacketNumbers.{nid_track as nid_train}
 use Rattle.etcs_radio.specs.RawTrain.{other_of, others as other_bits, raw_train_packet as raw_layout}
 use Rattle.etcs_radio.specs.TrainNumbers.{is_kept_number}

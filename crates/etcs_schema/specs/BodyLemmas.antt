@@ -1,5 +1,6 @@
 -- The text of a body is read as that body again.
-use Rattle.etcs_schema.specs.Prelude.{◌≡◌, ◌∙◌, ℕ, zero, suc, ◌-◌, ◌*◌, ◌^◌, ◌<◌, ◌≤◌, ◌==◌, Bool, true, false, List, ◌++◌, length, take, drop, replicate, Ok, refl, sym, ap, ap₂, subst, arith, eq-eqb, string}
+use Rattle.std.specs.Prelude.{◌≡◌, ℕ, zero, suc, ◌-◌, ◌*◌, ◌^◌, ◌<◌, ◌≤◌, ◌==◌, Bool, true, false, List, ◌++◌, length, take, drop, replicate, Ok, refl}
+use Rattle.etcs_schema.specs.Prelude.{◌∙◌, sym, ap, ap₂, subst, arith, eq-eqb, string}
 use Rattle.std.proofs.lemmas.List.{drop_at, length-append, length-drop, length-replicate, length-take, length-take-le, nil_from_length, take_at, take-append-drop}
 use Rattle.std.proofs.Math.Pow.{pow_mono}
 use Rattle.std.proofs.lemmas.Nat.{pow_pos}

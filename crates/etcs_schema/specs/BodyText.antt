@@ -1,6 +1,7 @@
 -- The text of a packet's body. Zeros after the last bit fill the body up to a whole byte. Then each
 -- byte is two hexadecimal digits: lower case is written, and either case is read.
-use Rattle.etcs_schema.specs.Prelude.{ℕ, zero, suc, ◌+◌, ◌-◌, ◌*◌, ◌/◌, ◌==◌, ◌&&◌, Bool, false, List, [], ◌∷◌, ◌++◌, length, take, drop, replicate, Option, Some, None, Result, Ok, Err, if◌then◌else◌, Data, as_str}
+use Rattle.std.specs.Prelude.{ℕ, zero, suc, ◌+◌, ◌-◌, ◌*◌, ◌/◌, ◌==◌, ◌&&◌, Bool, false, List, [], ◌∷◌, ◌++◌, length, take, drop, replicate, Option, Some, None, Result, Ok, Err, if◌then◌else◌}
+use Rattle.etcs_schema.specs.Prelude.{Data, as_str}
 use Rattle.hex.specs.Hex.{decode_of, encode_lower}
 use Rattle.hex.specs.declared.error.FromHexError.{FromHexError}
 use Rattle.etcs_bits.specs.bits.Number.{bits_of_bytes, num_of_bits}

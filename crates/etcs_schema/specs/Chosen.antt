@@ -1,6 +1,7 @@
 -- Values that a number distinguishes, such as packets by NID_PACKET. The number is looked at before any
 -- other key of the object, and decides the form of the whole object.
-use Rattle.etcs_schema.specs.Prelude.{is_itself, ◌≡◌, ℕ, ◌++◌, ◌==◌, ◌⊎◌, Bool, true, false, List, ◌∷◌, Option, Some, None, Result, Ok, Err, if◌then◌else◌, refl, ap, inl, inr, subst, sym, ◌∙◌, ne_eqb, true≢false, Data, Members, as_object, get, AreAllowed, IsAllowed, Row, Variable, alone, row}
+use Rattle.std.specs.Prelude.{◌≡◌, ℕ, ◌++◌, ◌==◌, ◌⊎◌, Bool, true, false, List, ◌∷◌, Option, Some, None, Result, Ok, Err, if◌then◌else◌, refl}
+use Rattle.etcs_schema.specs.Prelude.{is_itself, ap, inl, inr, subst, sym, ◌∙◌, ne_eqb, true≢false, Data, Members, as_object, get, AreAllowed, IsAllowed, Row, Variable, alone, row}
 use Rattle.etcs_bits.specs.layout.Choice.{either_allows, either_number, either_rows}
 use Rattle.etcs_schema.specs.Entries.{Entry, Holds, are_apart, object_of}
 use Rattle.etcs_schema.specs.EntryLemmas.{object_holds}

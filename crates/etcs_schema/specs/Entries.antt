@@ -1,5 +1,6 @@
 -- The members of an object as a list of keys, each with its value or none, in any order.
-use Rattle.etcs_schema.specs.Prelude.{◌≡◌, ◌&&◌, ℕ, Bool, true, not, List, [], ◌∷◌, Option, Some, None, list_any, Data, Members, member, no_members, object, put, get}
+use Rattle.std.specs.Prelude.{◌≡◌, ◌&&◌, ℕ, Bool, true, not, List, [], ◌∷◌, Option, Some, None}
+use Rattle.etcs_schema.specs.Prelude.{list_any, Data, Members, member, no_members, object, put, get}
 use Rattle.std.specs.Str.{bytes_eq}
 
 -- a key, and its value; None where the key is left out

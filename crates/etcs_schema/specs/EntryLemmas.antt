@@ -1,5 +1,6 @@
 -- An object of entries with different keys has each of them, and no other key.
-use Rattle.etcs_schema.specs.Prelude.{◌≡◌, ◌∙◌, ◌++◌, ℕ, Bool, true, false, List, [], ◌∷◌, Option, Some, None, Ordering, Less, Equal, Greater, nat_cmp, bytes_eq, not, refl, sym, ap, and_parts, and_from, or_parts, or_left, or_right, true≢false, Data, Members, member, no_members, object, put, get_member}
+use Rattle.std.specs.Prelude.{◌≡◌, ◌++◌, ℕ, Bool, true, false, List, [], ◌∷◌, Option, Some, None, not, refl}
+use Rattle.etcs_schema.specs.Prelude.{◌∙◌, Ordering, Less, Equal, Greater, nat_cmp, bytes_eq, sym, ap, and_parts, and_from, or_parts, or_left, or_right, true≢false, Data, Members, member, no_members, object, put, get_member}
 use Rattle.std.proofs.lemmas.Slice.Eq.{bytes_eq-Decides}
 use Rattle.std.specs.Cmp.Lexicographic.{slice_cmp}
 use Rattle.std.specs.Ordering.{match_ordering}

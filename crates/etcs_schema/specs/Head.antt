@@ -1,6 +1,7 @@
 -- What packets have in common: their number, and those from track to train mostly Q_DIR, and Q_SCALE before
 -- distances (SUBSET-026, 7.4).
-use Rattle.etcs_schema.specs.Prelude.{◌≡◌, ◌++◌, ◌<◌, ◌≤◌, ◌==◌, not, ℕ, true, List, codes, ◌∙◌, refl, ap, sym, arith, and_from, le-leb, lt-ltb, true≢false, body_rows, pair_rows, Row, alone, q_dir, q_scale, only, ranged}
+use Rattle.std.specs.Prelude.{◌≡◌, ◌++◌, ◌<◌, ◌≤◌, ◌==◌, not, ℕ, true, List, codes, refl}
+use Rattle.etcs_schema.specs.Prelude.{◌∙◌, ap, sym, arith, and_from, le-leb, lt-ltb, true≢false, body_rows, pair_rows, Row, alone, q_dir, q_scale, only, ranged}
 use Rattle.etcs_bits.specs.declared.layout.fault.FaultKind.TheVariants.{Spare}
 use Rattle.etcs_schema.specs.Chosen.{BehindNumber, with_number}
 use Rattle.etcs_schema.specs.Shape.{Object, Part, closed, key, sized, unstated, whole, ◌then◌}

@@ -1,6 +1,7 @@
 -- The variables of a layout as members of an object, each at a key of its own. Keys that are left where the
 -- layout ends must not be there: NID_NTC stands in the object exactly where it stands in the bits.
-use Rattle.etcs_schema.specs.Prelude.{◌≡◌, ℕ, Bool, true, false, List, [], ◌∷◌, Option, Result, Ok, Err, if◌then◌else◌, drop, option_map, refl, slice_get, ap, sym, ◌∙◌, Data, AreRowsOf, Fields, nothing, field, ◌▹◌, sized, Format, AreAllowed, Row, row}
+use Rattle.std.specs.Prelude.{◌≡◌, ℕ, Bool, true, false, List, [], ◌∷◌, Option, Result, Ok, Err, if◌then◌else◌, drop, option_map, refl}
+use Rattle.etcs_schema.specs.Prelude.{slice_get, ap, sym, ◌∙◌, Data, AreRowsOf, Fields, nothing, field, ◌▹◌, sized, Format, AreAllowed, Row, row}
 use Rattle.etcs_schema.specs.Entries.{Entry, Holds, keys_of}
 use Rattle.etcs_schema.specs.Fault.{Fault, Range, here}
 use Rattle.etcs_schema.specs.Reading.{◌>>=◌, allowed_number, at_key, no_key, unwanted_or}

@@ -1,5 +1,6 @@
 -- Lists of any number of items, and records that may still be refused once they are read.
-use Rattle.etcs_schema.specs.Prelude.{◌≡◌, ◌++◌, Bool, true, false, List, Option, Some, None, Result, Ok, Err, flat_map, Data, Items, array, as_array, AreAllowed, Row, alone}
+use Rattle.std.specs.Prelude.{◌≡◌, ◌++◌, Bool, true, false, List, Option, Some, None, Result, Ok, Err}
+use Rattle.etcs_schema.specs.Prelude.{flat_map, Data, Items, array, as_array, AreAllowed, Row, alone}
 use Rattle.etcs_bits.specs.declared.layout.fault.FaultKind.TheVariants.{Spare}
 use Rattle.etcs_schema.specs.Fault.{Fault, Kind, here}
 use Rattle.etcs_schema.specs.Reading.{data_list, items_at}

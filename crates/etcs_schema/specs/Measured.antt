@@ -1,6 +1,7 @@
 -- L_PACKET and the body that it counts (SUBSET-026, 7.4.1): members of the form of a packet whose
 -- layout is not known.
-use Rattle.etcs_schema.specs.Prelude.{◌≡◌, ◌+◌, ◌-◌, ◌^◌, ◌&&◌, ℕ, Bool, List, [], ◌∷◌, Some, Result, Ok, codes, length, ltb, nat_le, refl, ap, ◌∙◌, arith, Data, string, l_kept, kept_bits, AreAllowed}
+use Rattle.std.specs.Prelude.{◌≡◌, ◌+◌, ◌-◌, ◌^◌, ◌&&◌, ℕ, Bool, List, [], ◌∷◌, Some, Result, Ok, codes, length, ltb, nat_le, refl}
+use Rattle.etcs_schema.specs.Prelude.{ap, ◌∙◌, arith, Data, string, l_kept, kept_bits, AreAllowed}
 use Rattle.etcs_schema.specs.BodyText.{body_of, body_text}
 use Rattle.etcs_schema.specs.BodyLemmas.{body_again}
 use Rattle.etcs_schema.specs.Entries.{Holds}

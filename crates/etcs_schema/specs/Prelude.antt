@@ -1,5 +1,4 @@
 -- The words of lower libraries that most files of this folder use.
-pub use Rattle.std.specs.Prelude.{map, ◌≡◌, ◌⊎◌, true, codes, refl, ℕ, zero, suc, ◌-◌, ◌*◌, ◌^◌, ◌<◌, ◌≤◌, ◌==◌, Bool, false, List, ◌++◌, length, take, drop, replicate, Ok, ◌+◌, ◌/◌, ◌&&◌, [], ◌∷◌, Option, Some, None, Result, Err, if◌then◌else◌, not, option_map, ltb, nat_le, option_and_then, ◌||◌, nat_lt, is_some}
 pub use Rattle.std.proofs.Common.{inl, inr, ◌∙◌, sym, ap, ap₂, subst, arith, Ordering, Less, Equal, Greater, nat_cmp, bytes_eq, append_assoc, append-nil}
 pub use Rattle.std.specs.List.{list_any, slice_get, flat_map}
 pub use Rattle.std.proofs.lemmas.Bool.{eq-eqb, ne_eqb, true≢false, and_parts, and_from, or_parts, or_left, or_right, le-leb, lt-ltb}

@@ -1,5 +1,6 @@
 -- How a value is read as a record: one part after the other, up to the first fault.
-use Rattle.etcs_schema.specs.Prelude.{◌&&◌, ◌+◌, ℕ, Bool, List, [], ◌∷◌, length, Option, Some, None, Result, Ok, Err, if◌then◌else◌, nat_le, option_and_then, Data, Items, item, no_items, Members, get, as_object, as_array, as_number, as_u64}
+use Rattle.std.specs.Prelude.{◌&&◌, ◌+◌, ℕ, Bool, List, [], ◌∷◌, length, Option, Some, None, Result, Ok, Err, if◌then◌else◌, nat_le, option_and_then}
+use Rattle.etcs_schema.specs.Prelude.{Data, Items, item, no_items, Members, get, as_object, as_array, as_number, as_u64}
 use Rattle.etcs_schema.specs.Entries.{are_known}
 use Rattle.etcs_schema.specs.Fault.{Fault, Missing, Unknown, Kind, Range, key, list_item, at_once, here, under}
 

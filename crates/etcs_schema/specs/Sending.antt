@@ -1,6 +1,7 @@
 -- What is written of a value: the tokens of its text, behind the tokens that stand there. An object's
 -- members are written in the byte order of their keys.
-use Rattle.etcs_schema.specs.Prelude.{◌≡◌, ◌++◌, ℕ, List, [], ◌∷◌, map, Option, Some, None, Data}
+use Rattle.std.specs.Prelude.{◌≡◌, ◌++◌, ℕ, List, [], ◌∷◌, map, Option, Some, None}
+use Rattle.etcs_schema.specs.Prelude.{Data}
 use Rattle.std.specs.Cmp.Lexicographic.{slice_cmp}
 use Rattle.std.specs.Ordering.{nat_cmp, match_ordering}
 use Rattle.json.specs.Token.{Token, key}

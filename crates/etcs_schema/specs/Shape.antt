@@ -1,6 +1,7 @@
 -- The JSON form of a value in one value: what it is written as, what is read, and that what was written is read
 -- as the value that it was, if the rows of its bits are allowed.
-use Rattle.etcs_schema.specs.Prelude.{is_itself, ◌≡◌, ◌≤◌, ◌+◌, ◌++◌, ◌==◌, ℕ, Bool, true, List, [], ◌∷◌, length, Option, Some, None, Result, Ok, Err, if◌then◌else◌, refl, flat_map, ap, ◌∙◌, arith, and_from, le-leb, Data, Items, item, no_items, array, number, unsigned, body_rows, counted_rows, option_rows, pair_rows, l_packet, AreAllowed, Row, Variable, alone, width}
+use Rattle.std.specs.Prelude.{◌≡◌, ◌≤◌, ◌+◌, ◌++◌, ◌==◌, ℕ, Bool, true, List, [], ◌∷◌, length, Option, Some, None, Result, Ok, Err, if◌then◌else◌, refl}
+use Rattle.etcs_schema.specs.Prelude.{is_itself, flat_map, ap, ◌∙◌, arith, and_from, le-leb, Data, Items, item, no_items, array, number, unsigned, body_rows, counted_rows, option_rows, pair_rows, l_packet, AreAllowed, Row, Variable, alone, width}
 use Rattle.etcs_bits.specs.layout.RowLemmas.{allowed_first, allowed_second}
 use Rattle.etcs_bits.specs.layout.Struct.{Struct}
 use Rattle.etcs_schema.specs.Entries.{Entry, keys_of, object_of, are_apart, Holds}

@@ -1,5 +1,6 @@
 -- Members that are taken one after the other: by a writer of JSON, and by an object in memory.
-use Rattle.etcs_schema.specs.Prelude.{◌≡◌, ◌∙◌, ◌++◌, List, [], ◌∷◌, refl, ap, sym, append_assoc, append-nil, Members}
+use Rattle.std.specs.Prelude.{◌≡◌, ◌++◌, List, [], ◌∷◌, refl}
+use Rattle.etcs_schema.specs.Prelude.{◌∙◌, ap, sym, append_assoc, append-nil, Members}
 use Rattle.json.specs.Token.{Token}
 use Rattle.json.specs.Written.{Written}
 use Rattle.etcs_schema.specs.Entries.{Entry, members_onto, put_or}

@@ -1,5 +1,6 @@
 -- The variables of the standard as whole numbers of JSON (SUBSET-026, 7.5.1).
-use Rattle.etcs_schema.specs.Prelude.{◌≡◌, ℕ, ◌^◌, ◌&&◌, Bool, true, false, Ok, ltb, refl, and_from, lt-ltb, Fields, field, AreAllowed, IsAllowed, Variable, alone, row, dir_number, dir_variable, dup_number, duplicate_variable, plain, scale_number, scale_variable, version_number, version_variable}
+use Rattle.std.specs.Prelude.{◌≡◌, ℕ, ◌^◌, ◌&&◌, Bool, true, false, Ok, ltb, refl}
+use Rattle.etcs_schema.specs.Prelude.{and_from, lt-ltb, Fields, field, AreAllowed, IsAllowed, Variable, alone, row, dir_number, dir_variable, dup_number, duplicate_variable, plain, scale_number, scale_variable, version_number, version_variable}
 use Rattle.etcs_bits.specs.bits.Number.{worth}
 use Rattle.etcs_bits.specs.declared.layout.fault.FaultKind.TheVariants.{Spare}
 use Rattle.etcs_bits.specs.declared.variables.direction.Dir.{Dir}

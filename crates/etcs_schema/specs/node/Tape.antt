@@ -1,5 +1,6 @@
 -- What the tokens of a tape stand for.
-use Rattle.etcs_schema.specs.Prelude.{◌+◌, ◌-◌, ℕ, Bool, true, false, List, [], ◌∷◌, length, Option, Some, None, nat_lt, option_map, option_and_then, is_some, if◌then◌else◌, Data, Items, null, as_array}
+use Rattle.std.specs.Prelude.{◌+◌, ◌-◌, ℕ, Bool, true, false, List, [], ◌∷◌, length, Option, Some, None, nat_lt, option_map, option_and_then, is_some, if◌then◌else◌}
+use Rattle.etcs_schema.specs.Prelude.{Data, Items, null, as_array}
 use Rattle.json.specs.Token.{Token, begin_object, end_object, begin_array, end_array, key, string, number, boolean, bad}
 use Rattle.json.specs.Token as token
 use Rattle.json.specs.Json.{value}
