@@ -229,7 +229,7 @@ def test_e10_names_the_longest_stretch(program: Program, tmp_path: Path) -> None
         change(rows, "Signal 1", YELLOW, 27)["elements"] = [*wrong, *others]
 
     (one,) = found(program, tmp_path / "t.csv", "E10", parted)
-    assert (one.values["begin_m"], one.values["end_m"], one.values["value_1"]) == (500, 1700, 130)
+    assert [int(one.values[name]) for name in ("begin_m", "end_m", "value_1")] == [500, 1700, 130]
     assert "; they differ on 1 other stretch too; " in one.sentence
 
 
