@@ -22,8 +22,7 @@ from balisekit.present import headings
 from balisekit.rules import families
 from balisekit.rules.accepted import COLUMNS, ON_CORRECT_DATA
 from balisekit.rules.links import RULES
-from balisekit.rules.rule import Rule
-from balisekit.rules.urgency import Urgency
+from balisekit.rules.rule import Rule, Urgency
 
 Write = Callable[..., Path]
 Form = Any

@@ -36,8 +36,7 @@ from balisekit.engine.program import Program
 from balisekit.rules import checking, links, meaning
 from balisekit.rules.chainage import Jump
 from balisekit.rules.line import Line as LineOfTable
-from balisekit.rules.rule import ALL, Options, Remark, Result
-from balisekit.rules.urgency import Urgency
+from balisekit.rules.rule import ALL, Options, Remark, Result, Urgency
 from balisekit.tables import messages as messages_file, plan as plan_file, reader
 
 ASKED = Options(asked=frozenset({ALL}))
@@ -655,7 +654,11 @@ def test_a_finding_may_be_the_cause(run: Run, program: Program, tmp_path: Path) 
 
 @pytest.mark.parametrize(
     "group, speed, named",
-    [("Signal 4", 100, {"E10": "E2", "E15": "E2"}), ("Signal 4", 4, {"E15": "E10"}), ("Infill of Signal 4", 100, {"E15": "E2"})],
+    [
+        ("Signal 4", 100, {"E10": "E2", "E15": "E2"}),
+        ("Signal 4", 4, {"E15": "E10"}),
+        ("Infill of Signal 4", 100, {"E15": "E2"}),
+    ],
 )
 def test_one_field_may_be_the_cause(
     run: Run, program: Program, tmp_path: Path, group: str, speed: int, named: Dict[str, str]

@@ -24,8 +24,7 @@ from meaning_mistakes_of_groups import (
 from test_meaning import remarks, written
 
 from balisekit.engine.program import Program
-from balisekit.rules.rule import Options, Remark
-from balisekit.rules.urgency import Urgency
+from balisekit.rules.rule import Options, Remark, Urgency
 from balisekit.tables import plan as plan_file
 
 PROFILES = "21 (gradient profile), 27 (international static speed profile)"
@@ -215,7 +214,8 @@ def test_e10(program: Program, tmp_path: Path) -> None:
     ]
     assert made[0].sentence == (
         f'from 0 m to 1700 m from the group (km 10.000 to km 11.700), "yellow", row {row_of(1, YELLOW)}, has V_STATIC '
-        f'120 km/h [24], and "green", row {row_of(1, GREEN)}, has V_STATIC 100 km/h [20]; "yellow" differs from "red" too'
+        f'120 km/h [24], and "green", row {row_of(1, GREEN)}, has V_STATIC 100 km/h [20]; '
+        '"yellow" differs from "red" too'
     )
 
 
@@ -229,7 +229,7 @@ def test_e10_names_the_longest_stretch(program: Program, tmp_path: Path) -> None
         change(rows, "Signal 1", YELLOW, 27)["elements"] = [*wrong, *others]
 
     (one,) = found(program, tmp_path / "t.csv", "E10", parted)
-    assert (one.values["begin_m"], one.values["end_m"], one.values["value_1"]) == (500, 1700, 130)
+    assert [int(one.values[name]) for name in ("begin_m", "end_m", "value_1")] == [500, 1700, 130]
     assert "; they differ on 1 other stretch too; " in one.sentence
 
 

@@ -7,7 +7,7 @@ from typing import Dict, Iterable, Iterator, List, Sequence
 from balisekit.etcs.raw_layouts import layout_of
 from balisekit.rules.checking import Checked, Place
 from balisekit.rules.entries import Entry, entry_of, track_of
-from balisekit.rules.urgency import Urgency
+from balisekit.rules.rule import Urgency
 from balisekit.tables.names import clean, counted, describe_message, kilometre, quoted, rows_words
 
 URGENCIES: Dict[Urgency, str] = {

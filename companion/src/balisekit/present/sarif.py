@@ -24,7 +24,7 @@ from balisekit.present.refusals import message_refused, refused
 from balisekit.rules.accepted import keys
 from balisekit.rules.entries import Entry
 from balisekit.rules.families import PROVED, Outcome, items_of
-from balisekit.rules.urgency import Urgency
+from balisekit.rules.rule import Urgency
 from balisekit.tables.lines import lines_of_rows
 from balisekit.tables.names import clean
 

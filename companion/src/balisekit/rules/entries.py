@@ -10,9 +10,8 @@ from typing import Any, Collection, Dict, List, Mapping, NamedTuple, Optional, S
 
 from balisekit.rules.causes import Cause, causes
 from balisekit.rules.checking import Checked, Place
-from balisekit.rules.rule import Remark
+from balisekit.rules.rule import Remark, Urgency
 from balisekit.rules.statements.scene import BaliseName
-from balisekit.rules.urgency import Urgency
 from balisekit.tables.model import Group, Message, Row
 
 

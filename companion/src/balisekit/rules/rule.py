@@ -7,6 +7,7 @@ from __future__ import annotations
 from collections import Counter
 from dataclasses import dataclass
 from decimal import Decimal
+from enum import IntEnum
 from functools import cached_property
 from typing import Callable, Dict, FrozenSet, Iterator, List, Mapping, NamedTuple, Optional, Sequence, Tuple, Union
 
@@ -14,7 +15,6 @@ from balisekit.rules.chainage import Jump
 from balisekit.rules.line import Line
 from balisekit.rules.location import BaliseGroup, Location
 from balisekit.rules.passages import Chain
-from balisekit.rules.urgency import Urgency
 from balisekit.tables.model import Row
 from balisekit.tables.plan import Plan
 
@@ -29,6 +29,19 @@ LINE_SPEED, RELEASE_SPEED = 350, 40
 
 Field = Tuple[int, int, str, Optional[int]]
 """A field of a telegram: its row, the place of its packet, its key, and which element it is of, counted from 0."""
+
+
+class Urgency(IntEnum):
+    """What may follow at worst, the gravest first."""
+
+    WRONG_INFORMATION = 1
+    """A train may go by information that is wrong, is not for it or does not reach far enough."""
+    WRONG_PLACE = 2
+    """A train may believe itself to be somewhere else."""
+    BRAKING = 3
+    """A train may brake or be tripped without need."""
+    RULE_ONLY = 4
+    """No effect on a train is known; a rule of the standard or of this project is broken."""
 
 
 @dataclass(frozen=True)

@@ -1,10 +1,11 @@
 """The rules L1 to L9: what the groups of a line say of each other, against the kilometres of the table."""
 from __future__ import annotations
 
-from typing import Sequence
+from collections import Counter
+from typing import Iterator, Sequence, Tuple
 
 from balisekit.rules.applied import Applied, look_for
-from balisekit.rules.line import Line
+from balisekit.rules.line import BY_LINKS, Line
 from balisekit.rules.links.l1_unknown_group import RULE as L1
 from balisekit.rules.links.l2_distance import RULE as L2
 from balisekit.rules.links.l3_orientation import RULE as L3
@@ -14,11 +15,17 @@ from balisekit.rules.links.l6_unknown_identity import RULE as L6
 from balisekit.rules.links.l7_open_profile import RULE as L7
 from balisekit.rules.links.l8_late_profile import RULE as L8
 from balisekit.rules.links.l9_passed_over import RULE as L9
-from balisekit.rules.links.notes import notes_on
+from balisekit.rules.location import BaliseGroup
 from balisekit.rules.rule import Options, Rule
+from balisekit.tables.names import clean, describe_group
 
 RULES = (L1, L2, L3, L4, L5, L6, L7, L8, L9)
 __all__ = ["L2", "RULES", "Links", "compare", "notes_on"]
+SHOWN = 20
+"""So many notes with one reason are written, and the others are counted."""
+INFILL = "its distances count from the group of packet 136, and are not compared"
+Note = Tuple[str, str]
+"""What it is about, and the reason."""
 
 
 Links = Applied
@@ -28,3 +35,42 @@ Links = Applied
 def compare(line: Line, options: Options = Options(), rules: Sequence[Rule] = RULES) -> Links:
     """Looks for these rules in a line."""
     return look_for(line, options, rules, notes_on)
+
+
+def notes_on(line: Line) -> Iterator[str]:
+    """Notes on groups, and on packets 5."""
+    counted: Counter[str] = Counter()
+    for about, why in _all(line):
+        counted[why] += 1
+        if counted[why] <= SHOWN:
+            yield f"{about}: {why}"
+    yield from (f"and {count - SHOWN} more: {why}" for why, count in counted.items() if count > SHOWN)
+
+
+def _all(line: Line) -> Iterator[Note]:
+    for group in line.groups:
+        why = _lacks(group)
+        if why:
+            yield describe_group(group.group), why
+        first = line.passages.by_identity.get(group.identity) if group.identity else None
+        if first is not None and first.number != group.number:
+            why = f"{clean(first.group.name)} has its identity too, and links are taken for that one"
+            yield describe_group(group.group), why
+    yield from ((str(chain.location), INFILL) for chain in line.passages.infill_chains)
+    for chain in line.chains:
+        if chain.sender is None:
+            yield str(chain.location), "its group is not in the table, and its distances are not compared"
+
+
+def _lacks(group: BaliseGroup) -> str:
+    if group.identity is None:
+        return "no telegram of it could be read, so its identity is not known: L1 may be about it"
+    if group.km is None:
+        return "it has no kilometre: L2 and L9 are not looked for"
+    if group.rising is None:
+        differ = ", as the links that name it disagree" if group.links_differ else ""
+        return (
+            f"its direction along the kilometres is not known{differ}: L3 is not looked for, and L2 takes it from the "
+            "first link; write rising or falling in the column nominal"
+        )
+    return BY_LINKS if group.by_links else ""

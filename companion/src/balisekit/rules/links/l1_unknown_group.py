@@ -31,8 +31,7 @@ from typing import Dict, Iterator, List, Mapping, Optional, Set, Tuple, Union
 from balisekit.rules.line import Line
 from balisekit.rules.location import BaliseGroup, Identity, incomparable
 from balisekit.rules.passages import Chain, Link
-from balisekit.rules.rule import Options, Remark, Result, Rule
-from balisekit.rules.urgency import Urgency
+from balisekit.rules.rule import Options, Remark, Result, Rule, Urgency
 from balisekit.tables.names import describe_identity, kilometre, listed, quoted
 
 NAMED = 3

@@ -36,8 +36,7 @@ from balisekit.rules.line import Line
 from balisekit.rules.link_steps import jumps_of, steps_of
 from balisekit.rules.location import BaliseGroup, incomparable
 from balisekit.rules.passages import Chain
-from balisekit.rules.rule import Options, Remark, Result, Rule
-from balisekit.rules.urgency import Urgency
+from balisekit.rules.rule import Options, Remark, Result, Rule, Urgency
 
 DECIMETRES = 10_000
 """In a kilometre."""

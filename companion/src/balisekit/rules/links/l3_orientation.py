@@ -29,8 +29,7 @@ from balisekit.etcs.geometry import NOMINAL, REVERSE
 from balisekit.rules.line import Line
 from balisekit.rules.location import ANOTHER_TRACK, NOT_IN_TABLE
 from balisekit.rules.passages import Chain
-from balisekit.rules.rule import Options, Remark, Result, Rule
-from balisekit.rules.urgency import Urgency
+from balisekit.rules.rule import Options, Remark, Result, Rule, Urgency
 
 
 def find(line: Line, options: Options) -> Result:

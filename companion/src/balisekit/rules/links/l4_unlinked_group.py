@@ -24,8 +24,7 @@ from typing import Dict, Mapping, Optional
 from balisekit.rules.line import AFTER_INFILL, Line
 from balisekit.rules.location import BaliseGroup, Location
 from balisekit.rules.passages import Chain
-from balisekit.rules.rule import Options, Remark, Result, Rule
-from balisekit.rules.urgency import Urgency
+from balisekit.rules.rule import Options, Remark, Result, Rule, Urgency
 from balisekit.tables.names import clean, describe_message, listed
 
 NAMED = 3

@@ -23,8 +23,7 @@ from __future__ import annotations
 
 from balisekit.etcs.packets import packet_name
 from balisekit.rules.line import Line
-from balisekit.rules.rule import REFUSED, Options, Remark, Result, Rule
-from balisekit.rules.urgency import Urgency
+from balisekit.rules.rule import REFUSED, Options, Remark, Result, Rule, Urgency
 
 
 def find(line: Line, options: Options) -> Result:

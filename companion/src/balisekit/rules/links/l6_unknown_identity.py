@@ -19,8 +19,7 @@ Example. The balise of group D has NID_BG 16,383.
 from __future__ import annotations
 
 from balisekit.rules.line import Line
-from balisekit.rules.rule import REFUSED, Options, Remark, Result, Rule
-from balisekit.rules.urgency import Urgency
+from balisekit.rules.rule import REFUSED, Options, Remark, Result, Rule, Urgency
 
 
 def find(line: Line, options: Options) -> Result:

@@ -28,8 +28,7 @@ from typing import Iterator, Sequence
 from balisekit.etcs.variables import metres
 from balisekit.rules.line import Line
 from balisekit.rules.passages import PROFILES, Profile
-from balisekit.rules.rule import Options, Remark, Result, Rule
-from balisekit.rules.urgency import Urgency
+from balisekit.rules.rule import Options, Remark, Result, Rule, Urgency
 from balisekit.tables.names import listed
 
 NAMED = 5

@@ -32,8 +32,7 @@ from typing import Dict, Iterator, List, Optional, Sequence, Set, Tuple, Union
 from balisekit.rules.line import Line
 from balisekit.rules.location import BaliseGroup, incomparable
 from balisekit.rules.passages import Chain
-from balisekit.rules.rule import Options, Remark, Result, Rule
-from balisekit.rules.urgency import Urgency
+from balisekit.rules.rule import Options, Remark, Result, Rule, Urgency
 from balisekit.tables.names import listed
 
 NAMED = 3

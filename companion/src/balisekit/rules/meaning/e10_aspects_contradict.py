@@ -35,8 +35,7 @@ from balisekit.rules.meaning.along import leaves
 from balisekit.rules.meaning.sent import by_culprit, contrary, distance, field_at, speed, tolerance
 from balisekit.rules.meaning.siblings import common_reach
 from balisekit.rules.meaning.words import between, more_stretches
-from balisekit.rules.rule import Options, Remark, Result, Rule
-from balisekit.rules.urgency import Urgency
+from balisekit.rules.rule import Options, Remark, Result, Rule, Urgency
 from balisekit.tables.names import listed, quoted, rows_words
 
 STEEPER = 5

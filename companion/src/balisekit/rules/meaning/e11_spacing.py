@@ -30,8 +30,7 @@ from typing import Dict, Iterator, List, Tuple
 
 from balisekit.rules.line import Line
 from balisekit.rules.location import BaliseGroup, Location
-from balisekit.rules.rule import Options, Remark, Result, Rule
-from balisekit.rules.urgency import Urgency
+from balisekit.rules.rule import Options, Remark, Result, Rule, Urgency
 from balisekit.tables.model import Row
 from balisekit.tables.names import kilometre
 

@@ -37,8 +37,7 @@ from balisekit.rules.decoded import Decoded, GroupData, allowance
 from balisekit.rules.line import Line
 from balisekit.rules.meaning.along import End, Lane, ends_of, extents_of, lane_of, leaves, names_of
 from balisekit.rules.meaning.words import at_place, merged, source
-from balisekit.rules.rule import Options, Remark, Result, Rule
-from balisekit.rules.urgency import Urgency
+from balisekit.rules.rule import Options, Remark, Result, Rule, Urgency
 
 NOWHERE = (1, 0)
 NEAR, STANDS, ALONE = 2000, 500, 200

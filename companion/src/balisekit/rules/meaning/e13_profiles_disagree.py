@@ -37,8 +37,7 @@ from balisekit.rules.meaning.along import leaves
 from balisekit.rules.meaning.profiles import Piece, Profiles, lanes_of, longest_difference, pairs, pieces_of
 from balisekit.rules.meaning.sent import field_at
 from balisekit.rules.meaning.words import more_stretches, source
-from balisekit.rules.rule import Options, Remark, Result, Rule
-from balisekit.rules.urgency import Urgency
+from balisekit.rules.rule import Options, Remark, Result, Rule, Urgency
 
 
 @dataclass(frozen=True)

@@ -37,8 +37,7 @@ from balisekit.rules.line import Line
 from balisekit.rules.link_steps import Jump, Step, jumps_of, steps_of
 from balisekit.rules.links import l2_distance
 from balisekit.rules.meaning.words import balises_of
-from balisekit.rules.rule import Options, Remark, Result, Rule
-from balisekit.rules.urgency import Urgency
+from balisekit.rules.rule import Options, Remark, Result, Rule, Urgency
 
 LEAST, SHARE = 5, 5
 """So many links of a track, and more than one of so many, are counted in one note."""

@@ -40,8 +40,7 @@ from balisekit.rules.location import NOT_KNOWN, Identity
 from balisekit.rules.meaning.along import Extent, extents_of, lane_of
 from balisekit.rules.meaning.fields import fields_apart
 from balisekit.rules.meaning.words import merged, source
-from balisekit.rules.rule import Field, Options, Remark, Result, Rule
-from balisekit.rules.urgency import Urgency
+from balisekit.rules.rule import Field, Options, Remark, Result, Rule, Urgency
 from balisekit.tables.names import clean, describe_identity
 
 COMPARED = (12, 21, 27, 80)

@@ -33,10 +33,9 @@ from balisekit.etcs.geometry import DIRECTIONS
 from balisekit.rules.decoded import Decoded, GroupData, Packet
 from balisekit.rules.line import Line
 from balisekit.rules.location import BaliseGroup, Location
-from balisekit.rules.meaning.passed import Passed
+from balisekit.rules.meaning.along import Passed
 from balisekit.rules.passages import WITHOUT_DIRECTION, Chain, Link
-from balisekit.rules.rule import Options, Remark, Result, Rule
-from balisekit.rules.urgency import Urgency
+from balisekit.rules.rule import Options, Remark, Result, Rule, Urgency
 from balisekit.tables.names import rows_words
 
 REPOSITIONING = 16

@@ -37,8 +37,7 @@ from balisekit.rules.line import Line
 from balisekit.rules.location import NOT_KNOWN
 from balisekit.rules.meaning.along import End, Lane, Name, ends_of, lane_of, leaves, names_of
 from balisekit.rules.meaning.words import merged
-from balisekit.rules.rule import Options, Remark, Result, Rule
-from balisekit.rules.urgency import Urgency
+from balisekit.rules.rule import Options, Remark, Result, Rule, Urgency
 
 LESS = 500
 """In decimetres."""

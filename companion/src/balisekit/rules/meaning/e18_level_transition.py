@@ -37,8 +37,7 @@ from balisekit.rules.decoded import LEVELS, Decoded, Packet, Passage
 from balisekit.rules.line import Line
 from balisekit.rules.meaning.along import Lane, lane_of
 from balisekit.rules.meaning.words import at_place, merged, source
-from balisekit.rules.rule import Options, Remark, Result, Rule
-from balisekit.rules.urgency import Urgency
+from balisekit.rules.rule import Options, Remark, Result, Rule, Urgency
 
 BOTH_DIRECTIONS, NOW, NEAR = 2, 32_767, 5000
 """Q_DIR, D_LEVELTR for at once, and in decimetres how near two announcements of one transition are."""

@@ -34,8 +34,7 @@ from balisekit.rules.line import Line
 from balisekit.rules.meaning.both_ways import DOWN, UP, Both, joined, least, may_differ, steps
 from balisekit.rules.meaning.profiles import lanes_of
 from balisekit.rules.meaning.words import source
-from balisekit.rules.rule import Options, Remark, Result, Rule
-from balisekit.rules.urgency import Urgency
+from balisekit.rules.rule import Options, Remark, Result, Rule, Urgency
 
 LONG = 10_000
 """In decimetres: from which length on stretches count on which both ways go down."""

@@ -28,8 +28,7 @@ from balisekit.etcs.raw_layouts import layouts
 from balisekit.etcs.raw_packets import fault_of
 from balisekit.rules.line import Line
 from balisekit.rules.meaning.sent import Fault, located, remark, sent
-from balisekit.rules.rule import Options, Result, Rule
-from balisekit.rules.urgency import Urgency
+from balisekit.rules.rule import Options, Result, Rule, Urgency
 
 
 def find(line: Line, options: Options) -> Result:

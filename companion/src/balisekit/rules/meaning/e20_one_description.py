@@ -33,8 +33,7 @@ from balisekit.rules.location import NOT_KNOWN, BaliseGroup, Identity, Location
 from balisekit.rules.meaning.sent import Owner, located, sent
 from balisekit.rules.meaning.words import merged
 from balisekit.rules.passages import HOLDING
-from balisekit.rules.rule import Options, Remark, Result, Rule
-from balisekit.rules.urgency import Urgency
+from balisekit.rules.rule import Options, Remark, Result, Rule, Urgency
 from balisekit.tables.names import describe_identity, ordinal, rows_words
 
 

@@ -28,8 +28,7 @@ from balisekit.etcs.variables import Around, value_words
 from balisekit.rules.decoded import LEVELS, Decoded, Packet, Passage
 from balisekit.rules.line import Line
 from balisekit.rules.meaning.along import Lane, lane_of
-from balisekit.rules.rule import Options, Remark, Result, Rule
-from balisekit.rules.urgency import Urgency
+from balisekit.rules.rule import Options, Remark, Result, Rule, Urgency
 
 SESSION, CONDITIONAL, BY_RADIO = 42, 46, (3, 4)
 

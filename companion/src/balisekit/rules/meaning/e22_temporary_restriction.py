@@ -32,8 +32,7 @@ from balisekit.rules.decoded import Decoded, Packet, Passage
 from balisekit.rules.line import Line
 from balisekit.rules.meaning.along import lane_of
 from balisekit.rules.meaning.words import at_place, merged, source
-from balisekit.rules.rule import Options, Remark, Result, Rule
-from balisekit.rules.urgency import Urgency
+from balisekit.rules.rule import Options, Remark, Result, Rule, Urgency
 
 RESTRICTION, NOT_REVOCABLE, NEAR = 65, 255, 20_000
 """NID_PACKET, NID_TSR without an identity, and how near in decimetres two places of one restriction are."""

@@ -30,8 +30,7 @@ from typing import Dict, Iterator, List
 from balisekit.etcs.variables import Around, value_words
 from balisekit.rules.decoded import GroupData
 from balisekit.rules.line import Line
-from balisekit.rules.rule import Options, Remark, Result, Rule
-from balisekit.rules.urgency import Urgency
+from balisekit.rules.rule import Options, Remark, Result, Rule, Urgency
 
 
 def find(line: Line, options: Options) -> Result:

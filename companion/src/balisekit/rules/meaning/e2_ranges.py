@@ -32,8 +32,7 @@ from balisekit.etcs.variables import Form
 from balisekit.rules.decoded import GRADIENTS, SPEEDS, Packet, Passage
 from balisekit.rules.line import Line
 from balisekit.rules.meaning.sent import Fault, kmh, of_packets, remark, speed
-from balisekit.rules.rule import Options, Remark, Result, Rule
-from balisekit.rules.urgency import Urgency
+from balisekit.rules.rule import Options, Remark, Result, Rule, Urgency
 from balisekit.tables.names import ordinal
 
 GREATEST_SPEED, STEEPEST = 120, 40

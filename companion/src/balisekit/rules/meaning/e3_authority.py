@@ -35,8 +35,7 @@ from balisekit.etcs.variables import Form, metres
 from balisekit.rules.decoded import AUTHORITIES, Packet
 from balisekit.rules.line import Line
 from balisekit.rules.meaning.sent import Fault, distance, kmh, of_packets, speed
-from balisekit.rules.rule import Options, Result, Rule
-from balisekit.rules.urgency import Urgency
+from balisekit.rules.rule import Options, Result, Rule, Urgency
 from balisekit.tables.names import ordinal
 
 ENDLESS = 1023

@@ -34,8 +34,7 @@ from balisekit.etcs.variables import CANT, Form, Values
 from balisekit.rules.decoded import GRADIENTS, SPEEDS, Packet
 from balisekit.rules.line import Line
 from balisekit.rules.meaning.sent import Fault, kmh, of_packets, speed
-from balisekit.rules.rule import Options, Result, Rule
-from balisekit.rules.urgency import Urgency
+from balisekit.rules.rule import Options, Result, Rule, Urgency
 from balisekit.tables.names import ordinal
 
 CANT_DEFICIENCY = 0

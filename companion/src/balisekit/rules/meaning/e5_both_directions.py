@@ -37,8 +37,7 @@ from balisekit.rules.decoded import AUTHORITIES, LEVELS, Packet
 from balisekit.rules.line import Line
 from balisekit.rules.location import Location
 from balisekit.rules.meaning.sent import Owner, distance, located, sent
-from balisekit.rules.rule import Options, Remark, Result, Rule
-from balisekit.rules.urgency import Urgency
+from balisekit.rules.rule import Options, Remark, Result, Rule, Urgency
 
 WITH_DISTANCES = (5, 12, 15, 16, 21, 27, 39, 40, 51, 52, 65, 67, 68, 69, 70, 71, 80, 88, 131, 138)
 HERE = (0, 32_767)

@@ -31,8 +31,7 @@ from balisekit.etcs.packets import packet_name
 from balisekit.rules.decoded import LINKING, Packet, Passage
 from balisekit.rules.line import Line
 from balisekit.rules.meaning.sent import Fault, Owner, located, remark, sent
-from balisekit.rules.rule import Options, Remark, Result, Rule
-from balisekit.rules.urgency import Urgency
+from balisekit.rules.rule import Options, Remark, Result, Rule, Urgency
 from balisekit.tables.names import ordinal, rows_words
 
 COVER_MARKER = 0

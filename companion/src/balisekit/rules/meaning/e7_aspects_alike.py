@@ -32,8 +32,7 @@ from balisekit.rules.decoded import Decoded, GroupData, Packet, Telegram
 from balisekit.rules.line import Line
 from balisekit.rules.location import Location
 from balisekit.rules.meaning.along import End, ends_of, ends_the_line
-from balisekit.rules.rule import Options, Remark, Result, Rule
-from balisekit.rules.urgency import Urgency
+from balisekit.rules.rule import Options, Remark, Result, Rule, Urgency
 from balisekit.tables.model import Aspect
 from balisekit.tables.names import clean, listed, quoted
 

@@ -38,8 +38,7 @@ from balisekit.rules.decoded import GroupData, Packet, Passage
 from balisekit.rules.line import Line
 from balisekit.rules.location import Location
 from balisekit.rules.meaning.siblings import AUTHORITY, SIBLINGS, lacking_in, said_of, turned_in
-from balisekit.rules.rule import Options, Remark, Result, Rule
-from balisekit.rules.urgency import Urgency
+from balisekit.rules.rule import Options, Remark, Result, Rule, Urgency
 from balisekit.tables.names import listed, quoted
 
 STOP_IN_SR, DANGER_FOR_SH = 137, 132

@@ -30,10 +30,9 @@ from typing import Dict, Iterator, List, Optional, Sequence, Tuple
 
 from balisekit.etcs.variables import metres
 from balisekit.rules.line import Line
-from balisekit.rules.meaning.aspect_cases import Case, Counts, Pair, against_the_order, cases_of, is_usual, pairs_of
 from balisekit.rules.meaning.sent import by_culprit, distance, kmh, speed
-from balisekit.rules.rule import Options, Remark, Result, Rule
-from balisekit.rules.urgency import Urgency
+from balisekit.rules.meaning.siblings import Case, Counts, Pair, against_the_order, cases_of, is_usual, pairs_of
+from balisekit.rules.rule import Options, Remark, Result, Rule, Urgency
 from balisekit.tables.names import listed, quoted
 
 NAMED = 5

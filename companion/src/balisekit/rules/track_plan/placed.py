@@ -12,8 +12,7 @@ from typing import Dict, Iterable, Iterator, Mapping, NamedTuple, Optional, Sequ
 from balisekit.rules.chainage import Chainage
 from balisekit.rules.decoded import Packet, Passage
 from balisekit.rules.line import Line
-from balisekit.rules.rule import Options, Remark, Result
-from balisekit.rules.urgency import Urgency
+from balisekit.rules.rule import Options, Remark, Result, Urgency
 from balisekit.tables.names import kilometre, rows_words
 from balisekit.tables.plan import Lane, Plan, PlanRow
 

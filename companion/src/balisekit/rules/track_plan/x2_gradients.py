@@ -31,8 +31,7 @@ from balisekit.rules.decoded import GRADIENTS
 from balisekit.rules.line import Line
 from balisekit.rules.track_plan.placed import Placed, plan_words, remark
 from balisekit.rules.track_plan.stretches import Difference, compare
-from balisekit.rules.rule import Options, Remark, Result, Rule
-from balisekit.rules.urgency import Urgency
+from balisekit.rules.rule import Options, Remark, Result, Rule, Urgency
 
 
 def find(line: Line, options: Options) -> Result:

@@ -41,8 +41,7 @@ from balisekit.rules.track_plan.placed import (
     plan_words,
     remark,
 )
-from balisekit.rules.rule import Options, Remark, Result, Rule
-from balisekit.rules.urgency import Urgency
+from balisekit.rules.rule import Options, Remark, Result, Rule, Urgency
 from balisekit.tables.names import clean
 from balisekit.tables.plan_values import metres
 

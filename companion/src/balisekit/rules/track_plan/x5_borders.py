@@ -45,8 +45,7 @@ from balisekit.rules.track_plan.placed import (
     plan_words,
     remark,
 )
-from balisekit.rules.rule import Options, Remark, Result, Rule
-from balisekit.rules.urgency import Urgency
+from balisekit.rules.rule import Options, Remark, Result, Rule, Urgency
 from balisekit.tables.names import kilometre
 from balisekit.tables.plan import BORDERS, PlanRow
 from balisekit.tables.plan_values import metres
