@@ -366,6 +366,15 @@ def test_e6_names_other_packets_if_asked(program: Program, tmp_path: Path) -> No
     ]
 
 
+def test_e6_leaves_out_equal_packets(program: Program, tmp_path: Path) -> None:
+    """A packet that is sent twice on purpose says one thing."""
+
+    def twice(rows: List[Row]) -> None:
+        packets_added(1, YELLOW, change(rows, "Signal 1", YELLOW, 21))(rows)
+
+    assert found(program, tmp_path / "t.csv", "E6", [twice], ASKED) == []
+
+
 def test_messages_are_looked_at(program: Program, tmp_path: Path) -> None:
     """A message 3 with a packet of balises, a V_LOA with T_LOA, and an authority for both directions."""
     authority: Any = {"q_dir": 2, "q_scale": 1, "end_speed": 0, "end_timeout": 30, "sections": [], "l_endsection": 900}

@@ -17,7 +17,8 @@ the one before it is not taken for a part of the group.
 How to correct it. Correct the kilometre, the group of the row or the column `nominal`.
 
 Correct data that gets it. A spacing that was allowed as an exception on the track. A jump of the kilometres between two
-balises of one group.
+balises of one group. On a track for 180 km/h or less, a spacing from 2.3 m, if `--line-speed` is that of a faster
+track.
 
 Example. The second balise of group C is at km 12.033, 33 m from the first one at km 12.000.
 

@@ -16,10 +16,11 @@ What may happen. The train goes by the profile that it got last, which may be th
 
 How to correct it. Compare both groups with the track plan.
 
-Correct data that gets it. Gradients or speeds that were merged in one group only. A temporary restriction that is
-written into one profile. A route to another track, if no `point` of the track plan says where trains may leave it.
-Parallel tracks without names in the column `track`. A speed profile that includes the speed of the route or aspect.
-Distances of a sum that are all rounded to one side. Kilometres that jump or follow another axis: see E14.
+Correct data that gets it. Gradients or speeds that were merged in one group only. A safe value for the overlap, beyond
+an end of authority. A temporary restriction that is written into one profile. A route to another track, if no `point`
+of the track plan says where trains may leave it. Parallel tracks without names in the column `track`. A speed profile
+that includes the speed of the route or aspect. Distances of a sum that are all rounded to one side. Kilometres that
+jump or follow another axis: see E14.
 
 Example. From km 14.500 to km 15.200 signal 3 says 500 km/h, and signal 4 says 100 km/h.
 

@@ -18,10 +18,10 @@ What may happen. A train releases its brake for an aspect that the signal does n
 How to correct it. Compare both with the design. If the signal is right, copy its packets after packet 136, aspect by
 aspect.
 
-Correct data that gets it. Infill that says less than its signal on purpose, such as a lower V_MAIN, that has another
-section timer, or that has a V_MAIN above 0 and no length for a signal at danger. A signal that the table does not have,
-such as one on a branch line. Without kilometres, a signal whose group faces the other way. Kilometres that jump or
-follow another axis: see E14.
+Correct data that gets it. Infill that says less than its signal on purpose, such as a lower V_MAIN or merged sections,
+that has another section timer, or that has a V_MAIN above 0 and no length for a signal at danger. A signal that the
+table does not have, such as one on a branch line. Without kilometres, a signal whose group faces the other way.
+Kilometres that jump or follow another axis: see E14.
 
 Example. At yellow the infill of signal 4 has L_ENDSECTION 1,350 m, and signal 4 has 1,500 m.
 

@@ -16,8 +16,9 @@ What may happen. The brake curve is wrong by twice the gradient.
 How to correct it. Compare both directions with the track plan, which has one gradient for each stretch.
 
 Correct data that gets it. Safe gradients near a summit or a valley, if each direction has the steepest value of a
-longer stretch; both may then go down. Two parallel tracks that have no names in the column `track`. A route to another
-track. Distances of a sum that are all rounded to one side. Kilometres that jump or follow another axis: see E14.
+longer stretch; both may then go down. Mean gradients of longer stretches. Two parallel tracks that have no names in the
+column `track`. A route to another track. Distances of a sum that are all rounded to one side. Kilometres that jump or
+follow another axis: see E14.
 
 Example. From km 14.500 to km 15.200 signal 3 says +8 per mille, and signal R4 of the other direction says +8 per mille.
 

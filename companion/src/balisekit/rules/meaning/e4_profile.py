@@ -17,8 +17,8 @@ element often stands for a change that was meant.
 How to correct it. Compare the elements with the profile of the track, and correct or remove the wrong one.
 
 Correct data that gets it. A speed of 0 km/h beyond a buffer stop. A stop aspect with 0 km/h, or with an end mark only.
-End marks that a tool puts after the first one to fill up the packet. An element that repeats the one before it because
-a tool begins one at each boundary of its data.
+A V_STATIC that no train uses, because each category has a V_DIFF. End marks that a tool puts after the first one to
+fill up the packet. An element that repeats the one before it because a tool begins one at each boundary of its data.
 
 Example. In the gradient profile of Signal B the third element has D_GRADIENT 0 m, the place of the second one.
 

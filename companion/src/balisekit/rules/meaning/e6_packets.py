@@ -2,8 +2,9 @@
 
 What it says. A balise has a packet 15, 57, 58, 63 or 140, which only radio sends. Or packet 0 is not the first packet
 of its telegram. Or in one direction there are two packets 5, where what follows a packet 136 is counted by itself. With
-`--rules E6` it also names, in one direction, two packets 2, 3, 12, 15, 16, 21, 27, 41, 45, 46, 80, 131, 132, 136, 137,
-141 or 254, and in a message 3 a packet 0, 6, 12, 16, 46, 90, 132 to 137, 145 or 254 (SUBSET-026, 7.4 and 8.4.4).
+`--rules E6` it also names, in one direction, two different packets 2, 3, 12, 15, 16, 21, 27, 41, 45, 46, 80, 131, 132,
+136, 137, 141 or 254, and in a message 3 a packet 0, 6, 12, 16, 46, 90, 132 to 137, 145 or 254 (SUBSET-026, 7.4 and
+8.4.4).
 
 How urgent. At worst wrong information: nobody knows which of two packets a train uses.
 
@@ -92,7 +93,8 @@ def _several(part: Sequence[Packet], numbers: FrozenSet[int]) -> List[List[Packe
     if len(own) == len(set(own)):
         return []
     twice = sorted(number for number in set(own) if own.count(number) > 1)
-    return [[packet for packet in part if packet.number == number] for number in twice]
+    several = [[packet for packet in part if packet.number == number] for number in twice]
+    return [it for it in several if it[0].number == LINKING or any(packet.form != it[0].form for packet in it)]
 
 
 def _several_remark(passage: Passage, packets: List[Packet]) -> Remark:

@@ -2,9 +2,9 @@
 
 What it says. In the table the authority of one aspect is mostly shorter than that of another aspect: in at least three
 cases, and in four of five in which a group has both with a V_MAIN above 0. The rule names a group in which it is
-longer, and at the lowest urgency one in which both are equal. It also names an aspect with V_MAIN 0 if the aspect of
-this name has a V_MAIN above 0 in at least three other cases and in four of five, and the reverse. `--tolerance` and the
-rounding of the lengths are allowed (SUBSET-026, 3.8).
+longer, and at the lowest urgency one in which both are equal but not copies (E7). It also names an aspect with V_MAIN 0
+if the aspect of this name has a V_MAIN above 0 in at least three other cases and in four of five, and the reverse.
+`--tolerance` and the rounding of the lengths are allowed (SUBSET-026, 3.8).
 
 How urgent. At worst wrong information: the restrictive aspect gives the longer authority.
 

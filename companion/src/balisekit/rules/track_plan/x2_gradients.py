@@ -15,10 +15,11 @@ What may happen. The train computes its braking curves with another gradient tha
 
 How to correct it. Correct Q_GDIR, G_A or D_GRADIENT of the packet, or the row of the plan.
 
-Correct data that gets it. A safe gradient: one value, the most downhill one, for several gradients of the track, or one
-that is rounded down in each direction. Write the safe gradients into the plan, a row for each way. A route to another
-track, if no `point` of the plan says where trains may leave it, or through a loop that comes back to it. Distances of a
-sum that are all rounded to one side. Kilometres that jump or follow another axis: see E14.
+Correct data that gets it. A mean gradient of several stretches. A safe gradient: one value, the most downhill one, for
+several gradients of the track, or one that is rounded down in each direction. Write the safe gradients into the plan, a
+row for each way. A route to another track, if no `point` of the plan says where trains may leave it, or through a loop
+that comes back to it. Distances of a sum that are all rounded to one side. Kilometres that jump or follow another axis:
+see E14.
 
 Example. The profile of signal C has +5 ‰ from km 14.200 to km 16.000, where the plan has -5 ‰: the sign is wrong.
 """

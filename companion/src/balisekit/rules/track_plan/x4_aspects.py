@@ -15,8 +15,9 @@ What may happen. The train runs farther or faster than the route that is set for
 
 How to correct it. Correct the packet 12, or the row of the plan.
 
-Correct data that gets it. Distances of a sum that are all rounded to one side. Nothing else, if the rows of the plan
-for a group with both directions state their `way`.
+Correct data that gets it. A V_MAIN that does not restrict, if the plan has the speed of the route. An end or an overlap
+that is shortened on purpose. Distances of a sum that are all rounded to one side. A group with both directions, if its
+rows of the plan do not state their `way`.
 
 Example. Signal B has V_MAIN 160 km/h at yellow, and the plan has 120 km/h.
 """
