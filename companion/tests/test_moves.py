@@ -93,7 +93,10 @@ def test_a_group_whose_link_leads_elsewhere_is_not_renumbered(differ: Differ) ->
         return {("A", "red", 0): link_tables.telegram(identity, 0, 0, 1, link_tables.linking(1, link))}
 
     assert [entry.split(":")[0] for entry in differ(linked(7, 20), linked(8, 20))[0]] == ["group renumbered"]
-    assert [entry.split(":")[0] for entry in differ(linked(7, 20), linked(8, 21))[0]] == ["group removed", "group added"]
+    assert [entry.split(":")[0] for entry in differ(linked(7, 20), linked(8, 21))[0]] == [
+        "group removed",
+        "group added",
+    ]
 
 
 def test_a_group_of_another_country_and_name_at_the_same_place(differ: Differ) -> None:
