@@ -109,6 +109,13 @@ def test_by_position(run: Run, table: Write) -> None:
     )
 
 
+def test_at_most_three_groups_with_one_number_of_aspects_are_named(run: Run, table: Write) -> None:
+    for count, names in ((3, " (A, B, C)"), (4, "")):
+        rows = [f"{name},x,{ALONE}" for name in "ABCD"[:count]]
+        path = table("group,aspect,telegram", *rows, f"E,x,{ALONE}", f"E,y,{ALONE}")
+        assert run("check", "--only", "F", path)[1][-2] == f"aspects found: 2 in 1 group (E), 1 in {count}{names}"
+
+
 def test_aspects_are_counted(run: Run, table: Write, tmp_path: Path) -> None:
     path = table(
         "group,aspect,telegram",

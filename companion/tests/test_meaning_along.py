@@ -297,6 +297,22 @@ def test_jumps(found: Found) -> None:
         assert not found("E14", BOTH, shifted(14_000, metres), given)
 
 
+def test_links_over_a_jump_vary_by_two_metres(found: Found) -> None:
+    """If they vary by more there is no jump, and each of them is a remark."""
+
+    def changed(metres: int) -> Change:
+        def change(rows: List[Row]) -> None:
+            shifted(14_000, 50)(rows)
+            links_of("Signal 3", 0, metres)(rows)
+
+        return change
+
+    (jump,) = found("L2", BOTH, changed(2))
+    each = found("L2", BOTH, changed(3))
+    assert "kilometre jump?" in jump.sentence and len(each) == len(jump.others) + 1
+    assert not [one for one in each if "jump" in one.sentence]
+
+
 def test_e14_of_many_links_is_a_note(found: Found) -> None:
     def longer(rows: List[Row]) -> None:
         for row in rows:

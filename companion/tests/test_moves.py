@@ -87,6 +87,18 @@ def test_a_renumbered_group_is_one_entry(differ: Differ) -> None:
     assert answer["groups_renumbered"][0]["rows_new"] == [8, 9, 10, 11, 12, 13]
 
 
+def test_a_group_whose_link_leads_elsewhere_is_not_renumbered(differ: Differ) -> None:
+    def linked(identity: int, target: int) -> Rows:
+        link = {**link_tables.link(1000, target, 1), "nid_c": 9}
+        return {("A", "red", 0): link_tables.telegram(identity, 0, 0, 1, link_tables.linking(1, link))}
+
+    assert [entry.split(":")[0] for entry in differ(linked(7, 20), linked(8, 20))[0]] == ["group renumbered"]
+    assert [entry.split(":")[0] for entry in differ(linked(7, 20), linked(8, 21))[0]] == [
+        "group removed",
+        "group added",
+    ]
+
+
 def test_a_group_of_another_country_and_name_at_the_same_place(differ: Differ) -> None:
     old = rows_of("A", 7)
     new = {("Z", *key[1:]): {**telegram, "nid_bg": 8, "nid_c": 9} for key, telegram in old.items()}

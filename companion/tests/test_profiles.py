@@ -173,11 +173,12 @@ def test_timers_of_sections_are_flags() -> None:
     assert {"25 s", "40 s", "no time-out"} <= set(words(picture))
 
 
-def test_a_limit_of_authority_has_no_supervised_location() -> None:
+@pytest.mark.parametrize("speed", [5, 40])
+def test_a_limit_of_authority_has_no_supervised_location(speed: int) -> None:
     """With V_LOA above 0 the words say so, and no mark stands for one."""
-    picture = pictured(picture_lines.authority(1, 900, 100, end_speed=40))
+    picture = pictured(picture_lines.authority(1, 900, 100, end_speed=speed))
     assert [shape.title for shape in of(picture, "end")] == [
-        "limit of authority: 900 m, km 10.900, V_LOA 40 km/h, no supervised location"
+        f"limit of authority: 900 m, km 10.900, V_LOA {speed} km/h, no supervised location"
     ]
     assert not of(picture, "supervised") and "limit of authority 900 m, no supervised location" in words(picture)
     assert "end 900 m; SvL" in words(pictured(picture_lines.authority(1, 900, 100)))

@@ -23,7 +23,7 @@ from balisekit.present.telegram_text import text
 try:
     from hypothesis import given, strategies
 except ImportError:
-    given = None  # type: ignore[assignment]
+    given = None
 
 Values = Dict[str, Any]
 TRACK_NOTE = "balisekit's own layout: not proved, not compared with a print"
@@ -675,7 +675,7 @@ def test_bits(program: Program, run: Run, table: Write) -> None:
 
 if given is not None:
 
-    @given(
+    @given(  # type: ignore[misc]
         strategies.integers(1, 254),
         strategies.booleans(),
         strategies.integers(0, 400).flatmap(

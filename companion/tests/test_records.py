@@ -122,7 +122,7 @@ def test_commas_of_lists(name: str, text: str) -> None:
             assert not EXPRESSIONS[name]().fullmatch(text[:at] + wrong + text[at + len(there) :])
 
 
-@given(st.data())
+@given(st.data())  # type: ignore[misc]
 def test_several_changes(data: st.DataObject) -> None:
     name, text = data.draw(st.sampled_from(LINES))
     form = json.loads(text)

@@ -2,6 +2,7 @@
 from __future__ import annotations
 
 import json
+import re
 from typing import Any, Dict, Iterator, Tuple
 
 import pytest
@@ -66,6 +67,37 @@ def test_each_number_has_words(whole: Any) -> None:
                 words = value_words(key, number, Around({"q_scale": 1}, parent))
                 assert words or key in IDENTITIES, (key, number)
                 assert not set(words) & set("[]\n") and "  " not in words, (key, number)
+
+
+#: What tells the two variables with the key "nc" apart.
+KINDS = {"NC_CDDIFF": {"q_diff": 0}, "NC_DIFF": {"q_diff": 1}}
+#: Numbers that FORMATS.md has other words for.
+OTHERWISE = {
+    *(("n_pig", 0), ("m_dup", 1), ("m_dup", 2), ("m_mcount", 255), ("q_dir", 2), ("q_linkreaction", 2), ("v_main", 0)),
+    *(("g_a", 255), ("v_static", 127), ("q_front", 0), ("q_front", 1), ("q_diff", 1), ("q_diff", 2), ("m_ack", 1)),
+}
+
+
+def _key(variable: str) -> str:
+    return "nc" if variable in KINDS else variable.lower()
+
+
+def _named_in_formats() -> Iterator[Tuple[str, int, str]]:
+    """The variables and numbers that the tables of FORMATS.md name, with their names."""
+    rows = re.findall(r"^\| ([A-Z_]+) \|.*\|([^|]+)\|$", (TOP / "docs/FORMATS.md").read_text(), re.MULTILINE)
+    for variable, values in rows:
+        if _key(variable) in VARIABLES:
+            for number, words in re.findall(r"(?:^|; )([0-9,]+) = ([^;]+)", values.strip()):
+                yield variable, int(number.replace(",", "")), words
+
+
+def test_names_are_those_of_formats() -> None:
+    named, others = list(_named_in_formats()), set()
+    for variable, number, words in named:
+        parent = KINDS.get(variable, {})
+        if not value_words(_key(variable), number, Around({"q_scale": 0}, parent)).endswith(words):
+            others.add((_key(variable), number))
+    assert len(named) > 90 and others == OTHERWISE
 
 
 WORDS: Dict[Tuple[str, int], str] = {

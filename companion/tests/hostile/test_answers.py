@@ -233,10 +233,10 @@ SLEEPERS = [
 
 @pytest.fixture
 def impatient(monkeypatch: pytest.MonkeyPatch) -> None:
-    """Limits of a second in place of those of a minute."""
-    monkeypatch.setattr("balisekit.engine.program.HANDSHAKE_LIMIT", Limit(1, process.HANDSHAKE_LIMIT.size))
-    monkeypatch.setattr(process, "LEAST_SECONDS", 1)
-    monkeypatch.setattr(process, "PAUSE", 0.3)
+    """Limits of less than a second in place of those of a minute."""
+    monkeypatch.setattr("balisekit.engine.program.HANDSHAKE_LIMIT", Limit(0.4, process.HANDSHAKE_LIMIT.size))
+    monkeypatch.setattr(process, "LEAST_SECONDS", 0.4)
+    monkeypatch.setattr(process, "PAUSE", 0.1)
 
 
 @pytest.mark.parametrize("command", ["check {t}", "show {t}", "check {t} --messages {m}", "show --messages {m}"])
@@ -245,7 +245,7 @@ def impatient(monkeypatch: pytest.MonkeyPatch) -> None:
 def test_a_program_that_does_not_end(command: str, first: str, does: str, answers: Answers) -> None:
     begin = time.monotonic()
     error = answers(command, does, first)[0]
-    assert "it has not ended within 1 s" in error or "another process keeps its output open" in error
+    assert "it has not ended within 0.4 s" in error or "another process keeps its output open" in error
     assert time.monotonic() - begin < 20
 
 
