@@ -6,19 +6,20 @@ ghost use Rattle.etcs_json.specs.Authority.{either_authority, with_main, without
 ghost use Rattle.etcs_json.specs.AuthoritySending.{sent_members};
 ghost use Rattle.etcs_schema.specs.Chosen.{with_number};
 ghost use Rattle.etcs_schema.specs.Fault.{Gives};
-ghost use Rattle.etcs_schema.specs.Reading.{as_kind, object_with};
+ghost use Rattle.etcs_schema.specs.Reading.{as_kind};
+ghost use Rattle.etcs_schema.specs.Shape.{whole};
 
 use crate::members::{ListMember, Member, NumberMember, OptionalMember, ReadMembers, send_members};
 use crate::packets::terms_form::{Terms, authority_of};
 use crate::reading::read_first;
-use crate::record::prove_allowed;
+use crate::record::{check_record, prove_allowed};
 use crate::writing::Sink;
 use crate::writing::building::NewObject;
-use crate::{Form, InPieces};
+use crate::{Form, InPieces, Record};
 use etcs_bits::{Dir, Memory, Ranged, Scale, Speed};
 use etcs_profile::Authority;
 use etcs_schema::reading::read_fixed;
-use etcs_schema::{FormError, Marks, Node, check_keys};
+use etcs_schema::{FormError, Marks, Node};
 use json::Token;
 use serde_json::Value;
 use std::alloc::Global;
@@ -75,18 +76,12 @@ fn send_authority<S: Sink>(out: &mut S, authority: &Authority) -> Result<(), Mem
     )
 }
 
-// Refuses what is no object, and an object with a key that packet 12 does not have.
-fn check_keys_with_main<N: Node>(alloc: Global, node: &N) -> Result<(), FormError>
-    ensures { Gives (λ u. u) result (object_with (with_number with_main).part.keys (N.shows node.now)) }
-{
-    check_keys(alloc, node, &KEYS)
+impl Record for WithMain {
+    ghost object = { whole (with_number with_main) };
 }
 
-// Refuses what is no object, and an object with a key that packet 15 does not have.
-fn check_keys_without_main<N: Node>(alloc: Global, node: &N) -> Result<(), FormError>
-    ensures { Gives (λ u. u) result (object_with (with_number without_main).part.keys (N.shows node.now)) }
-{
-    check_keys(alloc, node, &KEYS[..11])
+impl Record for WithoutMain {
+    ghost object = { whole (with_number without_main) };
 }
 
 // Reads the members of packet 12.
@@ -119,7 +114,8 @@ pub(crate) fn read_with_main<N: Node>(alloc: Global, node: &N) -> Result<Authori
     ensures { Gives (λ a. a) result
         (as_kind authority_of_parts (either_authority.of 12 (N.shows node.now))) }
 {
-    check_keys_with_main(alloc, node)?;
+    #[tactic(auto, unfolding(crate::specs::Authority::with_main, crate::specs::Authority::terms, crate::specs::Authority::end_parts))]
+    check_record::<WithMain, N>(alloc, node, &KEYS)?;
     let (dir, (scale, (main, terms))) = read_main_and_terms(alloc, node)?;
     Ok(authority_of(dir, scale, Some(main), terms))
 }
@@ -129,7 +125,8 @@ pub(crate) fn read_without_main<N: Node>(alloc: Global, node: &N) -> Result<Auth
     ensures { Gives (λ a. a) result
         (as_kind authority_of_parts (either_authority.of 15 (N.shows node.now))) }
 {
-    check_keys_without_main(alloc, node)?;
+    #[tactic(auto, unfolding(crate::specs::Authority::without_main, crate::specs::Authority::terms, crate::specs::Authority::end_parts))]
+    check_record::<WithoutMain, N>(alloc, node, &KEYS[..11])?;
     let (dir, (scale, terms)) = read_terms_alone(alloc, node)?;
     Ok(authority_of(dir, scale, None, terms))
 }

@@ -20,7 +20,7 @@ impl LayoutRecord for SectionTimer {
     ghost keeps = { λ x allowed _. allowed tt };
 }
 
-#[tactic(auto, unfolding(crate::specs::Authority::section_timer))]
+#[tactic(auto, unfolding(crate::specs::Authority::section_timer, etcs_schema::specs::Reading::object_with, etcs_schema::specs::Reading::at_key))]
 impl Members for SectionTimer {
     fn send_members<S: Sink>(&self, out: &mut S) -> Result<(), Memory> {
         send_members!(out;
@@ -72,7 +72,7 @@ impl LayoutRecord for EndTimer {
     ghost keeps = { λ x allowed _. allowed tt };
 }
 
-#[tactic(auto, unfolding(crate::specs::Authority::end_timer))]
+#[tactic(auto, unfolding(crate::specs::Authority::end_timer, etcs_schema::specs::Reading::object_with, etcs_schema::specs::Reading::at_key))]
 impl Members for EndTimer {
     fn send_members<S: Sink>(&self, out: &mut S) -> Result<(), Memory> {
         send_members!(out;

@@ -24,7 +24,7 @@ impl LayoutRecord for GradientElement {
     ghost keeps = { λ x allowed _. allowed tt };
 }
 
-#[tactic(auto, unfolding(crate::specs::Profiles::gradient_element))]
+#[tactic(auto, unfolding(crate::specs::Profiles::gradient_element, etcs_schema::specs::Reading::object_with, etcs_schema::specs::Reading::at_key))]
 impl Members for GradientElement {
     fn send_members<S: Sink>(&self, out: &mut S) -> Result<(), Memory> {
         send_members!(out;

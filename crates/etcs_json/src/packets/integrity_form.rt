@@ -46,7 +46,7 @@ impl ReadMembers for Integrity {
 
     ghost reads = { λ _. integrity.of };
 
-    #[tactic(auto, using(crate::proofs::KeyedLemmas::length_numbers))]
+    #[tactic(auto, using(crate::proofs::KeyedLemmas::length_numbers, crate::proofs::KeyedLemmas::length_ends), unfolding(etcs_schema::specs::Reading::at_key, etcs_schema::specs::Reading::no_key))]
     fn read<N: Node>(alloc: Global, node: &N, _keys: ()) -> Result<Integrity, FormError> {
         let number: Plain<2> = ReadMembers::read(alloc, node, "q_length")?;
         if number.number() == 1 {

@@ -28,7 +28,7 @@ impl ReadMembers for Level {
 
     ghost reads = { λ name. (level name.now).of };
 
-    #[tactic(auto, using(crate::proofs::KeyedLemmas::level_numbers))]
+    #[tactic(auto, using(crate::proofs::KeyedLemmas::level_numbers, crate::proofs::KeyedLemmas::level_ends), unfolding(etcs_schema::specs::Reading::at_key))]
     fn read<N: Node>(alloc: Global, node: &N, name: &'static str) -> Result<Level, FormError> {
         let number: Ranged<3, 4, 8> = ReadMembers::read(alloc, node, name)?;
         if number.number() == 1 {

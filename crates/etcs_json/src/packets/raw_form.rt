@@ -38,7 +38,7 @@ impl InRange for RawPacket {
     }
 }
 
-#[tactic(auto, unfolding(crate::specs::Raw::raw_packet))]
+#[tactic(auto, unfolding(crate::specs::Raw::raw_packet, etcs_schema::specs::Reading::object_with, etcs_schema::specs::Reading::at_key))]
 impl Members for RawPacket {
     fn send_members<S: Sink>(&self, out: &mut S) -> Result<(), Memory> {
         let body = self.body();

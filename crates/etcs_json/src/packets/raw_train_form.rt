@@ -38,7 +38,7 @@ impl InRange for RawTrainPacket {
     }
 }
 
-#[tactic(auto, unfolding(crate::specs::RawTrain::raw_train_packet))]
+#[tactic(auto, unfolding(crate::specs::RawTrain::raw_train_packet, etcs_schema::specs::Reading::object_with, etcs_schema::specs::Reading::at_key))]
 impl Members for RawTrainPacket {
     fn send_members<S: Sink>(&self, out: &mut S) -> Result<(), Memory> {
         let body = self.body();

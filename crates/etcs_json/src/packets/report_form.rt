@@ -4,7 +4,8 @@ ghost use Rattle.std.specs.Prelude.{◌≡◌, OnOk};
 ghost use Rattle.etcs_radio.specs.Report.{report_of, report_with as what_is_with};
 ghost use Rattle.etcs_schema.specs.Chosen.{with_number};
 ghost use Rattle.etcs_schema.specs.Fault.{Gives};
-ghost use Rattle.etcs_schema.specs.Reading.{as_kind, object_with};
+ghost use Rattle.etcs_schema.specs.Reading.{as_kind};
+ghost use Rattle.etcs_schema.specs.Shape.{whole};
 ghost use Rattle.etcs_json.specs.Report.{either_report, identity, situation, with_one, with_two};
 ghost use Rattle.etcs_json.specs.ReportSending.{first_members, last_members, sent_members};
 
@@ -15,14 +16,14 @@ use crate::members::{
 use crate::packets::integrity_form::{confirmed_length, length_number};
 use crate::packets::level_form::national_system_of;
 use crate::reading::read_first;
-use crate::record::prove_allowed;
+use crate::record::{check_record, prove_allowed};
 use crate::writing::Sink;
 use crate::writing::building::NewObject;
-use crate::{Form, InPieces};
+use crate::{Form, InPieces, Record};
 use etcs_bits::{Distance, Identity, Level, Memory, Plain, Scale};
 use etcs_radio::{Integrity, Report, Train3};
 use etcs_schema::reading::read_fixed;
-use etcs_schema::{FormError, Marks, Node, check_keys};
+use etcs_schema::{FormError, Marks, Node};
 use json::Token;
 use serde_json::Value;
 use std::alloc::Global;
@@ -65,18 +66,12 @@ macro_rules! keys_with {
     };
 }
 
-// Refuses what is no object, and an object with a key that packet 0 does not have.
-fn check_keys_with_one<N: Node>(alloc: Global, node: &N) -> Result<(), FormError>
-    ensures { Gives (λ u. u) result (object_with (with_number with_one).part.keys (N.shows node.now)) }
-{
-    check_keys(alloc, node, keys_with!())
+impl Record for WithOne {
+    ghost object = { whole (with_number with_one) };
 }
 
-// Refuses what is no object, and an object with a key that packet 1 does not have.
-fn check_keys_with_two<N: Node>(alloc: Global, node: &N) -> Result<(), FormError>
-    ensures { Gives (λ u. u) result (object_with (with_number with_two).part.keys (N.shows node.now)) }
-{
-    check_keys(alloc, node, keys_with!("prv_nid_bg", "prv_nid_c"))
+impl Record for WithTwo {
+    ghost object = { whole (with_number with_two) };
 }
 
 // Reads the members behind the groups.
@@ -135,7 +130,8 @@ fn read_with_two<N: Node>(alloc: Global, node: &N) -> Result<WithTwo, FormError>
 pub(crate) fn read_one<N: Node>(alloc: Global, node: &N) -> Result<Report, FormError>
     ensures { Gives (λ r. r) result (as_kind report_of (either_report.of 0 (N.shows node.now))) }
 {
-    check_keys_with_one(alloc, node)?;
+    #[tactic(auto, unfolding(crate::specs::Report::with_one, crate::specs::Report::situation))]
+    check_record::<WithOne, N>(alloc, node, keys_with!())?;
     let (scale, (lrbg, situation)) = read_with_one(alloc, node)?;
     Ok(report_with(None, scale, lrbg, situation))
 }
@@ -144,7 +140,8 @@ pub(crate) fn read_one<N: Node>(alloc: Global, node: &N) -> Result<Report, FormE
 pub(crate) fn read_two<N: Node>(alloc: Global, node: &N) -> Result<Report, FormError>
     ensures { Gives (λ r. r) result (as_kind report_of (either_report.of 1 (N.shows node.now))) }
 {
-    check_keys_with_two(alloc, node)?;
+    #[tactic(auto, unfolding(crate::specs::Report::with_two, crate::specs::Report::situation))]
+    check_record::<WithTwo, N>(alloc, node, keys_with!("prv_nid_bg", "prv_nid_c"))?;
     let (scale, (lrbg, (previous, situation))) = read_with_two(alloc, node)?;
     Ok(report_with(Some(previous), scale, lrbg, situation))
 }

@@ -1,6 +1,5 @@
-use Rattle.std.proofs.Common.{Ok, ap, refl}
+use Rattle.std.proofs.Common.{Ok, ap}
 use Rattle.etcs_json.specs.Raw.{raw_packet}
-use Rattle.etcs_schema.proofs.Objects.{fails_up}
 use Rattle.etcs_json.proofs.RawLemmas.{raw_made}
 use Rattle.etcs_json.proofs.packets.raw_form.RawPacketMembers.of_members.Goals as goal
 
@@ -10,15 +9,3 @@ unfolding raw_packet
 returns-clause-gives g c =
     let is = c.in-Ok.ensures.ok in
     rw (c.in_ok-check_record.ensures.keys, c.in_ok-number.ensures.gives, c.in_ok-dir.ensures, c.in_ok-body.ensures.gives) (ap Ok (raw_made c.in-Ok.packet _ _ _ is.0 is.1.0 is.1.1))
-
-pub returns-in_err-number-clause-gives : goal.returns-in_err-number-clause-gives
-unfolding raw_packet
-returns-in_err-number-clause-gives g c = fails_up (λ x. x) _ _ _ _ c.from_residual-in_err-number.ensures.1 c.in_err-number.ensures.gives (λ f is. rw (c.in_ok-check_record.ensures.keys, is) refl)
-
-pub returns-in_err-dir-clause-gives : goal.returns-in_err-dir-clause-gives
-unfolding raw_packet
-returns-in_err-dir-clause-gives g c = fails_up (λ x. x) _ _ _ _ c.from_residual-in_err-dir.ensures.1 c.in_err-dir.ensures (λ f is. rw (c.in_ok-check_record.ensures.keys, c.in_ok-number.ensures.gives, is) refl)
-
-pub returns-in_err-body-clause-gives : goal.returns-in_err-body-clause-gives
-unfolding raw_packet
-returns-in_err-body-clause-gives g c = fails_up (λ x. x) _ _ _ _ c.from_residual-in_err-body.ensures.1 c.in_err-body.ensures.gives (λ f is. rw (c.in_ok-check_record.ensures.keys, c.in_ok-number.ensures.gives, c.in_ok-dir.ensures, is) refl)

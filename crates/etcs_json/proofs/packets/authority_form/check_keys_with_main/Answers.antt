@@ -1,9 +1,0 @@
-use Rattle.std.proofs.Common.{refl}
-use Rattle.etcs_schema.specs.Chosen.{with_number}
-use Rattle.etcs_json.specs.Authority.{end_parts, terms, with_main}
-use Rattle.etcs_schema.proofs.Keys.{sorted_gives}
-use Rattle.etcs_json.proofs.packets.authority_form.check_keys_with_main.Goals as goal
-
-pub returns : goal.returns
-unfolding with_main terms end_parts
-returns g c = sorted_gives (with_number with_main).part.keys _ _ _ c.check_keys.ensures.keys refl
