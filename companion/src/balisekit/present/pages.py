@@ -9,6 +9,7 @@ from itertools import groupby
 from pathlib import Path
 from typing import Any, Callable, Iterator, List, Sequence, Tuple
 
+from balisekit.drawing.svg import in_page, svg
 from balisekit.io.optional_packages import needed
 from balisekit.tables.names import clean
 
@@ -22,11 +23,9 @@ def pieces(template: str, styles: Sequence[str] = (), script: str = "", **values
 
     All values but its style sheets, its script and `rows` are escaped.
     """
-    with needed("jinja2", "a picture or a page"):
-        import jinja2
-        from markupsafe import Markup
+    environment = _environment()
+    from markupsafe import Markup
 
-        environment = _environment(jinja2)
     own = {"style": "".join(map(_read, styles)), "script": _read(script) if script else ""}
     hashes = {f"{name}_hash": _hash(text) for name, text in own.items()}
     if "rows" in values:
@@ -42,11 +41,11 @@ def _read(name: str) -> str:
 
 
 @lru_cache(maxsize=None)
-def _environment(jinja2: Any) -> Any:
+def _environment() -> Any:
     """The templates. Each is compiled once, since a folder may have thousands of pictures."""
-    from markupsafe import Markup
-
-    from balisekit.drawing.svg import in_page, svg
+    with needed("jinja2", "a picture or a page"):
+        import jinja2
+        from markupsafe import Markup
 
     environment = jinja2.Environment(
         loader=jinja2.FileSystemLoader(str(TEMPLATES)),
@@ -62,9 +61,7 @@ def _environment(jinja2: Any) -> Any:
 
 def macro(template: str, name: str) -> Callable[..., str]:
     """A macro of a template."""
-    import jinja2
-
-    made: Callable[..., str] = getattr(_environment(jinja2).get_template(template).module, name)
+    made: Callable[..., str] = getattr(_environment().get_template(template).module, name)
     return made
 
 

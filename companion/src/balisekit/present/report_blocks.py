@@ -178,11 +178,11 @@ def _body(station: BaliseGroup, content: Content, where: Kilometres) -> str:
         body = make(where)
     else:
         body, texts = KEPT.of(content.key, [form["packets"] for form in forms.values()], where, make)
-    rows = {row.number: row for row in group.rows()}
+    rows, track = {row.number: row for row in group.rows()}, track_of(group)
     own = [f"g{station.number}", escaped(clean(group.name))]
     for place, number in enumerate(sorted(rows)):
         row, form = rows[number], forms.get(number)
-        heading = describe_balise(group, row, form["n_pig"] if form else None)
+        heading = describe_balise(group, row, form["n_pig"] if form else None, track)
         header = header_words(form) if form and place in body.headers else ""
         own += [str(number), escaped(heading), escaped(clean(row.telegram)), header]
     return body.pattern.filled(texts, own)

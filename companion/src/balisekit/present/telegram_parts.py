@@ -67,10 +67,14 @@ class Said:
 
 
 def changes(words: str, known: str) -> str:
-    """The values of a packet that a known one has not, by their lines. It is nothing unless it has all of its lines."""
+    """The values of a packet that a known one has not, by their lines: nothing unless it has all lines of that one.
+
+    Their labels say which line it is, so no two may have the same one.
+    """
     lines, others = ([_values(line) for line in LINES.split(each[:-1])] for each in (words, known))
     lines[0][0] = others[0][0] = ""
-    if list(map(_names, lines[: len(others)])) != list(map(_names, others)):
+    names = list(map(_names, lines[: len(others)]))
+    if names != list(map(_names, others)) or len({line[0] for line in lines}) < len(lines):
         return ""
     found = [", but\n"]
     for (label, *values), before in zip_longest(lines, others, fillvalue=()):
