@@ -156,9 +156,7 @@ def _contents(title: str, forms: Sequence[Form], short: Sequence[Finding]) -> Li
     return contents
 
 
-def draw(
-    title: str, contents: Sequence[Content], where: Kilometres, titled: bool = False, name: str = ""
-) -> Picture:
+def draw(title: str, contents: Sequence[Content], where: Kilometres, titled: bool = False, name: str = "") -> Picture:
     """The picture of a group: a row for each content, below the title if it is to be seen."""
     drawn = _drawn(title if titled else "", contents, where)
     km, name = where.words(0, NOMINAL), name or clean(title)

@@ -23,9 +23,11 @@ def pieces(template: str, styles: Sequence[str] = (), script: str = "", **values
 
     All values but its style sheets, its script and `rows` are escaped.
     """
-    environment = _environment()
-    from markupsafe import Markup
+    with needed("jinja2", "a picture or a page"):
+        import jinja2
+        from markupsafe import Markup
 
+        environment = _environment(jinja2)
     own = {"style": "".join(map(_read, styles)), "script": _read(script) if script else ""}
     hashes = {f"{name}_hash": _hash(text) for name, text in own.items()}
     if "rows" in values:
@@ -41,11 +43,9 @@ def _read(name: str) -> str:
 
 
 @lru_cache(maxsize=None)
-def _environment() -> Any:
+def _environment(jinja2: Any) -> Any:
     """The templates. Each is compiled once, since a folder may have thousands of pictures."""
-    with needed("jinja2", "a picture or a page"):
-        import jinja2
-        from markupsafe import Markup
+    from markupsafe import Markup
 
     environment = jinja2.Environment(
         loader=jinja2.FileSystemLoader(str(TEMPLATES)),
@@ -61,7 +61,10 @@ def _environment() -> Any:
 
 def macro(template: str, name: str) -> Callable[..., str]:
     """A macro of a template."""
-    made: Callable[..., str] = getattr(_environment().get_template(template).module, name)
+    with needed("jinja2", "a picture or a page"):
+        import jinja2
+
+    made: Callable[..., str] = getattr(_environment(jinja2).get_template(template).module, name)
     return made
 
 

@@ -5,7 +5,7 @@ They are written here and not by a template, which would take most of the time f
 from __future__ import annotations
 
 from collections import defaultdict
-from typing import Collection, Dict, Iterable, Iterator, List, Mapping, NamedTuple, Optional, Sequence, Set, Tuple
+from typing import Collection, Dict, Iterable, Iterator, List, Mapping, NamedTuple, Sequence, Set, Tuple
 
 from balisekit.drawing.group import LinkMark, picture_of, picture_of_message
 from balisekit.drawing.sheet import Picture

@@ -92,9 +92,7 @@ def balise_name(name: str, n_pig: Optional[int], place: int = 0, number: Optiona
     return f"{f'{quoted(name)} ' if name else ''}({which}{other})"
 
 
-def describe_balise(
-    group: Optional[Group], row: Row, n_pig: Optional[int] = None, below: Optional[str] = None
-) -> str:
+def describe_balise(group: Optional[Group], row: Row, n_pig: Optional[int] = None, below: Optional[str] = None) -> str:
     """Where a row's balise is: row, group, kilometre, aspect, and its name. `n_pig` is that of its telegram.
 
     Below a heading that has its group and this track, neither is said again.
