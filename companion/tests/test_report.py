@@ -164,7 +164,7 @@ def test_a_page_on_standard_output(tmp_path: Path, capfd: pytest.CaptureFixture[
     verdict = capfd.readouterr().out.splitlines()[1:]
     assert cli.main(["report", str(LINE), "--html", "-"]) == 2
     out, err = capfd.readouterr()
-    date = re.compile("<td>[0-9-]{10} [0-9:]{5} UTC</td>")
+    date = re.compile("<bdi>[0-9-]{10} [0-9:]{5} UTC</bdi>")
     assert date.sub("", out) == date.sub("", page)
     assert err.splitlines() == ["written: standard output", *verdict] and verdict[-1].startswith("INCOMPLETE: ")
 

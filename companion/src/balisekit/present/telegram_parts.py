@@ -76,8 +76,8 @@ def changes(words: str, known: str) -> str:
     names = list(map(_names, lines[: len(others)]))
     if names != list(map(_names, others)) or len({line[0] for line in lines}) < len(lines):
         return ""
-    found = [", but\n"]
-    for (label, *values), before in zip_longest(lines, others, fillvalue=()):
+    found, nothing = [", but\n"], [""]
+    for (label, *values), before in zip_longest(lines, others, fillvalue=nothing):
         new = "  ".join(value for value, other in zip_longest(values, before[1:]) if value != other)
         found += [f"{label}\t{new}\n"] if new else []
     return "".join(found)
