@@ -64,7 +64,8 @@ def macro(template: str, name: str) -> Callable[..., str]:
     with needed("jinja2", "a picture or a page"):
         import jinja2
 
-    made: Callable[..., str] = getattr(_environment(jinja2).get_template(template).module, name)
+        environment = _environment(jinja2)
+    made: Callable[..., str] = getattr(environment.get_template(template).module, name)
     return made
 
 
