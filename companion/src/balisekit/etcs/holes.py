@@ -15,7 +15,7 @@ FIRST, MOST = 0xF0000, 0x8000
 """The letter of the first hole, and how many there are. The letters behind them are for other words of a group."""
 ASKED = 1 << 16
 """So many keys are remembered that were asked for."""
-HOLE = re.compile("([\U000f0000-\U000ffffd])\\1*")
+HOLE, OF_PLACE = (re.compile(f"([\U000f0000-{last}])\\1*") for last in ("\U000ffffd", "\U000f7fff"))
 Made = TypeVar("Made")
 
 
@@ -42,10 +42,10 @@ def own_hole(number: int) -> str:
 
 
 class Pattern:
-    """A text with holes."""
+    """A text with holes. Unless `has_own` is true, those for own words of a group stay as they are."""
 
-    def __init__(self, text: str) -> None:
-        self._parts = [text] if text.isascii() else HOLE.split(text)
+    def __init__(self, text: str, has_own: bool = False) -> None:
+        self._parts = [text] if text.isascii() else (HOLE if has_own else OF_PLACE).split(text)
         numbers = [ord(letter) - FIRST for letter in self._parts[1::2]]
         self._numbers = [number - MOST if number >= MOST else ~number for number in numbers]
         """Those of kilometres are counted from the end."""

@@ -4,14 +4,15 @@ They are written here and not by a template, which would take most of the time f
 """
 from __future__ import annotations
 
+import re
 from collections import defaultdict
-from functools import partial
-from typing import Callable, Collection, Dict, Iterable, Iterator, List, Mapping, NamedTuple, Sequence, Set, Tuple
+from typing import Collection, Dict, Iterable, Iterator, List, Mapping, Match, NamedTuple, Optional, Sequence, Set, Tuple
 
 from balisekit.drawing.group import LinkMark, picture_of, picture_of_message
 from balisekit.drawing.sheet import Picture
 from balisekit.drawing.svg import escaped, in_page
 from balisekit.engine.grammar import Finding
+from balisekit.engine.program import Record
 from balisekit.engine.records import Form
 from balisekit.etcs.geometry import Kilometres, kilometre
 from balisekit.etcs.holes import Kept, Pattern, own_hole
@@ -20,8 +21,8 @@ from balisekit.etcs.variables import unit_dm
 from balisekit.present.pages import macro
 from balisekit.present.refusals import RefusedInput, refused
 from balisekit.present.report import Listed, packets_of
-from balisekit.present.telegram_parts import Said, header_words, packet_words, telegram_words
-from balisekit.rules.checking import AcceptedMessage, Checked
+from balisekit.present.telegram_parts import Said, telegram_words
+from balisekit.rules.checking import AcceptedMessage, Checked, Telegrams
 from balisekit.rules.entries import track_of
 from balisekit.rules.line import Line
 from balisekit.rules.location import BaliseGroup
@@ -60,27 +61,32 @@ class Block(NamedTuple):
         return not (self.entries or self.left_out)
 
 
-Own = Tuple[str, int, int]
-"""Words that only one group has: what they are, and of which row and packet, counted from 0 in the group."""
-
-
 class Body(NamedTuple):
     """The picture and the telegrams of groups that say the same."""
 
     pattern: Pattern
-    own: Sequence[Own]
-    """What comes into its holes."""
+    n_pig: Sequence[Optional[int]]
+    """By rows."""
+    packets: Collection[int]
+    """Each NID_PACKET."""
 
 
 KEPT: Kept[Body] = Kept(1 << 7)
-"""On a line many groups say the same, but for their names, identities, links and kilometres."""
+"""On a line many groups say the same, but for their names, identities and kilometres."""
+IDENTITY = re.compile('"nid_(?:c|bg)":(?!16383)[0-9]+')
+"""A part of an identity in a record. The NID_BG that says that an identity is not known has words of its own."""
+OF_GROUP, OF_ROW = 2, 3
+"""So many own words a group has, and each row of it: its number, its heading and its digits."""
 
 
 class Content(NamedTuple):
     """What decides the body of a group, beside its kilometres."""
 
     group: Group
-    forms: Mapping[int, Form]
+    records: Mapping[int, str]
+    """What the program has read, with holes for identities."""
+    identities: Sequence[str]
+    """What comes into these holes."""
     findings: Sequence[Finding]
     marked: Mapping[int, Set[int]]
     """The packets that an entry is about, by rows."""
@@ -90,26 +96,28 @@ class Content(NamedTuple):
 
     @property
     def key(self) -> Tuple[object, ...]:
-        """Equal for groups that say the same. What is sent of other groups is not compared, only whether it is one."""
-        group, numbers = self.group, sorted(self.group.places)
-        order = {number: place for place, number in enumerate(numbers)}
-        identities = [(self.forms[number]["nid_c"], self.forms[number]["nid_bg"]) for number in numbers]
-        found: List[object] = [self.full, *(identities if len(set(identities)) > 1 else ())]
-        found += [(one.name, *[order[row.number] for row in one.rows]) for one in group.aspects]
-        found += [(each.aspect, each.rule, each.direction, each.balise, each.packet) for each in self.findings]
-        found += [(order[number], *sorted(packets)) for number, packets in self.marked.items()]
-        links: Dict[Tuple[int, int], int] = {}
-        for number in numbers:
-            form = self.forms[number]
-            found += [*form, *[value for key, value in form.items() if key not in IDENTITY], group.places[number]]
-            for packet in form["packets"]:
-                is_own, which = "links" in packet, id(packet)
-                first = links.setdefault((group.places[number], which), len(links)) if is_own else 0
-                found.append((first, packet["q_dir"]) if is_own else which)
-        return tuple(found)
+        """Equal for groups that say the same."""
+        order = {number: place for place, number in enumerate(sorted(self.group.places))}
+        return (
+            self.full,
+            *((one.name, *[order[row.number] for row in one.rows]) for one in self.group.aspects),
+            *((each.aspect, each.rule, each.direction, each.balise, each.packet) for each in self.findings),
+            *((order[number], *sorted(packets)) for number, packets in self.marked.items()),
+            *self.records.values(),
+        )
 
 
-IDENTITY = "nid_c", "nid_bg", "packets"
+def _with_holes(records: Sequence[str], first: int) -> Tuple[List[str], List[str]]:
+    """Records with holes for identities, the first of which has this number, and these identities, each once."""
+    known: Dict[str, str] = {}
+
+    def hole(found: Match[str]) -> str:
+        if found[0] not in known:
+            key, number = found[0].split(":")
+            known[found[0]] = f'{key}:"{own_hole(first + len(known)) * len(number)}"'
+        return known[found[0]]
+
+    return [IDENTITY.sub(hole, record) for record in records], [text.split(":")[1] for text in known]
 
 
 def picture_id(block: str) -> str:
@@ -125,10 +133,9 @@ def blocks(checked: Checked, line: Line, found: Iterable[Listed], full: bool) ->
     left_out = {left_out.group.name: clean(left_out.why) for left_out in checked.left_out}
     items = {item.id: item for item in refused(checked)}
     for group, station in zip(line.directed, line.groups):
-        forms = {number: checked.accepted[number] for number in group.places if number in checked.accepted}
         refusals = {number: items[f"r{number}"] for number in group.places if f"r{number}" in items} if items else {}
         entries, why = by_block.get(f"g{station.number}", []), left_out.get(group.name, "")
-        yield _block(station, group, forms, entries, refusals, full)._replace(left_out=why)
+        yield _block(station, group, checked.accepted, entries, refusals, full)._replace(left_out=why)
     if checked.accepted_messages:
         identities = Identities(line.directed, checked.accepted)
     for message in checked.accepted_messages:
@@ -142,21 +149,25 @@ def blocks(checked: Checked, line: Line, found: Iterable[Listed], full: bool) ->
 def _block(
     station: BaliseGroup,
     group: Group,
-    forms: Mapping[int, Form],
+    telegrams: Telegrams,
     entries: Sequence[Listed],
     items: Mapping[int, RefusedInput],
     full: bool,
 ) -> Block:
     """The block of a group."""
-    where, links = Kilometres(station.km, station.rising), list(_link_marks(entries, forms))
-    content = Content(group, forms, _findings(entries), _marked(entries, "r"), links, items, full)
+    where, links = Kilometres(station.km, station.rising), list(_link_marks(entries, telegrams))
+    read = [number for number in sorted(group.places) if number in telegrams]
+    records, identities = _with_holes(list(map(telegrams.line, read)), OF_GROUP + OF_ROW * len(group.places))
+    marked = _marked(entries, "r")
+    content = Content(group, dict(zip(read, records)), identities, _findings(entries), marked, links, items, full)
+    body, texts = _body(content, where, not station.unread)
     return Block(
         f"g{station.number}",
         clean(group.name),
         f"{describe_rows(group)} of the table",
-        _body(station, content, where),
+        body.pattern.filled(texts, [*_own_words(f"g{station.number}", group, body), *identities]),
         entries,
-        {packet["nid_packet"] for form in forms.values() for packet in form["packets"]},
+        body.packets,
         not station.unread,
         "{}/{}".format(*station.identity) if station.identity else "",
         "" if station.km is None else kilometre(station.km),
@@ -167,74 +178,51 @@ def _block(
     )
 
 
-def _body(station: BaliseGroup, content: Content, where: Kilometres) -> str:
-    """The picture and the telegrams of a group, those of an earlier one with its own words if that says the same."""
+def _body(content: Content, where: Kilometres, has_picture: bool) -> Tuple[Body, Sequence[str]]:
+    """The picture and the telegrams of a group, and its kilometres if others have the same."""
 
     def make(place: Kilometres) -> Body:
-        own: Dict[Own, int] = {}
-        text = _written(content, place, not station.unread, own)
-        return Body(Pattern(text), list(own))
+        forms = {number: Record(record).shared for number, record in content.records.items()}
+        n_pig = [forms[number]["n_pig"] if number in forms else None for number in sorted(content.group.places)]
+        packets = sorted({packet["nid_packet"] for form in forms.values() for packet in form["packets"]})
+        return Body(Pattern(_written(content, forms, place, has_picture), True), n_pig, packets)
 
-    texts: Sequence[str] = ()
-    if station.unread or content.links:  # (no other group has the same body)
-        body = make(where)
-    else:
-        held = [form["packets"] for form in content.forms.values()]
-        body, texts = KEPT.of(content.key, held, where, make)
-    return body.pattern.filled(texts, list(_own_words(station, content, where, body.own)))
+    if not has_picture or content.links:  # (no other group has the same body)
+        return make(where), ()
+    return KEPT.of(content.key, None, where, make)
 
 
-def _own_words(station: BaliseGroup, content: Content, where: Kilometres, wanted: Iterable[Own]) -> Iterator[str]:
+def _own_words(id: str, group: Group, body: Body) -> Iterator[str]:
     """What comes into the holes of a body, as the page has it."""
-    group, forms, track = content.group, content.forms, track_of(content.group)
-    rows, places = {row.number: row for row in group.rows()}, places_of_rows(group, forms, where)
-    numbers = list(places)
-    for what, place, packet in wanted:
-        number = numbers[place]
-        if what == "row":
-            yield str(number)
-        elif what == "heading":
-            form = forms.get(number)
-            yield escaped(describe_balise(group, rows[number], form["n_pig"] if form else None, track))
-        elif what == "digits":
-            yield escaped(clean(rows[number].telegram))
-        elif what == "header":
-            yield header_words(forms[number])
-        elif what == "packet":
-            yield packet_words(forms[number], packet, places[number])
-        else:
-            yield f"g{station.number}" if what == "id" else escaped(clean(group.name))
+    track, rows = track_of(group), {row.number: row for row in group.rows()}
+    yield from (id, escaped(clean(group.name)))
+    for number, n_pig in zip(sorted(rows), body.n_pig):
+        row = rows[number]
+        yield str(number)
+        yield escaped(describe_balise(group, row, n_pig, track))
+        yield escaped(clean(row.telegram))
 
 
-def _written(content: Content, where: Kilometres, has_picture: bool, own: Dict[Own, int]) -> str:
+def _written(content: Content, forms: Mapping[int, Form], where: Kilometres, has_picture: bool) -> str:
     """The picture and the telegrams of a group, with holes for its own words."""
-    group, forms = content.group, content.forms
+    group, id, name = content.group, own_hole(0), own_hole(1)
     found: List[str] = []
-
-    def hole(what: str, place: int = 0, packet: int = 0) -> str:
-        return own_hole(own.setdefault((what, place, packet), len(own)))
-
     if has_picture:
-        picture = picture_of(group, forms, content.findings, where=where, links=content.links, name=hole("name"))
-        found.append(_figure(hole("id"), picture))
+        picture = picture_of(group, forms, content.findings, where=where, links=content.links, name=name)
+        found.append(_figure(id, picture))
     said: Dict[int, Said] = defaultdict(Said)
     for place, (number, here) in enumerate(places_of_rows(group, forms, where).items()):
-        row, digits = hole("row", place), hole("digits", place)
+        row, heading, digits = (own_hole(OF_GROUP + OF_ROW * place + which) for which in range(OF_ROW))
         if number in content.refused:
             item = content.refused[number]
             found.append(_telegram(f"r{row}", item.sentence, digits, "", True, item.program))
         elif number in forms:
             marked, known = content.marked.get(number, ()), said[group.places[number]]
-            words = telegram_words(forms[number], here, f"r{row}", marked, row, known, partial(_hole_of, hole, place))
-            found.append(_telegram(f"r{row}", hole("heading", place), digits, words, content.full))
+            words = telegram_words(forms[number], here, f"r{row}", marked, row, known)
+            found.append(_telegram(f"r{row}", heading, digits, words, content.full))
         else:
-            found.append(_telegram(f"r{row}", f"{hole('heading', place)}: not looked at", digits, "", content.full))
+            found.append(_telegram(f"r{row}", f"{heading}: not looked at", digits, "", content.full))
     return "".join(found)
-
-
-def _hole_of(hole: Callable[[str, int, int], str], place: int, what: str, packet: int) -> str:
-    """A hole for words of the telegram in this place."""
-    return hole(what, place, packet)
 
 
 def _figure(block: str, picture: Picture) -> str:

@@ -3,7 +3,7 @@ from __future__ import annotations
 
 import re
 from itertools import zip_longest
-from typing import Callable, Collection, Dict, Hashable, List, Optional, Sequence, Tuple
+from typing import Collection, Dict, Hashable, List, Optional, Sequence, Tuple
 
 from balisekit.drawing.svg import escaped
 from balisekit.etcs.places import Here
@@ -50,14 +50,10 @@ class Said:
         first = self._telegrams.setdefault(("" if is_same else header or row, *map(id, packets)), row)
         return first if first != row else ""
 
-    def has(self, packet: Form) -> bool:
-        """Whether a telegram has said this packet."""
-        return id(packet) in self._packets
-
     def packet(self, row: str, place: int, packet: Form, words: str) -> str:
         """A packet in words. One of several lines has a link to an earlier row, if that has it or one much like it."""
         first, first_place = self._packets.setdefault(id(packet), (row, place))
-        if words.count("\n") < 2:
+        if words.count("\n") == 1:
             return words
         but = "\n"
         if first == row:
@@ -109,49 +105,28 @@ def packet_id(telegram: str, packet: int) -> str:
 
 
 def telegram_words(
-    form: Form,
-    here: Here,
-    id: str,
-    marked: Collection[int],
-    row: str = "",
-    said: Optional[Said] = None,
-    own: Optional[Callable[[str, int], str]] = None,
+    form: Form, here: Here, id: str, marked: Collection[int], row: str = "", said: Optional[Said] = None
 ) -> str:
     """A telegram or message in words, as a page has it, the packets apart that are marked.
 
     `said` has what earlier telegrams of its balise have said. What is marked is always written out, and so are packets
-    whose notes are of some aspects. `own` gives what stands for words with identities, of the header or a packet.
+    whose notes are of some aspects.
     """
     packets, said = form["packets"], said or Said()
     header = said.header(row, form)
     same = "" if marked or here.passages else said.telegram(row, header, packets)
     if same:
         return f"everything as in {link(same)}\n"
-    if header is None:
-        found = [own("header", 0) if own else header_words(form)]
-    else:
-        found = [f"header\tas in {link(said.first)}{escaped(header)}"]
+    found = [head_text(form, _in_page) if header is None else f"header\tas in {link(said.first)}{escaped(header)}"]
     for place, packet in enumerate(packets):
-        apart = place in marked or place in here.passages
-        if own and "links" in packet and (apart or not said.has(packet)):
-            words = own("packet", place)
+        words = packet_text(form, place, here, _in_page)
+        if place in marked:
+            found.append(f"<mark id={packet_id(id, place)}>{words}</mark>")
         else:
-            words = packet_words(form, place, here)
-        words = words if apart else said.packet(row, place, packet, words)
-        found.append(f"<mark id={packet_id(id, place)}>{words}</mark>" if place in marked else words)
+            found.append(words if place in here.passages else said.packet(row, place, packet, words))
     return "".join(found)
 
 
-def packet_words(form: Form, place: int, here: Here) -> str:
-    """A packet in words, as a page has it."""
-    return packet_text(form, place, here, _tabbed)
-
-
-def header_words(form: Form) -> str:
-    """The header in words, as a page has it."""
-    return head_text(form, _tabbed)
-
-
-def _tabbed(words: str) -> str:
+def _in_page(words: str) -> str:
     """Words with a tab before the values of each line, in place of a sixth of the page that would be blanks."""
     return LABELS.sub(lambda label: label[1].rstrip() + "\t", escaped(words))
