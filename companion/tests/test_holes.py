@@ -114,8 +114,9 @@ def test_a_hole_is_as_wide_as_a_kilometre() -> None:
 def test_own_words_of_a_group() -> None:
     """They have holes of their own, beside those of kilometres."""
     place = Holes(PLACE.group, PLACE.rising)
-    pattern = Pattern(f"{own_hole(1)} at {place.words(0, NOMINAL)}, {place.words(5000, REVERSE)}; {own_hole(0)}")
-    assert pattern.filled(["1.000", "2.000"], ["first", "second"]) == "second at 1.000, 2.000; first"
+    text = f"{own_hole(1)} at {place.words(0, NOMINAL)}, {place.words(5000, REVERSE)}; {own_hole(0)}"
+    assert Pattern(text, True).filled(["1.000", "2.000"], ["first", "second"]) == "second at 1.000, 2.000; first"
+    assert Pattern(Pattern(text).filled(["1.000", "2.000"]), True).filled([], ["a", "b"]) == "b at 1.000, 2.000; a"
 
 
 def test_equal_packets_are_one_object() -> None:

@@ -28,6 +28,7 @@ def _first_keys() -> Iterator[str]:
 
 BETWEEN = re.compile(rf',(?={{"(?:{"|".join(sorted(set(_first_keys())))})":)')
 """What is between two packets. No other object of a record begins with one of these keys."""
+DECODER = json.JSONDecoder()
 
 
 @lru_cache(maxsize=KEPT)
@@ -39,6 +40,6 @@ def shared(line: str) -> Form:
     """The object of a record that the program has written. It has no list outside of its packets, and keys around."""
     before, _, rest = line.partition('"packets":[')
     packets, _, behind = rest.rpartition("]")
-    form = cast(Form, json.loads(f'{before}"packets":[]{behind}'))
+    form = cast(Form, DECODER.raw_decode(f'{before}"packets":[]{behind}')[0])
     form["packets"] = list(map(_packet, BETWEEN.split(packets))) if packets else []
     return form
