@@ -6,7 +6,20 @@ from __future__ import annotations
 
 import re
 from collections import defaultdict
-from typing import Collection, Dict, Iterable, Iterator, List, Mapping, Match, NamedTuple, Optional, Sequence, Set, Tuple
+from typing import (
+    Collection,
+    Dict,
+    Iterable,
+    Iterator,
+    List,
+    Mapping,
+    Match,
+    NamedTuple,
+    Optional,
+    Sequence,
+    Set,
+    Tuple,
+)
 
 from balisekit.drawing.group import LinkMark, picture_of, picture_of_message
 from balisekit.drawing.sheet import Picture
@@ -28,6 +41,7 @@ from balisekit.rules.line import Line
 from balisekit.rules.location import BaliseGroup
 from balisekit.tables.model import Group
 from balisekit.tables.names import clean, describe_balise, describe_group, describe_message, describe_rows
+
 
 class Block(NamedTuple):
     """A group, or a message."""
