@@ -21,7 +21,7 @@ TEMPLATES = Path(__file__).with_name("templates")
 def pieces(template: str, styles: Sequence[str] = (), script: str = "", **values: Any) -> Iterator[str]:
     """The page in pieces, so that it never stands in memory whole.
 
-    All values but its style sheets, its script and `rows` are escaped.
+    All values but its style sheets, its script, and what a template calls safe are escaped.
     """
     with needed("jinja2", "a picture or a page"):
         import jinja2
@@ -30,8 +30,6 @@ def pieces(template: str, styles: Sequence[str] = (), script: str = "", **values
         environment = _environment(jinja2)
     own = {"style": "".join(map(_read, styles)), "script": _read(script) if script else ""}
     hashes = {f"{name}_hash": _hash(text) for name, text in own.items()}
-    if "rows" in values:
-        values["rows"] = map(Markup, values["rows"])
     texts = {name: Markup(text) for name, text in own.items()}
     page = environment.get_template(template).stream(**texts, **hashes, **values)
     page.enable_buffering(PIECES)

@@ -4,7 +4,7 @@ from __future__ import annotations
 from datetime import datetime
 from functools import partial
 from tempfile import SpooledTemporaryFile
-from typing import Any, Dict, Iterable, Iterator, List, Optional, Set, Tuple
+from typing import Dict, Iterable, Iterator, List, Optional, Set, Tuple
 
 from balisekit.drawing.flags import Mark, marks_of
 from balisekit.drawing.sheet import Picture
@@ -20,7 +20,7 @@ from balisekit.rules.links import Links
 from balisekit.tables.names import clean
 from balisekit.tables.own_headings import ReportHeading
 
-IN_MEMORY, PIECE = 1 << 20, 1 << 20
+IN_MEMORY, PIECE = 1 << 20, 1 << 14
 """So many characters of the groups are kept in memory, and are copied at once."""
 STYLES = ("palette.css", "dark.css", "page.css", "report.css", "picture.css", "track.css")
 DISTANCE = "one whose distance differs from the kilometres (L2, a rule of balisekit)"
@@ -49,31 +49,27 @@ def report_page(
             rows.append(overview_row(block, any(names)))
             pictured.update([block.id] if block.has_picture else [])
             plain += block.is_plain
-        values: Dict[str, Any] = {
-            "cover": cover(outcome, heading, command, now),
-            "found": parts,
-            "full": full,
-            "plain": plain,
-            "count": len(rows),
-        }
+        groups.seek(0)
         yield from pieces(
             "report.html",
             STYLES,
             "report.js",
-            **values,
+            cover=cover(outcome, heading, command, now),
+            found=parts,
             explained=list(explained_rules(outcome)),
             rows=rows,
+            plain=plain,
             pictured=pictured,
+            parts=iter(partial(groups.read, PIECE), ""),
             legend=LEGEND,
+            premises=premises(),
             links_rule=DISTANCE,
             aspect=aspect,
+            full=full,
             has_tracks=bool(names),
             has_names=any(names),
             tracks=_tracks(links, outcome, aspect),
         )
-        groups.seek(0)
-        yield from iter(partial(groups.read, PIECE), "")
-        yield from pieces("report_end.html", (), "report.js", **values, premises=premises())
 
 
 def _tracks(links: Links, outcome: Outcome, aspect: Optional[str]) -> Iterator[Tuple[str, Iterable[Picture]]]:
