@@ -22,7 +22,7 @@ from balisekit.tables.own_headings import ReportHeading
 
 IN_MEMORY, PIECE = 1 << 20, 1 << 14
 """So many characters of the groups are kept in memory, and are copied at once."""
-STYLES = ("palette.css", "dark.css", "page.css", "report.css", "picture.css", "track.css")
+STYLES = ("palette.css", "page.css", "report.css", "picture.css", "track.css")
 DISTANCE = "one whose distance differs from the kilometres (L2, a rule of balisekit)"
 
 
