@@ -2,9 +2,10 @@
 from __future__ import annotations
 
 import json
+import re
 from decimal import Decimal
 from pathlib import Path
-from typing import Any, Callable, Iterator, List
+from typing import Any, Callable, Dict, Iterator, List
 
 import picture_lines
 import pytest
@@ -30,9 +31,9 @@ def pages_of(program: Program, tmp_path: Path, monkeypatch: pytest.MonkeyPatch) 
 
     def written(name: str) -> Iterator[str]:
         rows: List[Any] = [
-            (f"{group} {place}", balise, f"{Decimal(str(km)) + Decimal(shift)}", *rest)
+            (f"{group} {place}", balise, f"{Decimal(str(km)) + Decimal(shift)}", *rest, _renumbered(form, place, at))
             for place, shift in enumerate(SHIFTS)
-            for group, balise, km, *rest in picture_lines.LINES[name]()
+            for at, (group, balise, km, *rest, form) in enumerate(picture_lines.LINES[name]())
         ]
         table, page = tmp_path / "table.csv", tmp_path / "page.html"
         table.write_text(picture_lines.table(program, rows), "utf-8")
@@ -43,6 +44,13 @@ def pages_of(program: Program, tmp_path: Path, monkeypatch: pytest.MonkeyPatch) 
             monkeypatch.setattr(Kept, "of", lambda self, key, held, where, make: (make(where), ()))
 
     return written
+
+
+def _renumbered(form: Any, place: int, at: int) -> Any:
+    """With other identities, of other lengths. Some telegrams have one that no other balise of their group has."""
+    text = re.sub('(?<="nid_bg": )[0-9]+', lambda found: str(int(found[0]) + 97 * place), json.dumps(form))
+    odd: Dict[int, Any] = {9: {"nid_bg": 16_383}, 12: {"nid_bg": 2000 * place + 1}, 14: {"nid_c": 5 + 10 * place}}
+    return {**json.loads(text), "nid_c": 1 + 2 * place, **odd.get(at, {})}
 
 
 @pytest.mark.many
