@@ -4,7 +4,7 @@ from __future__ import annotations
 from datetime import datetime
 from functools import partial
 from tempfile import SpooledTemporaryFile
-from typing import Dict, Iterable, Iterator, List, Optional, Set, Tuple
+from typing import IO, Dict, Iterable, Iterator, List, Optional, Tuple
 
 from balisekit.drawing.flags import Mark, marks_of
 from balisekit.drawing.sheet import Picture
@@ -13,7 +13,7 @@ from balisekit.present.cover import cover
 from balisekit.present.outcome_text import explained_rules
 from balisekit.present.pages import pieces, premises
 from balisekit.present.report import listed
-from balisekit.present.report_blocks import block_html, blocks, overview_row
+from balisekit.present.report_blocks import Block, block_html, blocks, overview_row
 from balisekit.present.telegram_text import LEGEND
 from balisekit.rules.families import Outcome
 from balisekit.rules.links import Links
@@ -40,15 +40,9 @@ def report_page(
     `links` are those that pictures of tracks show. `command` begins the command that writes the document again.
     """
     line, parts, names = links.line, listed(outcome), tracks_of(links.line)
-    rows: List[str] = []
-    pictured: Set[str] = set()
-    plain = 0
+    made = blocks(outcome.checked, line, (each for part in parts for each in part.all), full)
     with SpooledTemporaryFile(IN_MEMORY, "w+", encoding="utf-8") as groups:
-        for block in blocks(outcome.checked, line, (each for part in parts for each in part.all), full):
-            groups.write(block_html(block, full))
-            rows.append(overview_row(block, any(names)))
-            pictured.update([block.id] if block.has_picture else [])
-            plain += block.is_plain
+        noted = list(_written(made, groups, full))
         groups.seek(0)
         yield from pieces(
             "report.html",
@@ -57,9 +51,9 @@ def report_page(
             cover=cover(outcome, heading, command, now),
             found=parts,
             explained=list(explained_rules(outcome)),
-            rows=rows,
-            plain=plain,
-            pictured=pictured,
+            rows=[overview_row(block, any(names)) for block in noted],
+            plain=sum(block.is_plain for block in noted),
+            pictured={block.id for block in noted if block.has_picture},
             parts=iter(partial(groups.read, PIECE), ""),
             legend=LEGEND,
             premises=premises(),
@@ -70,6 +64,13 @@ def report_page(
             has_names=any(names),
             tracks=_tracks(links, outcome, aspect),
         )
+
+
+def _written(made: Iterable[Block], groups: IO[str], full: bool) -> Iterator[Block]:
+    """Writes the blocks. The answer is what the list of all groups has of each."""
+    for block in made:
+        groups.write(block_html(block, full))
+        yield block._replace(body="")
 
 
 def _tracks(links: Links, outcome: Outcome, aspect: Optional[str]) -> Iterator[Tuple[str, Iterable[Picture]]]:
