@@ -2,9 +2,10 @@
 from __future__ import annotations
 
 import json
+import re
 from decimal import Decimal
 from pathlib import Path
-from typing import Any, Callable, Iterable, Iterator, List
+from typing import Any, Callable, Dict, Iterator, List
 
 import picture_lines
 import pytest
@@ -12,12 +13,10 @@ from cases_of_program import CASES, EXAMPLES
 
 from balisekit.cli import main as cli
 from balisekit.drawing.letters import advance
-from balisekit.drawing.repeated import Repeated, Shared
-from balisekit.drawing.sheet import Shape
 from balisekit.engine.program import Program, Record
 from balisekit.etcs.geometry import NOMINAL, REVERSE, Kilometres
 from balisekit.etcs import holes
-from balisekit.etcs.holes import FIRST, MOST, Holes, Kept, Pattern
+from balisekit.etcs.holes import FIRST, MOST, Holes, Kept, Pattern, own_hole
 
 SHIFTS = ("0", "0.0005", "7.25", "7.2505", "87.4", "987.65", "-12.55", "0.00005")
 """By how much the kilometres of further groups are greater: their texts have other lengths, or a sign."""
@@ -32,9 +31,9 @@ def pages_of(program: Program, tmp_path: Path, monkeypatch: pytest.MonkeyPatch) 
 
     def written(name: str) -> Iterator[str]:
         rows: List[Any] = [
-            (f"{group} {place}", balise, f"{Decimal(str(km)) + Decimal(shift)}", *rest)
+            (f"{group} {place}", balise, f"{Decimal(str(km)) + Decimal(shift)}", *rest, _renumbered(form, place, at))
             for place, shift in enumerate(SHIFTS)
-            for group, balise, km, *rest in picture_lines.LINES[name]()
+            for at, (group, balise, km, *rest, form) in enumerate(picture_lines.LINES[name]())
         ]
         table, page = tmp_path / "table.csv", tmp_path / "page.html"
         table.write_text(picture_lines.table(program, rows), "utf-8")
@@ -45,6 +44,13 @@ def pages_of(program: Program, tmp_path: Path, monkeypatch: pytest.MonkeyPatch) 
             monkeypatch.setattr(Kept, "of", lambda self, key, held, where, make: (make(where), ()))
 
     return written
+
+
+def _renumbered(form: Any, place: int, at: int) -> Any:
+    """With other identities, of other lengths. Some telegrams have one that no other balise of their group has."""
+    text = re.sub('(?<="nid_bg": )[0-9]+', lambda found: str(int(found[0]) + 97 * place), json.dumps(form))
+    odd: Dict[int, Any] = {9: {"nid_bg": 16_383}, 12: {"nid_bg": 2000 * place + 1}, 14: {"nid_c": 5 + 10 * place}}
+    return {**json.loads(text), "nid_c": 1 + 2 * place, **odd.get(at, {})}
 
 
 @pytest.mark.many
@@ -113,20 +119,12 @@ def test_a_hole_is_as_wide_as_a_kilometre() -> None:
             assert advance(f"km {hole}", is_bold) == advance(f"km {PLACE.words(place, NOMINAL)}", is_bold)
 
 
-def test_repeated_shapes_have_the_kilometres_of_their_group() -> None:
-    """One by one, and as they are written."""
-    holes = Holes(PLACE.group, PLACE.rising)
-    shared = Shared([Shape("text", "", title=f"at {holes.words(0, NOMINAL)}", text=holes.words(5000, REVERSE))])
-    first, second = Repeated(shared, ["1.000", "2.000"]), Repeated(shared, ["3.000", "4.000"])
-    assert [(one.title, one.text) for each in (first, second) for one in each] == [
-        ("at 1.000", "2.000"),
-        ("at 3.000", "4.000"),
-    ]
-
-    def write(shapes: Iterable[Shape]) -> str:
-        return " ".join(f"{one.title} {one.text}" for one in shapes)
-
-    assert (first.written(write), second.written(write)) == ("at 1.000 2.000", "at 3.000 4.000")
+def test_own_words_of_a_group() -> None:
+    """They have holes of their own, beside those of kilometres."""
+    place = Holes(PLACE.group, PLACE.rising)
+    text = f"{own_hole(1)} at {place.words(0, NOMINAL)}, {place.words(5000, REVERSE)}; {own_hole(0)}"
+    assert Pattern(text, True).filled(["1.000", "2.000"], ["first", "second"]) == "second at 1.000, 2.000; first"
+    assert Pattern(Pattern(text).filled(["1.000", "2.000"]), True).filled([], ["a", "b"]) == "b at 1.000, 2.000; a"
 
 
 def test_equal_packets_are_one_object() -> None:

@@ -210,9 +210,10 @@ def test_what_a_picture_says_without_being_seen() -> None:
 
 def test_colours_are_those_of_the_palette() -> None:
     """By classes and variables, so that a page may be dark; no pattern, which makes a print of 300 groups great."""
-    known = set(re.findall(r"(--\w+):", (TEMPLATES / "palette.css").read_text("utf-8")))
-    assert set(re.findall(r"(--\w+):", (TEMPLATES / "dark.css").read_text("utf-8"))) == known
-    for name in ("picture.css", "track.css", "group.svg", "track.svg", "shapes.html"):
+    light, dark = (TEMPLATES / "palette.css").read_text("utf-8").split("@media")
+    known = set(re.findall(r"(--\w+):", light))
+    assert set(re.findall(r"(--\w+):", dark)) == known
+    for name in ("picture.css", "track.css", "group.svg", "track.svg"):
         sheet = (TEMPLATES / name).read_text("utf-8")
         assert set(re.findall(r"var\((--\w+)\)", sheet)) <= known
         assert not re.search(r"#[0-9a-f]{3}|rgb|url\(|pattern|(fill|stroke)=", sheet), name

@@ -16,7 +16,10 @@ from balisekit.engine.program import Program, Text
 TELEGRAM = re.compile(r"<details id=r(\d+)[^>]*>(?:(?!</details>).)*?</pre><pre>(.*?)</pre></details>", re.DOTALL)
 EVERYTHING = re.compile(r"everything as in <a href=#r(\d+)>row \1</a>\n")
 HEADER = re.compile(r"header\tas in <a href=#r(\d+)>row \1</a>(?:, but (.*)|, M_MCOUNT \d+ too)\n")
-PACKET = re.compile(r"  packet (\d+)\t(NID_PACKET [^:\n]*): as (?:in|packet (\d+) of) <a href=#r(\d+)>row \4</a>\n")
+PACKET = re.compile(
+    r"  packet (\d+)\t(NID_PACKET [^:\n]*): as (?:in|packet (\d+) of) <a href=#r(\d+)>row \4</a>(?:, but\n(.*))?\n",
+    re.DOTALL,
+)
 
 
 def texts_of(page: str) -> Dict[int, str]:
@@ -51,9 +54,36 @@ def part_at(part: str, whole: Dict[int, str]) -> str:
     if packet:
         text = parts_of(whole[int(packet[4])])[1 + int(packet[3] or packet[1])]
         assert text.partition("\t")[2].startswith(packet[2])
-        return f"  packet {packet[1]}\t{text.partition(chr(9))[2]}"
+        text = f"  packet {packet[1]}\t{text.partition(chr(9))[2]}"
+        return changed(text, packet[5].split("\n")) if packet[5] else text
     assert "<a" not in part, part
     return part
+
+
+def changed(text: str, lines: List[str]) -> str:
+    """A packet with these values in place of its own, each in its line. Lines that it has not come after its own."""
+    found = [re.sub("\n\t", "  ", line) for line in re.split("\n(?!\t)", text[:-1])]
+    for label, _, values in (line.partition("\t") for line in lines):
+        place = next((at for at, line in enumerate(found) if line.partition("\t")[0] == label), len(found))
+        place = 0 if not label else place
+        if place == len(found):
+            found.append(f"{label}\t{values}")
+            continue
+        for value in re.split("  (?!.*  = )(?=[A-Z=])|  (?=[A-Z])", values):
+            name = value.split(" ")[0]
+            found[place], count = re.subn(
+                f"(?<=[\t ]){re.escape(name)} {'.*' if name == '=' else '.*?'}(?=  |$)",
+                lambda _: value,
+                found[place],
+                count=1,
+            )
+            assert count == 1, (value, found[place])
+    return "\n".join(found) + "\n"
+
+
+def in_one_line(text: str) -> str:
+    """A text whose lines are not broken: where they are depends on how long their values are."""
+    return re.sub(r"\s+", " ", text)
 
 
 def write(path: Path, program: Program, rows: List[Tuple[str, str, Any]]) -> Path:
@@ -107,9 +137,11 @@ def test_what_is_alike_is_said_once(run: Run, alike: Path) -> None:
     assert links == [
         "header\tas in row 3, but M_MCOUNT 2",
         "  packet 0\tNID_PACKET linking [5]: as in row 3",
+        "  packet 1\tNID_PACKET movement authority of level 1 [12]: as in row 3, but",
         "  packet 2\tNID_PACKET gradient profile [21]: as in row 3",
         "  packet 3\tNID_PACKET international static speed profile [27]: as in row 3",
         "header\tas in row 3, but M_MCOUNT 3 and NID_BG 102",
+        "  packet 0\tNID_PACKET movement authority of level 1 [12]: as packet 1 of row 3, but",
         "  packet 1\tNID_PACKET gradient profile [21]: as packet 2 of row 3",
         "  packet 2\tNID_PACKET international static speed profile [27]: as packet 3 of row 3",
         "  packet 3\tNID_PACKET linking [5]: as packet 0 of row 3",
@@ -122,16 +154,16 @@ def test_what_is_alike_is_said_once(run: Run, alike: Path) -> None:
 
 @pytest.mark.parametrize("words", [("--only", "F"), ("--full",)], ids=["folded", "full"])
 def test_links_lead_to_what_show_says(words: Tuple[str, ...], run: Run, alike: Path) -> None:
-    """Each telegram with what its links lead to has the lines of `show`, and in the same order."""
+    """Each telegram with what its links lead to has the words of `show`, and in the same order."""
     for path, rows in ((alike, 8), (LINE, 33)):
         copy = path if path is alike else alike.with_name("line.csv")
         copy.write_bytes(path.read_bytes())
         texts = texts_of(report(run, copy, *words))
-        shown = "\n".join(run("show", copy)[1]) + "\n"
+        shown = in_one_line("\n".join(run("show", copy)[1]))
         assert len(texts) == rows and sum("<a" in text for text in texts.values()) >= 3
         begin = 0
         for text in followed(texts).values():
-            begin = shown.index(text.expandtabs(22), begin)
+            begin = shown.index(in_one_line(text).strip(), begin)
 
 
 def test_a_packet_that_an_entry_is_about_is_written_out(run: Run, tmp_path: Path, program: Program) -> None:

@@ -21,15 +21,12 @@ from balisekit.drawing.profiles import (
     short_profiles,
     speed_top,
 )
-from balisekit.drawing.repeated import Repeated, Shared
 from balisekit.drawing.sheet import EDGE, EDGES, LEFT, ROOM, WIDTH, Lane, Picture, Rows, Shape, Sheet, tenths
 from balisekit.drawing.words import Describe, area_words, ends, place_words, speed_words, summary
 from balisekit.engine.grammar import Finding
-from balisekit.etcs import areas
 from balisekit.etcs.areas import Area
 from balisekit.etcs.geometry import (
     DIRECTIONS,
-    INFILL,
     NOMINAL,
     REVERSE,
     Authority,
@@ -40,7 +37,6 @@ from balisekit.etcs.geometry import (
     kilometres,
     way,
 )
-from balisekit.etcs.holes import Holes, Kept
 from balisekit.etcs.variables import Form, metres
 from balisekit.tables.model import Aspect, Group
 from balisekit.tables.names import NAMED, clean, listed, quoted
@@ -54,11 +50,7 @@ PROFILES = ((27, "speed, km/h", 58), (21, "gradient, ‰", 20))
 MISSING_HEIGHT, BAR = 20, Lane(12, 14)
 SIZES = Sizes(speed=46, end=4, supervised=10, has_words=True)
 NOTHING = "no authority, gradient or speed profile"
-DRAWN = frozenset((INFILL, 12, 15, 21, 27, 41, *areas.DRAWN))
-"""The packets on which a picture depends."""
 Drawn = Sequence[Tuple[WayDrawing, Authority]]
-KEPT: Kept[Picture] = Kept(1 << 7)
-"""Pictures of groups: on a line many say the same, but for their kilometres."""
 
 
 class LinkMark(NamedTuple):
@@ -94,30 +86,19 @@ def picture_of(
     only: Optional[str] = None,
     where: Optional[Kilometres] = None,
     links: Sequence[LinkMark] = (),
+    name: str = "",
 ) -> Picture:
     """The picture of a group whose telegrams the program has read, in all aspects or only one.
 
     A picture by itself has a title. `where` has the kilometres of the group, if they are known already. The marks of
-    links are in the first aspect that has their row.
+    links are in the first aspect that has their row. `name` is what the group is called, if that is known already.
     """
     shown = [
         (aspect, short_profiles(findings, index))
         for index, aspect in enumerate(group.aspects)
         if only in (None, aspect.name)
     ]
-    where = where or kilometres(group)
-    own = {number: forms[number] for number in dict.fromkeys(row.number for aspect, _ in shown for row in aspect.rows)}
-
-    def make(place: Kilometres) -> Picture:
-        drawn = _drawn(group.name if titled else "", list(_rows(shown, own, links)), place)
-        return replace(drawn, shapes=Shared(drawn.shapes)) if isinstance(place, Holes) else drawn
-
-    if titled or links:  # (no other group has the same picture)
-        return _named(group.name, where, make(where))
-    said = {number: _said(form) for number, form in own.items()}
-    key = tuple((one.name, *[said[row.number] for row in one.rows], *map(_of_finding, short)) for one, short in shown)
-    held = [form["packets"] for form in own.values()]
-    return _named(group.name, where, *KEPT.of(key, held, where, make))
+    return draw(group.name, list(_rows(shown, forms, links)), where or kilometres(group), titled, name)
 
 
 def _rows(
@@ -130,18 +111,6 @@ def _rows(
         yield replace(own, links=[mark for mark in links if mark.row in rows])
         yield from infill_of_it
         links = [mark for mark in links if mark.row not in rows]
-
-
-def _said(form: Form) -> Tuple[object, ...]:
-    """What a picture has of a telegram."""
-    packets = form["packets"]
-    own = [(place, id(packet)) for place, packet in enumerate(packets) if packet["nid_packet"] in DRAWN]
-    return (form.get("m_dup"), *own)
-
-
-def _of_finding(short: Finding) -> Tuple[object, ...]:
-    """What a picture has of a finding."""
-    return short.rule, short.direction, short.balise, short.packet
 
 
 def pictures_of(
@@ -189,17 +158,12 @@ def _contents(title: str, forms: Sequence[Form], short: Sequence[Finding]) -> Li
     return contents
 
 
-def draw(title: str, contents: Sequence[Content], where: Kilometres, titled: bool = False) -> Picture:
+def draw(title: str, contents: Sequence[Content], where: Kilometres, titled: bool = False, name: str = "") -> Picture:
     """The picture of a group: a row for each content, below the title if it is to be seen."""
-    return _named(title, where, _drawn(title if titled else "", contents, where))
-
-
-def _named(title: str, where: Kilometres, drawn: Picture, texts: Sequence[str] = ()) -> Picture:
-    """The picture of a group of this name and kilometre, with the texts for its holes."""
-    km, name, shapes = where.words(0, NOMINAL), clean(title), drawn.shapes
+    drawn = _drawn(title if titled else "", contents, where)
+    km, name = where.words(0, NOMINAL), name or clean(title)
     description = ". ".join(filter(None, [f"{name}, km {km}" if km else name, drawn.description]))
-    shapes = Repeated(shapes, texts) if isinstance(shapes, Shared) else shapes
-    return Picture(name, drawn.height, shapes, drawn.width, description)
+    return replace(drawn, title=name, description=description)
 
 
 def _drawn(title: str, contents: Sequence[Content], where: Kilometres) -> Picture:

@@ -9,21 +9,14 @@ from collections import defaultdict
 from html import escape
 from typing import Dict, Iterable, List
 
-from markupsafe import Markup
-
-from balisekit.drawing.sheet import Shape
+from balisekit.drawing.sheet import Picture, Shape
 
 Written = Dict[str, List[str]]
 """What is written of each style, or of each height."""
 
 
-def text(content: str) -> Markup:
-    """A text between elements, where quotation marks need no escape."""
-    return Markup(escape(content, quote=False))
-
-
-def _escaped(text: str) -> str:
-    """A title or text as a page may have it. Most of them have nothing to escape, which is seen sooner than done."""
+def escaped(text: str) -> str:
+    """A text between elements. Most of them have nothing to escape, which is seen sooner than done."""
     return escape(text, quote=False) if "<" in text or "&" in text or ">" in text else text
 
 
@@ -52,7 +45,14 @@ def _texts(texts: Written, ticks: Written, quote: str) -> str:
     return f"<g{_look('text', quote)}>{inside}</g>\n" if inside else ""
 
 
-def svg(shapes: Iterable[Shape], in_page: bool = False) -> Markup:
+def in_page(picture: Picture) -> str:
+    """A picture in a page."""
+    described = f"<desc>{escaped(picture.description)}</desc>" if picture.description else ""
+    head = f'<svg class=picture role=img viewBox="0 0 {picture.width} {picture.height}">'
+    return f"{head}<title>{escaped(picture.title)}</title>{described}\n{svg(picture.shapes, True)}</svg>\n"
+
+
+def svg(shapes: Iterable[Shape], in_page: bool = False) -> str:
     """The shapes of a picture: for a file, or for a page, where attributes need no quotation marks.
 
     Titles and texts are escaped; all else is numbers and words of balisekit.
@@ -65,17 +65,17 @@ def svg(shapes: Iterable[Shape], in_page: bool = False) -> Markup:
             if path:
                 bare_lines[style].append(path)
         elif style == "tick":
-            ticks[y].append(f"<tspan x={quote}{x}{quote}>{_escaped(text)}</tspan>")
+            ticks[y].append(f"<tspan x={quote}{x}{quote}>{escaped(text)}</tspan>")
         elif tag == "text":
-            inside = f"{_escaped(text)}<title>{_escaped(title)}</title>" if title else _escaped(text)
+            inside = f"{escaped(text)}<title>{escaped(title)}</title>" if title else escaped(text)
             texts[style].append(f"<text x={quote}{x}{quote} y={quote}{y}{quote}>{inside}</text>")
         else:
             is_area = tag == "rect"
             path = f"M{x},{y}h{width}v{height}H{x}z" if is_area else path.replace(" ", ",")
             if title:
-                titled = f"<path d={quote}{path}{quote}><title>{_escaped(title)}</title></path>"
+                titled = f"<path d={quote}{path}{quote}><title>{escaped(title)}</title></path>"
                 (areas if is_area else lines)[style].append(titled)
             else:
                 bare_areas[style].append(path)
     written = (*_paths(areas, bare_areas, quote), *_paths(lines, bare_lines, quote), _texts(texts, ticks, quote))
-    return Markup("".join(written))
+    return "".join(written)

@@ -28,9 +28,7 @@ def _first_keys() -> Iterator[str]:
 
 BETWEEN = re.compile(rf',(?={{"(?:{"|".join(sorted(set(_first_keys())))})":)')
 """What is between two packets. No other object of a record begins with one of these keys."""
-
-NUMBER = re.compile('"([a-z_]+)":([0-9]+)')
-"""A key of a record and its number: all that is not in its packets are numbers."""
+DECODER = json.JSONDecoder()
 
 
 @lru_cache(maxsize=KEPT)
@@ -42,7 +40,6 @@ def shared(line: str) -> Form:
     """The object of a record that the program has written. It has no list outside of its packets, and keys around."""
     before, _, rest = line.partition('"packets":[')
     packets, _, behind = rest.rpartition("]")
-    numbers = NUMBER.findall(before + behind)
-    form = cast(Form, {key: int(number) for key, number in numbers})
+    form = cast(Form, DECODER.raw_decode(f'{before}"packets":[]{behind}')[0])
     form["packets"] = list(map(_packet, BETWEEN.split(packets))) if packets else []
     return form

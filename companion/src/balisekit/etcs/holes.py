@@ -11,11 +11,11 @@ from typing import Callable, Dict, Generic, Hashable, List, Match, Optional, Seq
 
 from balisekit.etcs.geometry import Kilometres, kilometre_of
 
-FIRST, MOST = 0xF0000, 0xFFFE
-"""The letter of the first hole, and how many there are."""
+FIRST, MOST = 0xF0000, 0x8000
+"""The letter of the first hole, and how many there are. The letters behind them are for other words of a group."""
 ASKED = 1 << 16
 """So many keys are remembered that were asked for."""
-HOLE = re.compile("([\U000f0000-\U000ffffd])\\1*")
+HOLE, OF_PLACE = (re.compile(f"([\U000f0000-{last}])\\1*") for last in ("\U000ffffd", "\U000f7fff"))
 Made = TypeVar("Made")
 
 
@@ -36,19 +36,26 @@ class Holes(Kilometres):
         return chr(FIRST + self.places.setdefault(along, len(self.places))) * len(super().at(along))
 
 
+def own_hole(number: int) -> str:
+    """A hole for the own words of a group that have this number."""
+    return chr(FIRST + MOST + number)
+
+
 class Pattern:
-    """A text with holes."""
+    """A text with holes. Unless `has_own` is true, those for own words of a group stay as they are."""
 
-    def __init__(self, text: str) -> None:
-        self._parts = [text] if text.isascii() else HOLE.split(text)
-        self._numbers = [ord(letter) - FIRST for letter in self._parts[1::2]]
+    def __init__(self, text: str, has_own: bool = False) -> None:
+        self._parts = [text] if text.isascii() else (HOLE if has_own else OF_PLACE).split(text)
+        numbers = [ord(letter) - FIRST for letter in self._parts[1::2]]
+        self._numbers = [number - MOST if number >= MOST else ~number for number in numbers]
+        """Those of kilometres are counted from the end."""
 
-    def filled(self, kilometres: Sequence[str]) -> str:
-        """The text with these kilometres."""
+    def filled(self, kilometres: Sequence[str], own: Sequence[str] = ()) -> str:
+        """The text with these kilometres, and with the own words of a group."""
         if not self._numbers:
             return self._parts[0]
-        parts = self._parts.copy()
-        parts[1::2] = [kilometres[number] for number in self._numbers]
+        parts, words = self._parts.copy(), [*own, *reversed(kilometres)]
+        parts[1::2] = [words[number] for number in self._numbers]
         return "".join(parts)
 
 

@@ -116,7 +116,7 @@ def page(found: Difference, now: datetime) -> Iterator[str]:
     """The answer as a page in the style of the report."""
     return pieces(
         "diff.html",
-        ["palette.css", "dark.css", "page.css"],
+        ["palette.css", "page.css"],
         date=clock.stamp(now),
         found=found,
         sides=(("old", found.old.checked), ("new", found.new.checked)),

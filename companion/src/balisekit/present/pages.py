@@ -7,8 +7,9 @@ import json
 from functools import lru_cache
 from itertools import groupby
 from pathlib import Path
-from typing import Any, Iterator, List, Sequence, Tuple
+from typing import Any, Callable, Iterator, List, Sequence, Tuple
 
+from balisekit.drawing.svg import in_page, svg
 from balisekit.io.optional_packages import needed
 from balisekit.tables.names import clean
 
@@ -20,7 +21,7 @@ TEMPLATES = Path(__file__).with_name("templates")
 def pieces(template: str, styles: Sequence[str] = (), script: str = "", **values: Any) -> Iterator[str]:
     """The page in pieces, so that it never stands in memory whole.
 
-    All values but its style sheets, its script and `parts` are escaped. The parts are pieces of another page.
+    All values but its style sheets, its script, and what a template calls safe are escaped.
     """
     with needed("jinja2", "a picture or a page"):
         import jinja2
@@ -29,8 +30,6 @@ def pieces(template: str, styles: Sequence[str] = (), script: str = "", **values
         environment = _environment(jinja2)
     own = {"style": "".join(map(_read, styles)), "script": _read(script) if script else ""}
     hashes = {f"{name}_hash": _hash(text) for name, text in own.items()}
-    if "parts" in values:
-        values["parts"] = map(Markup, values["parts"])
     texts = {name: Markup(text) for name, text in own.items()}
     page = environment.get_template(template).stream(**texts, **hashes, **values)
     page.enable_buffering(PIECES)
@@ -46,9 +45,6 @@ def _environment(jinja2: Any) -> Any:
     """The templates. Each is compiled once, since a folder may have thousands of pictures."""
     from markupsafe import Markup
 
-    from balisekit.drawing.repeated import written
-    from balisekit.drawing.svg import svg, text
-
     environment = jinja2.Environment(
         loader=jinja2.FileSystemLoader(str(TEMPLATES)),
         autoescape=True,
@@ -56,8 +52,19 @@ def _environment(jinja2: Any) -> Any:
         trim_blocks=True,
         lstrip_blocks=True,
     )
-    environment.filters.update(svg=lambda shapes, *how: Markup(written(shapes, svg, *how)), text=text, clean=clean)
+    environment.filters.update(svg=lambda shapes: Markup(svg(shapes)), drawn=lambda picture: Markup(in_page(picture)))
+    environment.filters["clean"] = clean
     return environment
+
+
+def macro(template: str, name: str) -> Callable[..., str]:
+    """A macro of a template."""
+    with needed("jinja2", "a picture or a page"):
+        import jinja2
+
+        environment = _environment(jinja2)
+    made: Callable[..., str] = getattr(environment.get_template(template).module, name)
+    return made
 
 
 def _hash(text: str) -> str:

@@ -20,15 +20,13 @@ from balisekit.rules.families import Outcome
 from balisekit.rules.links import Links
 from balisekit.tables.names import clean, describe_message
 
-PALETTE = ["palette.css", "dark.css"]
-"""The colours of a file by itself, on a light and on a dark page."""
 GREATEST_NAME = 50
 """So many characters of a file's name are taken from the table."""
 
 
 def picture_page(picture: Picture) -> Iterator[str]:
     """The picture of a group or message."""
-    return pieces("group.svg", [*PALETTE, "picture.css"], picture=picture)
+    return pieces("group.svg", ["palette.css", "picture.css"], picture=picture)
 
 
 def track_page(outcome: Outcome, links: Links, track: str, aspect: Optional[str]) -> Iterator[str]:
@@ -39,7 +37,7 @@ def track_page(outcome: Outcome, links: Links, track: str, aspect: Optional[str]
     tops = list(accumulate([0, *(picture.height for picture in pictures)]))
     return pieces(
         "track.svg",
-        [*PALETTE, "picture.css", "track.css"],
+        ["palette.css", "picture.css", "track.css"],
         title=f"track {clean(track)}" if track else "the track",
         description=f"{len(links.line.along[track])} groups, {shown_words(aspect, 'each')}, in pictures of 5 km each",
         width=WIDTH,

@@ -4,7 +4,7 @@ from __future__ import annotations
 from datetime import datetime
 from functools import partial
 from tempfile import SpooledTemporaryFile
-from typing import Dict, Iterable, Iterator, List, Optional, Tuple
+from typing import IO, Dict, Iterable, Iterator, List, Optional, Tuple
 
 from balisekit.drawing.flags import Mark, marks_of
 from balisekit.drawing.sheet import Picture
@@ -12,7 +12,8 @@ from balisekit.drawing.track import track_pictures, tracks_of
 from balisekit.present.cover import cover
 from balisekit.present.outcome_text import explained_rules
 from balisekit.present.pages import pieces, premises
-from balisekit.present.report import Block, blocks, listed
+from balisekit.present.report import listed
+from balisekit.present.report_blocks import Block, block_html, blocks, overview_row
 from balisekit.present.telegram_text import LEGEND
 from balisekit.rules.families import Outcome
 from balisekit.rules.links import Links
@@ -21,7 +22,7 @@ from balisekit.tables.own_headings import ReportHeading
 
 IN_MEMORY, PIECE = 1 << 20, 1 << 14
 """So many characters of the groups are kept in memory, and are copied at once."""
-STYLES = ("palette.css", "dark.css", "page.css", "report.css", "picture.css", "track.css")
+STYLES = ("palette.css", "page.css", "report.css", "picture.css", "track.css")
 DISTANCE = "one whose distance differs from the kilometres (L2, a rule of balisekit)"
 
 
@@ -39,11 +40,9 @@ def report_page(
     `links` are those that pictures of tracks show. `command` begins the command that writes the document again.
     """
     line, parts, names = links.line, listed(outcome), tracks_of(links.line)
-    rows: List[Block] = []
-    made = _noted(blocks(outcome.checked, line, (each for part in parts for each in part.all)), rows)
+    made = blocks(outcome.checked, line, (each for part in parts for each in part.all), full)
     with SpooledTemporaryFile(IN_MEMORY, "w+", encoding="utf-8") as groups:
-        for piece in pieces("blocks.html", blocks=made, full=full):  # (writelines would keep them all in memory)
-            groups.write(piece)
+        noted = list(_written(made, groups, full))
         groups.seek(0)
         yield from pieces(
             "report.html",
@@ -52,8 +51,9 @@ def report_page(
             cover=cover(outcome, heading, command, now),
             found=parts,
             explained=list(explained_rules(outcome)),
-            rows=rows,
-            pictured={row.id for row in rows if row.has_picture},
+            rows=[overview_row(block, any(names)) for block in noted],
+            plain=sum(block.is_plain for block in noted),
+            pictured={block.id for block in noted if block.has_picture},
             parts=iter(partial(groups.read, PIECE), ""),
             legend=LEGEND,
             premises=premises(),
@@ -66,6 +66,13 @@ def report_page(
         )
 
 
+def _written(made: Iterable[Block], groups: IO[str], full: bool) -> Iterator[Block]:
+    """Writes the blocks. The answer is what the list of all groups has of each."""
+    for block in made:
+        groups.write(block_html(block, full))
+        yield block._replace(body="")
+
+
 def _tracks(links: Links, outcome: Outcome, aspect: Optional[str]) -> Iterator[Tuple[str, Iterable[Picture]]]:
     """The name and the pictures of each track."""
     marks: Dict[str, List[Mark]] = {}
@@ -73,10 +80,3 @@ def _tracks(links: Links, outcome: Outcome, aspect: Optional[str]) -> Iterator[T
         marks.setdefault(mark.track, []).append(mark)
     for name in tracks_of(links.line):
         yield clean(name), track_pictures(links.line, links, name, aspect, marks.get(name, ()))
-
-
-def _noted(made: Iterable[Block], rows: List[Block]) -> Iterator[Block]:
-    """The blocks. What the list of all groups has of each is noted."""
-    for block in made:
-        rows.append(block._replace(picture=None, telegrams=(), has_picture=block.picture is not None))
-        yield block

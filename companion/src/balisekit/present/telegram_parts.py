@@ -2,67 +2,101 @@
 from __future__ import annotations
 
 import re
-from typing import AbstractSet, Dict, Hashable, List, NamedTuple, Optional, Sequence, Tuple
+from itertools import zip_longest
+from typing import Collection, Dict, Hashable, List, Optional, Sequence, Tuple
 
+from balisekit.drawing.svg import escaped
 from balisekit.etcs.places import Here
 from balisekit.etcs.variables import WORDS, Around, Form, in_order, value_texts
 from balisekit.present.telegram_text import LABEL_WIDTH, head_text, packet_text
 
 LABELS = re.compile(f"^(.{{{LABEL_WIDTH - 1}}}) ", re.M)
 """The labels in front of a telegram's values, and the blanks behind them."""
+LINES, VALUES, NOTE = re.compile("\n(?!\t)"), re.compile("  |\n\t"), re.compile("(?:  |\n\t)(?== )")
+"""What is between the lines of a packet, between the values of a line, which may be broken, and before its note."""
 OTHER = 2
 """So many values of a header may be others, if only these are said."""
-
-
-class Text(NamedTuple):
-    """A part of a telegram in words."""
-
-    text: str
-    id: str = ""
-    """If it is a packet that an entry is about: its place in the page."""
-    row: int = 0
-    """If the telegram of an earlier row says the rest: that row, to which a link leads."""
-    behind: str = ""
-    """What follows the link."""
 
 
 class Said:
     """What the telegrams of one balise have said so far. Packets are taken for equal if they are one object."""
 
     def __init__(self) -> None:
-        self._header: Tuple[int, Form] = 0, {}
-        self._telegrams: Dict[Hashable, int] = {}
-        self._packets: Dict[int, Tuple[int, int]] = {}
+        self.first = ""
+        """The row that has said the header."""
+        self._header: Form = {}
+        self._telegrams: Dict[Hashable, str] = {}
+        self._packets: Dict[int, Tuple[str, int]] = {}
+        self._whole: Dict[int, Tuple[str, int, str]] = {}
+        """By NID_PACKET, the first packet that was written out."""
 
-    def header(self, row: int, form: Form) -> Optional[Text]:
-        """A link in place of the header, and the values that are others, if they are few. M_MCOUNT always follows."""
-        first, known = self._header
-        if not first:
-            self._header = row, form
+    def header(self, row: str, form: Form) -> Optional[str]:
+        """What follows a link in place of the header: the values that are others, if they are few, or M_MCOUNT."""
+        if not self.first:
+            self.first, self._header = row, form
             return None
+        known = self._header
         others = [key for key, value in form.items() if known.get(key) != value and key != "packets"]
         if form.keys() != known.keys() or len(others) > OTHER or not all(key in WORDS for key in others):
             return None
         but = " and ".join(value_texts(in_order(others), form, Around()))
         counter = [key for key in form if key == "m_mcount"]
         also = "".join(f", {words} too" for words in value_texts(counter, form, Around()))
-        return Text("header\tas in ", row=first, behind=f", but {but}\n" if but else f"{also}\n")
+        return f", but {but}\n" if but else f"{also}\n"
 
-    def telegram(self, row: int, header: Optional[Text], packets: Sequence[object]) -> Optional[Text]:
-        """A link in place of the whole telegram, if that of an earlier row has this header and these packets."""
-        is_same = header and " but " not in header.behind or row == self._header[0]
-        others = "" if is_same else header.behind if header else row
-        first = self._telegrams.setdefault((others, *map(id, packets)), row)
-        return Text("everything as in ", row=first, behind="\n") if first != row else None
+    def telegram(self, row: str, header: Optional[str], packets: Sequence[object]) -> str:
+        """The earlier row whose telegram has this header and these packets."""
+        is_same = row == self.first or header is not None and " but " not in header
+        first = self._telegrams.setdefault(("" if is_same else header or row, *map(id, packets)), row)
+        return first if first != row else ""
 
-    def packet(self, row: int, place: int, packet: object, words: str) -> Optional[Text]:
-        """A link in place of a packet that has several lines, if an earlier row has it."""
+    def packet(self, row: str, place: int, packet: Form, words: str) -> str:
+        """A packet in words. One of several lines has a link to an earlier row, if that has it or one much like it."""
         first, first_place = self._packets.setdefault(id(packet), (row, place))
-        if first == row or words.count("\n") == 1:
-            return None
+        if words.count("\n") == 1:
+            return words
+        but = "\n"
+        if first == row:
+            first, first_place, known = self._whole.setdefault(packet["nid_packet"], (row, place, words))
+            but = "" if first == row else changes(words, known)
+        if not but or 3 * len(but) > 2 * len(words):
+            return words
         label, _, values = words.partition("\t")
-        name, which = re.split("  |\n", values, maxsplit=1)[0], f"packet {first_place} of " * (place != first_place)
-        return Text(f"{label}\t{name}: as {which or 'in '}", row=first, behind="\n")
+        name, which = VALUES.split(values, maxsplit=1)[0], f"packet {first_place} of " * (place != first_place)
+        return f"{label}\t{name}: as {which or 'in '}{link(first)}{but}"
+
+
+def changes(words: str, known: str) -> str:
+    """The values of a packet that a known one has not, by their lines: nothing unless it has all lines of that one.
+
+    Their labels say which line it is, so no two may have the same one.
+    """
+    lines, others = ([_values(line) for line in LINES.split(each[:-1])] for each in (words, known))
+    lines[0][0] = others[0][0] = ""
+    names = list(map(_names, lines[: len(others)]))
+    if names != list(map(_names, others)) or len({line[0] for line in lines}) < len(lines):
+        return ""
+    found, nothing = [", but\n"], [""]
+    for (label, *values), before in zip_longest(lines, others, fillvalue=nothing):
+        new = "  ".join(value for value, other in zip_longest(values, before[1:]) if value != other)
+        found += [f"{label}\t{new}\n"] if new else []
+    return "".join(found)
+
+
+def _values(line: str) -> List[str]:
+    """The label of a line, its values and its note."""
+    label, _, rest = line.partition("\t")
+    values, *note = NOTE.split(rest, maxsplit=1)
+    return [label, *VALUES.split(values), *note]
+
+
+def _names(values: Sequence[str]) -> List[str]:
+    return [values[0], *(value.partition(" ")[0] for value in values[1:])]
+
+
+def link(row: str) -> str:
+    """A link to the telegram of a row."""
+    return f"<a href=#r{row}>row {row}</a>"
 
 
 def packet_id(telegram: str, packet: int) -> str:
@@ -70,33 +104,29 @@ def packet_id(telegram: str, packet: int) -> str:
     return f"{telegram}p{packet}"
 
 
-def texts(
-    form: Form, here: Here, id: str, marked: AbstractSet[str], row: int = 0, said: Optional[Said] = None
-) -> List[Text]:
-    """A telegram or message in words, the packets apart that are marked.
+def telegram_words(
+    form: Form, here: Here, id: str, marked: Collection[int], row: str = "", said: Optional[Said] = None
+) -> str:
+    """A telegram or message in words, as a page has it, the packets apart that are marked.
 
     `said` has what earlier telegrams of its balise have said. What is marked is always written out, and so are packets
     whose notes are of some aspects.
     """
     packets, said = form["packets"], said or Said()
-    names = [packet_id(id, place) for place in range(len(packets))] if marked else []
     header = said.header(row, form)
-    same = said.telegram(row, header, packets) if marked.isdisjoint(names) and not here.passages else None
+    same = "" if marked or here.passages else said.telegram(row, header, packets)
     if same:
-        return [same]
-    found, plain = ([header], []) if header else ([], [head_text(form, _tabbed)])
+        return f"everything as in {link(same)}\n"
+    found = [head_text(form, _in_page) if header is None else f"header\tas in {link(said.first)}{escaped(header)}"]
     for place, packet in enumerate(packets):
-        words = packet_text(form, place, here, _tabbed)
-        apart = None if place in here.passages else said.packet(row, place, packet, words)
-        apart = Text(words, names[place]) if names and names[place] in marked else apart
-        if apart:
-            found += [Text("".join(plain)), apart] if plain else [apart]
-            plain = []
+        words = packet_text(form, place, here, _in_page)
+        if place in marked:
+            found.append(f"<mark id={packet_id(id, place)}>{words}</mark>")
         else:
-            plain.append(words)
-    return [*found, Text("".join(plain))] if plain else found
+            found.append(words if place in here.passages else said.packet(row, place, packet, words))
+    return "".join(found)
 
 
-def _tabbed(words: str) -> str:
+def _in_page(words: str) -> str:
     """Words with a tab before the values of each line, in place of a sixth of the page that would be blanks."""
-    return LABELS.sub(lambda label: label[1].rstrip() + "\t", words)
+    return LABELS.sub(lambda label: label[1].rstrip() + "\t", escaped(words))

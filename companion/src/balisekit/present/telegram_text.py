@@ -10,7 +10,7 @@ from functools import lru_cache
 from typing import Callable, Dict, List, Mapping, NamedTuple, Sequence, Tuple, Union
 
 from balisekit.etcs.geometry import Kilometres
-from balisekit.etcs.holes import Kept, Pattern
+from balisekit.etcs.holes import Holes, Kept, Pattern
 from balisekit.etcs.places import Here
 from balisekit.etcs.raw_packets import content_of, with_content
 from balisekit.etcs.variables import LABELS, WORDS, Around, Form, Values, in_order, value_texts
@@ -179,7 +179,7 @@ def head_text(form: Form, finish: Finish = str) -> str:
 def packet_text(form: Form, place: int, here: Here = Here(), finish: Finish = str) -> str:
     """The packet in this place in words. Packets that are one object are made once."""
     packet, from_track = form["packets"][place], form.get("nid_message") != 136
-    if place in here.passages:
+    if place in here.passages or isinstance(here.kilometres, Holes):
         return finish(_text(*_packet_lines(place, packet, here, from_track)))
 
     def make(holes: Kilometres) -> Pattern:

@@ -81,6 +81,10 @@ class Telegrams(Mapping[int, Form]):
             pass
         return self.raw or {}
 
+    def line(self, number: int) -> str:
+        """The record of a row, as the program has written it."""
+        return self._records[number].line
+
     def __getitem__(self, number: int) -> Form:
         return self._records[number].shared
 

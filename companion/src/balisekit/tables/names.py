@@ -92,10 +92,14 @@ def balise_name(name: str, n_pig: Optional[int], place: int = 0, number: Optiona
     return f"{f'{quoted(name)} ' if name else ''}({which}{other})"
 
 
-def describe_balise(group: Optional[Group], row: Row, n_pig: Optional[int] = None) -> str:
-    """Where a row's balise is: row, group, kilometre, aspect, and its name. `n_pig` is that of its telegram."""
+def describe_balise(group: Optional[Group], row: Row, n_pig: Optional[int] = None, below: Optional[str] = None) -> str:
+    """Where a row's balise is: row, group, kilometre, aspect, and its name. `n_pig` is that of its telegram.
+
+    Below a heading that has its group and this track, neither is said again.
+    """
     place = group.places.get(row.number) if group else None
-    parts = [f"row {row.number}", clean(row.group), *_where(row)]
+    parts = [f"row {row.number}", *([clean(row.group)] if below is None else [])]
+    parts += _where(row._replace(track="") if row.track == below else row)
     parts += ["every aspect"] if row.aspect == "*" else [f"aspect {quoted(row.aspect)}"] if row.aspect else []
     if place is not None:
         number = None if row.balise == place else row.balise
