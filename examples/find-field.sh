@@ -1,6 +1,6 @@
 # shellcheck shell=bash
 # Functions for bash that find a refused field of a telegram, mend a text, and show all refused lines of a file.
-# docs/REFUSALS.md says what for. Read them into a bash, in the folder of ./balisecheck:
+# docs/refusals.md says what for. Read them into a bash, in the folder of ./balisecheck:
 #
 #     . examples/find-field.sh
 #

@@ -1,6 +1,6 @@
 # shellcheck shell=bash
 # Functions for bash that share work among processors by GNU parallel, and find by jq which identities documents share.
-# docs/SPEED.md says what for. Read them into a bash, in the folder of ./balisecheck:
+# docs/performance.md says what for. Read them into a bash, in the folder of ./balisecheck:
 #
 #     . examples/parallel.sh
 #

@@ -1,5 +1,5 @@
 #!/usr/bin/env -S python3 -B
-"""Tests of `balisecheck check` from outside, of the documents in examples/check, and of docs/FINDINGS.md.
+"""Tests of `balisecheck check` from outside, of the documents in examples/check, and of docs/findings.md.
 
 Each document of tests/cases/documents.txt has to be answered as it says there, and so has the same in another spelling:
 keys in another order, blanks and escapes. One that is not refused has the same answer with a key twice: then it is not
@@ -16,7 +16,7 @@ import re
 from cases import END_MARK, HEAD, LONG, spelled, text
 from runner import EXAMPLES, TOP, answered, blocks, in_full, play, respelled, run
 
-FOLDER, PAGE = EXAMPLES / "check", (TOP / "docs" / "FINDINGS.md").read_text()
+FOLDER, PAGE = EXAMPLES / "check", (TOP / "docs" / "findings.md").read_text()
 MENDED = "-mended"
 RULES = range(1, 17)
 # messages, and how many of them with one bit turned are messages still

@@ -10,7 +10,7 @@ from hostile_runs import (CHECK, COMMANDS, DECODE, DECODE_RADIO, ENCODE, ENCODE_
                           runs)
 from runner import DEVICE, MEMORY, TOP, Answer
 
-STACK = 512  # KiB of stack that docs/ARCHITECTURE.md names
+STACK = 512  # KiB of stack that docs/contributing/architecture.md names
 LONG = 20000  # groups of a long document
 KEPT = 9  # times the size of a document that is kept whole: it takes 8.1, and 10.6 where no list gives back room
 

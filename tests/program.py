@@ -203,7 +203,7 @@ def test_manual(tests):
     statuses = [line[3:] for line in section("EXIT STATUS") if re.fullmatch(r"\.B \d", line)]
     tests.equal("the manual page has all statuses", statuses, list("0123"))
     for name, text in (("the manual page", " ".join(section("EXIT STATUS"))), ("README", (TOP / "README.md").read_text()),
-                       ("SAFETY", (TOP / "docs" / "SAFETY.md").read_text())):
+                       ("SAFETY", (TOP / "docs" / "assurance" / "safety.md").read_text())):
         tests.holds(f"{name} has the statuses of the system", all(word in text for word in ("126", "127", "loader")))
     shown = [line.replace(r"\(aq", "'") for line in section("EXAMPLE") if not line.startswith(".")]
     shell = 'balisecheck() { "$PROGRAM" "$@"; }\n'

@@ -17,7 +17,7 @@ import tempfile
 
 from runner import EXAMPLES, TOP, play, program
 
-PAGES = [page for folder in (TOP, TOP / "docs", TOP / "examples", TOP / "tests") for page in sorted(folder.glob("*.md"))]
+PAGES = [*sorted(TOP.glob("*.md")), *sorted((TOP / "docs").rglob("*.md")), TOP / "examples" / "README.md"]
 JOB = EXAMPLES / "ci" / "tests" / "github.yml"
 ALONE = "a1007f802000ffffffffffffffffffffffffffffffffffffffffc0"
 SOUND, FOUND = (f"group,telegram\n{rows}" for rows in (f"A,{ALONE}\n", f"A,{ALONE}\nB,{ALONE}\n"))
@@ -38,7 +38,8 @@ def test_links(tests):
             path = page.parent / name if name else page
             is_there = path.exists() and (not anchor or anchor in anchors(path))
             tests.holds(f"{page.name} links to {target}", is_there or re.match(r"[a-z]+:", target))
-    tests.holds("SAFETY links to the errata", "](../ERRATA.md)" in (TOP / "docs" / "SAFETY.md").read_text(encoding="utf-8"))
+    safety = (TOP / "docs" / "assurance" / "safety.md").read_text(encoding="utf-8")
+    tests.holds("the page on safety links to the errata", "](../../ERRATA.md)" in safety)
 
 
 def test_hook(tests):

@@ -1,8 +1,8 @@
 #!/usr/bin/env -S python3 -B
 """Runs the commands that documents show as they stand there, on the examples and on files made here, after the
 functions of examples/find-field.sh and examples/parallel.sh: those with what they have to write (blocks marked
-`console`), and the commands of the table of docs/REFUSALS.md that mend files. Each document has to have commands, and
-each file made here has to be used. The sums of L_PACKET in docs/FORMATS.md are compared with the examples, and the
+`console`), and the commands of the table of docs/refusals.md that mend files. Each document has to have commands, and
+each file made here has to be used. The sums of L_PACKET in docs/formats.md are compared with the examples, and the
 functions are tried with what they have to refuse. What needs jq or parallel is left out where that is missing.
 
 BALISECHECK names the program. The last line is `the recipes: N passed, M failed`, and the exit status is 1 if a test
@@ -20,7 +20,7 @@ import tempfile
 from runner import EXAMPLES, TOP, Tests, program, run
 
 DOCUMENTS = ("README.md", "examples/README.md",
-             *(f"docs/{name}.md" for name in ("REFUSALS", "FORMATS", "FINDINGS", "BALISEKIT", "SPEED")))
+             *(f"docs/{name}.md" for name in ("refusals", "formats", "findings", "commands", "performance")))
 FUNCTIONS = EXAMPLES / "find-field.sh", EXAMPLES / "parallel.sh"
 # Tools that may be missing, each with a word of the commands that need it.
 TOOLS = {"jq": ("jq", "shared_identities"), "parallel": ("check_documents", "run_in_blocks")}
@@ -145,7 +145,7 @@ def test_mending(tests):
     """The rows of the table whose first cell is a file and whose last cell is a command."""
     last = run(("decode",), GOOD).stdout.splitlines()[-1:]
     tests.equal("the good lines", last, ["refused: line 4: spare at 15 end 17"])
-    rows = dict(re.findall(r"(?m)^\| `(\w+\.txt)`.*\| `(.*mended\.txt)` \|$", (TOP / "docs/REFUSALS.md").read_text()))
+    rows = dict(re.findall(r"(?m)^\| `(\w+\.txt)`.*\| `(.*mended\.txt)` \|$", (TOP / "docs/refusals.md").read_text()))
     tests.equal("each file is in the table", sorted(rows), sorted(TO_MEND))
     for name in rows.keys() & TO_MEND.keys():
         tests.mends(name, rows[name])
@@ -228,7 +228,7 @@ def test_zeros(tests):
 
 def test_sums(tests):
     """Each `.. examples/FILE.txt .. : SUM = L_PACKET` says how many bits the file's first packet has."""
-    text = (TOP / "docs/FORMATS.md").read_text()
+    text = (TOP / "docs/formats.md").read_text()
     found = re.findall(r"(examples/[^ ]*\.txt)` [^.\n]*: ([0-9 +×]*) = ([0-9]+)", text)
     for name, terms, bits in found:
         total = sum(math.prod(map(int, term.split("×"))) for term in terms.split("+"))

@@ -10,8 +10,8 @@ from runner import TOP
 from trace_schemas import Schema, as_json
 from trace_table import COUNTED, END_MARK, Stopped, is_optional, members, shown, widths
 
-FORMATS, PAGE = TOP / "docs/FORMATS.md", TOP / "docs/TRACE.md"
-COUNTING = [TOP / "README.md", TOP / "docs/SAFETY.md", PAGE]
+FORMATS, PAGE = TOP / "docs/formats.md", TOP / "docs/assurance/trace.md"
+COUNTING = [TOP / "README.md", TOP / "docs/assurance/safety.md", PAGE]
 COUNT = re.compile(r"\d+ of \d+ rows")
 PART = re.compile(r"(<!-- made: (.*?) -->\n).*?(<!-- /made -->)", re.DOTALL)
 

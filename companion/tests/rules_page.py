@@ -1,4 +1,4 @@
-"""Makes the sections of docs/LINKS.md, docs/REMARKS.md and docs/PLAN.md: `python3 companion/tests/rules_page.py`.
+"""Makes the sections of docs/links.md, docs/remarks.md and docs/track-plan.md: `python3 companion/tests/rules_page.py`.
 
 Each is made of the pages of its rules. The introduction of a document, and the outputs of the examples, are its own and
 stay as they are. A rule without a section gets one, in the order of the rules.
@@ -18,9 +18,9 @@ from balisekit.rules.rule import Rule  # noqa: E402
 
 DOCS = HERE.parents[1] / "docs"
 DOCUMENTS: Dict[Path, Sequence[Rule]] = {
-    DOCS / "LINKS.md": links.RULES,
-    DOCS / "REMARKS.md": meaning.RULES,
-    DOCS / "PLAN.md": track_plan.RULES,
+    DOCS / "links.md": links.RULES,
+    DOCS / "remarks.md": meaning.RULES,
+    DOCS / "track-plan.md": track_plan.RULES,
 }
 
 

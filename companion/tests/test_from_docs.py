@@ -1,4 +1,4 @@
-"""The texts that the package has of docs/FINDINGS.md are those of the page."""
+"""The texts that the package has of docs/findings.md are those of the page."""
 from __future__ import annotations
 
 import re
@@ -40,8 +40,8 @@ def test_the_package_has_the_texts_of_the_pages() -> None:
 )
 def test_a_page_that_has_changed_is_noticed(heading: str, word: str, name: str, tmp_path: Path) -> None:
     """One word differs: the file that has it is named, and only that."""
-    text = (DOCS / "FINDINGS.md").read_text("utf-8")
+    text = (DOCS / "findings.md").read_text("utf-8")
     begin = text.index(heading)
-    (tmp_path / "FINDINGS.md").write_text(text[:begin] + re.sub(word, "changed", text[begin:], 1), "utf-8")
+    (tmp_path / "findings.md").write_text(text[:begin] + re.sub(word, "changed", text[begin:], 1), "utf-8")
     status, output = checked(tmp_path)
     assert (status, output) == (1, f"{name} is not that of {tmp_path}: run companion/tools/from_docs.py\n")

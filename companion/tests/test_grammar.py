@@ -1,4 +1,4 @@
-"""The grammar is that of docs/FORMATS.md, and every text of the repository is of it."""
+"""The grammar is that of docs/formats.md, and every text of the repository is of it."""
 from __future__ import annotations
 
 import re
@@ -43,9 +43,9 @@ def repository() -> Iterator[Tuple[str, str]]:
         for line in cases.stdout.decode().splitlines()
         if line.split("\t")[2].startswith("refused: ")
     )
-    for line in re.findall(r"`(refused: [^`]+)`", (TOP / "docs/REFUSALS.md").read_text("utf-8")):
-        yield "REFUSALS.md", line
-    for name in ("README.md", "examples/README.md", "docs/FORMATS.md", "docs/REFUSALS.md", "docs/FINDINGS.md"):
+    for line in re.findall(r"`(refused: [^`]+)`", (TOP / "docs/refusals.md").read_text("utf-8")):
+        yield "refusals.md", line
+    for name in ("README.md", "examples/README.md", "docs/formats.md", "docs/refusals.md", "docs/findings.md"):
         # A recipe appends a name in parentheses to the lines of a report.
         yield from ((name, re.sub(r" \(Signal .*\)$", "", line)) for line in LINES.findall(blocks(name)))
 
@@ -65,7 +65,7 @@ def test_texts_of_program_tests() -> None:
 
 
 def test_document_has_the_grammar() -> None:
-    assert f"```text\n{grammar.GRAMMAR.strip()}\n```" in (TOP / "docs/FORMATS.md").read_text("utf-8")
+    assert f"```text\n{grammar.GRAMMAR.strip()}\n```" in (TOP / "docs/formats.md").read_text("utf-8")
 
 
 def test_hostile_use_has_the_same_grammar() -> None:
@@ -75,7 +75,7 @@ def test_hostile_use_has_the_same_grammar() -> None:
 
 
 def test_names_are_those_of_the_rules() -> None:
-    headings = re.findall(r"^## F(\d+): (.+)$", (TOP / "docs/FINDINGS.md").read_text("utf-8"), re.MULTILINE)
+    headings = re.findall(r"^## F(\d+): (.+)$", (TOP / "docs/findings.md").read_text("utf-8"), re.MULTILINE)
     assert grammar.NAMES == {int(rule): name for rule, name in headings}
 
 

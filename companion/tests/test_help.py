@@ -1,4 +1,4 @@
-"""docs/BALISEKIT.md and the help of each command name the same words and statuses."""
+"""docs/commands.md and the help of each command name the same words and statuses."""
 from __future__ import annotations
 
 import argparse
@@ -12,7 +12,7 @@ from cases_of_program import TOP
 from balisekit.cli import main as cli
 from balisekit.tables.cells import COLUMNS
 
-PAGE = (TOP / "docs" / "BALISEKIT.md").read_text("utf-8")
+PAGE = (TOP / "docs" / "commands.md").read_text("utf-8")
 COMMANDS = list(cli.COMMANDS)
 OF_PIP_AND_HELP = {"--help", "--version"}
 

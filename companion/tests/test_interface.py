@@ -14,7 +14,7 @@ import balisekit
 from balisekit.engine.program import Program
 
 LINE = str(TOP / "examples" / "table" / "line.csv")
-PAGE = (TOP / "docs" / "BALISEKIT.md").read_text("utf-8").split("## As a Python module")[1].split("\n## ")[0]
+PAGE = (TOP / "docs" / "commands.md").read_text("utf-8").split("## As a Python module")[1].split("\n## ")[0]
 
 
 def test_the_page_has_each_name() -> None:

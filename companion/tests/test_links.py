@@ -31,7 +31,7 @@ COMPARED = (
     "3 links (L1, L2), 1 link (L3), 2 groups (L4), 1 single balise (L5), 6 headers (L6), 2 profiles (L7, L8), "
     "3 pairs (L9)"
 )
-PAGE = (TOP / "docs" / "LINKS.md").read_text("utf-8")
+PAGE = (TOP / "docs" / "links.md").read_text("utf-8")
 
 
 def group(name: str, *kms: str, nominal: str = "", track: str = "") -> Group:
@@ -217,7 +217,7 @@ def test_the_page_has_what_is_written(run: Run, monkeypatch: pytest.MonkeyPatch)
     monkeypatch.chdir(TOP)
     block = r"^```console\n\$ \./balisekit (.+?)( \| tail -n 2)?\n(.+?)```$"
     blocks = re.findall(block, PAGE, re.MULTILINE | re.DOTALL)
-    guide = (TOP / "docs" / "BALISEKIT.md").read_text("utf-8")
+    guide = (TOP / "docs" / "commands.md").read_text("utf-8")
     block = block.replace(r"\./balisekit (", r"\./balisekit ((?:links|diff) ")
     blocks += re.findall(block, guide, re.MULTILINE | re.DOTALL)
     assert len(blocks) == 12

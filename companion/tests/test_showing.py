@@ -157,8 +157,8 @@ def test_no_standard_input(monkeypatch: pytest.MonkeyPatch, run: Run, tmp_path: 
 
 
 def test_the_document_has_what_is_shown(capsys: pytest.CaptureFixture[str], monkeypatch: pytest.MonkeyPatch) -> None:
-    """The block of docs/BALISEKIT.md is what the command writes."""
-    block = (TOP / "docs" / "BALISEKIT.md").read_text("utf-8").split("$ ./balisekit show < examples/linking.txt\n")[1]
+    """The block of docs/commands.md is what the command writes."""
+    block = (TOP / "docs" / "commands.md").read_text("utf-8").split("$ ./balisekit show < examples/linking.txt\n")[1]
     _input(monkeypatch, (TOP / "examples" / "linking.txt").read_bytes())
     assert cli.main(["show"]) == 0
     assert capsys.readouterr().out == block.split("```\n")[0]

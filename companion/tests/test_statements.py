@@ -61,7 +61,7 @@ EXAMPLES = {
     "row 2",
     "aspects-not-told-apart": 'balises (N_PIG 0), (N_PIG 1): M_MCOUNT 7 is also that of aspect "0", rows 2 to 3',
 }
-"""What is said of the first finding of each example of docs/FINDINGS.md."""
+"""What is said of the first finding of each example of docs/findings.md."""
 
 
 def check(program: Program, path: Path, *lines: str) -> Checked:

@@ -71,7 +71,7 @@ def test_each_number_has_words(whole: Any) -> None:
 
 #: What tells the two variables with the key "nc" apart.
 KINDS = {"NC_CDDIFF": {"q_diff": 0}, "NC_DIFF": {"q_diff": 1}}
-#: Numbers that FORMATS.md has other words for.
+#: Numbers that formats.md has other words for.
 OTHERWISE = {
     *(("n_pig", 0), ("m_dup", 1), ("m_dup", 2), ("m_mcount", 255), ("q_dir", 2), ("q_linkreaction", 2), ("v_main", 0)),
     *(("g_a", 255), ("v_static", 127), ("q_front", 0), ("q_front", 1), ("q_diff", 1), ("q_diff", 2), ("m_ack", 1)),
@@ -83,8 +83,8 @@ def _key(variable: str) -> str:
 
 
 def _named_in_formats() -> Iterator[Tuple[str, int, str]]:
-    """The variables and numbers that the tables of FORMATS.md name, with their names."""
-    rows = re.findall(r"^\| ([A-Z_]+) \|.*\|([^|]+)\|$", (TOP / "docs/FORMATS.md").read_text(), re.MULTILINE)
+    """The variables and numbers that the tables of formats.md name, with their names."""
+    rows = re.findall(r"^\| ([A-Z_]+) \|.*\|([^|]+)\|$", (TOP / "docs/formats.md").read_text(), re.MULTILINE)
     for variable, values in rows:
         if _key(variable) in VARIABLES:
             for number, words in re.findall(r"(?:^|; )([0-9,]+) = ([^;]+)", values.strip()):

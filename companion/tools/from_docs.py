@@ -1,5 +1,5 @@
 #!/usr/bin/env python3
-"""Writes the texts that balisekit takes from docs/FINDINGS.md, as JSON files of the package.
+"""Writes the texts that balisekit takes from docs/findings.md, as JSON files of the package.
 
     companion/tools/from_docs.py [--check] [--docs DOCS]
 
@@ -88,11 +88,11 @@ FILES: Dict[str, Callable[[str], Any]] = {
 
 def main(arguments: Optional[List[str]] = None) -> int:
     """Writes the files, or names those that differ."""
-    parser = argparse.ArgumentParser(description="Texts of docs/FINDINGS.md as JSON files of balisekit.")
+    parser = argparse.ArgumentParser(description="Texts of docs/findings.md as JSON files of balisekit.")
     parser.add_argument("--check", action="store_true", help="only name the files that differ; status 1 if one does")
     parser.add_argument("--docs", type=Path, default=TOP / "docs", help="the folder of the page")
     options = parser.parse_args(arguments)
-    differing, page = 0, (options.docs / "FINDINGS.md").read_text("utf-8")
+    differing, page = 0, (options.docs / "findings.md").read_text("utf-8")
     for name, make in FILES.items():
         path, text = PACKAGE / name, json.dumps(make(page), indent=1, ensure_ascii=False) + "\n"
         if not options.check:

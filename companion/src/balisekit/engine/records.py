@@ -1,6 +1,6 @@
 """The records of telegrams and radio messages, as `decode` writes them: the types of their keys, and their form.
 
-`decode` writes a record as one line of JSON without blanks, its keys in byte order (docs/FORMATS.md). So one expression
+`decode` writes a record as one line of JSON without blanks, its keys in byte order (docs/formats.md). So one expression
 describes each form completely. `schemas/*.json` describes the same forms for other tools.
 """
 from __future__ import annotations

@@ -1,6 +1,6 @@
-"""Meaning, urgency, cause and remedy of each finding by docs/FINDINGS.md, and of each rule by its own page.
+"""Meaning, urgency, cause and remedy of each finding by docs/findings.md, and of each rule by its own page.
 
-companion/tools/from_docs.py makes `findings.json` of FINDINGS.md.
+companion/tools/from_docs.py makes `findings.json` of findings.md.
 """
 from __future__ import annotations
 

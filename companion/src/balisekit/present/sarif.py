@@ -37,7 +37,7 @@ LEVELS = {
 }
 REFUSED = "refused"
 """The identifier of a result for what the program has refused."""
-REFUSED_PAGE = Page("a telegram or message that the program refuses", {"How to correct it": "See docs/REFUSALS.md."})
+REFUSED_PAGE = Page("a telegram or message that the program refuses", {"How to correct it": "See docs/refusals.md."})
 FINGERPRINT = "balisekit/v1"
 Object = Dict[str, Any]
 Lines = Sequence[Tuple[int, int]]

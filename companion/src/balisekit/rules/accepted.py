@@ -52,7 +52,7 @@ ONE_TELEGRAM = ("F1", "F4", "F6", "F9", "L1", "L2", "L3", "L5", "L6", "L9")
 ALL_ASPECTS = ("F3", "F14", "F15", "F16")
 """The findings that compare aspects or groups. The others are about all telegrams of an aspect."""
 ON_CORRECT_DATA = ("F6", "F9", "F10", "F11", "F12", "F13", "F14", "F16", *own.ON_CORRECT_DATA)
-"""The rules of the table of findings on correct data in docs/FINDINGS.md, and those whose pages name correct data."""
+"""The rules of the table of findings on correct data in docs/findings.md, and those whose pages name correct data."""
 Key = Tuple[str, ...]
 Item = Union[Place, Remark]
 """What one entry accepts: a finding of the program, or a remark of a rule of balisekit."""
@@ -159,7 +159,7 @@ class Judged:
 
     @property
     def against_the_rule(self) -> Mapping[str, int]:
-        """How many items are accepted of each rule that no correct data gets by FINDINGS.md."""
+        """How many items are accepted of each rule that no correct data gets by findings.md."""
         return Counter(entry.rule for entry in self.by_item if entry and entry.rule not in ON_CORRECT_DATA)
 
     @property

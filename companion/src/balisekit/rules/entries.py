@@ -66,7 +66,7 @@ URGENCIES: Mapping[int, Urgency] = {
     **dict.fromkeys((4, 6, 7, 15), Urgency.BRAKING),
     9: Urgency.RULE_ONLY,
 }
-"""What a finding means at worst, by docs/FINDINGS.md. F15 is worse with F16, which is an entry of its own."""
+"""What a finding means at worst, by docs/findings.md. F15 is worse with F16, which is an entry of its own."""
 
 
 CORRECT: Mapping[str, str] = {

@@ -1,4 +1,4 @@
-"""Findings on correct data: which row of that table of docs/FINDINGS.md a finding fits, by the program's JSON.
+"""Findings on correct data: which row of that table of docs/findings.md a finding fits, by the program's JSON.
 
 companion/tools/from_docs.py makes `findings_on_correct_data.json` of the table.
 """
