@@ -5,10 +5,9 @@
     tests/pages.py --counts   prints the words of each page and each long sentence
     tests/pages.py --counts PAGE..
 
-Counted are the Markdown pages of the repository, without licences, THIRD-PARTY.md, the tables that tests/trace makes and
-what the tests of balisekit read. Sentences and `where` are counted outside code, quotes and links.
+Counted are the Markdown pages of the repository, without licences, THIRD-PARTY.md, the tables that tests/trace makes
+and what the tests of balisekit read. Sentences and `where` are counted outside code, quotes and links.
 """
-import pathlib
 import re
 import subprocess
 import sys
@@ -23,7 +22,8 @@ EXCEPTIONS = ()
 
 def pages():
     """The path of each page that is counted, as the repository names it."""
-    named = subprocess.run(["git", "ls-files", "*.md"], cwd=TOP, capture_output=True, text=True, check=False).stdout.split()
+    listed = subprocess.run(["git", "ls-files", "*.md"], cwd=TOP, capture_output=True, text=True, check=False)
+    named = listed.stdout.split()
     named = named or [str(path.relative_to(TOP)) for path in TOP.rglob("*.md")]
     return [name for name in named if not name.startswith(NOT_COUNTED) and (TOP / name).exists()]
 
