@@ -36,9 +36,8 @@ STATUSES = """\
 exit status:
   0  `check`, `links` and `diff`: nothing was found, or all of it is accepted; other commands: done
   1  `check`, `links` or `diff` has found something that is not accepted, or an accepted entry is at fault
-  2  INCOMPLETE: a telegram or message was refused, or a rule compared nothing although there was something to compare;
-     or refused: a table that cannot be read, wrong options, an output that would replace an input or, without --force,
-     another file
+  2  INCOMPLETE: a telegram or message was refused, or a rule compared none of what it had to compare; or refused: a
+     table that cannot be read, wrong options, an output that would replace an input or, without --force, another file
   3  no answer: no program, a file that cannot be written, an interrupt
   SIGTERM ends a command with status 143, SIGHUP with 129
 
