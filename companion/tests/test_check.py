@@ -349,7 +349,7 @@ def test_document(run: Run, table: Write, tmp_path: Path, program: Program) -> N
 
 def test_explain_is_what_the_document_says(run: Run, table: Write) -> None:
     known = explain.explanations()
-    parts = {"name", "says", "urgent", "cause", "happens", "remedy"}
+    parts = {"name", "says", "urgent", "cause", "remedy"}
     assert sorted(known) == list(range(1, 17))
     assert all(set(page) == parts and all(page.values()) for page in known.values())
     _, out, _ = run("check", table(*SOUND, f"C,,,,{OTHER}"), "--explain")

@@ -16,14 +16,8 @@ from typing import Any, Callable, Dict, List, Optional
 
 TOP = Path(__file__).resolve().parents[2]
 PACKAGE = TOP / "companion" / "src" / "balisekit"
-PARTS = {
-    "What it says": "says",
-    "How urgent": "urgent",
-    "Usual cause": "cause",
-    "What may happen": "happens",
-    "How to correct it": "remedy",
-}
-"""The paragraphs about a finding, and their keys."""
+PARTS = {"Risk": "urgent", "Usual causes": "cause", "Correction": "remedy"}
+"""The items about a finding, and their keys."""
 YES = ("An aspect of a group, or", "- ", "A yes rests", "A yes does not cover", "The rules ask how far")
 """The beginnings of the paragraphs on a yes that a report has. Its list of words is left out."""
 CORRECT_DATA = (
@@ -51,16 +45,14 @@ def section(page: str, heading: str, end: str) -> str:
 
 
 def explanations(page: str) -> Dict[int, Dict[str, str]]:
-    """The paragraphs about each finding, by its number."""
+    """What the page says of each finding, by its number: the sentence below the program's line, and the items."""
     rules: Dict[int, Dict[str, str]] = {}
     for text in re.split(r"^## ", page, flags=re.MULTILINE):
-        heading = re.match(r"F(\d+): (.+)\n", text)
+        heading = re.match(r"F(\d+): (.+)\n\n`F\1 .+`\n\n(.+)\n\n", text)
         if heading:
-            parts = dict(re.findall(r"^\*\*(.+?)\.\*\* (.+?)(?=^\*\*|^```|\Z)", text, re.MULTILINE | re.DOTALL))
-            lines = {
-                part: " ".join(re.sub(r"^- ", "", parts.get(part, ""), flags=re.MULTILINE).split()) for part in PARTS
-            }
-            rules[int(heading[1])] = {"name": heading[2], **{key: plain(lines[part]) for part, key in PARTS.items()}}
+            items = dict(re.findall(r"^- \*\*([A-Z][a-z ]+)(?:: |\.\*\* )(.+)$", text, re.MULTILINE))
+            parts = {key: plain(items[name][0].upper() + items[name][1:]) for name, key in PARTS.items()}
+            rules[int(heading[1])] = {"name": heading[2], "says": plain(heading[3]), **parts}
     return rules
 
 
@@ -72,7 +64,7 @@ def premises(page: str) -> List[str]:
 
 def correct_data(page: str) -> Dict[str, str]:
     """For each row of the table the data that is correct, and what to do."""
-    lines = section(page, "## Findings on correct data", "\n###").split("\n")
+    lines = section(page, "## Findings on correct data", "\n## ").split("\n")
     rows = [line.strip("| ").split(" | ") for line in lines if line.startswith("| ")][1:]
     if len(rows) != len(CORRECT_DATA):
         raise SystemExit(f"the table of findings on correct data has {len(rows)} rows: from_docs.py has names of 9")
