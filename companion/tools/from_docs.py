@@ -1,5 +1,5 @@
 #!/usr/bin/env python3
-"""Writes the texts that balisekit takes from docs/findings.md, as JSON files of the package.
+"""Writes the texts that balisekit takes from docs/findings.md and docs/assurance/yes.md, as JSON files of the package.
 
     companion/tools/from_docs.py [--check] [--docs DOCS]
 
@@ -12,14 +12,14 @@ import json
 import re
 import sys
 from pathlib import Path
-from typing import Any, Callable, Dict, List, Optional
+from typing import Any, Callable, Dict, List, Optional, Tuple
 
 TOP = Path(__file__).resolve().parents[2]
 PACKAGE = TOP / "companion" / "src" / "balisekit"
 PARTS = {"Risk": "urgent", "Usual causes": "cause", "Correction": "remedy"}
 """The items about a finding, and their keys."""
-YES = ("An aspect of a group, or", "- ", "A yes rests", "A yes does not cover", "The rules ask how far")
-"""The beginnings of the paragraphs on a yes that a report has. Its list of words is left out."""
+YES = ("In plain words", "Premises", "What a yes does not cover", "Rules of our own")
+"""The parts of the page on a yes that a report has."""
 CORRECT_DATA = (
     "stop aspect",
     "one controlled balise",
@@ -57,9 +57,9 @@ def explanations(page: str) -> Dict[int, Dict[str, str]]:
 
 
 def premises(page: str) -> List[str]:
-    """The paragraphs about what a yes means."""
-    lines = section(page, "## What a yes means", "\n## ").split("\n")
-    return [plain(line) for line in lines if line.startswith(YES) and not line.startswith('- "')]
+    """The paragraphs about what a yes means, rests on and does not cover."""
+    lines = "\n".join(section(page, f"## {part}", "\n## ") for part in YES).split("\n")
+    return [plain(line) for line in lines if line]
 
 
 def correct_data(page: str) -> Dict[str, str]:
@@ -71,26 +71,30 @@ def correct_data(page: str) -> Dict[str, str]:
     return {name: f"{re.sub(r' [(].*[)]$', '', cells[0])}: {cells[3]}" for name, cells in zip(CORRECT_DATA, rows)}
 
 
-FILES: Dict[str, Callable[[str], Any]] = {
-    "present/findings.json": explanations,
-    "present/templates/premises.json": premises,
-    "rules/findings_on_correct_data.json": correct_data,
+FILES: Dict[str, Tuple[str, Callable[[str], Any]]] = {
+    "present/findings.json": ("findings.md", explanations),
+    "present/templates/premises.json": ("assurance/yes.md", premises),
+    "rules/findings_on_correct_data.json": ("findings.md", correct_data),
 }
+"""Each file, its page, and what makes it of the page."""
 
 
 def main(arguments: Optional[List[str]] = None) -> int:
     """Writes the files, or names those that differ."""
-    parser = argparse.ArgumentParser(description="Texts of docs/findings.md as JSON files of balisekit.")
+    parser = argparse.ArgumentParser(
+        description="Texts of docs/findings.md and docs/assurance/yes.md as files of balisekit."
+    )
     parser.add_argument("--check", action="store_true", help="only name the files that differ; status 1 if one does")
-    parser.add_argument("--docs", type=Path, default=TOP / "docs", help="the folder of the page")
+    parser.add_argument("--docs", type=Path, default=TOP / "docs", help="the folder of the pages")
     options = parser.parse_args(arguments)
-    differing, page = 0, (options.docs / "findings.md").read_text("utf-8")
-    for name, make in FILES.items():
-        path, text = PACKAGE / name, json.dumps(make(page), indent=1, ensure_ascii=False) + "\n"
+    differing = 0
+    for name, (page, make) in FILES.items():
+        path, text = PACKAGE / name, (options.docs / page).read_text("utf-8")
+        text = json.dumps(make(text), indent=1, ensure_ascii=False) + "\n"
         if not options.check:
             path.write_text(text, "utf-8")
         elif path.read_text("utf-8") != text:
-            print(f"{name} is not that of {options.docs}: run companion/tools/from_docs.py")
+            print(f"{name} is not that of {options.docs / page}: run companion/tools/from_docs.py")
             differing += 1
     return min(differing, 1)
 
