@@ -52,15 +52,14 @@ TO_MEND = {
 OTHERS = {
     "faulty.txt": FAULTY + b"\n",
     "lost.txt": LOST + b"\n",
-    "lengths.txt": b"%b\n%b\n\n%b00\n%b\n" % (TELEGRAM, TELEGRAM[:-1], TELEGRAM, MARKED),
     "batch.txt": b"%b\n%b\n\r\n%b\n%b \n%b\n%b\n%b"
                  % (TELEGRAM, SPARE, TELEGRAM, TELEGRAM, PADDED, OLD, TELEGRAM.upper()),
-    "numbered.txt": b"%b\n\n\r\n%b\r\n%b" % (TELEGRAM, MARKED, TELEGRAM),
-    "names.txt": b"Signal A, km 12.300\nSignal B, km 13.850\n",
     "line.txt": b"%b\n%b\n" % ((EXAMPLES / "duplicated-pair.txt").read_bytes(), TELEGRAM.replace(b"2000ff", b"2001ff")),
     "aspects.txt": b"a10283802000ff%b\na11303802000ff%b\n\na10284002000ff%b\na11304002000ff%b\n"
                    % ((ONES + b"c0",) * 4),
 }
+# What only the tests of the functions read.
+NUMBERED = {"numbered.txt": b"%b\n\n\r\n%b\r\n%b" % (TELEGRAM, MARKED, TELEGRAM)}
 IS_ZERO = "line 1 has no hexadecimal digit for bit"
 
 
@@ -73,7 +72,7 @@ class Recipes(Tests):
         (files / "balisecheck").symlink_to(program())
         for name in ("examples", "balisekit", "companion"):
             (files / name).symlink_to(TOP / name)
-        self.put({**TO_MEND, **OTHERS})
+        self.put({**TO_MEND, **OTHERS, **NUMBERED})
 
     def put(self, files):
         """Writes these files."""
@@ -134,21 +133,22 @@ def test_commands(tests):
 
 
 def test_line_ends(tests, commands):
-    """Commands on names and on lines of telegrams write the same where lines end in blanks and a carriage return."""
-    for name in ("names.txt", "line.txt", "aspects.txt"):
+    """Commands on lines of telegrams write the same where lines end in blanks and a carriage return."""
+    for name in ("line.txt", "aspects.txt"):
         command = next(it for it in commands if it.startswith("jq ") and name in it)
         other = command.replace(name, "ends.txt")
         tests.writes(f"{command} >as-it-is.txt; sed 's/$/ \\t\\r/' {name} >ends.txt; {other} | diff as-it-is.txt -", "")
 
 
 def test_mending(tests):
-    """The rows of the table whose first cell is a file and whose last cell is a command."""
+    """The rows of the table whose first cell is a file and whose last cell is a command. The command of several.txt mends
+    each file that has no row of its own."""
     last = run(("decode",), GOOD).stdout.splitlines()[-1:]
     tests.equal("the good lines", last, ["refused: line 4: spare at 15 end 17"])
     rows = dict(re.findall(r"(?m)^\| `(\w+\.txt)`.*\| `(.*mended\.txt)` \|$", (TOP / "docs/refusals.md").read_text()))
-    tests.equal("each file is in the table", sorted(rows), sorted(TO_MEND))
-    for name in rows.keys() & TO_MEND.keys():
-        tests.mends(name, rows[name])
+    tests.equal("the files of the table", sorted(rows), ["named.txt", "returns.txt", "several.txt", "utf16.txt"])
+    for name in TO_MEND:
+        tests.mends(name, rows[name] if name in rows else rows["several.txt"].replace("several.txt", name))
     for code, mark, named in (("utf-16-be", b"\xfe\xff", "UTF-16 "), ("utf-16-le", b"", "UTF-16LE "),
                               ("utf-16-be", b"", "UTF-16BE ")):
         tests.put({"utf16.txt": mark + GOOD.decode().encode(code)})
@@ -158,7 +158,8 @@ def test_mending(tests):
 def test_functions(tests):
     """Numbers too great, places after the end, lines that are not there, capitals, and lines that end in blanks."""
     telegram, spare, blanks = TELEGRAM.decode(), SPARE.decode(), "printf '%s \\t\\r\\n' " + TELEGRAM.decode()
-    tests.writes('all_refused missing.txt; echo "status $?"', "status 3\n")
+    tests.writes("./balisecheck decode <numbered.txt | json_lines | jq -c .packets | number_lines numbered.txt",
+                 '1 []\n4 [{"nid_packet":0,"nid_vbcmk":17}]\n5 []\n')
     tests.writes("./balisecheck decode <batch.txt | json_lines 2>refused.txt | jq -c .packets | number_lines batch.txt",
                  "1 []\n")
     tests.refuses(f"put_number 1 15 17 4 <<<{telegram}", "4 is no number of 2 bits")

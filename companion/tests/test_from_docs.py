@@ -36,7 +36,11 @@ def test_the_package_has_the_texts_of_the_pages() -> None:
 @pytest.mark.parametrize(
     "page, heading, word, name",
     [
-        ("findings.md", "## F3: ", "balise", "present/findings.json"),
+        ("findings.md", "## F3: ", "M_VERSION", "present/findings.json"),
+        ("findings.md", "## F3: ", "wrong position", "present/findings.json"),
+        ("findings.md", "## F3: ", "identities", "present/findings.json"),
+        ("findings.md", "## F3: ", "another group", "present/findings.json"),
+        ("findings.md", "## F3: ", "four values", "present/findings.json"),
         ("findings.md", "## Findings on correct data", "accept", "rules/findings_on_correct_data.json"),
         ("assurance/yes.md", "## In plain words", "train", "present/templates/premises.json"),
         ("assurance/yes.md", "## Premises", "balise", "present/templates/premises.json"),

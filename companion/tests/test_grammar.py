@@ -21,6 +21,15 @@ def blocks(path: str) -> str:
     return "\n".join(re.findall(r"^```(?:console|text)\n(.*?)^```$", text, re.MULTILINE | re.DOTALL))
 
 
+def listed_refusals() -> Iterator[str]:
+    """The refusals that docs/refusals.md lists. A section may name what the words of its table follow."""
+    for section in re.split("^##+ ", (TOP / "docs/refusals.md").read_text("utf-8"), flags=re.MULTILINE):
+        yield from re.findall(r"`(refused: [^`]*[^:`])`", section)
+        begin = re.search("These words follow `(refused: .+:)`", section)
+        if begin:
+            yield from (f"{begin[1]} {words}" for words in re.findall(r"^\| `([^`]+)` \|", section, re.MULTILINE))
+
+
 def known(line: str) -> List[str]:
     """The names of the expressions that the line is of."""
     return [
@@ -43,8 +52,7 @@ def repository() -> Iterator[Tuple[str, str]]:
         for line in cases.stdout.decode().splitlines()
         if line.split("\t")[2].startswith("refused: ")
     )
-    for line in re.findall(r"`(refused: [^`]+)`", (TOP / "docs/refusals.md").read_text("utf-8")):
-        yield "refusals.md", line
+    yield from (("refusals.md", line) for line in listed_refusals())
     for name in ("README.md", "examples/README.md", "docs/formats.md", "docs/refusals.md", "docs/findings.md"):
         # A recipe appends a name in parentheses to the lines of a report.
         yield from ((name, re.sub(r" \(Signal .*\)$", "", line)) for line in LINES.findall(blocks(name)))
@@ -54,6 +62,16 @@ def test_texts_of_the_repository() -> None:
     texts = list(repository())
     assert len(texts) > 2400
     assert [text for text in texts if not known(text[1])] == []
+
+
+def test_each_refusal_is_listed() -> None:
+    """Each word of the grammar for what is wrong has a row on the page."""
+    lines, parts = list(listed_refusals()), grammar.PARTS
+    words = {word for part in parts.values() for why in re.findall(r"[(][?]P<why>(.+?)[)]", part) for word in why.split("|")}
+    assert len(words) == 13 and len(lines) >= 30
+    words |= {"not hexadecimal", "wrong size", "pad bits set", "length below 3", "cut off"}
+    words |= {"not JSON", "too big", "group 0: count", "group 0: aspects", "usage is"}
+    assert [word for word in words if not any(re.search(rf": (?:form )?{word}\b", line) for line in lines)] == []
 
 
 def test_texts_of_program_tests() -> None:
