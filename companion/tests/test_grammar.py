@@ -66,9 +66,9 @@ def test_texts_of_the_repository() -> None:
 
 def test_each_refusal_is_listed() -> None:
     """Each word of the grammar for what is wrong has a row on the page."""
-    lines, parts = list(listed_refusals()), grammar.PARTS
-    words = {word for part in parts.values() for why in re.findall(r"[(][?]P<why>(.+?)[)]", part) for word in why.split("|")}
-    assert len(words) == 13 and len(lines) >= 30
+    lines, expressions = list(listed_refusals()), "\n".join(grammar.PARTS.values())
+    words = {word for whys in re.findall(r"[(][?]P<why>(.+?)[)]", expressions) for word in whys.split("|")}
+    assert len(words) == 14 and len(lines) >= 30
     words |= {"not hexadecimal", "wrong size", "pad bits set", "length below 3", "cut off"}
     words |= {"not JSON", "too big", "group 0: count", "group 0: aspects", "usage is"}
     assert [word for word in words if not any(re.search(rf": (?:form )?{word}\b", line) for line in lines)] == []
