@@ -2,7 +2,7 @@
 """Runs the commands that documents show as they stand there, on the examples and on files made here, after the
 functions of examples/find-field.sh and examples/parallel.sh: those with what they have to write (blocks marked
 `console`), and the commands of the table of docs/refusals.md that mend files. Each document has to have commands, and
-each file made here has to be used. The sums of L_PACKET in docs/formats.md are compared with the examples, and the
+each file made here has to be used. The sums of L_PACKET in docs/variables.md are compared with the examples, and the
 functions are tried with what they have to refuse. What needs jq or parallel is left out where that is missing.
 
 BALISECHECK names the program. The last line is `the recipes: N passed, M failed`, and the exit status is 1 if a test
@@ -230,7 +230,7 @@ def test_zeros(tests):
 
 def test_sums(tests):
     """Each `.. examples/FILE.txt .. : SUM = L_PACKET` says how many bits the file's first packet has."""
-    text = (TOP / "docs/formats.md").read_text()
+    text = (TOP / "docs/variables.md").read_text()
     found = re.findall(r"(examples/[^ ]*\.txt)` [^.\n]*: ([0-9 +×]*) = ([0-9]+)", text)
     for name, terms, bits in found:
         total = sum(math.prod(map(int, term.split("×"))) for term in terms.split("+"))

@@ -1,4 +1,4 @@
-"""The grammar is that of docs/formats.md, and every text of the repository is of it."""
+"""The grammar is that of schemas/report-grammar.txt, and every text of the repository is of it."""
 from __future__ import annotations
 
 import re
@@ -82,8 +82,9 @@ def test_texts_of_program_tests() -> None:
     assert [line for line in lines if not known(line) and "usage" not in line] == []
 
 
-def test_document_has_the_grammar() -> None:
-    assert f"```text\n{grammar.GRAMMAR.strip()}\n```" in (TOP / "docs/formats.md").read_text("utf-8")
+def test_file_has_the_grammar() -> None:
+    lines = (TOP / "schemas/report-grammar.txt").read_text("utf-8").splitlines(keepends=True)
+    assert "".join(line for line in lines if not line.startswith("#")) == grammar.GRAMMAR
 
 
 def test_hostile_use_has_the_same_grammar() -> None:
