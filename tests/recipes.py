@@ -20,7 +20,7 @@ import tempfile
 from runner import EXAMPLES, TOP, Tests, program, run
 
 DOCUMENTS = ("README.md", "examples/README.md",
-             *(f"docs/{name}.md" for name in ("refusals", "formats", "findings", "commands", "performance")))
+             *(f"docs/{name}.md" for name in ("refusals", "formats", "findings", "guide", "commands", "performance")))
 FUNCTIONS = EXAMPLES / "find-field.sh", EXAMPLES / "parallel.sh"
 # Tools that may be missing, each with a word of the commands that need it.
 TOOLS = {"jq": ("jq", "shared_identities"), "parallel": ("check_documents", "run_in_blocks")}

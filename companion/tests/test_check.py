@@ -482,8 +482,6 @@ def test_example(run: Run, monkeypatch: pytest.MonkeyPatch, program: Program) ->
     status, out, _ = run("check", "examples/table/line.csv")
     assert status == 2 and out == (TOP / "examples/table/line.txt").read_text("utf-8").splitlines()
     assert line_table.table(program) == line_table.LINE.read_text("utf-8")
-    block = (TOP / "docs/commands.md").read_text("utf-8").split("$ ./balisekit check examples/table/line.csv\n")[1]
-    assert block.split("\n```")[0].splitlines() == out
 
 
 def test_start_script(table: Write, tmp_path: Path) -> None:
