@@ -142,8 +142,8 @@ def test_line_ends(tests, commands):
 
 
 def test_mending(tests):
-    """The rows of the table whose first cell is a file and whose last cell is a command. The command of several.txt mends
-    each file that has no row of its own."""
+    """The rows of the table whose first cell is a file and whose last cell is a command. The command of several.txt
+    mends each file that has no row of its own."""
     last = run(("decode",), GOOD).stdout.splitlines()[-1:]
     tests.equal("the good lines", last, ["refused: line 4: spare at 15 end 17"])
     rows = dict(re.findall(r"(?m)^\| `(\w+\.txt)`.*\| `(.*mended\.txt)` \|$", (TOP / "docs/refusals.md").read_text()))
