@@ -1,11 +1,12 @@
 #!/usr/bin/env -S python3 -B
 """Tests of `balisecheck check` from outside, of the documents in examples/check, and of docs/findings.md.
 
-Each document of tests/cases/documents.txt has to be answered as it says there, and so has the same in another spelling:
-keys in another order, blanks and escapes. One that is not refused has the same answer with a key twice: then it is not
-read group by group. Each one of examples/check has to be answered as the report beside it says, and each mended one by
-yes. With one aspect in the place of the balises of a group the answer has to be the same. The page has to have a section
-for each rule, which begins with the first line of its example's report and links the example and the mended one.
+Each document of tests/cases/documents.txt has to be answered as it says there, and so has the same spelled in another
+way: keys in another order, blanks and escapes. One that is not refused has the same answer with a key twice: then it
+is not read group by group. Each one of examples/check has to be answered as the report beside it says, and each
+mended one by yes. With one aspect in the place of the balises of a group the answer has to be the same. The page has
+to have a section for each rule, which begins with the first line of its example's report and links the example and
+the mended one.
 
 BALISECHECK names the program. The last line is `the documents: N passed, M failed`, and the exit status is 1 if a
 test failed.

@@ -14,7 +14,9 @@ from cases_of_program import TOP
 
 from balisekit.present.explanations import explanations
 from balisekit.present.pages import premises
+from balisekit.rules.entries import URGENCIES
 from balisekit.rules.findings_on_correct_data import reasons
+from balisekit.rules.rule import Urgency
 
 DOCS = TOP / "docs"
 
@@ -60,3 +62,17 @@ def test_a_page_that_has_changed_is_noticed(page: str, heading: str, word: str, 
     status, output = checked(tmp_path)
     wanted = f"{name} is not that of {tmp_path / page}: run companion/tools/from_docs.py\n"
     assert times == 1 and (status, output) == (1, wanted)
+
+
+AT_WORST = {
+    Urgency.WRONG_INFORMATION: r"Wrong information\b|An old profile is used\.|Braking too late\b|Too fast\b",
+    Urgency.WRONG_PLACE: r"A wrong position of the train\.",
+    Urgency.BRAKING: r"Braking[.,;]",
+    Urgency.RULE_ONLY: r"Only a rule\.",
+}
+
+
+def test_the_order_of_findings_is_by_what_the_page_says_of_the_worst() -> None:
+    assert set(URGENCIES) == set(explanations())
+    for rule, page in explanations().items():
+        assert re.match(AT_WORST[URGENCIES[rule]], page["urgent"]), rule
