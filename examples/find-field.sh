@@ -1,6 +1,6 @@
 # shellcheck shell=bash
-# Functions for bash that find a refused field of a telegram, mend a text, and show all refused lines of a file.
-# docs/refusals.md says what for. Read them into a bash, in the folder of ./balisecheck:
+# Functions for bash that find a refused field of a telegram, mend a text, and help in a pipe. docs/refusals.md says
+# what for; `balisekit show` names the refused field of each line of a file. Read them into a bash:
 #
 #     . examples/find-field.sh
 #
@@ -89,23 +89,6 @@ list_packets() {
             if (size < 14) exit
         }
     }'
-}
-
-# all_refused FILE: each refused line of the file, with its number there.
-all_refused() {
-    local before=0 answer status
-    [ -f "$1" ] || { echo "there is no file $1" >&2; return 3; }
-    while
-        answer=$(tail -n "+$((before + 1))" "$1" | ./balisecheck decode | tail -n 1
-            exit "${PIPESTATUS[1]}")
-        status=$?
-        [ "$status" -eq 2 ]
-    do
-        answer=${answer#refused: line }
-        before=$((before + ${answer%%:*}))
-        echo "refused: line $before:${answer#*:}"
-    done
-    return "$status"
 }
 
 # json_lines: passes on the answers, and writes a refusal on standard error.

@@ -1,11 +1,12 @@
 #!/usr/bin/env -S python3 -B
 """Tests of `balisecheck check` from outside, of the documents in examples/check, and of docs/findings.md.
 
-Each document of tests/cases/documents.txt has to be answered as it says there, and so has the same in another spelling:
-keys in another order, blanks and escapes. One that is not refused has the same answer with a key twice: then it is not
-read group by group. Each one of examples/check has to be answered as the report beside it says, and each mended one by
-yes. With one aspect in the place of the balises of a group the answer has to be the same. The page has to have a section
-for each rule, with an example and its report as they stand in the folder.
+Each document of tests/cases/documents.txt has to be answered as it says there, and so has the same spelled in another
+way: keys in another order, blanks and escapes. One that is not refused has the same answer with a key twice: then it
+is not read group by group. Each one of examples/check has to be answered as the report beside it says, and each
+mended one by yes. With one aspect in the place of the balises of a group the answer has to be the same. The page has
+to have a section for each rule, which begins with the first line of its example's report and links the example and
+the mended one.
 
 BALISECHECK names the program. The last line is `the documents: N passed, M failed`, and the exit status is 1 if a
 test failed.
@@ -134,28 +135,25 @@ def examples():
 
 
 def test_sections(tests):
-    """Each rule has one example and a section, which shows it and names the mended document."""
+    """Each rule has one example and a section, which begins with the first line of its report. It links the example and
+    the mended document, and no others."""
     found = sorted(examples())
     tests.equal("each rule has an example", [rule for rule, _, _ in found], list(RULES))
     sections = dict(re.findall(r"^## (F\d+: .*)\n((?:.|\n)*?)(?=^## |\Z)", PAGE, re.MULTILINE))
     tests.equal("each rule has a section", list(sections), [f"F{rule}: {title}" for rule, title, _ in found])
     for rule, title, name in found:
         section = sections.get(f"F{rule}: {title}", "")
-        tests.holds(f"the section of F{rule} names {name}{MENDED}.json", f"check/{name}{MENDED}.json)" in section)
-        tests.holds(f"the section of F{rule} shows {name}.json", "\n".join(shown(name)) in section)
-
-
-def shown(name):
-    """The document and its report as the page has to show them."""
-    return [f"```{kind}\n{(FOLDER / name).with_suffix(end).read_text()}```\n" for kind, end in
-            (("json", ".json"), ("text", ".txt"))]
+        shown, report = re.match(r"\n`(.*)`\n\n", section), (FOLDER / f"{name}.txt").read_text().splitlines()
+        tests.equal(f"the section of F{rule} begins with a line of {name}.txt", shown and shown[1], report[1])
+        named = re.findall(r"\(\.\./examples/check/([a-z0-9.-]+)\)", section)
+        tests.equal(f"the section of F{rule} names its example", named, [f"{name}.json", f"{name}{MENDED}.json"])
 
 
 def test_page(tests):
     """What the page shows besides: several findings in their order, and the report of a sound line."""
-    for name, block in zip(("many-findings.json", "many-findings.txt"), shown("many-findings")):
-        tests.holds(f"the page shows {name}", block in PAGE)
-    tests.holds("the page shows sound-line.txt", shown("sound-line")[1] in PAGE)
+    for name in ("sound-line", "many-findings"):
+        command = f"$ ./balisecheck check < examples/check/{name}.json\n"
+        tests.holds(f"the page shows {name}.txt", command + (FOLDER / f"{name}.txt").read_text() in PAGE)
 
 
 if __name__ == "__main__":

@@ -1,4 +1,4 @@
-"""The texts that the program may write: the grammar of docs/formats.md, and records."""
+"""The texts that the program may write: the grammar of schemas/report-grammar.txt, and records."""
 import json
 import pathlib
 import re

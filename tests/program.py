@@ -202,9 +202,11 @@ def test_manual(tests):
         tests.holds(f"the manual page has {name}", not run(name.split()).stdout.startswith("refused: usage"))
     statuses = [line[3:] for line in section("EXIT STATUS") if re.fullmatch(r"\.B \d", line)]
     tests.equal("the manual page has all statuses", statuses, list("0123"))
-    for name, text in (("the manual page", " ".join(section("EXIT STATUS"))), ("README", (TOP / "README.md").read_text()),
+    guide = (TOP / "docs" / "guide.md").read_text().partition("\n## Exit statuses\n")[2]
+    for name, text in (("the manual page", " ".join(section("EXIT STATUS"))), ("the guide", guide),
                        ("SAFETY", (TOP / "docs" / "assurance" / "safety.md").read_text())):
         tests.holds(f"{name} has the statuses of the system", all(word in text for word in ("126", "127", "loader")))
+    tests.equal("the guide has all statuses", re.findall(r"(?m)^\| (\d) \|", guide), list("0123"))
     shown = [line.replace(r"\(aq", "'") for line in section("EXAMPLE") if not line.startswith(".")]
     shell = 'balisecheck() { "$PROGRAM" "$@"; }\n'
     commands = "".join(f"printf '%s\\n' {shlex.quote(line)}; {line[2:]}\n" for line in shown if line.startswith("$ "))

@@ -1,6 +1,6 @@
 #!/usr/bin/env -S python3 -B
-"""Tests of what the repository has for those who read, fork or call it: links between pages, the pre-commit hook, the job
-file of its own tests, .editorconfig.
+"""Tests of what the repository has for those who read, fork or call it: links between pages, the sentence on a yes, the
+pre-commit hook, the job file of its own tests, .editorconfig.
 
 BALISECHECK names the program. The last line is `the project: N passed, M failed`, and the exit status is 1 if a test
 failed.
@@ -18,6 +18,7 @@ import tempfile
 from runner import EXAMPLES, TOP, play, program
 
 PAGES = [*sorted(TOP.glob("*.md")), *sorted((TOP / "docs").rglob("*.md")), TOP / "examples" / "README.md"]
+DOCUMENT = TOP / "crates" / "etcs_document"
 JOB = EXAMPLES / "ci" / "tests" / "github.yml"
 ALONE = "a1007f802000ffffffffffffffffffffffffffffffffffffffffc0"
 SOUND, FOUND = (f"group,telegram\n{rows}" for rows in (f"A,{ALONE}\n", f"A,{ALONE}\nB,{ALONE}\n"))
@@ -40,6 +41,26 @@ def test_links(tests):
             tests.holds(f"{page.name} links to {target}", is_there or re.match(r"[a-z]+:", target))
     safety = (TOP / "docs" / "assurance" / "safety.md").read_text(encoding="utf-8")
     tests.holds("the page on safety links to the errata", "](../../ERRATA.md)" in safety)
+
+
+def comment(lines):
+    """The words of a comment."""
+    return " ".join(re.sub(r"(?m)^ *///? ?", "", lines).split())
+
+
+def test_yes(tests):
+    """README and the page on a yes quote the sentence that the law's comment has, and the page has each field of the
+    definition."""
+    law = re.search(r"(?m)^((?:///.*\n)+)pub fn no_finding_says_yes\(", (DOCUMENT / "src" / "laws.rt").read_text("utf-8"))
+    said = comment(law[1]).partition("all is true that a yes says: ")[2]
+    tests.holds("the law's comment has the sentence", said)
+    page = (TOP / "docs" / "assurance" / "yes.md").read_text("utf-8")
+    for name, text in (("README", (TOP / "README.md").read_text("utf-8")), ("yes.md", page)):
+        tests.equal(f"{name}: the sentence", re.findall(r"(?m)^> Where the answer is yes, (.*)$", text), [said])
+    record = re.search(r"(?ms)^pub record SaysYes .*?(?=\n\n)", (DOCUMENT / "specs" / "Verdict.antt").read_text("utf-8"))
+    fields = re.findall(r"(?m)^  pub (\w+) :", record[0])
+    listed = re.findall(r"(?m)^- ((?:`\w+`(?:, )?)+): ", page.partition("## The sentence")[2].partition("\n## ")[0])
+    tests.equal("yes.md: the fields", re.findall(r"`(\w+)`", " ".join(listed)), fields)
 
 
 def test_hook(tests):
@@ -127,4 +148,4 @@ def is_utf8(content):
 
 
 if __name__ == "__main__":
-    play("the project", test_links, test_hook, test_job, test_editorconfig)
+    play("the project", test_links, test_yes, test_hook, test_job, test_editorconfig)

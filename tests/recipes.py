@@ -2,7 +2,7 @@
 """Runs the commands that documents show as they stand there, on the examples and on files made here, after the
 functions of examples/find-field.sh and examples/parallel.sh: those with what they have to write (blocks marked
 `console`), and the commands of the table of docs/refusals.md that mend files. Each document has to have commands, and
-each file made here has to be used. The sums of L_PACKET in docs/formats.md are compared with the examples, and the
+each file made here has to be used. The sums of L_PACKET in docs/variables.md are compared with the examples, and the
 functions are tried with what they have to refuse. What needs jq or parallel is left out where that is missing.
 
 BALISECHECK names the program. The last line is `the recipes: N passed, M failed`, and the exit status is 1 if a test
@@ -20,7 +20,7 @@ import tempfile
 from runner import EXAMPLES, TOP, Tests, program, run
 
 DOCUMENTS = ("README.md", "examples/README.md",
-             *(f"docs/{name}.md" for name in ("refusals", "formats", "findings", "commands", "performance")))
+             *(f"docs/{name}.md" for name in ("refusals", "formats", "findings", "guide", "commands", "performance")))
 FUNCTIONS = EXAMPLES / "find-field.sh", EXAMPLES / "parallel.sh"
 # Tools that may be missing, each with a word of the commands that need it.
 TOOLS = {"jq": ("jq", "shared_identities"), "parallel": ("check_documents", "run_in_blocks")}
@@ -52,15 +52,15 @@ TO_MEND = {
 OTHERS = {
     "faulty.txt": FAULTY + b"\n",
     "lost.txt": LOST + b"\n",
-    "lengths.txt": b"%b\n%b\n\n%b00\n%b\n" % (TELEGRAM, TELEGRAM[:-1], TELEGRAM, MARKED),
     "batch.txt": b"%b\n%b\n\r\n%b\n%b \n%b\n%b\n%b"
                  % (TELEGRAM, SPARE, TELEGRAM, TELEGRAM, PADDED, OLD, TELEGRAM.upper()),
-    "numbered.txt": b"%b\n\n\r\n%b\r\n%b" % (TELEGRAM, MARKED, TELEGRAM),
     "names.txt": b"Signal A, km 12.300\nSignal B, km 13.850\n",
     "line.txt": b"%b\n%b\n" % ((EXAMPLES / "duplicated-pair.txt").read_bytes(), TELEGRAM.replace(b"2000ff", b"2001ff")),
     "aspects.txt": b"a10283802000ff%b\na11303802000ff%b\n\na10284002000ff%b\na11304002000ff%b\n"
                    % ((ONES + b"c0",) * 4),
 }
+# What only the tests of the functions read.
+NUMBERED = {"numbered.txt": b"%b\n\n\r\n%b\r\n%b" % (TELEGRAM, MARKED, TELEGRAM)}
 IS_ZERO = "line 1 has no hexadecimal digit for bit"
 
 
@@ -73,7 +73,7 @@ class Recipes(Tests):
         (files / "balisecheck").symlink_to(program())
         for name in ("examples", "balisekit", "companion"):
             (files / name).symlink_to(TOP / name)
-        self.put({**TO_MEND, **OTHERS})
+        self.put({**TO_MEND, **OTHERS, **NUMBERED})
 
     def put(self, files):
         """Writes these files."""
@@ -142,13 +142,14 @@ def test_line_ends(tests, commands):
 
 
 def test_mending(tests):
-    """The rows of the table whose first cell is a file and whose last cell is a command."""
+    """The rows of the table whose first cell is a file and whose last cell is a command. The command of several.txt
+    mends each file that has no row of its own."""
     last = run(("decode",), GOOD).stdout.splitlines()[-1:]
     tests.equal("the good lines", last, ["refused: line 4: spare at 15 end 17"])
     rows = dict(re.findall(r"(?m)^\| `(\w+\.txt)`.*\| `(.*mended\.txt)` \|$", (TOP / "docs/refusals.md").read_text()))
-    tests.equal("each file is in the table", sorted(rows), sorted(TO_MEND))
-    for name in rows.keys() & TO_MEND.keys():
-        tests.mends(name, rows[name])
+    tests.equal("the files of the table", sorted(rows), ["named.txt", "returns.txt", "several.txt", "utf16.txt"])
+    for name in TO_MEND:
+        tests.mends(name, rows[name] if name in rows else rows["several.txt"].replace("several.txt", name))
     for code, mark, named in (("utf-16-be", b"\xfe\xff", "UTF-16 "), ("utf-16-le", b"", "UTF-16LE "),
                               ("utf-16-be", b"", "UTF-16BE ")):
         tests.put({"utf16.txt": mark + GOOD.decode().encode(code)})
@@ -158,7 +159,8 @@ def test_mending(tests):
 def test_functions(tests):
     """Numbers too great, places after the end, lines that are not there, capitals, and lines that end in blanks."""
     telegram, spare, blanks = TELEGRAM.decode(), SPARE.decode(), "printf '%s \\t\\r\\n' " + TELEGRAM.decode()
-    tests.writes('all_refused missing.txt; echo "status $?"', "status 3\n")
+    tests.writes("./balisecheck decode <numbered.txt | json_lines | jq -c .packets | number_lines numbered.txt",
+                 '1 []\n4 [{"nid_packet":0,"nid_vbcmk":17}]\n5 []\n')
     tests.writes("./balisecheck decode <batch.txt | json_lines 2>refused.txt | jq -c .packets | number_lines batch.txt",
                  "1 []\n")
     tests.refuses(f"put_number 1 15 17 4 <<<{telegram}", "4 is no number of 2 bits")
@@ -228,7 +230,7 @@ def test_zeros(tests):
 
 def test_sums(tests):
     """Each `.. examples/FILE.txt .. : SUM = L_PACKET` says how many bits the file's first packet has."""
-    text = (TOP / "docs/formats.md").read_text()
+    text = (TOP / "docs/variables.md").read_text()
     found = re.findall(r"(examples/[^ ]*\.txt)` [^.\n]*: ([0-9 +×]*) = ([0-9]+)", text)
     for name, terms, bits in found:
         total = sum(math.prod(map(int, term.split("×"))) for term in terms.split("+"))

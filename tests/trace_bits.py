@@ -17,7 +17,7 @@ sys.path += [str(TOP / "bench"), str(TOP / "companion/src")]
 import messages  # noqa: E402  (the path comes first)
 import packets  # noqa: E402
 from balisekit.etcs import layout, variables  # noqa: E402
-from balisekit.etcs.packets import MESSAGES, packet_name  # noqa: E402
+from balisekit.etcs.packets import MESSAGES, TRACK, TRAIN, packet_name  # noqa: E402, F401
 
 # A variable among bits, its first bit, its digits, and the paths in the JSON of parts of them, with their bits.
 Found = namedtuple("Found", "name at digits parts")

@@ -1,19 +1,26 @@
 """What is made of the table of variables: for tests/trace.
 
-A part of a page between `<!-- made: WHAT -->` and `<!-- /made -->` is made. WHAT is `trace`, or `raw` for packets that the
-program keeps as bits, or `bits LAYOUT` for how many bits a layout has, or `rows LAYOUT`, `rows LAYOUT to VARIABLE`,
-`rows LAYOUT after VARIABLE` for its variables too, or `keys packet`, `keys train packet`, `keys message` for their JSON.
+docs/variables.md is made as a whole from tests/trace_variables.txt. There a line `{KIND WHAT}` is a part that is made:
+
+- `{layout LAYOUT}`: its name, its sections and what it is for
+- `{rows LAYOUT}`, `{rows LAYOUT to VARIABLE}`, `{rows LAYOUT after VARIABLE}`: its variables, and how many bits it has
+- `{bits LAYOUT}`: how many bits it has
+- `{keys packet}`, `{keys train packet}`, `{keys message}`: their JSON
+- `{raw layouts}`, `{raw variables}`: packets that the program keeps as bits
+- `{names track}`, `{names train}`: what balisekit calls packets
 """
 import re
 
 from runner import TOP
+from trace_bits import TRACK, TRAIN
 from trace_schemas import Schema, as_json
-from trace_table import COUNTED, END_MARK, Stopped, is_optional, members, shown, widths
+from trace_table import COUNTED, END_MARK, RAW, Stopped, is_optional, members, shown, widths
 
-FORMATS, PAGE = TOP / "docs/formats.md", TOP / "docs/assurance/trace.md"
-COUNTING = [TOP / "README.md", TOP / "docs/assurance/safety.md", PAGE]
+VARIABLES = TOP / "docs/variables.md"
+COUNTING = [TOP / "README.md", TOP / "docs/assurance/safety.md"]
 COUNT = re.compile(r"\d+ of \d+ rows")
-PART = re.compile(r"(<!-- made: (.*?) -->\n).*?(<!-- /made -->)", re.DOTALL)
+PART = re.compile(r"(?m)^\{(\w+) (.*)\}$\n")
+TEXT = (TOP / "tests/trace_variables.txt").read_text(encoding="utf-8")
 
 
 def table(head, rows):
@@ -45,17 +52,25 @@ def numbers_text(row):
     return "; ".join(filter(None, ["the count" if row.numbers == COUNTED else "", *read, refused_text(row)]))
 
 
-def trace_part(trace, _):
-    """The rows that a person compares."""
-    head = ["Layouts", "Variable", "Bits", "Only if", "Numbers", "Unit", "Section", "In no definition", "Doubt"]
-    rows = []
-    for row in trace.rows:
-        numbers, unit = trace.unstated(row) if row.variable else ((), "")
-        only_here = ", ".join(filter(None, [spans_text(numbers), unit]))
-        compared = f"{row.compared}, {row.date}" if row.compared else ""
-        rows.append([row.layouts, row.variable or row.meaning, row.bits, row.when, numbers_text(row), row.unit,
-                     row.section, only_here, row.doubt, compared])
-    return table([*head, "Compared"], rows)
+def unstated_text(trace, row):
+    """The numbers whose meaning, and the unit, that no definition states."""
+    numbers, unit = trace.unstated(row) if row.variable else ((), "")
+    return ", ".join(filter(None, [spans_text(numbers), unit]))
+
+
+def with_doubt(text, row):
+    """A text of the row with its doubt."""
+    return f"{text}{'.' * (text[-1:] != '.')} *Doubt: {row.doubt}.*" if row.doubt else text
+
+
+def layout_part(trace, name):
+    """The heading of a layout with a number, and for each layout its sections, what it is for, and its doubt."""
+    row = next(it for it in trace.rows if it.layouts == name and not it.variable)
+    kind, _, number = name.rpartition(" ")
+    origin = " from track to train" if name == "packet 1" else " from train to track" * (kind == "train packet")
+    heading = f"### {kind.removeprefix('train ').capitalize()} {number}{origin}, {row.meaning}\n\n"
+    text = with_doubt(" ".join(filter(None, [f"SUBSET-026, {row.section}.", row.about])), row)
+    return f"{heading if number.isdigit() else ''}{text}\n\n"
 
 
 def places(rows):
@@ -78,7 +93,8 @@ def rows_part(trace, words):
     rows, lines = trace.layouts[layout], []
     for row, place in zip(rows, places(rows)):
         when = "only if {} is {}: ".format(*row.when.split(" ", 1)) if row.when else ""
-        lines.append([row.variable, place, row.bits or "the rest", when + row.meaning, numbers_text(row)])
+        meaning = with_doubt(when + row.meaning, row)
+        lines.append([row.variable, place, row.bits or "the rest", meaning, numbers_text(row)])
         items = [it for it in rows[: rows.index(row)] if it.key.startswith(f"{row.key}/")]
         if items and row.key.endswith("[]"):
             names = f"{items[0].variable} to {items[-1].variable}"
@@ -86,7 +102,7 @@ def rows_part(trace, words):
     border = next((place for place, it in enumerate(lines, 1) if it[0] == variable), 0)
     lines = lines[:border] if kind == "to" else lines[border:]
     made = table(["Variable", "First bit", "Bits", "Meaning", "Values"], lines)
-    return made if kind == "to" else f"{made}\n{bits_part(trace, layout)}"
+    return f"{made}\n" if kind == "to" else f"{made}\n{bits_part(trace, layout)}"
 
 
 def bits_part(trace, layout):
@@ -94,7 +110,7 @@ def bits_part(trace, layout):
     name = layout.removeprefix("train ").capitalize()
     name = "The header" if name == "Header" else "Such a packet" if name == "Packet other" else name
     name = f"The head of {layout}" if layout.startswith("message") else name
-    return f"{name} has {' to '.join(f'{it:,}' for it in sorted({*widths(trace.layouts[layout])}))} bits.\n"
+    return f"{name} has {' to '.join(f'{it:,}' for it in sorted({*widths(trace.layouts[layout])}))} bits.\n\n"
 
 
 def keys_part(trace, kind):
@@ -105,7 +121,7 @@ def keys_part(trace, kind):
         if name == kind and layout != END_MARK:
             add_keys(found, "any other" if number == "other" else number, number, rows)
     head = [kind.removeprefix("train ").capitalize(), "Keys of its object, in the order in which they are written"]
-    return table(head, found.items())
+    return table(head, found.items()) + "\n"
 
 
 def add_keys(found, name, number, rows, prefix="", given=""):
@@ -132,44 +148,46 @@ def compared_of(rows):
     return f"{sum(bool(it.compared) for it in rows)} of {len(rows)}"
 
 
-def raw_part(trace, _):
-    """The rows about packets that the program keeps as bits."""
-    head = ["Layouts", "Variable", "Bits", "Numbers", "Unit", "Section", "Doubt", "Compared"]
-    count = f"Compared with a print: {compared_of(trace.raw)} of these rows.\n\n"
-    return count + table(head, [[it.layouts, it.variable and f"{it.variable}: {it.meaning}" or it.meaning, it.bits,
-                         numbers_text(it), it.unit, it.section, it.doubt,
-                         f"{it.compared}, {it.date}" if it.compared else ""] for it in trace.raw])
+def raw_part(trace, what):
+    """The layouts, or the variables, of packets that the program keeps as bits."""
+    if what == "layouts":
+        rows = [[it.layouts.removeprefix(RAW), it.meaning, it.doubt] for it in trace.raw if not it.variable]
+        return table(["Packet", "Its name, and its variables in the order of the bits", "Doubt"], rows) + "\n"
+    rows = [[it.variable, it.layouts.replace(RAW, ""), it.bits, with_doubt(it.meaning, it), numbers_text(it)]
+            for it in trace.raw if it.variable]
+    return table(["Variable", "Packets", "Bits", "Meaning", "Values"], rows) + "\n"
 
 
-PARTS = {"trace": trace_part, "raw": raw_part, "rows": rows_part, "bits": bits_part, "keys": keys_part}
+def names_part(_, whose):
+    """What balisekit calls the packets."""
+    named, text = (TRACK, "From track to train") if whose == "track" else (TRAIN, "From train to track")
+    return f"- *{text}:* {', '.join(f'{number} {name}' for number, name in named.items())}.\n" + "\n" * (whose != "track")
+
+
+PARTS = {"layout": layout_part, "raw": raw_part, "rows": rows_part, "bits": bits_part, "keys": keys_part,
+         "names": names_part}
+
+
+def variables_page(trace):
+    """The page of variables."""
+    found = PART.findall(TEXT)
+    shown_layouts = {re.sub(" (to|after) .*", "", it) for kind, it in found if kind in ("rows", "bits")}
+    lacking = [it for it in trace.layouts if it not in shown_layouts]
+    if lacking:
+        raise Stopped(f"docs/variables.md has no part for {', '.join(lacking)}")
+    unknown = {it for it in shown_layouts if it not in trace.layouts}
+    if unknown:
+        raise Stopped(f"nothing is known of the parts for {', '.join(unknown)}")
+    text = PART.sub(lambda it: PARTS[it[1]](trace, it[2]), TEXT)
+    return text.replace("{compared}", compared_of(trace.rows)).replace("{compared raw}", compared_of(trace.raw))
 
 
 def made_texts(trace):
     """The text of each file that has something made of the table."""
-    texts = {path: path.read_text(encoding="utf-8") for path in {FORMATS, *COUNTING}}
-    count = f"{compared_of(trace.rows)} rows"
+    texts, count = {VARIABLES: variables_page(trace)}, f"{compared_of(trace.rows)} rows"
     for path in COUNTING:
-        texts[path], times = COUNT.subn(count, texts[path])
+        texts[path], times = COUNT.subn(count, path.read_text(encoding="utf-8"))
         if not times:
             raise Stopped(f"{path.name} does not say how many rows were compared")
-
-    parts = {re.sub(" (to|after) .*", "", it.partition(" ")[2]) for _, it, _ in PART.findall(texts[FORMATS])}
-    lacking = [it for it in trace.layouts if it not in parts and it != END_MARK]
-    if lacking:
-        raise Stopped(f"FORMATS has no part for {', '.join(lacking)}")
-
-    def made(found):
-        kind, _, words = found[2].partition(" ")
-        before = found.string[: found.start()].rpartition("\n#")[2]
-        layout = re.sub(" (to|after) .*", "", words)
-        if kind not in PARTS or kind in ("rows", "bits") and layout not in trace.layouts:
-            raise Stopped(f"nothing is known of the part {found[2]}")
-        sections = {it.section for it in trace.rows if layout in it.names() and not it.variable}
-        is_named = all(re.search(rf"SUBSET-026, {re.escape(it)}(?!\.?\d)", before) for it in sections)
-        if kind == "rows" and not is_named and " to " not in words:
-            raise Stopped(f"the text before the part {found[2]} does not name SUBSET-026, {' '.join(sections)}")
-        return found[1] + PARTS[kind](trace, words) + found[3]
-
     schemas = {"telegram": Schema(trace).telegram(), "message": Schema(trace).messages()}
-    return {**{path: PART.sub(made, text) for path, text in texts.items()},
-            **{TOP / f"schemas/{name}.json": f"{as_json(form)}\n" for name, form in schemas.items()}}
+    return {**texts, **{TOP / f"schemas/{name}.json": f"{as_json(form)}\n" for name, form in schemas.items()}}

@@ -10,8 +10,11 @@ them.
 - `key`: where the JSON has it, from its packet, message or telegram on. `links[]` is a list: a row with this key counts
   its items, the further ones if rows of the first item are before it. A path that ends in / has no key of its own.
 - `unit`: of the numbers without a meaning. That of distances is the variable Q_SCALE.
-- `doubt`: what is believed from memory alone. `compared` and `date`: who compared the row with a print of which issue
-  of the standard, and when. `sum` is of the row that was compared, so that a note on a row that changed later is seen.
+- `about`: of a layout, what it is for, its size, and other sentences for people.
+- `doubt`: what is believed from memory only.
+- `unstated`: the numbers whose meaning, and the unit, that no definition states. tests/trace makes it.
+- `compared` and `date`: who compared the row with a print of which issue of the standard, and when. `sum` is of the row
+  that was compared, without `unstated`. It shows if the row changed later.
 """
 import csv
 import hashlib
@@ -24,10 +27,12 @@ from runner import TOP
 COUNTED, EACH = "counted", "each"
 RAW = "raw "  # how the layouts begin of packets that the program keeps as bits
 TABLE = TOP / "docs/assurance/trace.csv"
-COLUMNS = "layouts variable bits numbers fault when key unit meaning section doubt compared date sum".split()
+COLUMNS = ("layouts variable bits numbers fault when key unit meaning about section doubt "
+           "unstated compared date sum").split()
 LONGEST_PACKET = 8191
 END_MARK = "packet 255"  # no definition of a layout has it: NID_PACKET says that this number ends a list
 NOTES = ("compared", "date", "sum")
+OWN = 1 + len(NOTES)  # the last columns, which no person compares
 Span = namedtuple("Span", "first last words")
 NUMBERS = re.compile(r"(\d+)(?: to (\d+))?(?: (.+))?")
 
@@ -80,8 +85,8 @@ class Row(namedtuple("Row", COLUMNS)):
         return [(low + 1, high - 1) for low, high in zip(ends[::2], ends[1::2]) if low + 1 < high]
 
     def digest(self):
-        """A sum of all but the notes."""
-        return hashlib.sha256("\n".join(self[: -len(NOTES)]).encode()).hexdigest()[:8]
+        """A sum of what a person compares."""
+        return hashlib.sha256("\n".join(self[:-OWN]).encode()).hexdigest()[:8]
 
     def sealed(self):
         """The row with the sum of what was compared, or without its notes if it has changed since."""

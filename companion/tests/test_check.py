@@ -349,7 +349,7 @@ def test_document(run: Run, table: Write, tmp_path: Path, program: Program) -> N
 
 def test_explain_is_what_the_document_says(run: Run, table: Write) -> None:
     known = explain.explanations()
-    parts = {"name", "says", "urgent", "cause", "happens", "remedy"}
+    parts = {"name", "says", "urgent", "cause", "remedy"}
     assert sorted(known) == list(range(1, 17))
     assert all(set(page) == parts and all(page.values()) for page in known.values())
     _, out, _ = run("check", table(*SOUND, f"C,,,,{OTHER}"), "--explain")
@@ -482,8 +482,6 @@ def test_example(run: Run, monkeypatch: pytest.MonkeyPatch, program: Program) ->
     status, out, _ = run("check", "examples/table/line.csv")
     assert status == 2 and out == (TOP / "examples/table/line.txt").read_text("utf-8").splitlines()
     assert line_table.table(program) == line_table.LINE.read_text("utf-8")
-    block = (TOP / "docs/commands.md").read_text("utf-8").split("$ ./balisekit check examples/table/line.csv\n")[1]
-    assert block.split("\n```")[0].splitlines() == out
 
 
 def test_start_script(table: Write, tmp_path: Path) -> None:

@@ -231,7 +231,7 @@ def test_entries_that_are_too_broad(
 
 def test_rules_of_the_table_of_correct_data() -> None:
     """Those that findings.md lists there, and no others."""
-    page = (TOP / "docs" / "findings.md").read_text("utf-8").split("## Findings on correct data")[1].split("\n### ")[0]
+    page = (TOP / "docs" / "findings.md").read_text("utf-8").split("## Findings on correct data")[1].split("\n## ")[0]
     rows = [line.split(" | ") for line in page.splitlines() if line.startswith("| ")][1:]
     rules = {word for row in rows for word in re.findall(r"\bF[0-9]+\b", row[1])}
     assert len(rows) == 9 and rules == {rule for rule in ON_CORRECT_DATA if rule[0] == "F"}

@@ -1,4 +1,4 @@
-"""The grammar is that of docs/formats.md, and every text of the repository is of it."""
+"""The grammar is that of schemas/report-grammar.txt, and every text of the repository is of it."""
 from __future__ import annotations
 
 import re
@@ -19,6 +19,15 @@ def blocks(path: str) -> str:
     """The blocks of a document, without their commands."""
     text = (TOP / path).read_text("utf-8")
     return "\n".join(re.findall(r"^```(?:console|text)\n(.*?)^```$", text, re.MULTILINE | re.DOTALL))
+
+
+def listed_refusals() -> Iterator[str]:
+    """The refusals that docs/refusals.md lists. A section may name what the words of its table follow."""
+    for section in re.split("^##+ ", (TOP / "docs/refusals.md").read_text("utf-8"), flags=re.MULTILINE):
+        yield from re.findall(r"`(refused: [^`]*[^:`])`", section)
+        begin = re.search("These words follow `(refused: .+:)`", section)
+        if begin:
+            yield from (f"{begin[1]} {words}" for words in re.findall(r"^\| `([^`]+)` \|", section, re.MULTILINE))
 
 
 def known(line: str) -> List[str]:
@@ -43,8 +52,7 @@ def repository() -> Iterator[Tuple[str, str]]:
         for line in cases.stdout.decode().splitlines()
         if line.split("\t")[2].startswith("refused: ")
     )
-    for line in re.findall(r"`(refused: [^`]+)`", (TOP / "docs/refusals.md").read_text("utf-8")):
-        yield "refusals.md", line
+    yield from (("refusals.md", line) for line in listed_refusals())
     for name in ("README.md", "examples/README.md", "docs/formats.md", "docs/refusals.md", "docs/findings.md"):
         # A recipe appends a name in parentheses to the lines of a report.
         yield from ((name, re.sub(r" \(Signal .*\)$", "", line)) for line in LINES.findall(blocks(name)))
@@ -56,6 +64,16 @@ def test_texts_of_the_repository() -> None:
     assert [text for text in texts if not known(text[1])] == []
 
 
+def test_each_refusal_is_listed() -> None:
+    """Each word of the grammar for what is wrong has a row on the page."""
+    lines, expressions = list(listed_refusals()), "\n".join(grammar.PARTS.values())
+    words = {word for whys in re.findall(r"[(][?]P<why>(.+?)[)]", expressions) for word in whys.split("|")}
+    assert len(words) == 14 and len(lines) >= 30
+    words |= {"not hexadecimal", "wrong size", "pad bits set", "length below 3", "cut off"}
+    words |= {"not JSON", "too big", "group 0: count", "group 0: aspects", "usage is"}
+    assert [word for word in words if not any(re.search(rf": (?:form )?{word}\b", line) for line in lines)] == []
+
+
 def test_texts_of_program_tests() -> None:
     runs = (TOP / "tests/cases/runs.txt").read_text("utf-8")
     forms = (TOP / "tests/cases/forms.txt").read_text("utf-8")
@@ -64,8 +82,9 @@ def test_texts_of_program_tests() -> None:
     assert [line for line in lines if not known(line) and "usage" not in line] == []
 
 
-def test_document_has_the_grammar() -> None:
-    assert f"```text\n{grammar.GRAMMAR.strip()}\n```" in (TOP / "docs/formats.md").read_text("utf-8")
+def test_file_has_the_grammar() -> None:
+    lines = (TOP / "schemas/report-grammar.txt").read_text("utf-8").splitlines(keepends=True)
+    assert "".join(line for line in lines if not line.startswith("#")) == grammar.GRAMMAR
 
 
 def test_hostile_use_has_the_same_grammar() -> None:

@@ -1,10 +1,10 @@
-"""docs/commands.md and the help of each command name the same words and statuses."""
+"""The pages name only what a command has, and the help of each command is complete."""
 from __future__ import annotations
 
 import argparse
 import re
 from importlib import import_module
-from typing import List, Set
+from typing import Dict, List, Set
 
 import pytest
 from cases_of_program import TOP
@@ -12,40 +12,71 @@ from cases_of_program import TOP
 from balisekit.cli import main as cli
 from balisekit.tables.cells import COLUMNS
 
-PAGE = (TOP / "docs" / "commands.md").read_text("utf-8")
+DOCS = TOP / "docs"
+PAGE = (DOCS / "commands.md").read_text("utf-8")
+GUIDE = (DOCS / "guide.md").read_text("utf-8")
+README = (TOP / "README.md").read_text("utf-8")
+SECTIONS: Dict[str, str] = dict(re.findall(r"^## (.+?)\n(.+?)(?=^## |\Z)", PAGE, re.MULTILINE | re.DOTALL))
 COMMANDS = list(cli.COMMANDS)
-OF_PIP_AND_HELP = {"--help", "--version"}
+OF_ALL = {"--help", "--version", "--debug"}
+
+
+def _parser(command: str) -> argparse.ArgumentParser:
+    parser = argparse.ArgumentParser(add_help=False)
+    import_module(f"balisekit.cli.{command}").add_options(parser)
+    return parser
 
 
 def _options(command: str) -> Set[str]:
     """The words of a command that begin with hyphens."""
-    parser = argparse.ArgumentParser(add_help=False)
-    import_module(f"balisekit.cli.{command}").add_options(parser)
-    return set(re.findall("--[a-z][a-z-]*", parser.format_help()))
+    return set(_named(_parser(command).format_help()))
+
+
+def _named(text: str) -> List[str]:
+    """The words of a text that begin with hyphens."""
+    return re.findall("--[a-z][a-z-]*", text)
 
 
 @pytest.mark.parametrize("command", COMMANDS)
-def test_the_page_has_each_word_of_a_command(command: str) -> None:
-    """In some sentence, or in a table; and the command has a section."""
-    assert f"\n## {command}\n" in PAGE
-    assert _options(command) - set(re.findall("--[a-z][a-z-]*", PAGE)) == set()
+def test_the_section_of_a_command(command: str) -> None:
+    """It names only words of this command, or those of another one together with that command."""
+    own = re.sub(r"`(\w+) --[^`]+`", "", SECTIONS[command])
+    assert set(_named(own)) - _options(command) == set()
 
 
-def test_the_page_has_no_word_that_is_none() -> None:
-    """Each word of the page is one of a command."""
-    known = set().union(*map(_options, COMMANDS)) | {"--debug"}
-    assert set(re.findall("--[a-z][a-z-]*", PAGE)) - known - OF_PIP_AND_HELP == set()
+@pytest.mark.parametrize("command", COMMANDS)
+def test_each_word_has_its_help(command: str) -> None:
+    """A line of help has at least two words, since the page does not repeat it."""
+    for action in _parser(command)._actions:
+        assert len((action.help or "").split()) >= 2, action.option_strings
+
+
+@pytest.mark.parametrize("text", [README, PAGE, GUIDE])
+def test_no_page_has_a_word_that_is_none(text: str) -> None:
+    """Each word of a page is one of a command, and what stands behind a command is a word of it."""
+    known = set().union(*map(_options, COMMANDS)) | OF_ALL | {"--radio"}
+    assert set(_named(text)) - known == set()
+    shown = re.findall(r"(?:balisekit|`)\s?(" + "|".join(COMMANDS) + r")\b([^|`\n]*)", text)
+    assert shown and not any(set(_named(words)) - _options(command) - OF_ALL for command, words in shown)
+
+
+def test_readme_has_each_command() -> None:
+    """A row of its table for each."""
+    rows = re.findall(r"^\| `(\w+) [A-Z][^|]*` \|", README, re.MULTILINE)
+    assert sorted(rows) == sorted(COMMANDS)
 
 
 def test_columns_and_statuses() -> None:
-    """The page has a row for each column, and a row for each status, as the help has a line."""
-    columns = re.findall(r"^\| `([a-z]+)` \|", PAGE.split("## check")[0], re.MULTILINE)
+    """The page has a row for each column, and the guide a row for each status, as the help has a line."""
+    columns = re.findall(r"^\| `([a-z]+)` \|", SECTIONS["The table"], re.MULTILINE)
     assert sorted(columns) == sorted(COLUMNS)
-    statuses = re.findall(r"^\| ([0-3]) \|", PAGE.split("## Statuses")[1], re.MULTILINE)
+    rows = GUIDE.split("## Exit statuses")[1]
+    statuses = re.findall(r"^\| ([0-3]) \|", rows, re.MULTILINE)
     assert statuses == re.findall(r"^  ([0-3])  ", cli.STATUSES, re.MULTILINE) == ["0", "1", "2", "3"]
-    for text in (PAGE.split("\n| 2 |")[1], cli.STATUSES.split("\n  2  ")[1]):
+    for text in (rows.split("\n| 2 |")[1].split("|")[1], cli.STATUSES.split("\n  2  ")[1]):
         why = "INCOMPLETE: a telegram or message was refused, or a rule compared none of what it had to compare"
         assert " ".join(text.split()).startswith(why)
+    assert all(number in rows for number in re.findall(r"with (?:status )?(\d+)", cli.STATUSES.split("\n  SIGTERM")[1]))
 
 
 @pytest.mark.parametrize("words", [["--help"], *[[command, "--help"] for command in COMMANDS]])
@@ -66,8 +97,9 @@ def test_help_and_a_wrong_command_name_all_commands(words: str, capsys: pytest.C
     assert set(COMMANDS) <= set(re.findall("[a-z]+", said.out + said.err))
 
 
-def test_the_page_names_the_packages_of_the_tests() -> None:
-    """Each package that companion/test looks for."""
+def test_the_packages_of_the_tests() -> None:
+    """Each package that companion/test looks for is one that tests/all installs."""
     script = (TOP / "companion" / "test").read_text("utf-8")
     packages = set(re.findall(r"\bhas \w+ ([\w-]+) '", script))
-    assert "mypy" in packages and packages - set(re.findall(r"[\w-]+", PAGE.split("## Tests")[1])) == set()
+    lines = (TOP / "tests" / "packages.sh").read_text("utf-8").split("<<'END'\n")[1].split("\nEND\n")[0]
+    assert "mypy" in packages and packages - {line.split()[0] for line in lines.split("\n")} == set()

@@ -217,10 +217,7 @@ def test_the_page_has_what_is_written(run: Run, monkeypatch: pytest.MonkeyPatch)
     monkeypatch.chdir(TOP)
     block = r"^```console\n\$ \./balisekit (.+?)( \| tail -n 2)?\n(.+?)```$"
     blocks = re.findall(block, PAGE, re.MULTILINE | re.DOTALL)
-    guide = (TOP / "docs" / "commands.md").read_text("utf-8")
-    block = block.replace(r"\./balisekit (", r"\./balisekit ((?:links|diff) ")
-    blocks += re.findall(block, guide, re.MULTILINE | re.DOTALL)
-    assert len(blocks) == 12
+    assert len(blocks) == 10
     for words, cut, said in blocks:
         out = run(*shlex.split(words))[1]
         assert said.splitlines() == (out[-2:] if cut else out)

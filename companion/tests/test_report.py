@@ -584,12 +584,12 @@ def test_the_order_of_the_page(tmp_path: Path) -> None:
 
 
 def test_a_list_is_a_list(tmp_path: Path) -> None:
-    """What a yes means has a list of four, without the document's hyphens."""
+    """What a yes means has four lists, without the document's hyphens."""
     _, page = _report(_table(tmp_path / "t.csv", {"group": "A", "telegram": HEADER}), tmp_path / "r.html")
     said = page.split("<h2>What a yes means")[1].split("<h3>")[0]
     items = re.findall(r"<li>(.+?)</li>", said)
-    assert len(items) == 4 and items[0].startswith("Each aspect of each group is well formed")
-    assert said.count("<ul>") == 1 and not re.search(r">\s*- ", said)
+    assert len(items) == 16 and items[0].startswith("In each aspect of each group, positions, totals")
+    assert said.count("<ul>") == 4 and not re.search(r">\s*- ", said)
 
 
 @pytest.mark.parametrize(

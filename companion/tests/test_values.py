@@ -71,7 +71,7 @@ def test_each_number_has_words(whole: Any) -> None:
 
 #: What tells the two variables with the key "nc" apart.
 KINDS = {"NC_CDDIFF": {"q_diff": 0}, "NC_DIFF": {"q_diff": 1}}
-#: Numbers that formats.md has other words for.
+#: Numbers that variables.md has other words for.
 OTHERWISE = {
     *(("n_pig", 0), ("m_dup", 1), ("m_dup", 2), ("m_mcount", 255), ("q_dir", 2), ("q_linkreaction", 2), ("v_main", 0)),
     *(("g_a", 255), ("v_static", 127), ("q_front", 0), ("q_front", 1), ("q_diff", 1), ("q_diff", 2), ("m_ack", 1)),
@@ -82,17 +82,18 @@ def _key(variable: str) -> str:
     return "nc" if variable in KINDS else variable.lower()
 
 
-def _named_in_formats() -> Iterator[Tuple[str, int, str]]:
-    """The variables and numbers that the tables of formats.md name, with their names."""
-    rows = re.findall(r"^\| ([A-Z_]+) \|.*\|([^|]+)\|$", (TOP / "docs/formats.md").read_text(), re.MULTILINE)
+def _named_in_page() -> Iterator[Tuple[str, int, str]]:
+    """The variables and numbers that the tables of variables.md name, with their names."""
+    page = (TOP / "docs/variables.md").read_text("utf-8").split("## Packets that the program keeps as bits")[0]
+    rows = re.findall(r"^\| ([A-Z_]+) \|.*\|([^|]+)\|$", page, re.MULTILINE)
     for variable, values in rows:
         if _key(variable) in VARIABLES:
             for number, words in re.findall(r"(?:^|; )([0-9,]+) = ([^;]+)", values.strip()):
                 yield variable, int(number.replace(",", "")), words
 
 
-def test_names_are_those_of_formats() -> None:
-    named, others = list(_named_in_formats()), set()
+def test_names_are_those_of_the_page() -> None:
+    named, others = list(_named_in_page()), set()
     for variable, number, words in named:
         parent = KINDS.get(variable, {})
         if not value_words(_key(variable), number, Around({"q_scale": 0}, parent)).endswith(words):

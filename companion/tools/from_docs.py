@@ -1,5 +1,5 @@
 #!/usr/bin/env python3
-"""Writes the texts that balisekit takes from docs/findings.md, as JSON files of the package.
+"""Writes the texts that balisekit takes from docs/findings.md and docs/assurance/yes.md, as JSON files of the package.
 
     companion/tools/from_docs.py [--check] [--docs DOCS]
 
@@ -12,20 +12,14 @@ import json
 import re
 import sys
 from pathlib import Path
-from typing import Any, Callable, Dict, List, Optional
+from typing import Any, Callable, Dict, List, Optional, Tuple
 
 TOP = Path(__file__).resolve().parents[2]
 PACKAGE = TOP / "companion" / "src" / "balisekit"
-PARTS = {
-    "What it says": "says",
-    "How urgent": "urgent",
-    "Usual cause": "cause",
-    "What may happen": "happens",
-    "How to correct it": "remedy",
-}
-"""The paragraphs about a finding, and their keys."""
-YES = ("An aspect of a group, or", "- ", "A yes rests", "A yes does not cover", "The rules ask how far")
-"""The beginnings of the paragraphs on a yes that a report has. Its list of words is left out."""
+PARTS = {"Risk": "urgent", "Usual causes": "cause", "Correction": "remedy"}
+"""The items about a finding, and their keys."""
+YES = ("In plain words", "Premises", "What a yes does not cover", "Rules of our own")
+"""The parts of the page on a yes that a report has."""
 CORRECT_DATA = (
     "stop aspect",
     "one controlled balise",
@@ -51,54 +45,56 @@ def section(page: str, heading: str, end: str) -> str:
 
 
 def explanations(page: str) -> Dict[int, Dict[str, str]]:
-    """The paragraphs about each finding, by its number."""
+    """What the page says of each finding, by its number: the sentence below the program's line, and the items."""
     rules: Dict[int, Dict[str, str]] = {}
     for text in re.split(r"^## ", page, flags=re.MULTILINE):
-        heading = re.match(r"F(\d+): (.+)\n", text)
+        heading = re.match(r"F(\d+): (.+)\n\n`F\1 .+`\n\n(.+)\n\n", text)
         if heading:
-            parts = dict(re.findall(r"^\*\*(.+?)\.\*\* (.+?)(?=^\*\*|^```|\Z)", text, re.MULTILINE | re.DOTALL))
-            lines = {
-                part: " ".join(re.sub(r"^- ", "", parts.get(part, ""), flags=re.MULTILINE).split()) for part in PARTS
-            }
-            rules[int(heading[1])] = {"name": heading[2], **{key: plain(lines[part]) for part, key in PARTS.items()}}
+            items = dict(re.findall(r"^- \*\*([A-Z][a-z ]+)(?:: |\.\*\* )(.+)$", text, re.MULTILINE))
+            parts = {key: plain(items[name][0].upper() + items[name][1:]) for name, key in PARTS.items()}
+            rules[int(heading[1])] = {"name": heading[2], "says": plain(heading[3]), **parts}
     return rules
 
 
 def premises(page: str) -> List[str]:
-    """The paragraphs about what a yes means."""
-    lines = section(page, "## What a yes means", "\n## ").split("\n")
-    return [plain(line) for line in lines if line.startswith(YES) and not line.startswith('- "')]
+    """The paragraphs about what a yes means, rests on and does not cover."""
+    lines = "\n".join(section(page, f"## {part}", "\n## ") for part in YES).split("\n")
+    return [plain(line) for line in lines if line]
 
 
 def correct_data(page: str) -> Dict[str, str]:
     """For each row of the table the data that is correct, and what to do."""
-    lines = section(page, "## Findings on correct data", "\n###").split("\n")
+    lines = section(page, "## Findings on correct data", "\n## ").split("\n")
     rows = [line.strip("| ").split(" | ") for line in lines if line.startswith("| ")][1:]
     if len(rows) != len(CORRECT_DATA):
         raise SystemExit(f"the table of findings on correct data has {len(rows)} rows: from_docs.py has names of 9")
     return {name: f"{re.sub(r' [(].*[)]$', '', cells[0])}: {cells[3]}" for name, cells in zip(CORRECT_DATA, rows)}
 
 
-FILES: Dict[str, Callable[[str], Any]] = {
-    "present/findings.json": explanations,
-    "present/templates/premises.json": premises,
-    "rules/findings_on_correct_data.json": correct_data,
+FILES: Dict[str, Tuple[str, Callable[[str], Any]]] = {
+    "present/findings.json": ("findings.md", explanations),
+    "present/templates/premises.json": ("assurance/yes.md", premises),
+    "rules/findings_on_correct_data.json": ("findings.md", correct_data),
 }
+"""Each file, its page, and what makes it of the page."""
 
 
 def main(arguments: Optional[List[str]] = None) -> int:
     """Writes the files, or names those that differ."""
-    parser = argparse.ArgumentParser(description="Texts of docs/findings.md as JSON files of balisekit.")
+    parser = argparse.ArgumentParser(
+        description="Texts of docs/findings.md and docs/assurance/yes.md as files of balisekit."
+    )
     parser.add_argument("--check", action="store_true", help="only name the files that differ; status 1 if one does")
-    parser.add_argument("--docs", type=Path, default=TOP / "docs", help="the folder of the page")
+    parser.add_argument("--docs", type=Path, default=TOP / "docs", help="the folder of the pages")
     options = parser.parse_args(arguments)
-    differing, page = 0, (options.docs / "findings.md").read_text("utf-8")
-    for name, make in FILES.items():
-        path, text = PACKAGE / name, json.dumps(make(page), indent=1, ensure_ascii=False) + "\n"
+    differing = 0
+    for name, (page, make) in FILES.items():
+        path, text = PACKAGE / name, (options.docs / page).read_text("utf-8")
+        text = json.dumps(make(text), indent=1, ensure_ascii=False) + "\n"
         if not options.check:
             path.write_text(text, "utf-8")
         elif path.read_text("utf-8") != text:
-            print(f"{name} is not that of {options.docs}: run companion/tools/from_docs.py")
+            print(f"{name} is not that of {options.docs / page}: run companion/tools/from_docs.py")
             differing += 1
     return min(differing, 1)
 

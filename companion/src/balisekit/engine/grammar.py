@@ -1,7 +1,7 @@
 """What the program says, as regular expressions, and what a line of it holds.
 
-docs/formats.md has the same block. A line has a name and an expression, in which {NAME} stands for the expression of
-that name. An expression is matched against a whole line, without its line end.
+schemas/report-grammar.txt has the same lines. A line has a name and an expression, in which {NAME} stands for the
+expression of that name. An expression is matched against a whole line, without its line end.
 """
 from __future__ import annotations
 

@@ -1,4 +1,4 @@
-"""The fields of a telegram or radio message with their bit places, as docs/formats.md has them.
+"""The fields of a telegram or radio message with their bit places, as docs/variables.md has them.
 
 The walk judges nothing: it goes on through spare values and wrong lengths, and ends where the bits end. So it names the
 field at which the program says that a telegram is wrong. Which telegram is wrong is the program's word alone.

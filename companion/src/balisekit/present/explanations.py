@@ -18,12 +18,12 @@ EXPLAINED = ("What it says", "How urgent", "Usual cause", "How to correct it", C
 """The paragraphs that `--explain` shows."""
 HEADS = (*EXPLAINED[:3], "What may happen", *EXPLAINED[3:])
 """All paragraphs."""
-KEYS = ("says", "urgent", "cause", "happens", "remedy")
-"""The keys of the first five of a finding."""
+KEYS = ("says", "urgent", "cause", "remedy")
+"""The keys of those that a finding has, which are the first ones that `--explain` shows."""
 
 
 def explanations() -> Dict[int, Dict[str, str]]:
-    """The paragraphs on each finding, by its number: `name`, `says`, `urgent`, `cause`, `happens`, `remedy`."""
+    """The paragraphs on each finding, by its number: `name`, `says`, `urgent`, `cause`, `remedy`."""
     with open(os.path.join(os.path.dirname(__file__), "findings.json"), encoding="utf-8") as file:
         return {int(rule): parts for rule, parts in json.load(file).items()}
 
@@ -40,7 +40,7 @@ def pages(family: Family) -> Iterator[Tuple[str, Page]]:
     """The pages of the rules of a family, by their names."""
     if not family.rules:
         for number, page in explanations().items():
-            yield f"F{number}", Page(page["name"], dict(zip(HEADS, (page[key] for key in KEYS))))
+            yield f"F{number}", Page(page["name"], dict(zip(EXPLAINED, (page[key] for key in KEYS))))
     for rule in family.rules:
         yield rule.name, Page(rule.title, {head: _plain(rule.parts[head]) for head in HEADS if head in rule.parts})
 

@@ -2,7 +2,7 @@
 
 What it says. In a direction a group, or a message 3, gives a movement authority, and a gradient or speed profile of it
 has no end mark. The program takes an open profile to reach any place. So a yes of the program rests on it, and on a
-rule of this project that the standard may not share ([findings.md](findings.md#what-a-yes-means)).
+rule of this project that the standard may not share ([yes.md](assurance/yes.md)).
 
 How urgent. To be looked at: the yes says less than it seems to.
 
