@@ -1,12 +1,13 @@
-"""Measures the memory of `check`: memory.py [GROUPS]
+"""Measures the memory and the time of `check`: memory.py [GROUPS]
 
 Documents of so many groups are checked, 10,000 if no count is given: pairs of long telegrams as documents.py makes
 them, and single short telegrams without packets. Each document is checked as it is, with a finding for each telegram,
 with an escape in its last telegram, with its last telegram refused, and with its last key twice. The first answer of
 another kind ends the run with status 1.
 
-A row has the size of the document, the greatest peak of three runs, and the peak divided by the size. The program
-itself takes 2 MiB of the peak. BALISECHECK names another program than the one that ./balisecheck would run.
+A row has the size of the document, the greatest peak of three runs, the peak divided by the size, and the least time of
+the processor. The program itself takes 2 MiB of the peak. BALISECHECK names another program than the one that
+./balisecheck would run.
 """
 import os
 import pathlib
@@ -55,23 +56,22 @@ def documents(make, count):
 
 def main():
     count = int(sys.argv[1]) if len(sys.argv) > 1 else 10000
-    print(f"{'document':52} {'MB':>9} {'memory, MiB':>12} {'times its size':>15}")
+    print(f"{'document':52} {'MB':>9} {'memory, MiB':>12} {'times its size':>15} {'processor, s':>13}")
     with tempfile.TemporaryDirectory() as room:
         path, answer = pathlib.Path(room, "document"), pathlib.Path(room, "answer")
         for kind, make in ((f"{count} pairs of long telegrams", pair), (f"{count} short telegrams", single)):
             for name, text, wanted in documents(make, count):
                 path.write_text(text)
-                peaks = []
-                for _ in range(3):
-                    measured = [sys.executable, HERE / "measure.py", path, answer, program(), "check"]
-                    peaks.append(float(subprocess.run(measured, check=True, text=True, stdout=subprocess.PIPE)
-                                       .stdout.split()[3]))
+                measured = [sys.executable, HERE / "measure.py", path, answer, program(), "check"]
+                runs = [subprocess.run(measured, check=True, text=True, stdout=subprocess.PIPE).stdout.split()
+                        for _ in range(3)]
+                peak, seconds = max(float(it[3]) for it in runs), min(float(it[2]) for it in runs)
                 with open(answer, encoding="utf-8") as written:
                     first = written.readline()
                 if not first.startswith(wanted):
                     sys.exit(f"{kind}, {name}: {first}")
-                times = max(peaks) * 2**20 / len(text)
-                print(f"{kind + ', ' + name:52} {len(text) / 1e6:9.2f} {max(peaks):12.1f} {times:15.1f}")
+                times = peak * 2**20 / len(text)
+                print(f"{kind + ', ' + name:52} {len(text) / 1e6:9.2f} {peak:12.1f} {times:15.1f} {seconds:13.3f}")
 
 
 if __name__ == "__main__":
