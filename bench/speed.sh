@@ -1,5 +1,5 @@
 #!/usr/bin/env bash
-# Measures what the table of docs/performance.md has: bench/speed.sh [GROUPS..]
+# Measures the table of times in docs/performance.md: bench/speed.sh [GROUPS..]
 #
 # bench/documents.py writes documents of so many sound groups (100, 10,000 and 100,000 if no count is given). `check` has
 # to say yes, also where the keys of the document stand in the other order. `decode` then reads the telegrams of the

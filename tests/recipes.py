@@ -1,9 +1,10 @@
 #!/usr/bin/env -S python3 -B
 """Runs the commands that documents show as they stand there, on the examples and on files made here, after the
 functions of examples/find-field.sh and examples/parallel.sh: those with what they have to write (blocks marked
-`console`), and the commands of the table of docs/refusals.md that mend files. Each document has to have commands, and
-each file made here has to be used. The sums of L_PACKET in docs/variables.md are compared with the examples, and the
-functions are tried with what they have to refuse. What needs jq or parallel is left out where that is missing.
+`console`, and what is indented in the head of examples/parallel.sh), and the commands of the table of docs/refusals.md
+that mend files. Each document has to have commands, and each file made here has to be used. The formulas and sums of
+L_PACKET in docs/variables.md are compared with the examples, and the functions are tried with what they have to refuse.
+What needs jq or parallel is left out if that is missing.
 
 BALISECHECK names the program. The last line is `the recipes: N passed, M failed`, and the exit status is 1 if a test
 failed.
@@ -22,6 +23,7 @@ from runner import EXAMPLES, TOP, Tests, program, run
 DOCUMENTS = ("README.md", "examples/README.md",
              *(f"docs/{name}.md" for name in ("refusals", "formats", "findings", "guide", "commands", "performance")))
 FUNCTIONS = EXAMPLES / "find-field.sh", EXAMPLES / "parallel.sh"
+HEADS = "examples/parallel.sh",  # scripts whose heads have commands
 # Tools that may be missing, each with a word of the commands that need it.
 TOOLS = {"jq": ("jq", "shared_identities"), "parallel": ("check_documents", "run_in_blocks")}
 # Telegrams of group 1 in country 1: without packets, with a cover marker, and three that are refused.
@@ -113,15 +115,15 @@ class Recipes(Tests):
 
 
 def commands_of(text):
-    """The commands of a document, each with what it has to write."""
-    shown = "".join(re.findall(r"(?ms)^```console\n(.*?)^```$", text))
+    """The commands of a document or of a script's head, each with what it has to write."""
+    shown = "".join(re.findall(r"(?ms)^```console\n(.*?)^```$", text) + re.findall(r"(?m)^#     (.*\n)", text))
     return re.findall(r"(?m)^\$ (.*)\n((?:(?!\$ ).*\n)*)", shown)
 
 
 def test_commands(tests):
     """Each document has commands, which write what they have to, and it shows none otherwise."""
     shown = []
-    for name in DOCUMENTS:
+    for name in (*DOCUMENTS, *HEADS):
         text = (TOP / name).read_text()
         found = commands_of(text)
         tests.holds(f"{name} has commands", found and not re.search(r"(?m)^    \$", text))
@@ -229,10 +231,14 @@ def test_zeros(tests):
 
 
 def test_sums(tests):
-    """Each `.. examples/FILE.txt .. : SUM = L_PACKET` says how many bits the file's first packet has."""
+    """Each `.. examples/FILE.txt .. : SUM = L_PACKET` says how many bits the file's first packet has, by the formula
+    before it, in which words take the place of counts."""
     text = (TOP / "docs/variables.md").read_text()
-    found = re.findall(r"(examples/[^ ]*\.txt)` [^.\n]*: ([0-9 +×]*) = ([0-9]+)", text)
-    for name, terms, bits in found:
+    sums = r"L_PACKET(?: is|,) `([^`\n]*)`.*?`(examples/[^ ]*\.txt)` [^.\n]*: ([0-9 +×]*) = ([0-9]+)"
+    found = re.findall(sums, text)
+    for formula, name, terms, bits in found:
+        pattern = re.sub(r"[a-z][a-z ]*[a-z]", "[0-9]+", re.sub(r"([+*?])", r"\\\1", formula))
+        tests.holds(f"{name}: {terms} is {formula}", re.fullmatch(pattern, terms))
         total = sum(math.prod(map(int, term.split("×"))) for term in terms.split("+"))
         listed = tests.shell(f"list_packets 1 <{name} | head -n 1")[0]
         tests.equal(f"{name}: {terms} = {bits}", (total, listed.strip().split(", ")[-1]), (int(bits), f"{bits} bits"))

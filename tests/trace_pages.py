@@ -161,7 +161,8 @@ def raw_part(trace, what):
 def names_part(_, whose):
     """What balisekit calls the packets."""
     named, text = (TRACK, "From track to train") if whose == "track" else (TRAIN, "From train to track")
-    return f"- *{text}:* {', '.join(f'{number} {name}' for number, name in named.items())}.\n" + "\n" * (whose != "track")
+    line = ", ".join(f"{number} {name}" for number, name in named.items())
+    return f"- *{text}:* {line}.\n" + "\n" * (whose != "track")
 
 
 PARTS = {"layout": layout_part, "raw": raw_part, "rows": rows_part, "bits": bits_part, "keys": keys_part,

@@ -1,8 +1,8 @@
 """The rows about packets that the program keeps as bits: made of balisekit's own layouts, for tests/trace.
 
-No definition has these packets, so their column `unstated` is empty: companion/src/balisekit/etcs/raw_layouts.json states
-what balisekit believes of them. A row is about a layout, with its variables in the order of the bits, or about a variable of
-some of these layouts.
+No definition has these packets, so their column `unstated` is empty. companion/src/balisekit/etcs/raw_layouts.json
+states what balisekit believes of them. A row is about a layout, with its variables in the order of the bits, or about a
+variable of some of these layouts.
 """
 import json
 
