@@ -188,6 +188,8 @@ def test_counts(tests):
     tests.holds("rows with a doubt", f"the {sum(bool(row['doubt']) for row in table)} of these rows" in SAFETY)
     tests.holds("rows of rules", f"the {sum(row['layouts'].startswith('rule ') for row in table)} rows `rule`" in SAFETY)
     tests.holds("rows", f" of {len(table)} rows" in SAFETY)
+    changes = (TOP / "CHANGELOG.md").read_text(encoding="utf-8")
+    tests.holds("changes of judgement are named", "Judgement" in changes and '"Judgement" in [CHANGELOG]' in SAFETY)
 
 
 def test_answers(tests):
