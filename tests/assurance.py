@@ -17,8 +17,10 @@ import os
 import pathlib
 import re
 import subprocess
+import sys
 import tempfile
 
+from hostile_process import LONG
 from runner import TOP, answered, play, program, run
 
 FOLDER = TOP / "docs" / "assurance"
@@ -148,6 +150,15 @@ def test_proofs(tests):
                 sum(edits), few)
 
 
+def test_memory(tests):
+    """The page on proofs names the document and the address space in which tests/hostile has it checked."""
+    made = subprocess.run([sys.executable, TOP / "bench" / "documents.py", str(LONG)], capture_output=True, check=True)
+    size = len(made.stdout)
+    space = (2 * size // 1024 + 10000) * 1024
+    wanted = f"(a document of {size / 1e6:.1f} MB in {space / 1e6:.0f} MB)"
+    tests.holds(f"proofs.md has: {wanted}", wanted in PROOFS)
+
+
 def rows(text, begin):
     """The rows of a page's tables whose first cell begins so, by that cell."""
     found = [line.strip("|").split(" | ") for line in text.split("\n") if re.match(rf"\| {begin}\d+ \|", line)]
@@ -239,7 +250,7 @@ def test_statuses(tests):
         tests.holds(f"safety.md names: {name}", name in SAFETY)
 
 
-PARTS = test_proofs, test_failures_and_conditions, test_counts, test_answers, test_statuses
+PARTS = test_proofs, test_memory, test_failures_and_conditions, test_counts, test_answers, test_statuses
 
 
 if __name__ == "__main__":
