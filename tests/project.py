@@ -1,6 +1,6 @@
 #!/usr/bin/env -S python3 -B
-"""Tests of what the repository has for those who read, fork or call it: links between pages, the sentence on a yes, the
-pre-commit hook, the job file of its own tests, .editorconfig.
+"""Tests of what the repository has for those who read, fork or call it: links between pages, the sentence on a yes, what
+the pages on assurance name and state (assurance.py), the pre-commit hook, the job file of its own tests, .editorconfig.
 
 BALISECHECK names the program. The last line is `the project: N passed, M failed`, and the exit status is 1 if a test
 failed.
@@ -15,6 +15,7 @@ import shutil
 import subprocess
 import tempfile
 
+from assurance import PARTS
 from runner import EXAMPLES, TOP, play, program
 
 PAGES = [*sorted(TOP.glob("*.md")), *sorted((TOP / "docs").rglob("*.md")), TOP / "examples" / "README.md"]
@@ -148,4 +149,4 @@ def is_utf8(content):
 
 
 if __name__ == "__main__":
-    play("the project", test_links, test_yes, test_hook, test_job, test_editorconfig)
+    play("the project", test_links, *PARTS, test_yes, test_hook, test_job, test_editorconfig)
