@@ -51,7 +51,7 @@ def test_each_word_has_its_help(command: str) -> None:
         assert len((action.help or "").split()) >= 2, action.option_strings
 
 
-@pytest.mark.parametrize("text", [README, PAGE, GUIDE])
+@pytest.mark.parametrize("text", [README, PAGE, GUIDE], ids=["README", "commands", "guide"])
 def test_no_page_has_a_word_that_is_none(text: str) -> None:
     """Each word of a page is one of a command, and what stands behind a command is a word of it."""
     known = set().union(*map(_options, COMMANDS)) | OF_ALL | {"--radio"}
