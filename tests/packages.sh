@@ -27,6 +27,7 @@ python3-hatchling     python:hatchling       installation of balisekit
 mypy                  python:mypy            types of balisekit
 flake8                python:flake8          style of balisekit
 black                 python:black           layout of balisekit
+mkdocs                mkdocs                 the site of the pages
 help2man              help2man               a release
 advancecomp           advzip                 a release
 python3-venv          python:ensurepip       a release

@@ -601,6 +601,15 @@ def test_outputs_beside_the_example(name: str, words: List[str], capfdbinary: py
     assert capfdbinary.readouterr().out == (LINE.with_name(name)).read_bytes()
 
 
+def test_the_report_beside_the_example(tmp_path: Path, monkeypatch: pytest.MonkeyPatch) -> None:
+    """It is what `report` writes on that day, but for the versions, checksums and paths of the programs."""
+    monkeypatch.setenv("SOURCE_DATE_EPOCH", "1795910400")  # 2026-11-29
+    monkeypatch.chdir(TOP)
+    pages = _report(LINE.relative_to(TOP), tmp_path / "r.html")[1], LINE.with_name("report.html").read_text("utf-8")
+    now, kept = (re.sub(r'(<th scope="row">(?:program|balisekit).*?</th>).*', r"\1", page) for page in pages)
+    assert now == kept
+
+
 def test_any_name_makes_a_picture() -> None:
     """A picture with any characters as its names is well formed, and has no tag of theirs."""
     hypothesis = pytest.importorskip("hypothesis")

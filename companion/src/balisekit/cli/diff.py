@@ -25,7 +25,7 @@ def add_options(parser: argparse.ArgumentParser) -> None:
         text = "a table, or a document of a line as --document writes it"
         parser.add_argument(side, **shared.input_file(text, side.upper()))
         parser.add_argument(f"--{side}-messages", **shared.input_file(f"radio messages beside the {side} table"))
-    shared.add(parser, "--sheet", help="which sheet of an .xlsx, in both")
+    shared.add(parser, "--sheet", help="the sheet to read, in both .xlsx files")
     shared.add(parser, *shared.READING[1:])
     shared.add(parser, "--program", "--timeout")
     parser.add_argument("--html", **shared.output_file("write the answer as one page of HTML"))

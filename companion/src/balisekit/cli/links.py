@@ -17,7 +17,7 @@ LETTERS = ("L",)
 def add_options(parser: argparse.ArgumentParser) -> None:
     """The options of this command."""
     shared.add(parser, *shared.INPUTS, "--tolerance")
-    shared.add(parser, "--explain", help="show cause and remedy of each rule that has found")
+    shared.add(parser, "--explain", help="show cause and remedy of each rule that has found something")
     shared.add(parser, "--json", "--force")
 
 

@@ -19,14 +19,14 @@ if TYPE_CHECKING:
     from balisekit.io.outputs import Placed
 
 COMMANDS = {
-    "check": "check the telegrams and groups of a table",
+    "check": "check the telegrams, groups and messages of a table",
     "show": "show each telegram in words",
     "draw": "draw a group, a message or a track as SVG",
     "report": "write a report as one page of HTML",
     "links": "compare linking, link flags and profiles with the kilometres of a table",
     "diff": "compare two releases of a line, field by field",
-    "plan": "write a track plan as the telegrams of a table imply it, to be corrected",
-    "table": "write all variables of a table as one flat sheet, or compare such a sheet",
+    "plan": "write the track plan that the telegrams of a table imply, for you to correct",
+    "table": "write all variables of a table as one flat sheet, or compare the table with such a sheet",
 }
 """The commands, each a module of this folder, and what their help says."""
 CLOSED = "standard output was closed"
@@ -34,15 +34,14 @@ QUIET = ("show",)
 """The commands that do not report that their reader has closed the pipe: no verdict is lost."""
 STATUSES = """\
 exit status:
-  0  the program says yes to all that was handed in, nothing is open or found, or the command has done what it is
-     asked for
-  1  what `check`, `links` or `diff` has found, or entries of accepted findings at fault
+  0  `check`, `links` and `diff`: nothing was found, or all of it is accepted; other commands: done
+  1  `check`, `links` or `diff` has found something that is not accepted, or an accepted entry is at fault
   2  INCOMPLETE: a telegram or message was refused, or a rule compared none of what it had to compare; or refused: a
      table that cannot be read, wrong options, an output that would replace an input or, without --force, another file
   3  no answer: no program, a file that cannot be written, an interrupt
   SIGTERM ends a command with status 143, SIGHUP with 129
 
-balisekit is not proved. It presents what balisecheck says, and quotes its lines in full.
+balisekit is not proved. It quotes the lines of balisecheck in full.
 """
 NO_SCRIPT = ("-h", "--help", "--program")
 """The start script of a clone is not run for a command with these options."""
@@ -83,7 +82,7 @@ def parser(arguments: Sequence[str]) -> argparse.ArgumentParser:
     """
     whole = _Parser(
         prog="balisekit",
-        description="What balisecheck says of a table of telegrams.",
+        description="Checks, shows, draws and compares tables of balise telegrams with balisecheck.",
         epilog=STATUSES,
         formatter_class=argparse.RawDescriptionHelpFormatter,
     )

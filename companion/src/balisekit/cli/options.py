@@ -18,9 +18,9 @@ from balisekit.tables.model import Messages, Table
 from balisekit.tables.names import passed_over
 
 TABLE = "a CSV file or an .xlsx with the columns group and telegram"
-TIMEOUT = "wait this long for each answer of the program; without it a minute, and more for a large input"
-ASPECT = "which aspect of the groups a track shows; without it the one with the farthest end of authority"
-TOLERANCE = "the error to allow for in the kilometres of the table, in addition to Q_LOCACC; 0 without it"
+TIMEOUT = "how long to wait for each answer of the program; by default one minute, and longer for a large input"
+ASPECT = "the aspect of the groups that a track shows; by default the one with the farthest end of authority"
+TOLERANCE = "the error to allow for in the kilometres of the table, in addition to Q_LOCACC; by default 0"
 EXACT = Decimal()
 """The tolerance without --tolerance."""
 
@@ -68,18 +68,18 @@ def flag(text: str) -> Dict[str, Any]:
 
 OPTIONS: Dict[str, Dict[str, Any]] = {
     "table": input_file(TABLE, "TABLE"),
-    "--messages": input_file("radio messages, one a line, a name behind ;"),
+    "--messages": input_file("radio messages, one per line, each with a name after a semicolon if you like"),
     "--by-position": flag("order the balises of a group by N_PIG, which hides a wrong N_PIG"),
-    "--sheet": value("NAME", name, "which sheet of an .xlsx"),
-    "--columns": input_file('headings of your own: a TOML file with lines such as telegram = "Telegram (hex)"'),
-    "--fill-merged": flag("give all cells of a merged area of an .xlsx the value of its first cell"),
-    "--program": value("PATH", name, "use this balisecheck instead of the one that would be found"),
+    "--sheet": value("NAME", name, "the sheet of an .xlsx file to read"),
+    "--columns": input_file('your own headings: a TOML file with lines such as telegram = "Telegram (hex)"'),
+    "--fill-merged": flag("give all cells of a merged area of an .xlsx file the value of its first cell"),
+    "--program": value("PATH", name, "the balisecheck to use"),
     "--timeout": value("SECONDS", _seconds, TIMEOUT),
     "--explain": flag("show cause and remedy of each finding"),
     "--all": flag(checking.ALL_HELP),
-    "--accepted": input_file("a CSV file of findings that were accepted, and by whom"),
-    "--json": output_file("write all of the answer as JSON"),
-    "--force": flag("replace existing files by the outputs, but never an input"),
+    "--accepted": input_file("a CSV file of accepted entries, each with who accepted it"),
+    "--json": output_file("write the whole answer as JSON"),
+    "--force": flag("let outputs replace existing files; an input is never replaced"),
     "--aspect": value("NAME", name, ASPECT),
     "--tolerance": {**value("METRES", tolerance, TOLERANCE), "default": EXACT},
 }

@@ -23,7 +23,7 @@ def add_options(parser: argparse.ArgumentParser) -> None:
     """The options of this command."""
     shared.add(parser, *shared.INPUTS)
     parser.add_argument("--jumps", **shared.input_file(settings.JUMPS))
-    plan = shared.output_file("write the plan into this file; without it to standard output")
+    plan = shared.output_file("the file to write; by default standard output")
     parser.add_argument("--csv", **plan, default=Output("-"))
     shared.add(parser, "--all", "--force")
 

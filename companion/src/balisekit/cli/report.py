@@ -21,7 +21,7 @@ OF_THE_DOCUMENT = ("messages", "by_position", *(word[2:].replace("-", "_") for w
 def add_options(parser: argparse.ArgumentParser) -> None:
     """The options of this command."""
     shared.add(parser, *shared.INPUTS)
-    parser.add_argument("--html", **shared.output_file("where to write"), required=True)
+    parser.add_argument("--html", **shared.output_file("the file to write"), required=True)
     shared.add(parser, "--force", "--accepted", "--all", "--aspect")
     parser.add_argument("--full", **shared.flag(FULL))
     add_only(parser)

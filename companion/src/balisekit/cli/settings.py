@@ -19,9 +19,9 @@ from balisekit.tables import own_headings, plan as plan_file
 GREATEST = 600
 """The greatest speed in km/h that a variable of ETCS has."""
 NAMES = [rule.name for rule in meaning.RULES]
-JUMPS = "a CSV file with km, km_after and track: where the kilometres jump"
-PLAN = "a CSV file of what the track is: the rules X compare the telegrams with it"
-RULES = "apply these rules E too, and their parts that are off by default: E2,E20 or all"
+JUMPS = "a CSV file with km, km_after and track: the places at which the kilometres jump"
+PLAN = "a CSV file that describes the track: the rules X compare the telegrams with it"
+RULES = "rules E to apply too, with their parts that are off by default: E2,E20 or all"
 
 
 def _speed(text: str) -> int:
@@ -59,8 +59,8 @@ FILES = ("jumps", "plan")
 def add_options(parser: argparse.ArgumentParser) -> None:
     """The options that state what the line is."""
     shared.add(parser, "--tolerance", help=f"{shared.TOLERANCE}, and 1 for the rules E")
-    speed = f"the greatest speed of the line, for the rules E; {LINE_SPEED} without it"
-    release = f"the greatest release speed of the line, for the rules E; {RELEASE_SPEED} without it"
+    speed = f"the greatest speed of the line, for the rules E; {LINE_SPEED} by default"
+    release = f"the greatest release speed of the line, for the rules E; {RELEASE_SPEED} by default"
     parser.add_argument("--line-speed", **shared.value("KM/H", _speed, speed))
     parser.add_argument("--release-speed", **shared.value("KM/H", _speed, release))
     parser.add_argument("--jumps", **shared.input_file(JUMPS))

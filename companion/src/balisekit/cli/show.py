@@ -29,7 +29,7 @@ Answer = Union[Record, Refusal]
 
 def add_options(parser: argparse.ArgumentParser) -> None:
     """The options of this command."""
-    text = f"{shared.TABLE}; without it and --messages, telegrams of standard input, one a line"
+    text = f"{shared.TABLE}; without it and --messages, telegrams from standard input, one per line"
     shared.add(parser, "table", help=text, nargs="?")
     shared.add(parser, *shared.INPUTS[1:])
     text = "only the telegrams of this group; it can be given several times"
