@@ -1,6 +1,7 @@
 #!/usr/bin/env -S python3 -B
-"""Tests of what the repository has for those who read, fork or call it: links between pages, the sentence on a yes, what
-the pages on assurance name and state (assurance.py), the pre-commit hook, the job file of its own tests, .editorconfig.
+"""Tests of what the repository has for those who read, fork or call it: links between pages, what the pages on assurance
+name and state (assurance.py), the sentence on a yes, the list of crates, the pre-commit hook, the job file of its own
+tests, .editorconfig.
 
 BALISECHECK names the program. The last line is `the project: N passed, M failed`, and the exit status is 1 if a test
 failed.
@@ -62,6 +63,28 @@ def test_yes(tests):
     fields = re.findall(r"(?m)^  pub (\w+) :", record[0])
     listed = re.findall(r"(?m)^- ((?:`\w+`(?:, )?)+): ", page.partition("## The sentence")[2].partition("\n## ")[0])
     tests.equal("yes.md: the fields", re.findall(r"`(\w+)`", " ".join(listed)), fields)
+
+
+def test_crates(tests):
+    """The table of crates in architecture.md has each crate with those that it uses, without what these use already. Its
+    picture has each crate but the trials, in a row above those that it uses."""
+    lines = (TOP / "crates.txt").read_text(encoding="utf-8").splitlines()
+    uses = {name: set(used.split()) for name, _, used in (it.partition(":") for it in lines if not it.startswith("#"))}
+    uses = {name: used & uses.keys() for name, used in uses.items()}
+    all_uses = {}
+    for name, used in uses.items():
+        all_uses[name] = used.union(*(all_uses[it] for it in used))
+    direct = {name: used - set().union(*(all_uses[it] for it in used)) for name, used in uses.items()}
+    page = (TOP / "docs" / "contributing" / "architecture.md").read_text(encoding="utf-8")
+    rows = re.findall(r"(?m)^\| (\w+) \| [^|]+ \| ([\w, ]+) \|$", page.split("\n## ")[1])
+    found = {name: set(used.split(", ")) - {"nothing"} for name, used in rows if name in uses}
+    for name in uses:
+        tests.equal(f"architecture.md: what {name} uses", found.get(name), direct[name])
+    picture = page.split("```text\n")[1].split("```")[0].splitlines()
+    height = {name: index for index, row in enumerate(picture) for name in row.split()}
+    tests.equal("the picture's crates", set(height), {name for name in uses if not name.startswith("trials_")})
+    for name in height.keys() & uses.keys():
+        tests.holds(f"{name} is above what it uses", all(height[name] < height[it] for it in direct[name] & height.keys()))
 
 
 def test_hook(tests):
@@ -149,4 +172,4 @@ def is_utf8(content):
 
 
 if __name__ == "__main__":
-    play("the project", test_links, *PARTS, test_yes, test_hook, test_job, test_editorconfig)
+    play("the project", test_links, *PARTS, test_yes, test_crates, test_hook, test_job, test_editorconfig)
