@@ -216,14 +216,22 @@ def test_a_group_of_another_country(run: Run) -> None:
 def test_the_page_has_what_is_written(run: Run, monkeypatch: pytest.MonkeyPatch) -> None:
     monkeypatch.chdir(TOP)
     block = r"^```console\n\$ \./balisekit (.+?)( \| tail -n 2)?\n(.+?)```$"
-    blocks = re.findall(block, PAGE, re.MULTILINE | re.DOTALL)
+    (own,) = blocks = re.findall(block, PAGE, re.MULTILINE | re.DOTALL)
     guide = (TOP / "docs" / "commands.md").read_text("utf-8")
     block = block.replace(r"\./balisekit (", r"\./balisekit ((?:links|diff) ")
     blocks += re.findall(block, guide, re.MULTILINE | re.DOTALL)
-    assert len(blocks) == 12
-    for words, cut, said in blocks:
+    assert len(blocks) > 1
+    examples = _examples()
+    assert len(examples) == 10 and own in examples
+    for words, cut, said in [*blocks, *examples]:
         out = run(*shlex.split(words))[1]
         assert said.splitlines() == (out[-2:] if cut else out)
+
+
+def _examples() -> List[Tuple[str, str, str]]:
+    """The commands of links_said.txt, whether the last two lines follow only, and what they write: each example table."""
+    text = (Path(__file__).parent / "links_said.txt").read_text("utf-8")
+    return re.findall(r"^\$ \./balisekit (.+?)( \| tail -n 2)?\n(.+?)(?=^$|\Z)", text, re.MULTILINE | re.DOTALL)
 
 
 def test_the_page_is_made_of_the_rules() -> None:
@@ -240,10 +248,10 @@ def test_the_page_is_made_of_the_rules() -> None:
     assert [list(rule.parts) for rule in RULES] == [heads] * 9
 
 
-def test_the_table_of_correct_data_has_the_rules_that_may_get_it() -> None:
-    table = PAGE.split("## Links on correct data")[1].split("\n## ")[0]
-    named = re.findall(r"^\|[^|]+\| (L\d)", table, re.MULTILINE)
-    assert sorted(set(named)) == [rule.name for rule in RULES if rule.has_correct_data] == ["L1", "L2", "L8", "L9"]
+def test_the_page_names_the_rules_that_correct_data_may_get() -> None:
+    (named,) = re.findall(r"([^.]*) can get correct data", PAGE)
+    assert re.findall(r"L\d", named) == [rule.name for rule in RULES if rule.has_correct_data]
+    assert re.findall(r"L\d", named) == ["L1", "L2", "L8", "L9"]
 
 
 def test_explain_is_what_the_page_says(run: Run) -> None:
