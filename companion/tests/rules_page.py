@@ -1,4 +1,4 @@
-"""Makes the tables of rules in docs/links.md, docs/remarks.md and docs/track-plan.md: `python3 companion/tests/rules_page.py`.
+"""Makes the tables of rules in docs/links.md, remarks.md and track-plan.md: `python3 companion/tests/rules_page.py`.
 
 Each row is made of the page of its rule: the title, the first sentences of what it says and of its usual cause, and how
 sure it is. All else of a document is its own and stays as it is.

@@ -4,7 +4,7 @@ What it says. An authority ends elsewhere than others that lead to the same grou
 end is the kilometre of the group and the sum of L_SECTION and L_ENDSECTION of a packet 12 with V_MAIN above 0, or a
 packet 15. An authority leads to the group of its packets 5 that is nearest to its end, within 200 m. If none is so
 near, it is the last one before the end, if another one is beyond it. Without packets 5 ends within 20 m of each other
-are compared. Near a group means that a packet 12 ends between the first and the last signal of the table, at most 200 m
+are compared. Near a group means that a packet 12 ends between the first and the last signal of its track, at most 200 m
 from the first balise of the nearest group. It is not at the group if it is more than 50 m and the tolerance away. The
 tolerance is `--tolerance` (else 1 m), one unit of the last decimal of the kilometres, and the rounding of the lengths.
 Each packet adds one unit of Q_SCALE, and half a unit for each further length of a sum (SUBSET-026, 3.8 and 7.4.2).
