@@ -1,6 +1,6 @@
 """X3: end of authority at no signal of the plan.
 
-What it says. A movement authority ends at no signal of the plan for trains of that way. The line names the nearest
+What it says. A movement authority ends at no signal of the plan for trains of its way. The line names the nearest
 signal of the plan and its distance. Authorities are packets 12 with V_MAIN above 0 and packets 15; each ends at the end
 of its end section. Allowed are `--tolerance` (0 without it), one unit of Q_SCALE, half a unit for each further section,
 and one unit of the last decimal of the kilometres. A track with a signal in the plan for one way needs all signals of

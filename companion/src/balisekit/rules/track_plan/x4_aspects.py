@@ -7,7 +7,7 @@ packet 12 for that way is named too. What follows a packet 136 is not compared (
 
 How urgent. At worst wrong information: the aspect allows another speed or another distance than its route.
 
-Usual cause. The telegrams of two aspects were exchanged, or a value was copied from another signal. The route table has
+Usual cause. The telegrams of two aspects were exchanged. A value was copied from another signal. The route table has
 changed since the telegrams were made.
 
 What may happen. The train runs farther or faster than the route that is set for it allows.
