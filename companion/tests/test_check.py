@@ -358,6 +358,8 @@ def test_explain_of_a_rule(run: Run, tmp_path: Path, monkeypatch: pytest.MonkeyP
     heads = [*explain.HEADS[:-1], "Example", "How sure"]
     assert [head for line in out for head in heads if line.startswith(f"    {head}. ")] == heads
     assert run("check", "--explain", "E24")[0] == run("check", "E9")[0] == 2
+    unused = ["balisekit: --json is not used with the page of a rule"]
+    assert run("check", "--explain", "E9", "--json", "j.json") == (2, [], unused)
     (tmp_path / "E9").write_text("", "utf-8")
     assert run("check", "--explain", "E9")[0] == 2
 

@@ -15,6 +15,10 @@ from balisekit.rules import checking
 from balisekit.rules.families import Outcome
 
 
+FILES = ("messages", "accepted", "propose", "junit", "sarif", "xlsx", "json", "document")
+"""The options that name files to read or write beside the table."""
+
+
 def add_options(parser: argparse.ArgumentParser) -> None:
     """The options of this command."""
     shared.add(parser, *shared.INPUTS)
@@ -38,6 +42,7 @@ def run(options: argparse.Namespace) -> int:
     """Does it. The answer is the exit status."""
     page = list(page_of(options.table)) if options.explain and not os.path.exists(options.table) else []
     if page:
+        shared.refuse_unused(options, "with the page of a rule", *FILES)
         shared.say(page)
         return 0
     outcome = outcome_of(options, stated(options), clock.now())
