@@ -345,7 +345,7 @@ def test_x5_of_packets_without_a_place(program: Program, tmp_path: Path) -> None
 
 
 def test_x5_of_the_rbc_in_whose_area_the_table_begins(program: Program, tmp_path: Path) -> None:
-    """A session with it gets a remark, unless the plan has a row for it in rear of the first group, as the page says."""
+    """A session with it gets a remark, unless the plan has a row for it in rear of the first group."""
 
     def begins(rows: List[Row]) -> None:
         with_rbc(rows)

@@ -12,8 +12,8 @@ Usual cause. A group was moved and the links to it were not made anew. Q_SCALE i
 was counted from another balise than the first one of the group. Or the kilometre of the table is wrong: then all links
 to and from that group differ.
 
-What may happen. The train expects the group at another place. It does not accept a group outside the expectation
-window, and applies the linking reaction. By a group inside the window it corrects its position by a wrong distance.
+What may happen. The train expects the group at another place. It applies the linking reaction if the group is outside
+the expectation window. Else it corrects its position by a wrong distance.
 
 How to correct it. Correct D_LINK, or the kilometre of the table. If the kilometres are rounded, state by how much with
 `--tolerance`.
@@ -22,8 +22,7 @@ Correct data that gets it. Kilometres that follow another axis than the track, o
 track plan states it: all links over that place differ by the same amount. A route through another track. A balloon
 loop, which leads a train back to a group that it has passed.
 
-Example. The link of group A to group B says 1,010 m, and their kilometres are 1,000 m apart. The sum for group C begins
-anew at group B, so there is one line.
+Example. The link of group A to group B says 1,010 m, and their kilometres are 1,000 m apart.
 """
 from __future__ import annotations
 

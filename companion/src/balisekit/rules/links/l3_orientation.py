@@ -11,13 +11,13 @@ Usual cause. The group was turned, or a link was copied from a group that faces 
 balises in another order than the track, F1 is found as well, and the line says so. It may be the sending group whose
 order is wrong: then the line blames the next group.
 
-What may happen. The train finds the direction of the group by its balises, and sees another one than was announced. It
-applies the linking reaction or rejects the message.
+What may happen. By the balises the train finds another direction than was announced. It applies the linking reaction or
+rejects the message.
 
 How to correct it. Correct Q_LINKORIENTATION. If the order of the balises in the table is wrong, correct the table.
 
-Correct data that gets it. None, if each track is one straight chain of kilometres. A balloon loop is no such chain, and
-neither are kilometres that change their direction or jump within a group.
+Correct data that gets it. None, if each track is one straight chain of kilometres. Balloon loops are none, nor
+kilometres that change their direction or jump within a group.
 
 Example. Group B faces the other way, and the link of group A says that it is passed in nominal direction.
 """

@@ -8,8 +8,8 @@ How urgent. To be looked at: linking does not protect the group.
 Usual cause. The telegrams of a group that was linked later were not made anew. Or a group that is unlinked on purpose
 got into a packet 5.
 
-What may happen. A train accepts a group with Q_LINK 0 at any place, also outside its expectation window. Linking then
-does not protect against a group at a wrong place, and the train does not use the group to correct its position.
+What may happen. A train accepts a group with Q_LINK 0 at any place, also outside its expectation window. Linking does
+not protect against a group at a wrong place, and the train does not correct its position by this one.
 
 How to correct it. Set Q_LINK to 1 in all telegrams of the group, or take it out of the packets 5.
 

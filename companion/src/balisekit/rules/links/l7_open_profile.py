@@ -9,13 +9,13 @@ How urgent. To be looked at: the yes says less than it seems to.
 Usual cause. The end mark (G_A 255, V_STATIC 127) was forgotten. Or the tool that made the data omits it at the end of a
 line.
 
-What may happen. The last gradient or speed is taken to hold without end, also on track that has another one. A train
-may also refuse an authority whose profiles do not end.
+What may happen. The last gradient or speed holds without end, also on track that has another one. A train may refuse an
+authority whose profiles do not end.
 
 How to correct it. End the profile with an end mark at the supervised location or beyond, or note why it is open.
 
-Correct data that gets it. None, if each profile needs an end mark. Whether the standard requires that was not looked up
-in a print: a project that omits end marks on purpose gets L7 for each such profile.
+Correct data that gets it. None, if each profile needs an end mark, which was not looked up in a print. A project that
+omits end marks on purpose gets L7 for each such profile.
 
 Example. The gradient profile of balise A2 has no end mark.
 """

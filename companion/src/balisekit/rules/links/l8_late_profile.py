@@ -9,11 +9,11 @@ How urgent. At worst an old profile is used on that track. Mostly the authority 
 Usual cause. The distance was counted from another balise or from a signal. Or the track before it is meant to have its
 profile from an earlier message.
 
-What may happen. Between the group and the first element the train has no profile, or one of an earlier message. It may
-refuse the authority.
+What may happen. Before the first element the train has no profile, or one of an earlier message. It may refuse the
+authority.
 
-How to correct it. Set the first distance to 0, with the value that holds at the group. If an earlier message gives the
-profile there, note which one.
+How to correct it. Set the first distance to 0, with the value that holds at the group. Or note which earlier message
+gives the profile.
 
 Correct data that gets it. A message 3 that continues the profiles of an earlier message which the file does not have. A
 group whose track has its profile from an earlier group.

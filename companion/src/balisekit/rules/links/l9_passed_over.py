@@ -11,11 +11,11 @@ How urgent. To be looked at: the group says nothing to a train that uses these l
 Usual cause. The group was added later, and the links of its neighbours were not made anew. Or the route of this packet
 5 does not pass the group.
 
-What may happen. A train that uses linking takes a group with Q_LINK 1 only if it is linked. It passes over this group
-without a reaction, and the group's information is lost.
+What may happen. A train that uses linking takes a group with Q_LINK 1 only if it is linked. The group's information is
+lost without a reaction.
 
-How to correct it. Add the group to the packet 5, with its distance, and correct the distance of the group after it. If
-trains are to take it without linking, set Q_LINK to 0.
+How to correct it. Add the group to the packet 5, and correct the distance of the group after it. If trains are to take
+it without linking, set Q_LINK to 0.
 
 Correct data that gets it. A packet 5 for one of several routes, which does not pass the group. A group with
 repositioning information (packet 16) on another route, to which packets 5 lead by NID_BG 16,383. A group for other

@@ -10,8 +10,8 @@ How urgent. At worst a wrong position of the train: distances of the group count
 Usual cause. A kilometre was mistyped. A row belongs to another group. The balises were exchanged in the table, or the
 column `nominal` was filled in for the other direction.
 
-What may happen. Balises that are too close disturb each other, and a train may miss one. A balise that is too far from
-the one before it is not taken for a part of the group.
+What may happen. Balises that are too close disturb each other, and a train may miss one. One that is too far away is
+not taken for a part of the group.
 
 How to correct it. Correct the kilometre, the group of the row or the column `nominal`.
 

@@ -11,7 +11,7 @@ How urgent. At worst a wrong position of the train: it corrects its position by 
 Usual cause. A distance was counted from or to another balise than the first. A group was moved by a few metres. The
 kilometre of the table is wrong.
 
-What may happen. The train believes that it is some metres from where it is, and all places that count from there move.
+What may happen. The train believes itself some metres from where it is, and all places that count from there move.
 
 How to correct it. Correct D_LINK or the kilometre. Give jumps of the kilometres by `--jumps` or in the track plan.
 State a greater `--tolerance` if the kilometres follow another axis.

@@ -11,8 +11,8 @@ How urgent. At worst wrong information: the packet may be taken for the other di
 Usual cause. The link to an infill balise was forgotten. Q_LINKORIENTATION was copied from another link. The column
 `nominal` was filled in for the other direction.
 
-What may happen. A train can tell the direction of a single balise by linking only. Without it, the train ignores all
-that is for one direction; with the wrong one, it takes what is meant for trains of the other way.
+What may happen. A train learns the direction of a single balise only by linking. Without it the train ignores what is
+for one direction; with the wrong one it takes what is for the other.
 
 How to correct it. Name the balise in the packets 5 of the groups before it, and give all these links one orientation.
 

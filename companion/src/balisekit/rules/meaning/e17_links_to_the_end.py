@@ -12,8 +12,8 @@ How urgent. At worst a wrong position of the train: a train misses a group and g
 
 Usual cause. A link was forgotten. The packet 5 was made for another aspect.
 
-What may happen. A train does not expect a group that no link names: nothing shows that it missed the group, and it does
-not correct its position there.
+What may happen. Nothing shows that a train missed a group that no link names, and it does not correct its position
+there.
 
 How to correct it. Name all groups to the end of the authority in the packet 5.
 

@@ -12,8 +12,8 @@ How urgent. At worst wrong information: the train changes its level at another p
 
 Usual cause. D_LEVELTR is mistyped, or did not follow a moved border. The border has no packet 41.
 
-What may happen. A driver acknowledges at one place and the train changes at another. The train goes on in a level whose
-trackside equipment has ended, or is braked.
+What may happen. A driver acknowledges at one place and the train changes at another. Or it goes on in a level whose
+trackside equipment has ended.
 
 How to correct it. Compare each D_LEVELTR with the kilometre of the border. Put a packet 41 into its group.
 

@@ -10,7 +10,7 @@ How urgent. At worst wrong information: the train reads other values than were m
 Usual cause. The body was made by hand or with another tool. L_PACKET was not adapted. A condition, such as Q_NEWCOUNTRY
 or N_ITER, does not fit what follows.
 
-What may happen. The train rejects the message, or takes the bits of one variable for those of another one.
+What may happen. The train rejects the message, or takes the bits of one variable for another.
 
 How to correct it. Make the packet anew, with the bits of the layout that `balisekit show` writes.
 

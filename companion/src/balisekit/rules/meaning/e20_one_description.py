@@ -8,7 +8,7 @@ How urgent. At worst the train brakes without need: it does not find the group w
 
 Usual cause. A NID_BG was copied from the link before it. Q_LOCACC was changed in one packet only.
 
-What may happen. The train waits for a group a second time, or opens another window for it than from other groups.
+What may happen. The train waits for a group twice, or opens another window for it than from other groups.
 
 How to correct it. Correct NID_BG, Q_LOCACC or Q_LINKREACTION.
 

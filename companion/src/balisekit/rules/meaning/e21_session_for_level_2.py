@@ -10,7 +10,7 @@ Usual cause. The packet 42 was forgotten, or has Q_RBC 0. It may be for the othe
 
 What may happen. The train reaches the border without a movement authority by radio, and stops there.
 
-How to correct it. Put a packet 42 with Q_RBC 1 into a group far enough before the border.
+How to correct it. Put a packet 42 with Q_RBC 1 far enough before the border.
 
 Correct data that gets it. Trains that come with a session, from another track or a line that is not among the data.
 Trains that open their session at the start of mission.

@@ -10,7 +10,7 @@ the group by its NID_C.
 Usual cause. A telegram was made with another version of a tool. It was copied from another line.
 
 What may happen. A train that knows only the older version ignores packets or values that the later one has added, if
-the telegram has any. A group with a wrong NID_C is another group for the train.
+the telegram has any. A group with a wrong NID_C is another one for the train.
 
 How to correct it. Correct the header.
 

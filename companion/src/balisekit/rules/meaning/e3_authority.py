@@ -11,10 +11,10 @@ How urgent. At worst wrong information: one of the two values of the sentence is
 Usual cause. A length was changed, and the timers or the overlap were not. Q_SCALE was changed for some of the values.
 Or a value of another signal was copied.
 
-What may happen. A timer starts or stops at a place that the train never passes. A train supervises an overlap that ends
-before its danger point. Or it may run at V_MAIN without any length.
+What may happen. A timer starts or stops at a place that the train never passes. The train supervises an overlap that
+ends before its danger point, or may run at V_MAIN without any length.
 
-How to correct it. Compare both values of the sentence with the design of the signal, and correct the wrong one.
+How to correct it. Compare both values with the design of the signal, and correct the wrong one.
 
 Correct data that gets it. A section timer that stops on purpose beyond its section. A timer of the end section or of
 the overlap that starts on purpose in rear of the group. A V_LOA above V_MAIN, by which a project says that the limit of

@@ -12,7 +12,7 @@ Usual cause. The elements were sorted wrongly, or one was entered twice. A dista
 from a shorter profile, or a value of the categories was mistyped.
 
 What may happen. Of two elements at one place only one can hold. What follows an end mark is not used. A repeated
-element often stands for a change that was meant.
+element often hides a change that was meant.
 
 How to correct it. Compare the elements with the profile of the track, and correct or remove the wrong one.
 

@@ -12,8 +12,8 @@ How urgent. At worst wrong information for trains in one of the directions.
 Usual cause. The template had Q_DIR 2. Or the packet was meant for one direction, and a single balise with Q_LINK 0 has
 no direction.
 
-What may happen. Trains of each direction count the distances in their own direction. The end of authority, the level
-border or the restriction is then on both sides of the group.
+What may happen. Trains count the distances in their own direction. The end of authority, the level border or the
+restriction is then on both sides of the group.
 
 How to correct it. Set Q_DIR to 1 or 0. A group of one balise gets its direction if it is linked, or by a second balise.
 

@@ -11,13 +11,13 @@ How urgent. At worst wrong information: nobody knows which of two packets a trai
 Usual cause. Telegrams were put together from parts that both have the packet. A packet was copied from a message of the
 other kind.
 
-What may happen. The train may use only one of two packets, or reject the message. A packet that a balise cannot send is
-not used.
+What may happen. The train may use one of two packets, or reject the message. A packet that only radio sends is not
+used.
 
 How to correct it. Remove the packet that is too many, or put packet 0 at the beginning.
 
-Correct data that gets it. None, unless a project gives one direction a fixed and a switched packet 5 on purpose. The
-part that is off by default names packets of the same kind that have different contents on purpose.
+Correct data that gets it. None, unless a project gives one direction a fixed and a switched packet 5 on purpose. With
+`--rules E6`, packets of one kind that differ on purpose.
 
 Example. Both balises of Signal B have a packet 5 for the nominal direction.
 

@@ -14,7 +14,7 @@ Usual cause. A packet was lost, or its Q_DIR is wrong. The aspect was added late
 What may happen. Without linking or profiles the authority may be refused. With packets for the other direction the
 aspect says nothing to its train. Without packet 137 a train in staff responsible mode passes the signal.
 
-How to correct it. Compare the telegram of the aspect with those of the others, and add the packet or correct Q_DIR.
+How to correct it. Compare the aspect with the others, and add the packet or correct Q_DIR.
 
 Correct data that gets it. Aspects for one route only, or calling-on aspects, that do not need the packet. A group for
 both directions, one aspect of which is for another direction than all others. A stop aspect without packet 137, which a

@@ -11,7 +11,7 @@ How urgent. At worst wrong information: the restrictive aspect gives the longer 
 Usual cause. The telegrams of two aspects were exchanged, or their names in the table.
 
 What may happen. At yellow the train gets the authority of green, and may run beyond a signal at danger. A red aspect
-with a V_MAIN above 0 does not stop the train.
+with V_MAIN above 0 does not stop it.
 
 How to correct it. Exchange the telegrams of the two aspects, or correct their names.
 

@@ -4,8 +4,8 @@ What it says. A gradient profile has another gradient than the plan, on a stretc
 Uphill is positive: by Q_GDIR as the train meets it, in the plan by the row's way. What follows a packet 136 is not
 compared, nor the track beyond a point, as in X1 (SUBSET-026, 7.4.2 and 7.5.1).
 
-How urgent. At worst wrong information: with a gradient that is less downhill than the track the train brakes too late.
-A gradient that is more downhill is on the safe side, and makes it brake early.
+How urgent. At worst wrong information: with a gradient less downhill than the track the train brakes too late. One that
+is more downhill makes it brake early.
 
 Usual cause. The sign of the other way along the track was taken. The gradient of the neighbouring stretch was copied.
 Q_SCALE is not that of the distances.
