@@ -4,8 +4,8 @@ What it says. What follows a packet 136 differs from its signal's aspect of the 
 not ahead. The signal is the group that the packet 136 names. Packets 12, 21, 27 and 80 are compared in all fields but
 Q_DIR and Q_SCALE, for the direction in which the train passes the signal. If the kilometres show no direction, both
 groups are taken to face the same way. Distances are compared in metres; if Q_SCALE differs, the greater unit is
-allowed. Packets that only one of the groups has are passed over. If the infill group is the last one of the track that
-gives an authority in its direction, a note says that the signal may be beyond the table. The layouts of packets 80 and
+allowed. Packets that only one of the groups has are passed over. If no group ahead of the infill group gives an
+authority in its direction, a missing signal gets only a note: it may be beyond the table. The layouts of packets 80 and
 136 are balisekit's own (SUBSET-026, 3.6.2 and 7.4.2).
 
 How urgent. At worst wrong information: the train gets another aspect than the signal shows.
