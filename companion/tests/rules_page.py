@@ -1,14 +1,14 @@
-"""Makes the sections of docs/links.md, docs/remarks.md and docs/track-plan.md: `python3 companion/tests/rules_page.py`.
+"""Makes the tables of rules in docs/links.md, remarks.md and track-plan.md: `python3 companion/tests/rules_page.py`.
 
-Each is made of the pages of its rules. The introduction of a document, and the outputs of the examples, are its own and
-stay as they are. A rule without a section gets one, in the order of the rules.
+Each row is made of the page of its rule: the title, the first sentences of what it says and of its usual cause, and how
+sure it is. All else of a document is its own and stays as it is.
 """
 from __future__ import annotations
 
 import re
 import sys
 from pathlib import Path
-from typing import Dict, Sequence
+from typing import Dict, List, Sequence
 
 HERE = Path(__file__).resolve().parent
 sys.path.insert(0, str(HERE.parent / "src"))
@@ -22,33 +22,40 @@ DOCUMENTS: Dict[Path, Sequence[Rule]] = {
     DOCS / "remarks.md": meaning.RULES,
     DOCS / "track-plan.md": track_plan.RULES,
 }
+SURE = "How sure"
 
 
 def page(text: str, rules: Sequence[Rule] = links.RULES) -> str:
-    """The document, each section of which has the paragraphs of its rule."""
-    before = ""
-    for rule in rules:
-        if f"\n## {rule.name}: " not in text:
-            text = _with_heading(text, rule.name, before)
-        pattern = rf"^## {rule.name}: .*?(?=^```console|^## |\Z)"
-        text = re.sub(pattern, lambda _: section(rule), text, flags=re.MULTILINE | re.DOTALL)
-        before = rule.name
-    return text.rstrip("\n") + "\n"
+    """The document with the table of these rules."""
+    made, count = re.subn(r"(?m)^\| Rule \|.*\n(\|.*\n)*", lambda _: table(rules), text)
+    if count != 1:
+        raise ValueError(f"{count} tables begin with | Rule |")
+    return made
 
 
-def _with_heading(text: str, name: str, before: str) -> str:
-    """The document with a section of this rule, behind the section of the rule before it."""
-    match = re.search(rf"^## {before}: .*?(?=^## |\Z)", text, re.MULTILINE | re.DOTALL) if before else None
-    at = match.end() if match else len(text)
-    return f"{text[:at].rstrip()}\n\n## {name}: \n\n{text[at:]}"
+def table(rules: Sequence[Rule]) -> str:
+    """A row for each rule."""
+    heads = ["Rule", "It reports", "Usual cause", *(["Sure"] if SURE in rules[0].parts else [])]
+    return "".join(f"| {' | '.join(row)} |\n" for row in (heads, ["---"] * len(heads), *map(cells, rules)))
 
 
-def section(rule: Rule) -> str:
-    """The heading and the paragraphs of a rule."""
-    paragraphs = [f"**{head}.** {text}\n\n" for head, text in rule.parts.items()]
-    return f"## {rule.name}: {rule.title}\n\n" + "".join(paragraphs)
+def cells(rule: Rule) -> List[str]:
+    """What a row has of the page of its rule."""
+    said = [_first(rule.parts[head]) for head in ("What it says", "Usual cause")]
+    sure = (
+        [_first(rule.parts[SURE]).split(" %")[0] + (" %" if rule.is_default else " %, off")]
+        if SURE in rule.parts
+        else []
+    )
+    return [f"{rule.name}: {rule.title}", *said, *sure]
+
+
+def _first(text: str) -> str:
+    """The first sentence, without the section of the standard."""
+    sentence = re.split(r"(?<=\.) (?=[A-Z`])", text)[0]
+    return re.sub(r" \(SUBSET-[^)]*\)", "", sentence)
 
 
 if __name__ == "__main__":
-    for document, rules in DOCUMENTS.items():
-        document.write_text(page(document.read_text("utf-8"), rules), "utf-8")
+    for document, own in DOCUMENTS.items():
+        document.write_text(page(document.read_text("utf-8"), own), "utf-8")

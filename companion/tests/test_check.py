@@ -347,6 +347,23 @@ def test_document(run: Run, table: Write, tmp_path: Path, program: Program) -> N
     }
 
 
+def test_explain_of_a_rule(run: Run, tmp_path: Path, monkeypatch: pytest.MonkeyPatch) -> None:
+    """Its whole page is written if no file has its name."""
+    monkeypatch.chdir(tmp_path)
+    names = ["F1", "F16", "L1", "L9", "E1", "E23", "X1", "X5"]
+    for name in names:
+        status, out, _ = run("check", "--explain", name)
+        assert status == 0 and out[0].startswith(f"{name}: ") and sum(each.startswith(name) for each in out) == 1
+    status, out, _ = run("check", "--explain", "E9")
+    heads = [*explain.HEADS[:-1], "Example", "How sure"]
+    assert [head for line in out for head in heads if line.startswith(f"    {head}. ")] == heads
+    assert run("check", "--explain", "E24")[0] == run("check", "E9")[0] == 2
+    unused = ["balisekit: --json is not used with the page of a rule"]
+    assert run("check", "--explain", "E9", "--json", "j.json") == (2, [], unused)
+    (tmp_path / "E9").write_text("", "utf-8")
+    assert run("check", "--explain", "E9")[0] == 2
+
+
 def test_explain_is_what_the_document_says(run: Run, table: Write) -> None:
     known = explain.explanations()
     parts = {"name", "says", "urgent", "cause", "remedy"}

@@ -213,14 +213,44 @@ def test_a_group_of_another_country(run: Run) -> None:
         )
 
 
+@pytest.mark.parametrize("nominal, wanted", [("rising", []), ("", [("L1", "")])])
+def test_a_link_out_of_the_table_is_named_if_its_sender_has_no_direction(nominal: str, wanted: List[Any]) -> None:
+    """The page names this as correct data: with a direction only a note counts the link."""
+    chain = link_tables.linking(1, link_tables.link(5000, 9, 1))
+    one = line_with(
+        (group("A", "0", nominal=nominal), [header(1, chain)]), (group("B", "1", nominal="rising"), [header(2)])
+    )
+    assert found(one) == wanted
+
+
+@pytest.mark.parametrize("number, wanted", [(44, [("L9", "B")]), (145, [])])
+def test_a_group_for_a_national_system_only_is_passed_over(number: int, wanted: List[Any]) -> None:
+    """The page names a group with packet 44 only as correct data that gets L9."""
+    chain = link_tables.linking(1, link_tables.link(20_000, 3, 1))
+    own = {"nid_packet": number, "q_dir": 1, "l_packet": 32, "body": "00"}
+    one = line_with(
+        (group("A", "0", nominal="rising"), [header(1, chain)]),
+        (group("B", "1", nominal="rising"), [header(2, own)]),
+        (group("C", "2", nominal="rising"), [header(3)]),
+    )
+    assert [each for each in found(one) if each[0] == "L9"] == wanted
+
+
 def test_the_page_has_what_is_written(run: Run, monkeypatch: pytest.MonkeyPatch) -> None:
     monkeypatch.chdir(TOP)
     block = r"^```console\n\$ \./balisekit (.+?)( \| tail -n 2)?\n(.+?)```$"
-    blocks = re.findall(block, PAGE, re.MULTILINE | re.DOTALL)
-    assert len(blocks) == 10
-    for words, cut, said in blocks:
+    (own,) = re.findall(block, PAGE, re.MULTILINE | re.DOTALL)
+    examples = _examples()
+    assert len(examples) == 10 and own in examples
+    for words, cut, said in examples:
         out = run(*shlex.split(words))[1]
         assert said.splitlines() == (out[-2:] if cut else out)
+
+
+def _examples() -> List[Tuple[str, str, str]]:
+    """The commands of links_said.txt, whether only the last two lines follow, and what they write."""
+    text = (Path(__file__).parent / "links_said.txt").read_text("utf-8")
+    return re.findall(r"^\$ \./balisekit (.+?)( \| tail -n 2)?\n(.+?)(?=^$|\Z)", text, re.MULTILINE | re.DOTALL)
 
 
 def test_the_page_is_made_of_the_rules() -> None:
@@ -237,10 +267,10 @@ def test_the_page_is_made_of_the_rules() -> None:
     assert [list(rule.parts) for rule in RULES] == [heads] * 9
 
 
-def test_the_table_of_correct_data_has_the_rules_that_may_get_it() -> None:
-    table = PAGE.split("## Links on correct data")[1].split("\n## ")[0]
-    named = re.findall(r"^\|[^|]+\| (L\d)", table, re.MULTILINE)
-    assert sorted(set(named)) == [rule.name for rule in RULES if rule.has_correct_data] == ["L1", "L2", "L8", "L9"]
+def test_the_page_names_the_rules_that_correct_data_may_get() -> None:
+    (named,) = re.findall(r"([^.]*) can get correct data", PAGE)
+    assert re.findall(r"L\d", named) == [rule.name for rule in RULES if rule.has_correct_data]
+    assert re.findall(r"L\d", named) == ["L1", "L2", "L8", "L9"]
 
 
 def test_explain_is_what_the_page_says(run: Run) -> None:

@@ -2,6 +2,7 @@
 from __future__ import annotations
 
 import copy
+from dataclasses import replace
 from decimal import Decimal
 from pathlib import Path
 from typing import Any, Callable, Dict, List, Sequence, Tuple
@@ -274,6 +275,16 @@ def test_e14(found: Found) -> None:
     assert "by the kilometres it is 1503 m to balise 1 of Signal 5 (km 16.000), row 19" in made[1][0].sentence
 
 
+def test_e14_beyond_q_locacc(found: Found) -> None:
+    """L2 allows `--tolerance` too, and counts from the sender: both differences here are above Q_LOCACC, 5 m."""
+    both = all_of(links_of("Signal 4", 0, 5), links_of("Signal 4", 1, -10))
+    tolerant = replace(ASKED, tolerance=Decimal(3), tolerance_of_places=Decimal(3))
+    for changed, options, difference in ((both, ASKED, 10), (links_of("Signal 4", 0, 7), tolerant, 7)):
+        assert not found("L2", SHORT, changed, options)
+        *_, one = found("E14", SHORT, changed, options)
+        assert f"they differ by {difference} m, which is above Q_LOCACC (5 m) and above the tolerance" in one.sentence
+
+
 def shifted(from_place: int, metres: int) -> Change:
     """The kilometres jump."""
 
@@ -348,6 +359,17 @@ def test_e15(found: Found) -> None:
         "E15", INFILL, set_in(SITE, GREEN, 12, overlap={"d_startol": 100, "t_ol": 60, "d_ol": 190, "v_releaseol": 126})
     )
     assert one.sentence.startswith("D_OL is 190 m in the infill, and 200 m in packet 12 of Signal 4")
+
+
+def test_e15_of_aspects_named_after_a_distant_signal(found: Found) -> None:
+    """As the page says: at yellow the infill has what its signal has at red."""
+    names = {RED: YELLOW, YELLOW: GREEN, GREEN: "clear"}
+
+    def distant(rows: List[Row]) -> None:
+        for row in rows:
+            row.aspect = names.get(row.aspect, row.aspect) if row.group == SITE else row.aspect
+
+    assert len(found("E15", INFILL, distant)) == 2
 
 
 def test_e15_compares_metres(found: Found) -> None:

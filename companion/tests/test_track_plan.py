@@ -344,6 +344,21 @@ def test_x5_of_packets_without_a_place(program: Program, tmp_path: Path) -> None
     assert found.sentence == f"RBC 352/18 at km 20.500, and RBC 352/17 from km 16.700 on by row {row} of the plan"
 
 
+def test_x5_of_the_rbc_in_whose_area_the_table_begins(program: Program, tmp_path: Path) -> None:
+    """A session with it gets a remark, unless the plan has a row for it in rear of the first group."""
+
+    def begins(rows: List[Row]) -> None:
+        with_rbc(rows)
+        fixed(rows, "Signal 2").append(session((352, 16)))
+
+    line = read(program, written(program, tmp_path / "t.csv", SOUND["level-border"], begins))
+    rows = [row for row in implied_rows(line) if (row["kind"], row["value"]) != ("rbc", "352/16")]
+    (found,) = remarks(line, rows, tmp_path)
+    number = rows.index(of_kind(rows, "rbc")) + 2
+    assert found.sentence == f"RBC 352/16 at km 11.500, and RBC 352/17 from km 16.700 on by row {number} of the plan"
+    assert not remarks(line, [*rows, {**of_kind(rows, "rbc"), "km": "9.000", "value": "352/16"}], tmp_path)
+
+
 def test_x5_of_a_border_that_no_packet_names(sound: Tuple[LineOfTable, List[Cells]], tmp_path: Path) -> None:
     """It is a remark at the nearest group, unless it is beyond the table."""
     line, rows = sound

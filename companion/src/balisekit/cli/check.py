@@ -2,20 +2,30 @@
 from __future__ import annotations
 
 import argparse
+import os
 
 from balisekit.cli import options as shared, settings
 from balisekit.cli.outcome import add_only, outcome as outcome_of, stated
 from balisekit.io import clock
 from balisekit.io.outputs import encode, write_json
 from balisekit.present import accepted_text
+from balisekit.present.explanations import page_of
 from balisekit.present.outcome_text import lines
 from balisekit.rules import checking
 from balisekit.rules.families import Outcome
 
 
+FILES = ("messages", "accepted", "propose", "junit", "sarif", "xlsx", "json", "document")
+"""The options that name files to read or write beside the table."""
+
+
 def add_options(parser: argparse.ArgumentParser) -> None:
     """The options of this command."""
-    shared.add(parser, *shared.INPUTS, "--explain", "--all", "--accepted")
+    shared.add(parser, *shared.INPUTS)
+    shared.add(
+        parser, "--explain", help="show cause and remedy of each finding; with E9 as TABLE the page of that rule"
+    )
+    shared.add(parser, "--all", "--accepted")
     add_only(parser)
     settings.add_options(parser)
     proposal = "write entries for what is open, to be signed, into a new file"
@@ -30,6 +40,11 @@ def add_options(parser: argparse.ArgumentParser) -> None:
 
 def run(options: argparse.Namespace) -> int:
     """Does it. The answer is the exit status."""
+    page = list(page_of(options.table)) if options.explain and not os.path.exists(options.table) else []
+    if page:
+        shared.refuse_unused(options, "with the page of a rule", *FILES)
+        shared.say(page)
+        return 0
     outcome = outcome_of(options, stated(options), clock.now())
     checked = outcome.checked
     if options.propose:

@@ -7,9 +7,9 @@ from __future__ import annotations
 import json
 import os
 import re
-from typing import Dict, Iterable, Iterator, Mapping, NamedTuple, Tuple
+from typing import Dict, Iterable, Iterator, Mapping, NamedTuple, Sequence, Tuple
 
-from balisekit.rules.families import Family
+from balisekit.rules.families import FAMILIES, Family
 from balisekit.rules.rule import CORRECT_DATA
 
 WIDTH = 116
@@ -17,6 +17,8 @@ WIDTH = 116
 EXPLAINED = ("What it says", "How urgent", "Usual cause", "How to correct it", CORRECT_DATA, "How sure")
 """The paragraphs that `--explain` shows."""
 HEADS = (*EXPLAINED[:3], "What may happen", *EXPLAINED[3:])
+"""Those of a report."""
+WHOLE = (*HEADS[:-1], "Example", HEADS[-1])
 """All paragraphs."""
 KEYS = ("says", "urgent", "cause", "remedy")
 """The keys of those that a finding has, which are the first ones that `--explain` shows."""
@@ -33,25 +35,31 @@ class Page(NamedTuple):
 
     title: str
     parts: Mapping[str, str]
-    """The paragraphs of HEADS."""
+    """The paragraphs, by their heads."""
 
 
-def pages(family: Family) -> Iterator[Tuple[str, Page]]:
-    """The pages of the rules of a family, by their names."""
+def pages(family: Family, heads: Sequence[str] = HEADS) -> Iterator[Tuple[str, Page]]:
+    """The pages of the rules of a family, by their names, with these paragraphs."""
     if not family.rules:
         for number, page in explanations().items():
             yield f"F{number}", Page(page["name"], dict(zip(EXPLAINED, (page[key] for key in KEYS))))
     for rule in family.rules:
-        yield rule.name, Page(rule.title, {head: _plain(rule.parts[head]) for head in HEADS if head in rule.parts})
+        yield rule.name, Page(rule.title, {head: _plain(rule.parts[head]) for head in heads if head in rule.parts})
 
 
-def page_lines(named: Iterable[Tuple[str, Page]]) -> Iterator[str]:
-    """What these pages say, as lines of text."""
+def page_of(name: str) -> Iterator[str]:
+    """The whole page of the rule with this name, as lines of text. There are none if no rule has it."""
+    named = (one for family in FAMILIES.values() for one in pages(family, WHOLE) if one[0] == name)
+    return page_lines(named, WHOLE)
+
+
+def page_lines(named: Iterable[Tuple[str, Page]], heads: Sequence[str] = EXPLAINED) -> Iterator[str]:
+    """What these pages say in the paragraphs with these heads, as lines of text."""
     import textwrap  # (only --explain needs it)
 
     for name, page in named:
         yield f"{name}: {page.title}"
-        for head, text in ((head, page.parts[head]) for head in EXPLAINED if head in page.parts):
+        for head, text in ((head, page.parts[head]) for head in heads if head in page.parts):
             yield from textwrap.wrap(f"{head}. {text}", WIDTH, initial_indent="    ", subsequent_indent="    ")
 
 

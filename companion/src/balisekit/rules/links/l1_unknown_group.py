@@ -1,25 +1,25 @@
 """L1: linked group not in the table.
 
-What it says. A packet 5 names a group, by NID_C and NID_BG, that no row of the table has. A link without NID_C is of
-the country or region of the group before it. If the table has a group with that NID_BG and another NID_C, the line
-names it. A link to NID_BG 16,383 names no group, since its identity is not known yet, and is never found by this rule.
-Links that by D_LINK lead beyond an end of a track by more than Q_LOCACC and `--tolerance` are not named one by one: a
-note for each end counts them, since the table may be a section of a longer line (SUBSET-026, 3.4.4 and 7.4.2).
+What it says. A packet 5 names a group, by NID_C and NID_BG, that no row of the table has. A link without NID_C takes it
+from the group before it. If the table has that NID_BG under another NID_C, the line names that group. Other links are
+not named one by one if by D_LINK they lead beyond an end of a track by more than Q_LOCACC and `--tolerance`. A note for
+each end counts them, because the table may be a section of a longer line. A link to NID_BG 16,383 names no group, and
+is not reported (SUBSET-026, 3.4.4 and 7.4.2).
 
 How urgent. At worst the train brakes or is tripped at each passage.
 
-Usual cause. The number of the group was mistyped, or the group was given a new number. Or Q_NEWCOUNTRY and NID_C were
-forgotten at a border. If the table has another group at that place, the line names it with its identity, and F14 if the
-program has found that identity used twice: then the identity of that group may be the wrong one.
+Usual cause. The number of the group was mistyped. The group got a new number. Or Q_NEWCOUNTRY and NID_C were forgotten
+at a border. If the table has another group at that place, the line names it with its identity. It names F14 too if the
+program has found that identity used twice: then that group may have the wrong one.
 
-What may happen. The train waits for a group that does not come, and applies the linking reaction (Q_LINKREACTION) at
-each passage. A group that stands there with another identity and Q_LINK 1 is passed over, and what it says is lost.
+What may happen. The train waits for a group that does not come, and applies the linking reaction (Q_LINKREACTION). A
+group there with another identity and Q_LINK 1 is passed over, and its information is lost.
 
 How to correct it. Correct NID_C and NID_BG of the link, or add the group to the table.
 
-Correct data that gets it. A section of a longer line, whose next group stands no farther from the end of the table than
-Q_LOCACC and `--tolerance` allow. A route to a line that is not in the table, such as a branch line: its groups are
-linked from a signal in the middle of the table.
+Correct data that gets it. A section of a longer line whose next group is within Q_LOCACC and `--tolerance` of the end
+of the table, or whose sending group has no kilometre or direction. A route to a line that is not in the table, such as
+a branch line that is linked from the middle of the table.
 
 Example. The reverse link of group B names group 5, and the table has no group 5.
 """

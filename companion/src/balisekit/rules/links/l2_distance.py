@@ -1,10 +1,10 @@
 """L2: distance differs.
 
-What it says. The distance of a linked group by D_LINK differs from that of the kilometres by more than its Q_LOCACC and
-`--tolerance` together. Both distances are in metres, from the group that is named in the line. "In rear of it" says
-that by the kilometres the train has passed the linked group already. If the direction of the sending group along the
-kilometres is not known, the first link that is compared shows it. If all links over a stretch differ by one amount, one
-remark asks whether the kilometres jump there (SUBSET-026, 3.4.4, 3.16.2.3 and 7.5.1).
+What it says. The distance of a linked group by D_LINK differs from the distance by the kilometres by more than Q_LOCACC
+and `--tolerance`. Both count in metres from the group that the line names. "In rear of it" means that by the kilometres
+the train has already passed the linked group. If the direction of the sending group along the kilometres is not known,
+the first link that is compared shows it. If all links over a stretch differ by one amount, one remark asks whether the
+kilometres jump there (SUBSET-026, 3.4.4, 3.16.2.3 and 7.5.1).
 
 How urgent. At worst the train brakes or is tripped, or takes a wrong position for its own.
 
@@ -12,19 +12,17 @@ Usual cause. A group was moved and the links to it were not made anew. Q_SCALE i
 was counted from another balise than the first one of the group. Or the kilometre of the table is wrong: then all links
 to and from that group differ.
 
-What may happen. The train opens its expectation window at another place. If the group lies outside, the train does not
-accept it there, and applies the linking reaction. If it lies inside, the train corrects its position by a wrong
-distance.
+What may happen. The train expects the group at another place. It applies the linking reaction if the group is outside
+the expectation window. Else it corrects its position by a wrong distance.
 
-How to correct it. Correct D_LINK, or the kilometre of the table. Where the kilometres are rounded, say by how much with
+How to correct it. Correct D_LINK, or the kilometre of the table. If the kilometres are rounded, state by how much with
 `--tolerance`.
 
-Correct data that gets it. Kilometres that jump between the groups, if neither `--jumps` nor a track plan says so, or
-that follow another axis than the track: all links over that place differ by the same amount. A balloon loop, which
-leads a train back to a group that it has passed.
+Correct data that gets it. Kilometres that follow another axis than the track, or that jump, if neither `--jumps` nor a
+track plan states it: all links over that place differ by the same amount. A route through another track. A balloon
+loop, which leads a train back to a group that it has passed.
 
-Example. The link of group A to group B says 1,010 m, and their kilometres are 1,000 m apart. The sum for group C begins
-anew at group B, so that there is one line.
+Example. The link of group A to group B says 1,010 m, and their kilometres are 1,000 m apart.
 """
 from __future__ import annotations
 

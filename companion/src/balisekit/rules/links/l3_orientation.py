@@ -1,23 +1,23 @@
 """L3: orientation differs.
 
-What it says. Q_LINKORIENTATION of a linked group does not fit the order of its balises along the track. A train that
-runs towards the group passes its balises in rising order (nominal, 1) or in falling order (reverse, 0). The rule looks
-only at groups of two or more balises: a single balise has no order, and gets its direction by this very variable
-(SUBSET-026, 3.4.2 and 3.4.4).
+What it says. Q_LINKORIENTATION of a linked group does not fit the order of its balises along the track. It states
+whether a train that runs towards the group passes its balises in rising order (nominal, 1) or in falling order
+(reverse, 0). The rule compares only groups of two or more balises: a single balise has no order, and gets its direction
+by this variable (SUBSET-026, 3.4.2 and 3.4.4).
 
 How urgent. At worst the train brakes or is tripped at each passage.
 
-Usual cause. The group was turned, or was planned for the other direction. A link was copied from a group that faces the
-other way. The balises are in the table in another order than on the track: then F1 is found as well, and the line says
-so. That may be so of the group that sends the link: then the line blames the next group.
+Usual cause. The group was turned, or a link was copied from a group that faces the other way. If the table has the
+balises in another order than the track, F1 is found as well, and the line says so. It may be the sending group whose
+order is wrong: then the line blames the next group.
 
-What may happen. The train finds the direction of the group by its balises, and sees that it is not the one that was
-announced. It applies the linking reaction or rejects the message.
+What may happen. By the balises the train finds another direction than was announced. It applies the linking reaction or
+rejects the message.
 
 How to correct it. Correct Q_LINKORIENTATION. If the order of the balises in the table is wrong, correct the table.
 
-Correct data that gets it. None, if each track is one straight chain of kilometres. A balloon loop is no such chain, and
-neither are kilometres that change their direction or jump within a group.
+Correct data that gets it. None, if each track is one straight chain of kilometres. Balloon loops are none, nor
+kilometres that change their direction or jump within a group.
 
 Example. Group B faces the other way, and the link of group A says that it is passed in nominal direction.
 """

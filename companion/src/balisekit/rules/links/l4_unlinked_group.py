@@ -1,15 +1,15 @@
 """L4: linked group has Q_LINK 0.
 
-What it says. A group that a packet 5 of the table names says of itself, by Q_LINK 0, that it is not linked. The line is
-about the group that is named, and lists up to three groups whose packets name it (SUBSET-026, 3.4.4 and 7.5.1).
+What it says. A group that a packet 5 of the table names has Q_LINK 0: it is not linked. The line is about the group
+that is named, and lists up to three groups whose packets name it (SUBSET-026, 3.4.4 and 7.5.1).
 
 How urgent. To be looked at: linking does not protect the group.
 
-Usual cause. The group was added to the links later, and its telegrams were not made anew. Or a group that is left
-unlinked on purpose got into a packet 5.
+Usual cause. The telegrams of a group that was linked later were not made anew. Or a group that is unlinked on purpose
+got into a packet 5.
 
-What may happen. A train takes a group with Q_LINK 0 at any place, also outside its expectation window. So linking does
-not protect it against a group that is met at a wrong place, and the train does not use it to correct its position.
+What may happen. A train accepts a group with Q_LINK 0 at any place, also outside its expectation window. Linking does
+not protect against a group at a wrong place, and the train does not correct its position by this one.
 
 How to correct it. Set Q_LINK to 1 in all telegrams of the group, or take it out of the packets 5.
 

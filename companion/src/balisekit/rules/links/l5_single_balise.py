@@ -1,16 +1,15 @@
 """L5: direction of a single balise not known.
 
-What it says. A group of one balise has Q_LINK 0, and one of its packets other than 44, 145 and 254 holds only in one
-direction (Q_DIR 0 or 1). The line names the first such packet. A single balise has no direction of its own, and one
-with Q_LINK 0 gets none by linking (SUBSET-026, 3.4.2).
+What it says. A single balise has Q_LINK 0, and a packet that holds in one direction only (Q_DIR 0 or 1). The line names
+the first such packet; packets 44, 145 and 254 do not count. A single balise has no direction of its own, and with
+Q_LINK 0 it gets none by linking (SUBSET-026, 3.4.2).
 
 How urgent. At worst wrong information for the other direction, or none.
 
-Usual cause. A group of two was reduced to one balise. Q_LINK was left at 0 in a balise that is to be linked. Or the
-packet was meant for both directions.
+Usual cause. A group of two was reduced to one balise. Q_LINK was left at 0. Or the packet was meant for both
+directions.
 
-What may happen. The train does not know in which direction it passes the balise, and cannot tell whether the packet
-holds. It uses none of it.
+What may happen. The train does not know in which direction it passes the balise, and uses nothing of the packet.
 
 How to correct it. Link the balise and set Q_LINK to 1, or add a second balise. Only a packet without any distance can
 hold in both directions: then set Q_DIR to 2.

@@ -1,11 +1,11 @@
 """L6: identity not known.
 
-What it says. The header of a balise has NID_BG 16,383, by which the standard says that an identity is not known. No
-group of the track has this number (SUBSET-026, 7.5.1).
+What it says. The header of a balise has NID_BG 16,383, which means that the identity is not known. It is the number of
+no group (SUBSET-026, 7.5.1).
 
 How urgent. At worst a wrong position of the train.
 
-Usual cause. A template was filled in by half. Or the number of a link that is not known yet got into a header.
+Usual cause. A template was not filled in completely. Or the number of a link that is not known yet got into a header.
 
 What may happen. No link can name the group, and no train can report its position from it. Two such groups have one
 identity, which the program finds as F14.

@@ -1,21 +1,21 @@
 """L7: open profile under an authority.
 
-What it says. In a direction a group, or a message 3, gives a movement authority, and a gradient or speed profile of it
-has no end mark. The program takes an open profile to reach any place. So a yes of the program rests on it, and on a
-rule of this project that the standard may not share ([yes.md](assurance/yes.md)).
+What it says. A group or message 3 gives an authority, and in its direction a gradient or speed profile without an end
+mark. The program takes an open profile to reach any place. Its yes then rests on a rule of this project, which the
+standard may not share.
 
 How urgent. To be looked at: the yes says less than it seems to.
 
-Usual cause. The end mark (G_A 255, V_STATIC 127) was forgotten, or the tool that made the data leaves it out at the end
-of a line.
+Usual cause. The end mark (G_A 255, V_STATIC 127) was forgotten. Or the tool that made the data omits it at the end of a
+line.
 
-What may happen. The last gradient or speed is taken to hold on and on. Where it does not, the train runs on with a
-wrong one. A train may also refuse an authority whose profiles do not end.
+What may happen. The last gradient or speed holds without end, also on track that has another one. A train may refuse an
+authority whose profiles do not end.
 
 How to correct it. End the profile with an end mark at the supervised location or beyond, or note why it is open.
 
-Correct data that gets it. None, if each profile needs an end mark. Whether the standard requires that was not looked up
-in a print: a project that leaves end marks out on purpose gets L7 for each such profile.
+Correct data that gets it. None, if each profile needs an end mark, which was not looked up in a print. A project that
+omits end marks on purpose gets L7 for each such profile.
 
 Example. The gradient profile of balise A2 has no end mark.
 """

@@ -1,23 +1,22 @@
 """L8: profile begins late.
 
-What it says. In a direction a group, or a message 3, gives a movement authority, and the first D_GRADIENT or D_STATIC
-of a profile is above 0. So the track before it has no profile of this message, unless another one of the same kind
-begins at 0. Of a message 3 that has another message 3 before it a note counts such profiles. The program does not look
-at where a profile begins (SUBSET-026, 3.7, 3.8 and 3.11).
+What it says. Under an authority of a group or message 3 a gradient or speed profile begins beyond 0 m, and none of its
+kind begins at 0 m. The track before it has no profile of this message. Such profiles of a message 3 after another
+message 3 are counted in a note. The program does not check where a profile begins (SUBSET-026, 3.7, 3.8 and 3.11).
 
 How urgent. At worst an old profile is used on that track. Mostly the authority is refused.
 
 Usual cause. The distance was counted from another balise or from a signal. Or the track before it is meant to have its
 profile from an earlier message.
 
-What may happen. Between the group and the first element the train has no profile, or one of an earlier message. It may
-refuse the authority.
+What may happen. Before the first element the train has no profile, or one of an earlier message. It may refuse the
+authority.
 
-How to correct it. Set the first distance to 0, with the value that holds at the group. If an earlier message gives the
-profile there, note which one.
+How to correct it. Set the first distance to 0, with the value that holds at the group. Or note which earlier message
+gives the profile.
 
-Correct data that gets it. A message 3 that goes on from the profiles of an earlier message which the file does not
-have. A group whose track has its profile from an earlier group.
+Correct data that gets it. A message 3 that continues the profiles of an earlier message which the file does not have. A
+group whose track has its profile from an earlier group.
 
 Example. The speed profile of balise A2 begins at 50 m.
 """

@@ -1,25 +1,25 @@
 """L9: linked group passed over.
 
-What it says. By the kilometres a group with Q_LINK 1 stands between two neighbours of a packet 5, or between the group
-that sends it and the first one that it names, and the packet does not name it. It says something in the direction in
-which it is passed: packets 145, 254 and 255 do not count. One note counts the groups that are passed over and say
-nothing in that direction. Of several groups between the same two the line names up to three. If one of the two is not
-in the table, or is on another track, the rule looks for nothing between them (SUBSET-026, 3.4.4).
+What it says. A packet 5 does not name a group with Q_LINK 1 that by the kilometres is between two neighbours of it. The
+sender and the first group that it names are neighbours too. The group says something in the direction in which it is
+passed: packets 145, 254 and 255 do not count. A note counts the other groups that are passed over. Of several groups
+between the same two the line names up to three. Nothing is looked for beside a neighbour that is not in the table or is
+on another track (SUBSET-026, 3.4.4).
 
 How urgent. To be looked at: the group says nothing to a train that uses these links.
 
 Usual cause. The group was added later, and the links of its neighbours were not made anew. Or the route of this packet
 5 does not pass the group.
 
-What may happen. A train that uses linking takes a group with Q_LINK 1 only if it is linked. So it passes over the
-group, and what that one says is lost without a reaction.
+What may happen. A train that uses linking takes a group with Q_LINK 1 only if it is linked. The group's information is
+lost without a reaction.
 
-How to correct it. Add the group to the packet 5, with its distance, and correct the distance of the group after it. If
-trains are to take it without linking, set Q_LINK to 0.
+How to correct it. Add the group to the packet 5, and correct the distance of the group after it. If trains are to take
+it without linking, set Q_LINK to 0.
 
 Correct data that gets it. A packet 5 for one of several routes, which does not pass the group. A group with
-repositioning information (packet 16) on another route, to which packets 5 lead by NID_BG 16,383. A group for level 2
-only, on a line whose packets 5 are for level 1.
+repositioning information (packet 16) on another route, to which packets 5 lead by NID_BG 16,383. A group for other
+trains only, such as those of level 2 or of a national system (packet 44), on a line whose packets 5 are for level 1.
 
 Example. Group A links only group C, and group B stands between them.
 """

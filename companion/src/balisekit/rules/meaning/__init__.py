@@ -11,7 +11,8 @@ A rule is added so:
 3. A `Remark` has the location (`Passage.at`, `GroupData.location`, `GroupData.of_packet`), one sentence with the values
    and their units, and these values by name. It has no reason for which it may be accepted.
 4. Put the `Rule` into RULES below. State its urgency, `needs_kilometres`, and `is_default=False` if it is less than
-   85 % sure. Then run `python3 companion/tests/rules_page.py`, which writes its section of docs/remarks.md.
+   85 % sure. Then run `python3 companion/tests/rules_page.py`, which writes its row of docs/remarks.md from the first
+   sentences of its page.
 5. Test a hit, no hit, and the correct data that the page names, by one change of `meaning_line.py`.
 
 `Result.not_looked_at` counts only what the user could supply, such as a kilometre: a rule that has looked at nothing

@@ -1,23 +1,23 @@
 """E10: aspects that contradict each other about the track.
 
-What it says. For one stretch of track two aspects of a group have different V_STATIC, or signed gradients more than 5 ‰
-apart. They are compared as far as the packets 5 of both name the same groups, also beyond an end of authority, or
-without packets 5 if both authorities end at the same place. Passed over are stretches shorter than `--tolerance` and
-the rounding of the lengths, and what lies beyond a `point` of the track plan. One remark names the aspect that most
-others disagree with, and the longest stretch (SUBSET-026, 3.11).
+What it says. Two aspects of a group state different V_STATIC, or gradients more than 5 ‰ apart, for one stretch.
+Gradients have their sign. They are compared as far as the packets 5 of both name the same groups, also beyond an end of
+authority. Without packets 5 they are compared if both authorities end at the same place. Passed over are stretches
+shorter than `--tolerance` and the rounding of the lengths, and what lies beyond a `point` of the track plan. One remark
+names the aspect that most others disagree with, and the longest stretch (SUBSET-026, 3.11).
 
 How urgent. At worst wrong information: one of the aspects has a speed or gradient that the track does not have.
 
-Usual cause. The profile of one aspect was not made anew, or has the sign, the scale or the unit wrong.
+Usual cause. The profile of one aspect was not made anew. It has a wrong sign, scale or unit.
 
 What may happen. The train gets a speed that is too great, or a gradient that is too favourable, at one of the aspects.
 
 How to correct it. Compare both profiles with the track, and correct the wrong one.
 
 Correct data that gets it. Aspects for routes that part before the last group that both name, or that end at one
-distance without packets 5. Gradients or speeds that are merged at one aspect. A safe value for the overlap, beyond the
-end of authority of one aspect. A speed profile that includes the speed of the aspect. A profile of a stop aspect, which
-no train uses.
+distance without packets 5. Gradients or speeds that are merged at one aspect, or at each over another stretch. A safe
+value for the overlap, beyond the end of authority of one aspect. A speed profile that includes the speed of the aspect,
+or is for limited supervision. A profile of a stop aspect, which no train uses.
 
 Example. At Signal B yellow has 120 km/h from 500 m to 1,000 m, and green 100 km/h.
 

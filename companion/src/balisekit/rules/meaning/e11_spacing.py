@@ -1,18 +1,17 @@
 """E11: spacing of balises.
 
-What it says. By the column km two neighbouring balises of one group are less than 2.3 m apart, or more than 12 m. With
-a `--line-speed` above 180 km/h the least spacing is 3.0 m. A greater one above 300 km/h is not looked for. One unit of
-the last decimal of the kilometres is allowed in either direction. The rule passes over a group whose balises all have
-the same kilometre. It also compares the column `nominal` with the direction in which the kilometres of the balises go
-(SUBSET-036 and SUBSET-040, installation of balise groups).
+What it says. Neighbouring balises of a group are less than 2.3 m or more than 12 m apart, or the column `nominal`
+contradicts their kilometres. With a `--line-speed` above 180 km/h the least spacing is 3.0 m; a greater one above 300
+km/h is not looked for. One unit of the last decimal of the kilometres is allowed in either direction. The rule passes
+over a group whose balises all have the same kilometre (SUBSET-036 and SUBSET-040, installation of balise groups).
 
 How urgent. At worst a wrong position of the train: distances of the group count from its first balise.
 
 Usual cause. A kilometre was mistyped. A row belongs to another group. The balises were exchanged in the table, or the
 column `nominal` was filled in for the other direction.
 
-What may happen. Balises that are too close disturb each other, and a train may miss one. A balise that is too far from
-the one before it is not taken for a part of the group.
+What may happen. Balises that are too close disturb each other, and a train may miss one. One that is too far away is
+not taken for a part of the group.
 
 How to correct it. Correct the kilometre, the group of the row or the column `nominal`.
 

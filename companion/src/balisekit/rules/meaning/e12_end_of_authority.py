@@ -1,12 +1,13 @@
 """E12: end of authority.
 
-What it says. An end of authority is the kilometre of the group and the sum of L_SECTION and L_ENDSECTION of a packet 12
-with V_MAIN above 0, or a packet 15. Authorities of one track and way whose packets 5 lead to one group end at different
-places. That group is the linked one nearest to the end, within 200 m. If none is so near, it is the last one before the
-end, if another one is beyond it. Without packets 5 ends within 20 m of each other are compared. Or a packet 12 ends
-between the first and the last signal of the table, more than 50 m and the tolerance from the first balise of each
-group, and a group is within 200 m. The tolerance is `--tolerance` (else 1 m), the unit of each packet by Q_SCALE, half
-a unit for each further length, and one unit of the last decimal of the kilometres (SUBSET-026, 3.8 and 7.4.2).
+What it says. An authority ends elsewhere than others that lead to the same group, or near a group and not at it. The
+end is the kilometre of the group and the sum of L_SECTION and L_ENDSECTION of a packet 12 with V_MAIN above 0, or a
+packet 15. An authority leads to the group of its packets 5 that is nearest to its end, within 200 m. If none is so
+near, it is the last one before the end, if another one is beyond it. Without packets 5 ends within 20 m of each other
+are compared. Near a group means that a packet 12 ends between the first and the last signal of its track, at most 200 m
+from the first balise of the nearest group. It is not at the group if it is more than 50 m and the tolerance away. The
+tolerance is `--tolerance` (else 1 m), one unit of the last decimal of the kilometres, and the rounding of the lengths.
+Each packet adds one unit of Q_SCALE, and half a unit for each further length of a sum (SUBSET-026, 3.8 and 7.4.2).
 
 How urgent. At worst wrong information: a train may pass the signal at which it has to stop.
 
@@ -18,9 +19,9 @@ How to correct it. Compare the sum of the lengths with the distance to the signa
 
 Correct data that gets it. Buffer stops, and marker boards without balises. A signal or border whose group is more than
 50 m from it, or not in the table. A route that ends in rear of the signal, such as a calling-on route, or a limit of
-authority (V_LOA above 0). A route to another track, if no `point` of the track plan says where trains may leave the
-track. Parallel tracks without names in the column `track`. Distances of a sum that are all rounded to one side.
-Kilometres that jump or follow another axis: see E14.
+authority (V_LOA above 0). An authority for limited supervision, which may end at no signal. A route to another track,
+if no `point` of the track plan says where trains may leave the track. Parallel tracks without names in the column
+`track`. Rounding and kilometres as in E14.
 
 Example. At green the authority of signal 3 ends at km 16.050, and three others that lead to signal 5 end at km 16.000.
 

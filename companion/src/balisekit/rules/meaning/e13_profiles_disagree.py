@@ -1,26 +1,24 @@
 """E13: profiles that disagree.
 
-What it says. On a stretch of one track and way the profiles of two groups differ: no V_STATIC of the group in rear
-equals that of the group ahead, or their gradients are more than 5 per mille apart. Each group is compared with the next
-one ahead that has a profile there. All aspects of both groups count, of the group in rear only those whose packet 5
-names the group ahead, if any does. A stretch is passed over if it is no longer than the tolerance: `--tolerance` (else
-1 m), the units of both packets by Q_SCALE, half a unit for each further distance, and one unit of the last decimal of
-the kilometres. A group that differs from those on both sides has the remark (SUBSET-026, 3.11.3 and 3.11.12).
+What it says. For one stretch the profiles of two groups state different V_STATIC, or gradients more than 5 ‰ apart.
+Each group is compared with the next one ahead of its track and way that has a profile there. They differ if no value of
+one group fits one of the other, in any aspect. Of the group in rear only those aspects count whose packet 5 names the
+group ahead, if any does. Stretches up to the tolerance of E12 are passed over. A group that differs from those on both
+sides has the remark (SUBSET-026, 3.11.3 and 3.11.12).
 
 How urgent. At worst wrong information: a train may go too fast, or brake too late on a slope.
 
-Usual cause. V_STATIC is in km/h instead of steps of 5 km/h. Q_SCALE is not that of the distances. Q_GDIR is wrong. A
-speed or a gradient was changed in one group only.
+Usual cause. V_STATIC is in km/h, or Q_SCALE or Q_GDIR is wrong. A speed or a gradient was changed in one group only.
 
 What may happen. The train goes by the profile that it got last, which may be the wrong one.
 
 How to correct it. Compare both groups with the track plan.
 
-Correct data that gets it. Gradients or speeds that were merged in one group only. A safe value for the overlap, beyond
-an end of authority. A temporary restriction that is written into one profile. A route to another track, if no `point`
-of the track plan says where trains may leave it. Parallel tracks without names in the column `track`. A speed profile
-that includes the speed of the route or aspect. Distances of a sum that are all rounded to one side. Kilometres that
-jump or follow another axis: see E14.
+Correct data that gets it. Gradients or speeds that were merged in one group only, or in each over another stretch. A
+profile for limited supervision. A safe value for the overlap, beyond an end of authority. A temporary restriction that
+is written into one profile. A route to another track, if no `point` of the track plan says where trains may leave it.
+Parallel tracks without names in the column `track`. A speed profile that includes the speed of the route or aspect.
+Rounding and kilometres as in E14.
 
 Example. From km 14.500 to km 15.200 signal 3 says 500 km/h, and signal 4 says 100 km/h.
 

@@ -1,26 +1,24 @@
 """E14: distance not as it is written.
 
-What it says. The sum of D_LINK from a group, or from the linked group before, to a linked group differs from the
-distance by the kilometres by more than the tolerance, and by no more than Q_LOCACC. A greater difference is L2. The
-tolerance is `--tolerance` (1 m without it), one unit of D_LINK by Q_SCALE, half a unit for each further D_LINK of the
-sum, and one unit of the last decimal of the kilometres. Q_LOCACC describes how exactly a group is installed, and not
-how exactly D_LINK is written. If all links over a stretch differ by one amount, one remark asks whether the kilometres
-jump there. If more than a fifth of the links of a track differ, and five at least, one note counts them: the kilometres
-then follow another axis than the track (SUBSET-026, 3.4.4 and 7.5.1).
+What it says. A distance by D_LINK differs from the kilometres by more than the tolerance of E12, but not enough for L2.
+L2 allows Q_LOCACC, which describes how exactly a group is installed, and not how exactly D_LINK is written. The
+distance counts from the sender, or from the linked group before. If all links over a stretch differ by one amount, one
+remark asks whether the kilometres jump there. If five links of a track or more differ, and more than a fifth of all,
+one note counts them: the kilometres then follow another axis than the track (SUBSET-026, 3.4.4 and 7.5.1).
 
 How urgent. At worst a wrong position of the train: it corrects its position by a wrong distance.
 
-Usual cause. A distance was counted from or to another balise than the first one of a group. A group was moved by a few
-metres. The kilometre of the table is wrong.
+Usual cause. A distance was counted from or to another balise than the first. A group was moved by a few metres. The
+kilometre of the table is wrong.
 
-What may happen. The train believes that it is some metres from where it is, and all places that count from there move.
+What may happen. The train believes itself some metres from where it is, and all places that count from there move.
 
 How to correct it. Correct D_LINK or the kilometre. Give jumps of the kilometres by `--jumps` or in the track plan.
 State a greater `--tolerance` if the kilometres follow another axis.
 
 Correct data that gets it. Kilometres that jump, if neither `--jumps` nor a track plan says so. Curves and second
-tracks, whose kilometres are those of another axis. A route through another track. Distances of a sum that are all
-rounded to one side.
+tracks, whose kilometres are those of another axis. Lengths that are rounded more coarsely than Q_SCALE states, or all
+to one side. A route through another track.
 
 Example. Signal 5 is 1,504 m from signal 4 by D_LINK and 1,500 m by the kilometres, and Q_LOCACC is 5 m.
 
@@ -58,7 +56,7 @@ def find(line: Line, options: Options) -> Result:
         where = f" of track {track}" if track else ""
         notes.append(
             f"E14: {counts[track]} of {totals[track]} links{where} differ from the kilometres by more than the "
-            "tolerance, within Q_LOCACC: the kilometres may follow another axis than D_LINK"
+            "tolerance, and L2 finds none of them: the kilometres may follow another axis than D_LINK"
         )
     for step in within:
         if step.here.track not in many:
@@ -97,9 +95,10 @@ def _is_by_l2(line: Line, step: Step, options: Options) -> bool:
 
 def _remarks(line: Line, step: Step, least: int) -> Iterator[Remark]:
     tolerance = least + _allowance(line, step)
+    side = "within" if abs(step.difference) <= step.link.accuracy * 10 else "above"
     sentence = (
         f"{step.here} is {metres(step.distance)} from {step.base} by D_LINK, and {metres(step.by_kilometres)} by the "
-        f"kilometres: they differ by {metres(abs(step.difference))}, which is within Q_LOCACC ({step.link.accuracy} m) "
+        f"kilometres: they differ by {metres(abs(step.difference))}, which is {side} Q_LOCACC ({step.link.accuracy} m) "
         f"and above the tolerance of {metres(tolerance)}{_other_balise(line, step) or ''}"
     )
     values = {"metres_by_d_link": Decimal(step.distance) / 10, "metres_by_kilometres": Decimal(step.by_kilometres) / 10}

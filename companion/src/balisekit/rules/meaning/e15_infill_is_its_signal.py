@@ -1,27 +1,27 @@
 """E15: infill that is not its signal.
 
-What it says. A packet 136 names a group that the table does not have, or that is not ahead of the infill group. Or a
-packet 12, 21, 27 or 80 after it differs from that of the named group, in the aspect with the same name and in the
-direction in which the train passes that group: in a distance, a speed, a time or any other field but Q_DIR and Q_SCALE.
-If the kilometres show no direction, both groups are taken to face the same way. Distances are compared in metres; if
-Q_SCALE differs, the greater unit is allowed. Packets that only one of the groups has are passed over. If the infill
-group is the last one of the track that gives an authority in its direction, a group that the table does not have is a
-note: it may be beyond the table. The layouts of packets 80 and 136 are balisekit's own (SUBSET-026, 3.6.2 and 7.4.2).
+What it says. What follows a packet 136 differs from its signal's aspect of the same name, or the signal is missing or
+not ahead. The signal is the group that the packet 136 names. Packets 12, 21, 27 and 80 are compared in all fields but
+Q_DIR and Q_SCALE, for the direction in which the train passes the signal. If the kilometres show no direction, both
+groups are taken to face the same way. Distances are compared in metres; if Q_SCALE differs, the greater unit is
+allowed. Packets that only one of the groups has are passed over. If no group ahead of the infill group gives an
+authority in its direction, a missing signal gets only a note: it may be beyond the table. The layouts of packets 80 and
+136 are balisekit's own (SUBSET-026, 3.6.2 and 7.4.2).
 
 How urgent. At worst wrong information: the train gets another aspect than the signal shows.
 
-Usual cause. The infill was not made anew when the telegrams of the signal were changed, or was copied from the wrong
-aspect.
+Usual cause. The infill was not changed with its signal. It was copied from the wrong aspect.
 
 What may happen. A train releases its brake for an aspect that the signal does not show.
 
 How to correct it. Compare both with the design. If the signal is right, copy its packets after packet 136, aspect by
 aspect.
 
-Correct data that gets it. Infill that says less than its signal on purpose, such as a lower V_MAIN or merged sections,
-that has another section timer, or that has a V_MAIN above 0 and no length for a signal at danger. A signal that the
+Correct data that gets it. Infill whose aspects are named after a distant signal, and not after the signal that packet
+136 names. Infill that says less than its signal on purpose, such as a lower V_MAIN, shorter profiles or merged
+sections, or that has other timers. Infill with a V_MAIN above 0 and no length for a signal at danger. A signal that the
 table does not have, such as one on a branch line. Without kilometres, a signal whose group faces the other way.
-Kilometres that jump or follow another axis: see E14.
+Kilometres as in E14.
 
 Example. At yellow the infill of signal 4 has L_ENDSECTION 1,350 m, and signal 4 has 1,500 m.
 

@@ -1,18 +1,18 @@
 """E16: direction of a single balise.
 
-What it says. A group of one balise with Q_LINK 1 has a packet for one direction, other than 44, 145 and 254, and no
-packet 5 of the table names it. Or the packets 5 that name a single balise give it different nominal directions along
-the kilometres, or another one than the column `nominal`. The first part is silent if no packet 5 that holds in the way
-of the packet leads past the kilometre of the balise, or if the balise has a packet 16 and a link with NID_BG 16,383
-leads to a place within 500 m. Single balises with Q_LINK 0 are L5 (SUBSET-026, 3.4.2 and 3.4.4).
+What it says. A single balise with Q_LINK 1 has packets for one direction, and packets 5 do not name it, or disagree
+about its direction. A direction other than that of the column `nominal` is named too. Packets 44, 145 and 254 do not
+count. A balise that is not named is passed over if no packet 5 for that way leads past its kilometre. So is one with a
+packet 16, if a link with NID_BG 16,383 leads to a place within 500 m. Single balises with Q_LINK 0 are L5 (SUBSET-026,
+3.4.2 and 3.4.4).
 
 How urgent. At worst wrong information: the packet may be taken for the other direction, or not at all.
 
 Usual cause. The link to an infill balise was forgotten. Q_LINKORIENTATION was copied from another link. The column
 `nominal` was filled in for the other direction.
 
-What may happen. A train can tell the direction of a single balise by linking only. Without it, the train ignores all
-that is for one direction; with the wrong one, it takes what is meant for trains of the other way.
+What may happen. A train learns the direction of a single balise only by linking. Without it the train ignores what is
+for one direction; with the wrong one it takes what is for the other.
 
 How to correct it. Name the balise in the packets 5 of the groups before it, and give all these links one orientation.
 

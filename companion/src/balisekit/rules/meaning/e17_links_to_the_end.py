@@ -1,26 +1,26 @@
 """E17: links that end before the authority.
 
-What it says. A packet 12 with V_MAIN above 0 allows a train to go on for more than 50 m beyond the last group that
-packets 5 name: those of all aspects of the group, and of groups before it on that track and way. Only linked groups
-that say something in the direction of passage count. The rule is silent if no such group is between that place and 50 m
-beyond the end of the authority, or if the end is beyond the last such group of the track. It is also silent if the last
-link of the passage has NID_BG 16,383, because the group with repositioning information there names the next ones. If
+What it says. A packet 12 leads more than 50 m beyond the last group that packets 5 name, and another group is ahead.
+Its V_MAIN is above 0. The packets 5 are those of all aspects of the group, and of groups before it on that track and
+way. The other group has Q_LINK 1, is at most 50 m beyond the end of the authority, and has packets for that direction
+other than 254 and 255. The rule is silent if the end is beyond the last such group of the track. It is also silent if
+the last link of the passage has NID_BG 16,383: the group with repositioning information there names the next ones. If
 that group names too few of them, nothing is found. A table without any packet 5 gets one remark for all (SUBSET-026,
 3.4.4).
 
 How urgent. At worst a wrong position of the train: a train misses a group and goes on.
 
-Usual cause. A link was forgotten, or an aspect leads farther than the packet 5, which was made for another aspect.
+Usual cause. A link was forgotten. The packet 5 was made for another aspect.
 
-What may happen. A train does not expect a group that no link names: nothing shows that it missed the group, and it does
-not correct its position there.
+What may happen. Nothing shows that a train missed a group that no link names, and it does not correct its position
+there.
 
 How to correct it. Name all groups to the end of the authority in the packet 5.
 
 Correct data that gets it. A line that never uses linking, or that uses it on a part only, such as in rear of a level 2
 area. Packets 5 that each lead only to the next signal, which has a packet 5 of its own. Links of groups that the table
-does not have. Groups for level 2 only, which the packets 5 for level 1 leave out. A route to another track, if no
-`point` of the track plan says where trains may leave it. Kilometres that jump or follow another axis: see E14.
+does not have. Groups for other trains only, as in L9, which the packets 5 leave out. A route to another track, if no
+`point` of the track plan says where trains may leave it. Kilometres as in E14.
 
 Example. The authority of signal 3 ends at km 16.000, and its packet 5 names groups to km 14.500 only.
 

@@ -1,26 +1,26 @@
 """E18: level transition.
 
-What it says. Packets 41 of one track and way announce a level transition within 500 m of each other, and differ in the
-place by more than the tolerance, or in the order of their M_LEVELTR and NID_NTC. A place is the kilometre of the group,
-and D_LEVELTR from it unless that is 32,767 (now). The packet with D_LEVELTR 0 or 32,767 counts as right, or else the
-most frequent place. One that repeats it in a group beyond the border agrees, also by mistake. The tolerance is
-`--tolerance` (1 m without it), the unit of each packet by Q_SCALE, and one unit of the last decimal of the kilometres.
-If a place is between the first and the last group of the track, some group there has to have a packet 41 with D_LEVELTR
-0 or 32,767. A packet for both directions with a distance is E5 (SUBSET-026, 5.10 and 7.4.2).
+What it says. Packets 41 for one level transition differ in its place or its levels, or no group there has one that
+orders it. Compared are packets of one track and way whose places are within 500 m of each other. Places may differ by
+the tolerance of E12, and M_LEVELTR and NID_NTC have to be the same in the same order. A place is the kilometre of the
+group, and D_LEVELTR from it unless that is 32,767 (now). The packet with D_LEVELTR 0 or 32,767 counts as right, or else
+the most frequent place. One that repeats it in a group beyond the border agrees, also by mistake. Only a place between
+the first and the last group of the track needs a packet 41 with D_LEVELTR 0 or 32,767. A packet for both directions
+with a distance is E5 (SUBSET-026, 5.10 and 7.4.2).
 
 How urgent. At worst wrong information: the train changes its level at another place.
 
-Usual cause. D_LEVELTR is mistyped. Announcements did not follow a border that was moved. The border has no packet 41.
+Usual cause. D_LEVELTR is mistyped, or did not follow a moved border. The border has no packet 41.
 
-What may happen. A driver acknowledges at one place and the train changes at another. The train goes on in a level whose
-trackside equipment has ended, or is braked.
+What may happen. A driver acknowledges at one place and the train changes at another. Or it goes on in a level whose
+trackside equipment has ended.
 
 How to correct it. Compare each D_LEVELTR with the kilometre of the border. Put a packet 41 into its group.
 
 Correct data that gets it. A line on which only the last announcement makes the train change its level. A group that has
 D_LEVELTR 32,767 some metres from the border. Two borders within 500 m of each other, a border on another route, or one
 whose group is not in the table. An order of the level in rear of the border, within 500 m of it, for trains that start
-there. Kilometres that jump or follow another axis: see E14.
+there. Kilometres as in E14.
 
 Example. Signal 4 announces level 0 at km 16.750, and the group at the border, at km 16.700, has it at once.
 

@@ -1,15 +1,13 @@
 """E19: gradients of both directions.
 
-What it says. On a stretch of one track the gradients of trains of both ways add up to more than 1 per mille, counted as
-each train meets them, uphill positive: both go up. Of all profiles of one way that cover the stretch the one that goes
-up least counts, so that groups of one way that disagree are E13 only. Stretches are passed over that are no longer than
-the tolerance: `--tolerance` (1 m without it), the units of both packets by Q_SCALE, half a unit for each further
-distance, and one unit of the last decimal of the kilometres. A remark of the lowest urgency names stretches of 1 km and
-more on which both ways go down by 3 per mille or more (SUBSET-026, 3.11.12).
+What it says. By its gradients a stretch goes uphill in both directions, or downhill in both by 3 ‰ or more. Uphill both
+ways means that the gradients, as each train meets them, add up to more than 1 ‰, on a stretch longer than the tolerance
+of E12. Of all profiles of one way the one that goes up least counts: groups of one way that disagree are E13 only.
+Downhill both ways has the lowest urgency, and is named from 1 km on (SUBSET-026, 3.11.12).
 
 How urgent. At worst wrong information: a train brakes too late, because it believes that it goes uphill.
 
-Usual cause. Q_GDIR of one direction is wrong, or was copied from the other direction.
+Usual cause. Q_GDIR of one direction is wrong. It may be copied from the other direction.
 
 What may happen. The brake curve is wrong by twice the gradient.
 
@@ -17,8 +15,7 @@ How to correct it. Compare both directions with the track plan, which has one gr
 
 Correct data that gets it. Safe gradients near a summit or a valley, if each direction has the steepest value of a
 longer stretch; both may then go down. Mean gradients of longer stretches. Two parallel tracks that have no names in the
-column `track`. A route to another track. Distances of a sum that are all rounded to one side. Kilometres that jump or
-follow another axis: see E14.
+column `track`. A route to another track. Rounding and kilometres as in E14.
 
 Example. From km 14.500 to km 15.200 signal 3 says +8 per mille, and signal R4 of the other direction says +8 per mille.
 

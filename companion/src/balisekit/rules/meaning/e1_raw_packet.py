@@ -1,16 +1,16 @@
 """E1: raw packet that does not fit its layout.
 
-What it says. A packet that the program keeps as bits, and whose layout is certain, has fewer or more bits than this
-layout, or a spare number in it: an M_LEVELTR from 5 to 7, a Q_SCALE 3, an M_MAMODE 3, or a speed above 120 that has no
-special meaning. The sentence names the first place that does not fit. The layouts are balisekit's own and not compared
-with a print (SUBSET-026, 7.4 and 7.5.1).
+What it says. A packet that the program keeps as bits does not fit its layout, or has a spare number. It has fewer or
+more bits than the layout. Spare are an M_LEVELTR from 5 to 7, a Q_SCALE 3, an M_MAMODE 3, and a speed above 120 without
+a special meaning. Only packets whose layout is certain are compared, and the sentence names the first place that does
+not fit. The layouts are balisekit's own and not compared with a print (SUBSET-026, 7.4 and 7.5.1).
 
 How urgent. At worst wrong information: the train reads other values than were meant.
 
-Usual cause. The body was made by hand or with another tool. A condition, such as Q_NEWCOUNTRY or N_ITER, does not fit
-what follows. Or L_PACKET was not adapted.
+Usual cause. The body was made by hand or with another tool. L_PACKET was not adapted. A condition, such as Q_NEWCOUNTRY
+or N_ITER, does not fit what follows.
 
-What may happen. The train rejects the message, or takes the bits of one variable for those of another one.
+What may happen. The train rejects the message, or takes the bits of one variable for another.
 
 How to correct it. Make the packet anew, with the bits of the layout that `balisekit show` writes.
 

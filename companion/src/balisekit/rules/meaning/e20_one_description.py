@@ -1,14 +1,14 @@
 """E20: one group, several descriptions.
 
-What it says. A packet 5 names its own group, or one group twice. If the rule is asked for (`--rules E20`), it also
-remarks that links to one group have different Q_LOCACC, or different Q_LINKREACTION for trains of one way; the most
-frequent value counts as right (SUBSET-026, 3.4.4 and 7.4.2).
+What it says. A packet 5 names its own group, or one group twice. With `--rules E20` the rule also compares the links to
+one group. It names different Q_LOCACC, and different Q_LINKREACTION for trains of one way; the most frequent value
+counts as right (SUBSET-026, 3.4.4 and 7.4.2).
 
 How urgent. At worst the train brakes without need: it does not find the group where it expects it.
 
 Usual cause. A NID_BG was copied from the link before it. Q_LOCACC was changed in one packet only.
 
-What may happen. The train waits for a group a second time, or opens another window for it than from other groups.
+What may happen. The train waits for a group twice, or opens another window for it than from other groups.
 
 How to correct it. Correct NID_BG, Q_LOCACC or Q_LINKREACTION.
 

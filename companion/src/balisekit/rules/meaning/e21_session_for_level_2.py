@@ -1,16 +1,16 @@
 """E21: level 2 needs a session.
 
-What it says. A packet 41 or 46 names level 2 or 3, and neither its group nor one before it on that track and way has a
-packet 42 with Q_RBC 1. The rule is off unless it is asked for. The layouts of packets 42 and 46 are balisekit's own
-(SUBSET-026, 3.5.3, 5.10 and 7.4.2).
+What it says. A packet 41 or 46 names level 2 or 3, and no packet 42 with Q_RBC 1 comes with it or before it. Packets 42
+of its group and of those before it on that track and way count. The rule is off unless it is asked for. The layouts of
+packets 42 and 46 are balisekit's own (SUBSET-026, 3.5.3, 5.10 and 7.4.2).
 
 How urgent. At worst the train brakes without need: it has no session when it changes its level.
 
-Usual cause. The session management was forgotten, has Q_RBC 0, or is for the other direction.
+Usual cause. The packet 42 was forgotten, or has Q_RBC 0. It may be for the other direction.
 
 What may happen. The train reaches the border without a movement authority by radio, and stops there.
 
-How to correct it. Put a packet 42 with Q_RBC 1 into a group far enough before the border.
+How to correct it. Put a packet 42 with Q_RBC 1 far enough before the border.
 
 Correct data that gets it. Trains that come with a session, from another track or a line that is not among the data.
 Trains that open their session at the start of mission.

@@ -1,10 +1,9 @@
 """E22: temporary speed restriction.
 
-What it says. Packets 65 of one track and way have one NID_TSR below 255 and places within 2 km of each other, and
-differ in the place by more than the tolerance, in L_TSR by more than the tolerance, or in V_TSR. The tolerance is
-`--tolerance` (1 m without it), the unit of each packet by Q_SCALE, and one unit of the last decimal of the kilometres.
-The most frequent one counts as right. A packet with D_TSR 0 agrees if its group is within the restriction, V_TSR is
-equal and the end is the same. The layout of packet 65 is balisekit's own (SUBSET-026, 3.11.5 and 7.4.2).
+What it says. Packets 65 with one NID_TSR state different places, lengths or speeds. They are for one track and way,
+their NID_TSR is below 255, and their places are within 2 km of each other. Place and L_TSR may differ by the tolerance
+of E12. The most frequent one counts as right. A packet with D_TSR 0 agrees if its group is within the restriction,
+V_TSR is equal and the end is the same. The layout of packet 65 is balisekit's own (SUBSET-026, 3.11.5 and 7.4.2).
 
 How urgent. At worst wrong information: the train takes the restriction that it gets last instead of the first one.
 
@@ -15,7 +14,7 @@ What may happen. The restriction begins too late, ends too early, or has another
 How to correct it. Compare D_TSR, L_TSR and V_TSR with the list of restrictions.
 
 Correct data that gets it. Two restrictions on one line that have the same number. D_TSR and L_TSR that are both rounded
-to the safe side. A V_TSR that depends on the aspect. Kilometres that jump or follow another axis: see E14.
+to the safe side. A V_TSR that depends on the aspect. Kilometres as in E14.
 
 Example. Signal 3 has restriction 7 at km 14.000 with 40 km/h, and signal 4 has it at km 14.100.
 

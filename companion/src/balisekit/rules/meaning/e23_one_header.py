@@ -1,21 +1,21 @@
 """E23: one line, one header.
 
-What it says. A telegram has another M_VERSION than most telegrams of the table. Or a group has another NID_C than most
-groups of its track, and groups with the usual NID_C are on both sides of it, in the order of the kilometres, or else of
-the table. The rule is off unless it is asked for (SUBSET-026, 7.5.1 and 8.4.2).
+What it says. A telegram has another M_VERSION than most of the table, or a group another NID_C than most of its track.
+Such a group has groups with the usual NID_C on both sides of it, in the order of the kilometres, or else of the table.
+The rule is off unless it is asked for (SUBSET-026, 7.5.1 and 8.4.2).
 
-How urgent. Of another M_VERSION no effect on a train is known: a rule of the project is broken. A wrong NID_C makes the
-group another one, which L1 shows if links name it.
+How urgent. To be looked at: what it means for a train depends on the other telegrams. L1 finds links that do not name
+the group by its NID_C.
 
-Usual cause. A telegram was made with another version of a tool, or was copied from another line.
+Usual cause. A telegram was made with another version of a tool. It was copied from another line.
 
-What may happen. A train that knows only the older version may ignore packets or values that the later one has added.
-With a wrong NID_C the group is another one for the train.
+What may happen. A train that knows only the older version ignores packets or values that the later one has added, if
+the telegram has any. A group with a wrong NID_C is another one for the train.
 
 How to correct it. Correct the header.
 
-Correct data that gets it. A border between two countries or versions, also if their groups alternate. Versions that
-differ by balise on purpose.
+Correct data that gets it. A border between two countries or versions, also if their groups alternate. A country or
+region with several NID_C. Versions that differ by balise on purpose.
 
 Example. Row 14 has M_VERSION 32, and the 44 other telegrams have 33.
 

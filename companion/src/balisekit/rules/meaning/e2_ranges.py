@@ -1,14 +1,14 @@
 """E2: speed or gradient out of range.
 
-What it says. V_MAIN, V_LOA, V_STATIC, V_DIFF, V_TSR or V_MAMODE is above `--line-speed`, or above 350 km/h without it.
-A release speed is above `--release-speed`, or above 40 km/h without it. G_A is above 40 ‰. Special values, such as the
-end mark, are no speeds or gradients. With `--rules E2` it also names a V_MAIN above the greatest speed of the speed
+What it says. A speed is above `--line-speed` (else 350 km/h), a release speed above `--release-speed` (else 40 km/h),
+or G_A above 40 ‰. The speeds are V_MAIN, V_LOA, V_STATIC, V_DIFF, V_TSR and V_MAMODE. Special values, such as the end
+mark, are no speeds or gradients. With `--rules E2` it also names a V_MAIN above the greatest speed of the speed
 profiles that are said with it (SUBSET-026, 3.8, 3.11 and 7.5.1).
 
 How urgent. At worst wrong information: a train may run faster than the track allows.
 
-Usual cause. A speed was entered in km/h: it is sent in steps of 5 km/h, so that 100 means 500 km/h. Or a gradient was
-entered in tenths of a per mille.
+Usual cause. A speed was entered in km/h and not in steps of 5 km/h. So 100 means 500 km/h. Or a gradient was entered in
+tenths of a per mille.
 
 What may happen. A speed that is too great does not restrict the train. With a wrong gradient the train brakes too early
 or too late.
@@ -16,8 +16,8 @@ or too late.
 How to correct it. Correct the value. If the line is faster, state its greatest speed with `--line-speed`.
 
 Correct data that gets it. A line that is faster or steeper, or has greater release speeds, than these limits. A V_MAIN,
-V_LOA or V_MAMODE by which a project says that it does not restrict. A V_DIFF of tilting trains, if `--line-speed` is
-the speed of other trains.
+V_LOA, V_STATIC or V_MAMODE by which a project says that it does not restrict. A V_DIFF of tilting trains, if
+`--line-speed` is the speed of other trains.
 
 Example. V_STATIC of the first element at Signal B is 500 km/h, sent as 100: 100 km/h are sent as 20.
 

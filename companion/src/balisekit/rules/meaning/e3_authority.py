@@ -1,20 +1,20 @@
 """E3: authority that contradicts itself.
 
-What it says. In a packet 12 or 15 a D_SECTIONTIMERSTOPLOC is greater than the length of its section. Or
-D_ENDTIMERSTARTLOC or D_STARTOL is greater than the sum of all lengths, if that sum is above 0. Or the overlap ends
-before the danger point. Or V_LOA is above V_MAIN. Or V_LOA is 0 and T_LOA is not 1,023 (no time limit). Or V_LOA is
-above 0, T_LOA is 1,023, and a danger point or an overlap is there. Or V_MAIN is above 0 and the sum of all lengths is
-0. Or an L_SECTION is 0 (SUBSET-026, 3.8 and 7.4.2).
+What it says. Values of a packet 12 or 15 contradict each other, such as an overlap that ends before the danger point.
+The rule names a D_SECTIONTIMERSTOPLOC beyond its section, and a D_ENDTIMERSTARTLOC or D_STARTOL above the sum of all
+lengths, if that is above 0. It names D_OL below D_DP, V_LOA above V_MAIN, an L_SECTION 0, and V_MAIN above 0 if all
+lengths are 0. It names V_LOA 0 with a T_LOA other than 1,023 (no time limit), and a danger point or overlap with V_LOA
+above 0 and T_LOA 1,023 (SUBSET-026, 3.8 and 7.4.2).
 
 How urgent. At worst wrong information: one of the two values of the sentence is not what was meant.
 
-Usual cause. A length was changed, and the timers, the overlap or the danger point were not. Q_SCALE was changed for
-some of the values. Or a value of another signal was copied.
+Usual cause. A length was changed, and the timers or the overlap were not. Q_SCALE was changed for some of the values.
+Or a value of another signal was copied.
 
-What may happen. A timer starts or stops at a place that the train never passes. A train supervises an overlap that ends
-before its danger point. Or it may run at V_MAIN without any length.
+What may happen. A timer starts or stops at a place that the train never passes. The train supervises an overlap that
+ends before its danger point, or may run at V_MAIN without any length.
 
-How to correct it. Compare both values of the sentence with the design of the signal, and correct the wrong one.
+How to correct it. Compare both values with the design of the signal, and correct the wrong one.
 
 Correct data that gets it. A section timer that stops on purpose beyond its section. A timer of the end section or of
 the overlap that starts on purpose in rear of the group. A V_LOA above V_MAIN, by which a project says that the limit of

@@ -1,10 +1,10 @@
 """E4: profile that contradicts itself.
 
-What it says. In a packet 21 or 27 an element after the first one has D_GRADIENT or D_STATIC 0, an element follows an
-end mark, or the end mark is the first element. Or a V_STATIC is 0 km/h. Or an element repeats the gradient, or the
-speed, Q_FRONT and categories, of the one before it, and one distance could state both: up to 32,767 units. Or an
-element has a train category twice, or its V_DIFF by cant deficiency falls while NC_CDDIFF rises, or is below V_STATIC
-(SUBSET-026, 3.11 and 7.4.2).
+What it says. A profile has two elements at one place, elements after the end mark, 0 km/h, or a repeated element. The
+rule names a D_GRADIENT or D_STATIC 0 after the first element, and an end mark that is the first element. Repeated is a
+gradient, or a speed with its Q_FRONT and categories, if one distance (up to 32,767 units) could state both. The rule
+also names a train category twice in an element, and a V_DIFF by cant deficiency that is below V_STATIC or falls while
+NC_CDDIFF rises (SUBSET-026, 3.11 and 7.4.2).
 
 How urgent. At worst wrong information: a speed or gradient holds at another place, or for other trains, than was meant.
 
@@ -12,13 +12,14 @@ Usual cause. The elements were sorted wrongly, or one was entered twice. A dista
 from a shorter profile, or a value of the categories was mistyped.
 
 What may happen. Of two elements at one place only one can hold. What follows an end mark is not used. A repeated
-element often stands for a change that was meant.
+element often hides a change that was meant.
 
 How to correct it. Compare the elements with the profile of the track, and correct or remove the wrong one.
 
-Correct data that gets it. A speed of 0 km/h beyond a buffer stop. A stop aspect with 0 km/h, or with an end mark only.
-A V_STATIC that no train uses, because each category has a V_DIFF. End marks that a tool puts after the first one to
-fill up the packet. An element that repeats the one before it because a tool begins one at each boundary of its data.
+Correct data that gets it. A speed of 0 km/h beyond a buffer stop or an end of authority. A stop aspect with 0 km/h, or
+with an end mark only. A V_STATIC that no train uses, because each category has a V_DIFF, or that is for a greater cant
+deficiency. End marks that a tool puts after the first one to fill up the packet. An element that repeats the one before
+it because a tool begins one at each boundary of its data.
 
 Example. In the gradient profile of Signal B the third element has D_GRADIENT 0 m, the place of the second one.
 

@@ -1,19 +1,19 @@
 """E5: both directions with a distance.
 
 What it says. A packet that has distances along the track holds in both directions (Q_DIR 2). These are the packets 5,
-12, 15, 16, 21, 27, 39, 40, 41, 51, 52, 65, 67 to 71, 80, 88, 131 and 138. A packet 41 with D_LEVELTR 0 or 32,767 (now)
-is passed over, and so is a packet 39, 40, 51, 52, 68 to 70 or 131 that gives only the place of its group, with
-D_TRACTION, D_CURRENT, D_TRACKINIT, D_SUITABILITY or D_RBCTR 0. An authority without any length is named if no other
-such packet is there: it stops the trains of both directions. All such packets of a balise or message are named together
-(SUBSET-026, 3.6.1 and 7.4).
+12, 15, 16, 21, 27, 39, 40, 41, 51, 52, 65, 67 to 71, 80, 88, 131 and 138. Passed over is a packet 41 with D_LEVELTR 0
+or 32,767 (now). So is a packet 39, 40, 51, 52, 68 to 70 or 131 that gives only the place of its group, by D_TRACTION,
+D_CURRENT, D_TRACKINIT, D_SUITABILITY or D_RBCTR 0. An authority without any length is named if no other such packet is
+there: it stops the trains of both directions. All such packets of a balise or message are named together (SUBSET-026,
+3.6.1 and 7.4).
 
 How urgent. At worst wrong information for trains in one of the directions.
 
 Usual cause. The template had Q_DIR 2. Or the packet was meant for one direction, and a single balise with Q_LINK 0 has
 no direction.
 
-What may happen. Trains of each direction count the distances in their own direction. The end of authority, the level
-border or the restriction is then on both sides of the group.
+What may happen. Trains count the distances in their own direction. The end of authority, the level border or the
+restriction is then on both sides of the group.
 
 How to correct it. Set Q_DIR to 1 or 0. A group of one balise gets its direction if it is linked, or by a second balise.
 

@@ -1,23 +1,23 @@
 """E6: packets of one message.
 
-What it says. A balise has a packet 15, 57, 58, 63 or 140, which only radio sends. Or packet 0 is not the first packet
-of its telegram. Or in one direction there are two packets 5, where what follows a packet 136 is counted by itself. With
-`--rules E6` it also names, in one direction, two different packets 2, 3, 12, 15, 16, 21, 27, 41, 45, 46, 80, 131, 132,
-136, 137, 141 or 254, and in a message 3 a packet 0, 6, 12, 16, 46, 90, 132 to 137, 145 or 254 (SUBSET-026, 7.4 and
-8.4.4).
+What it says. A balise has a packet that only radio sends, packet 0 is not the first one, or a train gets two packets 5.
+Only radio sends 15, 57, 58, 63 and 140. The two packets 5 hold in one direction, and what follows a packet 136 is
+counted by itself. With `--rules E6` it also names two different packets of one kind in one direction: 2, 3, 12, 15, 16,
+21, 27, 41, 45, 46, 80, 131, 132, 136, 137, 141 or 254. It then names in a message 3 a packet 0, 6, 12, 16, 46, 90, 132
+to 137, 145 or 254 (SUBSET-026, 7.4 and 8.4.4).
 
 How urgent. At worst wrong information: nobody knows which of two packets a train uses.
 
-Usual cause. Telegrams or messages were put together from parts that both have the packet. A packet was copied from a
-message of the other kind.
+Usual cause. Telegrams were put together from parts that both have the packet. A packet was copied from a message of the
+other kind.
 
-What may happen. The train may use only one of two packets, or reject the message. A packet that a balise cannot send is
-not used.
+What may happen. The train may use one of two packets, or reject the message. A packet that only radio sends is not
+used.
 
 How to correct it. Remove the packet that is too many, or put packet 0 at the beginning.
 
-Correct data that gets it. None, unless a project gives one direction a fixed and a switched packet 5 on purpose. The
-part that is off by default names packets of the same kind that have different contents on purpose.
+Correct data that gets it. None, unless a project gives one direction a fixed and a switched packet 5 on purpose. With
+`--rules E6`, packets of one kind that differ on purpose.
 
 Example. Both balises of Signal B have a packet 5 for the nominal direction.
 

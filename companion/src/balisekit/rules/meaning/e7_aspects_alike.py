@@ -1,18 +1,17 @@
 """E7: aspects that say the same.
 
-What it says. Two or more aspects of a group have equal packets in every balise, apart from M_MCOUNT, and a packet 12
-among them has a V_MAIN above 0. The line names the aspects. If no packet 12 of such aspects has a V_MAIN above 0, one
-note for the whole table counts them: a stop aspect, a dark signal and a substitution aspect often share their packets.
+What it says. Aspects of a group have equal packets in every balise, among them a packet 12 with V_MAIN above 0.
+M_MCOUNT may differ. If no packet 12 of such aspects has a V_MAIN above 0, one note for the table counts them.
 
 How urgent. At worst wrong information: one of the aspects allows what another aspect is meant to allow. The urgency is
-the lowest one if the authority ends within 50 m of the last group of the table in that way, and no group with an
-authority is between both.
+the lowest one if the authority ends within 50 m of the last group of its track and way, with no other signal in
+between.
 
-Usual cause. The telegram of one aspect was copied, and its packets were not changed.
+Usual cause. The telegram of one aspect was copied and not changed.
 
 What may happen. A train that passes the more restrictive aspect gets the authority and the speed of the other one.
 
-How to correct it. Compare both telegrams with the aspect table of the signal, and correct the packets of the wrong one.
+How to correct it. Compare both telegrams with the aspect table of the signal, and correct the wrong one.
 
 Correct data that gets it. One aspect that the table has under two names. Aspects that differ only beyond the end of
 authority: yellow and green of the last signal before a buffer stop or a level border, which can have the lowest

@@ -1,22 +1,20 @@
 """E8: aspect that lacks what its siblings have.
 
-What it says. Of three or more aspects with a V_MAIN above 0 in a direction exactly one lacks a packet 5, 21 or 27 that
-all others have in it. Or of three or more aspects with a V_MAIN above 0 exactly one lacks a packet 12 in a direction in
-which all others have one, which only a group for both directions can show. Or an aspect has one of these packets only
-for the other direction than all others, of which there are at least two. Or four of five stop aspects of the table have
-a packet 137 with "stop", and this one has no packet 137. Or of three or more stop aspects of the group exactly one
-lacks a packet 132, and a stop aspect of this name has one elsewhere. A stop aspect has a packet 12 with V_MAIN 0, not
-after a packet 136 (SUBSET-026, 3.8).
+What it says. An aspect lacks a packet 5, 12, 21 or 27 that its siblings have, or a stop aspect lacks a packet 137 or
+132. Siblings are three or more aspects with a V_MAIN above 0 in one direction, for packets 12 in either direction. An
+aspect is also named if it has one of these packets only for the other direction than all others that have it, two at
+least. A stop aspect has a packet 12 with V_MAIN 0, not after a packet 136. It is named if it has no packet 137 and four
+of five stop aspects of the table have one with "stop". So is the only one of three or more stop aspects of a group
+without a packet 132, if a stop aspect of its name has one elsewhere (SUBSET-026, 3.8).
 
 How urgent. At worst wrong information: what the aspect lacks does not restrict the train.
 
-Usual cause. A packet was lost when the telegram of the aspect was made, or its Q_DIR is wrong. The aspect was added
-later than the others.
+Usual cause. A packet was lost, or its Q_DIR is wrong. The aspect was added later than the others.
 
 What may happen. Without linking or profiles the authority may be refused. With packets for the other direction the
 aspect says nothing to its train. Without packet 137 a train in staff responsible mode passes the signal.
 
-How to correct it. Compare the telegram of the aspect with those of the others, and add the packet or correct Q_DIR.
+How to correct it. Compare the aspect with the others, and add the packet or correct Q_DIR.
 
 Correct data that gets it. Aspects for one route only, or calling-on aspects, that do not need the packet. A group for
 both directions, one aspect of which is for another direction than all others. A stop aspect without packet 137, which a

@@ -1,24 +1,24 @@
 """E9: aspects in the wrong order.
 
-What it says. In the table the authority of one aspect is mostly shorter than that of another aspect: in at least three
-cases, and in four of five in which a group has both with a V_MAIN above 0. The rule names a group in which it is
-longer, and at the lowest urgency one in which both are equal but not copies (E7). It also names an aspect with V_MAIN 0
-if the aspect of this name has a V_MAIN above 0 in at least three other cases and in four of five, and the reverse.
-`--tolerance` and the rounding of the lengths are allowed (SUBSET-026, 3.8).
+What it says. Of two aspects one has the longer or an equal authority, although in most groups it has the shorter one.
+Most are at least three cases, and four of five in which a group has both aspects with a V_MAIN above 0. Equal
+authorities have the lowest urgency, and copies are left to E7. The rule also names an aspect with V_MAIN 0 if this name
+has a V_MAIN above 0 in at least three cases and in four of five. It names the reverse too. `--tolerance` and the
+rounding of the lengths are allowed (SUBSET-026, 3.8).
 
 How urgent. At worst wrong information: the restrictive aspect gives the longer authority.
 
-Usual cause. The telegrams of two aspects were exchanged, or the table names the aspects of one signal in another order.
+Usual cause. The telegrams of two aspects were exchanged, or their names in the table.
 
 What may happen. At yellow the train gets the authority of green, and may run beyond a signal at danger. A red aspect
-with a V_MAIN above 0 does not stop the train.
+with V_MAIN above 0 does not stop it.
 
 How to correct it. Exchange the telegrams of the two aspects, or correct their names.
 
 Correct data that gets it. A signal in rear of a buffer stop or a level border: the authorities of both aspects end
-there, and are equal. An aspect that one signal uses otherwise than all others. Exit signals of a station that are
-staggered: a route to another track may be the longer one. Names of routes, such as "1" and "2", which do not stand for
-an order.
+there, and are equal. An aspect that one signal uses otherwise than all others. A route to another track or line whose
+next signal is farther away, such as at a junction or at staggered exit signals. Names of routes, such as "1" and "2",
+which do not stand for an order.
 
 Example. In 14 of 15 cases yellow ends before green, and at Signal B green ends at 1,400 m and yellow at 2,900 m.
 

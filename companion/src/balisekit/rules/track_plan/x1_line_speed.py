@@ -1,24 +1,25 @@
 """X1: speed other than in the plan.
 
-What it says. A static speed profile (packet 27) has a V_STATIC that is not the line speed of the plan, on a stretch
-that is longer than the tolerance. Both speeds are in km/h. Speeds for train categories are not compared, nor what
-follows a packet 136. If the plan has a point ahead at which the train may leave the track, the stretch beyond it is
-compared only up to the last group of the track that a packet 5 of the same message names (SUBSET-026, 7.4.2 and 7.5.1).
+What it says. A speed profile has a V_STATIC that is not the line speed of the plan, on a stretch longer than the
+tolerance of E12. Speeds for train categories are not compared, nor is what follows a packet 136. Beyond a `point` of
+the plan a profile is compared only if a packet 5 of the same message names a group of the track at or beyond that point
+(SUBSET-026, 7.4.2 and 7.5.1).
 
 How urgent. At worst wrong information: the train may run faster than the track allows. A lower speed than that of the
 plan only slows trains.
 
-Usual cause. The speed was typed in km/h and not in steps of 5 km/h. The place of a change of speed was counted from
+Usual cause. A speed was typed in km/h and not in steps of 5 km/h. The place of a change of speed was counted from
 another group. Q_SCALE is not that of the distances. The line speed has changed since the telegrams were made.
 
 What may happen. The train supervises another speed than that of the track.
 
 How to correct it. Correct V_STATIC or D_STATIC of the packet, or the row of the plan.
 
-Correct data that gets it. A profile with a lower speed for its route or aspect, or one that leaves out a short stretch
-of higher speed. A temporary restriction that is written into the profile. A route to a faster track, if no `point` of
-the plan says where trains may leave this one. A change of speed that is some metres early or late on the safe side.
-Distances of a sum that are all rounded to one side. Kilometres that jump or follow another axis: see E14.
+Correct data that gets it. A profile for limited supervision, which leaves out restrictions of the track. A V_STATIC for
+trains of no category, if the plan has the speed of a category. A profile with a lower speed for its route or aspect, or
+one that leaves out a short stretch of higher speed. A temporary restriction that is written into the profile. A route
+to a faster track, if no `point` of the plan says where trains may leave this one. A change of speed that is some metres
+early or late on the safe side. Rounding and kilometres as in E14.
 
 Example. The profile of signal B has 120 km/h from km 15.900 to km 15.950, where the plan has 100 km/h.
 """

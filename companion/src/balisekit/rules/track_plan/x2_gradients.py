@@ -1,12 +1,11 @@
 """X2: gradient other than in the plan.
 
-What it says. A gradient profile (packet 21) has a gradient that is not that of the plan, on a stretch that is longer
-than the tolerance. Both are in per mille with their sign: uphill is positive as the train meets it, by Q_GDIR in the
-packet. The plan's sign is that of the row's way. What follows a packet 136 is not compared, nor the track beyond a
-point, as in X1 (SUBSET-026, 7.4.2 and 7.5.1).
+What it says. A gradient profile has another gradient than the plan, on a stretch longer than the tolerance of E12.
+Uphill is positive: by Q_GDIR as the train meets it, in the plan by the row's way. What follows a packet 136 is not
+compared, nor the track beyond a point, as in X1 (SUBSET-026, 7.4.2 and 7.5.1).
 
-How urgent. At worst wrong information: with a gradient that is less downhill than the track the train brakes too late.
-A gradient that is more downhill is on the safe side, and makes it brake early.
+How urgent. At worst wrong information: with a gradient less downhill than the track the train brakes too late. One that
+is more downhill makes it brake early.
 
 Usual cause. The sign of the other way along the track was taken. The gradient of the neighbouring stretch was copied.
 Q_SCALE is not that of the distances.
@@ -18,8 +17,7 @@ How to correct it. Correct Q_GDIR, G_A or D_GRADIENT of the packet, or the row o
 Correct data that gets it. A mean gradient of several stretches. A safe gradient: one value, the most downhill one, for
 several gradients of the track, or one that is rounded down in each direction. Write the safe gradients into the plan, a
 row for each way. A route to another track, if no `point` of the plan says where trains may leave it, or through a loop
-that comes back to it. Distances of a sum that are all rounded to one side. Kilometres that jump or follow another axis:
-see E14.
+that comes back to it. Rounding and kilometres as in E14.
 
 Example. The profile of signal C has +5 ‰ from km 14.200 to km 16.000, where the plan has -5 ‰: the sign is wrong.
 """

@@ -1,9 +1,8 @@
 """X4: aspect other than in the route table of the plan.
 
-What it says. The packet 12 of an aspect differs from the row of the plan for this signal and aspect: in V_MAIN, in the
-distance from the group to the end of authority, in the length of the overlap, or in the release speed. The release
-speed is that of the overlap, or that of the danger point if there is no overlap. Lengths are in metres and speeds in
-km/h. Lengths may differ by the rounding of Q_SCALE and by `--tolerance`. A row of the plan for an aspect without a
+What it says. The packet 12 of an aspect differs from its row of the plan in V_MAIN, end, overlap or release speed. The
+end is its distance from the group. The release speed is that of the overlap, or of the danger point if there is no
+overlap. Lengths may differ by the rounding of Q_SCALE and by `--tolerance`. A row of the plan for an aspect without a
 packet 12 for that way is named too. What follows a packet 136 is not compared (SUBSET-026, 7.4.2 and 7.5.1).
 
 How urgent. At worst wrong information: the aspect allows another speed or another distance than its route.
@@ -16,8 +15,8 @@ What may happen. The train runs farther or faster than the route that is set for
 How to correct it. Correct the packet 12, or the row of the plan.
 
 Correct data that gets it. A V_MAIN that does not restrict, if the plan has the speed of the route. An end or an overlap
-that is shortened on purpose. Distances of a sum that are all rounded to one side. A group with both directions, if its
-rows of the plan do not state their `way`.
+that is shortened on purpose. An authority for limited supervision, if the plan has the route. Lengths that are rounded
+as in E14. A group with both directions, if its rows of the plan do not state their `way`.
 
 Example. Signal B has V_MAIN 160 km/h at yellow, and the plan has 120 km/h.
 """

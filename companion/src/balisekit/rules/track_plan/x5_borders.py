@@ -1,19 +1,17 @@
 """X5: level or RBC border other than in the plan.
 
-What it says. A packet 41 (level transition) or 131 (RBC transition) has its border at another place than the plan, or
-other levels or another radio block centre (RBC) beyond it. It is compared with the nearest border of its kind for
-trains of that way. A packet 46 (conditional level transition) is compared with the levels beyond the last border in
-rear. A packet 42 that establishes a session has to name the RBC beyond the next border ahead or that beyond the last
-one in rear; with NID_RBC 16,383 (the last known RBC) it is not compared. Only rounding is allowed for places: one unit
-of Q_SCALE and one unit of the last decimal of the kilometres; `--tolerance` allows more. If the plan has a border on a
-track for one way, it needs all borders of that kind. A border of the plan between the first and the last group of the
-table that no packet names is named at the nearest group. What follows a packet 136 is not compared (SUBSET-026, 7.4.2
-and 7.5.1).
+What it says. A packet 41 or 131 has its border at another place than the plan, or other levels or another RBC beyond
+it. It is compared with the nearest border of its kind for trains of that way. A packet 46 is compared with the levels
+beyond the last border in rear. A packet 42 that establishes a session is compared with the RBCs beyond the next border
+ahead and beyond the last one in rear. NID_RBC 16,383 (the last known RBC) is not compared. For places `--tolerance` (0
+without it), one unit of Q_SCALE and one unit of the last decimal of the kilometres are allowed. A track with a border
+in the plan for one way needs all borders of that kind. If it begins in the area of an RBC, it also needs a row `rbc`
+for that one in rear of the first group. A border of the plan within the table that no packet names is named at the
+nearest group. What follows a packet 136 is not compared (SUBSET-026, 7.4.2 and 7.5.1).
 
 How urgent. At worst wrong information: the train changes its level or its RBC too early or too late.
 
-Usual cause. The distance was counted from another group. The border was moved, and not all announcements were made
-anew.
+Usual cause. The distance was counted from another group, or not all announcements followed a border that was moved.
 
 What may happen. The train is in a level that the track does not support there, or asks the wrong RBC for its authority.
 
@@ -22,8 +20,9 @@ How to correct it. Correct the packet, or the row of the plan.
 Correct data that gets it. A level transition at a place of its own, such as for trains without radio or for trains that
 start near the border. A group some metres from the border that has D_LEVELTR 32,767 or D_RBCTR 0, or one beyond it that
 repeats the order. Write such places into the plan. A packet 46 with other levels than the border. A packet 42 for the
-RBC of another route. A border that only radio names, or groups that the table does not have. A route to another track,
-if no `point` of the plan says where trains may leave it. Kilometres that jump or follow another axis: see E14.
+RBC of another route, or for the one in whose area the table begins, if the plan has no row for it. A border that only
+radio names, or groups that the table does not have. A route to another track, if no `point` of the plan says where
+trains may leave it. Kilometres as in E14.
 
 Example. Group F announces level 2 at km 20.050, and the plan has the border at km 20.000.
 """
