@@ -1,5 +1,5 @@
 -- How many sections of a movement authority are read.
-use Rattle.std.proofs.Common.{◌≡◌, ◌<◌, ◌≤◌, ℕ, List, length, Result, Ok, IfOk, subst, arith}
+use Rattle.std.proofs.Common.{◌≡◌, ◌<◌, ◌≤◌, List, length, Result, Ok, IfOk, subst, arith}
 use Rattle.serde_json.specs.Data.{Data}
 use Rattle.etcs_profile.specs.declared.section.Section.{Section}
 use Rattle.etcs_json.specs.Authority.{section}

@@ -11,10 +11,7 @@ use Rattle.etcs_schema.specs.Reading.{◌>>=◌, at_key, bounded_list_or, data_l
 use Rattle.etcs_json.specs.Profiles.{difference, speed_element}
 use Rattle.etcs_schema.specs.Shape.{Shape, both_of, first_and_others, first_and_rest, key as key_part, list, object}
 use Rattle.etcs_schema.specs.Variables.{flag, number}
-use Rattle.etcs_profile.specs.Built.{IsReason}
 use Rattle.etcs_profile.specs.Speed.{d_static, v_static}
-use Rattle.etcs_profile.specs.declared.error.BuildError.{BuildError}
-use Rattle.etcs_profile.specs.declared.error.BuildError.TheVariants as errors
 use Rattle.etcs_profile.specs.declared.speed.Difference.{Difference}
 use Rattle.etcs_profile.specs.declared.speed.SpeedElement.{SpeedElement}
 
@@ -148,8 +145,3 @@ few_differences d e is =
 -- how many items stand after the first
 pub few_further : {X : Type 0} (s : Shape X) (high : ℕ) (d : Data) (p : X × List X) → first_and_others s.of high d ≡ Ok p → length p.1 < high
 few_further s high d p is = (found (λ q. (Unit {0} × AllByRecursion (λ _. Unit {0}) q.1) × (length q.1 < high)) _ p (one_read (λ _. Unit {0}) s high (λ _ _ _. tt) d) is).1
-
--- a level transition order with so few levels is built
-pub is_built : (e : BuildError) (n : ℕ) → IsReason e (31 < n) ⊥ → n < 32 → ⊥
-is_built errors.TooMany n reason few = omega (arith, reason, few)
-is_built errors.TooLong n reason few = reason.1

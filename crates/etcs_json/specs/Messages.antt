@@ -2,7 +2,7 @@
 -- is named as the standard names its variable, in small letters; `packets` is this project's. NID_LRBG
 -- is two keys, its country and its number there. L_MESSAGE follows from the packets, and is no key. Keys
 -- are in the order in which they are looked for.
-use Rattle.std.specs.Prelude.{Bool, List, codes, refl}
+use Rattle.std.specs.Prelude.{List, codes, refl}
 use Rattle.etcs_schema.specs.Prelude.{flat_map, pair_rows, Row, nid_bg, nid_c}
 use Rattle.etcs_packet.specs.declared.track.TrackPacket.{TrackPacket}
 use Rattle.etcs_radio.specs.Head.{m_ack, nid_engine, t_train}

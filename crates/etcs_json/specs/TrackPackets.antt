@@ -1,8 +1,8 @@
 -- The form of a packet from track to train, by its number (SUBSET-026, 7.4.2).
-use Rattle.std.specs.Prelude.{◌++◌, codes, length, refl}
-use Rattle.etcs_schema.specs.Prelude.{AreAllowed, alone, ranged}
-use Rattle.etcs_packet.specs.PacketNumbers.{is_kept_number, nid_track}
-use Rattle.etcs_packet.specs.Raw.{other_of, others as other_bits, raw_packet as raw_layout}
+use Rattle.std.specs.Prelude.{codes, length, refl}
+use Rattle.etcs_schema.specs.Prelude.{ranged}
+use Rattle.etcs_packet.specs.PacketNumbers.{nid_raw, nid_track}
+use Rattle.etcs_packet.specs.Raw.{other_of, others as other_bits}
 use Rattle.etcs_packet.specs.Track.{NumberedTrackPacket, again, parts_of, track_of}
 use Rattle.etcs_packet.specs.declared.raw.RawPacket.{RawPacket}
 use Rattle.etcs_packet.specs.declared.track.TrackPacket.{TrackPacket}
@@ -20,13 +20,9 @@ pub raw_has : (p : RawPacket) → HasNumber (codes "nid_packet") p.number ((obje
 unfolding raw_packet
 raw_has p = begins_with (codes "nid_packet") p.number raw_packet p _ refl
 
-pub raw_allowed : (p : RawPacket) → AreAllowed (alone nid_track p.number ++ other_bits.rows p) → AreAllowed (raw_layout.rows p)
-unfolding alone
-raw_allowed p allowed = ((allowed.0.0, other_of p.number (length p.body) p.kept), allowed.1)
-
 -- a packet whose layout is not known
 abbrev pub raw : Choice (codes "nid_packet") nid_track RawPacket
-raw = others is_kept_number (λ p. p.number) other_bits.rows raw_packet (λ p. other_of p.number (length p.body) p.kept) raw_has raw_allowed
+raw = others nid_raw (λ p. p.number) other_bits.rows raw_packet refl (λ p. other_of p.number (length p.body) p.kept) raw_has
 
 abbrev pub track_numbered : Choice (codes "nid_packet") nid_track NumberedTrackPacket
 track_numbered =

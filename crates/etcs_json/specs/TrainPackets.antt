@@ -1,9 +1,9 @@
 -- The form of a packet from train to track (SUBSET-026, 7.4.3). NID_PACKET decides it.
-use Rattle.std.specs.Prelude.{◌++◌, codes, length, refl}
-use Rattle.etcs_schema.specs.Prelude.{AreAllowed, alone, ranged}
+use Rattle.std.specs.Prelude.{codes, length, refl}
+use Rattle.etcs_schema.specs.Prelude.{ranged}
 use Rattle.etcs_packet.specs.PacketNumbers.{nid_track as nid_train}
-use Rattle.etcs_radio.specs.RawTrain.{other_of, others as other_bits, raw_train_packet as raw_layout}
-use Rattle.etcs_radio.specs.TrainNumbers.{is_kept_number}
+use Rattle.etcs_radio.specs.RawTrain.{other_of, others as other_bits}
+use Rattle.etcs_radio.specs.TrainNumbers.{nid_raw}
 use Rattle.etcs_radio.specs.TrainPacket.{NumberedTrainPacket, again, parts_of, train_of}
 use Rattle.etcs_radio.specs.declared.raw_train.RawTrainPacket.{RawTrainPacket}
 use Rattle.etcs_radio.specs.declared.train_packet.TrainPacket.{TrainPacket}
@@ -18,13 +18,9 @@ pub raw_has : (p : RawTrainPacket) → HasNumber (codes "nid_packet") p.number (
 unfolding raw_train_packet
 raw_has p = begins_with (codes "nid_packet") p.number raw_train_packet p _ refl
 
-pub raw_allowed : (p : RawTrainPacket) → AreAllowed (alone nid_train p.number ++ other_bits.rows p) → AreAllowed (raw_layout.rows p)
-unfolding alone
-raw_allowed p allowed = ((allowed.0.0, other_of p.number (length p.body) p.kept), allowed.1)
-
 -- a packet whose layout is not known
 abbrev pub raw : Choice (codes "nid_packet") nid_train RawTrainPacket
-raw = others is_kept_number (λ p. p.number) other_bits.rows raw_train_packet (λ p. other_of p.number (length p.body) p.kept) raw_has raw_allowed
+raw = others nid_raw (λ p. p.number) other_bits.rows raw_train_packet refl (λ p. other_of p.number (length p.body) p.kept) raw_has
 
 abbrev pub train_numbered : Choice (codes "nid_packet") nid_train NumberedTrainPacket
 train_numbered = either with_one (either with_two raw refl) refl

@@ -7,7 +7,6 @@ use Rattle.serde_json.specs.Find.{as_array}
 use Rattle.serde_json.specs.View.{view, items_view}
 use Rattle.serde_json.specs.declared.value.Value.{Value}
 use Rattle.etcs_schema.specs.Fault.{Fails, Fault, Gives, IsDeeper, Kind, Range, here, list_item, under}
-use Rattle.etcs_schema.specs.Listed.{all_of, items_or}
 use Rattle.etcs_schema.specs.Reading.{counts_between, ◌>>=◌, bounded_list_or, data_list, items_at, list_of, with_first}
 use Rattle.etcs_schema.specs.Shape.{items_of}
 use Rattle.etcs_schema.specs.declared.error.FormError.{FormError}
@@ -37,11 +36,6 @@ unfolding list_of
 list_misfits read low high d e =
     let m = some_mapped (λ ds. counts_between low high (data_list ds)) false (as_array d) (sym e) in
     ap (bounded_list_or read low high) m.1 ∙ ap (λ b. if b then items_at read 0 (data_list m.0) else Err (here Range)) m.2
-
--- a list of any number of items
-pub all_found : {A : Type 0} (read : Data → Result A Fault) (d : Data) (rest : List Data) → Some rest ≡ option_map data_list (as_array d) → all_of read d ≡ items_at read 0 rest
-unfolding all_of
-all_found read d rest e = let k = some_mapped data_list rest (as_array d) (sym e) in ap (items_or read) k.1 ∙ ap (items_at read 0) k.2
 
 pub gives_equal : {X Y : Type 0} (view : X → Y) (result : Result X FormError) (r s : Result Y Fault) → Gives view result r → s ≡ r → Gives view result s
 gives_equal view result r s h e = subst (Gives view result) (sym e) h

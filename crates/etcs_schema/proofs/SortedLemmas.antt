@@ -1,14 +1,14 @@
 -- The object of some entries has its members in the byte order of their keys.
 use Rattle.std.proofs.Common.{◌≡◌, ◌∙◌, ◌++◌, ◌||◌, ℕ, Bool, true, false, List, [], ◌∷◌, Option, Some, None, Ordering, Less, Equal, Greater, is_eq, nat_cmp, bytes_eq, refl, sym, ap, subst, append_assoc, append-nil, arith}
 use Rattle.std.proofs.Math.Bool.{or_assoc}
-use Rattle.std.proofs.lemmas.Bool.{and_parts, or_parts, or_from, true≢false}
+use Rattle.std.proofs.lemmas.Bool.{and_parts, not-true, or_parts, or_from, true≢false}
 use Rattle.std.proofs.lemmas.Bool.Decides.{nat_tests}
 use Rattle.std.proofs.lemmas.Cmp.{nat_list_cmp_total}
 use Rattle.std.proofs.lemmas.Map.Text.{is_eq-slice_cmp}
 use Rattle.std.specs.Cmp.Lexicographic.{slice_cmp}
 use Rattle.std.specs.Ordering.{match_ordering, ordering_reverse}
 use Rattle.serde_json.specs.Data.{Data, Members, member, no_members, put}
-use Rattle.etcs_schema.specs.EntryLemmas.{apart_sym, not_true}
+use Rattle.etcs_schema.specs.EntryLemmas.{apart_sym}
 use Rattle.etcs_schema.specs.Entries.{Entry, keys_of, put_or, members_onto, is_among, are_apart}
 use Rattle.etcs_schema.specs.Sending.{insert, onto, sorted}
 
@@ -153,7 +153,7 @@ onto_members done [] up apart new = refl
 onto_members done (e ∷ es) up apart new =
     let both = and_parts _ _ apart in
     rw (put_insert e.0 e.1 done up new.0)
-    (onto_members (insert e done) es (ascending_insert e done up new.0) both.1 (still_new e es done (not_true _ both.0) new.1))
+    (onto_members (insert e done) es (ascending_insert e done up new.0) both.1 (still_new e es done (not-true _ both.0) new.1))
 
 -- members that are put in one after the other make one object, whatever their order
 pub made_members : (es : List Entry) → are_apart (keys_of es) ≡ true → members_onto no_members es ≡ members_of (sorted es)
@@ -167,7 +167,7 @@ unfolding AreNew
 ascending_onto done [] up apart new = up
 ascending_onto done (e ∷ es) up apart new =
     let both = and_parts _ _ apart in
-    ascending_onto (insert e done) es (ascending_insert e done up new.0) both.1 (still_new e es done (not_true _ both.0) new.1)
+    ascending_onto (insert e done) es (ascending_insert e done up new.0) both.1 (still_new e es done (not-true _ both.0) new.1)
 
 above_in : (l : List ℕ) (done : List Entry) (f : Entry) (fs : List Entry) → IsAbove l (done ++ f ∷ fs) → slice_cmp nat_cmp l f.0 ≡ Less
 unfolding IsAbove

@@ -66,9 +66,6 @@ pub record Choice (name : List ℕ) (x : Variable) (X : Type 0) : Type 0 where
   pub has_number : (v : X) → HasNumber name (number v) (to v)
   pub again : (v : X) → AreAllowed (alone x (number v) ++ rows v) → of (number v) (to v) ≡ Ok v
 
-abbrev pub last_of : {A : Type 0} → List ℕ → ℕ → (Data → Result A Fault) → ℕ → Data → Result A Fault
-last_of name k read n d = if n == k then read d else Err (at_once Range (key_step name))
-
 -- the number k and no other
 abbrev pub last : {name : List ℕ} {x : Variable} {k : ℕ} {A : Type 0} {rows : A → List Row} → BehindNumber name k rows → Choice name x A
 last {name = name} {x = x} {k = k} {rows = rows} o = record {
@@ -76,7 +73,7 @@ last {name = name} {x = x} {k = k} {rows = rows} o = record {
   number = λ _. k;
   rows = rows;
   to = (object (with_number o)).to;
-  of = last_of name k (object (with_number o)).of;
+  of = λ n d. if n == k then (object (with_number o)).of d else Err (at_once Range (key_step name));
   is_number = λ _. is_itself k;
   has_number = λ v. begins_with name k (with_number o) v (o.part.to v) refl;
   again = λ v allowed. rw (is_itself k) ((object (with_number o)).again v (allowed_behind x k (rows v) allowed));
@@ -90,21 +87,17 @@ by_kind f g (inr y) = g y
 abbrev pub either_of : {A B : Type 0} → ℕ → (Data → Result A Fault) → (ℕ → Data → Result B Fault) → ℕ → Data → Result (A ⊎ B) Fault
 either_of k read rest n d = if n == k then as_kind inl (read d) else as_kind inr (rest n d)
 
-one_of_both : (b : Bool) → (if b then true else true) ≡ true
-one_of_both true = refl
-one_of_both false = refl
+is_another : (allows : ℕ → Bool) (k n : ℕ) → allows k ≡ false → allows n ≡ true → (n == k) ≡ false
+is_another allows k n fresh is = ne_eqb n k (λ same. true≢false (sym is ∙ ap allows same ∙ fresh))
 
-pub either_is_number : {name : List ℕ} {x : Variable} {A B : Type 0} (k : ℕ) (c : Choice name x B) (v : A ⊎ B) → either_allows k c.allows (either_number k c.number v) ≡ true
-either_is_number k c (inl x) = rw (is_itself k) refl
-either_is_number k c (inr y) = rw (c.is_number y) (one_of_both (c.number y == k))
+pub either_is_number : {name : List ℕ} {x : Variable} {A B : Type 0} (k : ℕ) (c : Choice name x B) → c.allows k ≡ false → (v : A ⊎ B) → either_allows k c.allows (either_number k c.number v) ≡ true
+either_is_number k c fresh (inl x) = rw (is_itself k) refl
+either_is_number k c fresh (inr y) = rw (is_another c.allows k (c.number y) fresh (c.is_number y)) (c.is_number y)
 
 pub either_has_number : {name : List ℕ} {x : Variable} {k : ℕ} {A B : Type 0} {rows : A → List Row} (o : BehindNumber name k rows) (c : Choice name x B) (v : A ⊎ B)
     → HasNumber name (either_number k c.number v) (by_kind (object (with_number o)).to c.to v)
 either_has_number {name = name} {k = k} o c (inl x) = begins_with name k (with_number o) x (o.part.to x) refl
 either_has_number o c (inr y) = c.has_number y
-
-is_another : (allows : ℕ → Bool) (k n : ℕ) → allows k ≡ false → allows n ≡ true → (n == k) ≡ false
-is_another allows k n fresh is = ne_eqb n k (λ same. true≢false (sym is ∙ ap allows same ∙ fresh))
 
 pub either_again : {name : List ℕ} {x : Variable} {k : ℕ} {A B : Type 0} {rows : A → List Row} (o : BehindNumber name k rows) (c : Choice name x B) → c.allows k ≡ false
     → (v : A ⊎ B) → AreAllowed (alone x (either_number k c.number v) ++ either_rows rows c.rows v)
@@ -122,32 +115,33 @@ either {k = k} {rows = rows} o c fresh = record {
   rows = either_rows rows c.rows;
   to = by_kind (object (with_number o)).to c.to;
   of = either_of k (object (with_number o)).of c.of;
-  is_number = either_is_number k c;
+  is_number = either_is_number k c fresh;
   has_number = either_has_number o c;
   again = either_again o c fresh;
 }
 
--- every number that passes the test; the value keeps its number, and its object has it
-abbrev pub others : {name : List ℕ} {x : Variable} {X : Type 0} {own : X → List Row} (test : ℕ → Bool) (number : X → ℕ) (rows : X → List Row) (o : ObjectOf own)
-    → ((v : X) → test (number v) ≡ true) → ((v : X) → HasNumber name (number v) ((object o).to v)) → ((v : X) → AreAllowed (alone x (number v) ++ rows v) → AreAllowed (own v)) → Choice name x X
-others test number rows o is_number has_number keeps = record {
-  allows = test;
+pub as_other : (x y : Variable) (n : ℕ) (rows : List Row) → x.width ≡ y.width → y.allows n ≡ true → AreAllowed (alone x n ++ rows) → AreAllowed (alone y n ++ rows)
+unfolding alone
+as_other x y n rows same is allowed = ((rw same at allowed.0.0, is), allowed.1)
+
+-- every number that the variable y allows, which the object has by itself; the value keeps its number, and its object has it
+abbrev pub others : {name : List ℕ} {x : Variable} {X : Type 0} (y : Variable) (number : X → ℕ) (rows : X → List Row) (o : ObjectOf (λ v. alone y (number v) ++ rows v))
+    → x.width ≡ y.width → ((v : X) → y.allows (number v) ≡ true) → ((v : X) → HasNumber name (number v) ((object o).to v)) → Choice name x X
+others {x = x} y number rows o same is_number has_number = record {
+  allows = y.allows;
   number = number;
   rows = rows;
   to = (object o).to;
   of = λ _ d. (object o).of d;
   is_number = is_number;
   has_number = has_number;
-  again = λ v allowed. (object o).again v (keeps v allowed);
+  again = λ v allowed. (object o).again v (as_other x y (number v) (rows v) same (is_number v) allowed);
 }
 
 -- ---- the number first, and then the form that it decides
 
-abbrev pub chosen_of : {X : Type 0} → List ℕ → (ℕ → Bool) → (ℕ → Data → Result X Fault) → Data → Result X Fault
-chosen_of name allowed of d = first_at (allowed_number allowed) name d >>= λ n. of n d
-
 pub chosen_again : {X : Type 0} {x : Variable} (name : List ℕ) (test : ℕ → Bool) (c : Choice name x X) → ((v : X) → IsAllowed (row x (c.number v)) → test (c.number v) ≡ true)
-    → (v : X) → AreAllowed (alone x (c.number v) ++ c.rows v) → chosen_of name test c.of (c.to v) ≡ Ok v
+    → (v : X) → AreAllowed (alone x (c.number v) ++ c.rows v) → (first_at (allowed_number test) name (c.to v) >>= λ n. c.of n (c.to v)) ≡ Ok v
 unfolding alone
 chosen_again name test c passes v allowed =
     let number = c.has_number v in
@@ -158,6 +152,6 @@ abbrev pub chosen : {X : Type 0} {x : Variable} (name : List ℕ) (test : ℕ �
 chosen {x = x} name test c passes = record {
   rows = λ v. alone x (c.number v) ++ c.rows v;
   to = c.to;
-  of = chosen_of name test c.of;
+  of = λ d. first_at (allowed_number test) name d >>= λ n. c.of n d;
   again = chosen_again name test c passes;
 }

@@ -1,6 +1,7 @@
 -- An object of entries with different keys has each of them, and no other key.
-use Rattle.std.specs.Prelude.{◌≡◌, ◌++◌, ℕ, Bool, true, false, List, [], ◌∷◌, Option, Some, None, not, refl}
+use Rattle.std.specs.Prelude.{◌≡◌, ◌++◌, ℕ, Bool, true, false, List, [], ◌∷◌, Option, Some, None, refl}
 use Rattle.etcs_schema.specs.Prelude.{◌∙◌, Ordering, Less, Equal, Greater, nat_cmp, bytes_eq, sym, ap, and_parts, and_from, or_parts, or_left, or_right, true≢false, Data, Members, member, no_members, object, put, get_member}
+use Rattle.std.proofs.lemmas.Bool.{false_from_ne_true, not-true}
 use Rattle.std.proofs.lemmas.Slice.Eq.{bytes_eq-Decides}
 use Rattle.std.specs.Cmp.Lexicographic.{slice_cmp}
 use Rattle.std.specs.Ordering.{match_ordering}
@@ -9,20 +10,11 @@ use Rattle.etcs_schema.specs.Entries.{Entry, keys_of, object_of, put_or, members
 
 -- ---- texts
 
-same_text : (xs : List ℕ) → bytes_eq xs xs ≡ true
-same_text xs = (bytes_eq-Decides xs xs).1 refl
-
-apart_sym_at : (b : Bool) (xs ys : List ℕ) → bytes_eq ys xs ≡ b → bytes_eq xs ys ≡ false → bytes_eq ys xs ≡ false
-apart_sym_at true xs ys is other =
-    let same : xs ≡ ys = sym ((bytes_eq-Decides ys xs).0 is) in
-    absurd (true≢false (sym ((bytes_eq-Decides xs ys).1 same) ∙ other))
-apart_sym_at false xs ys is other = is
-
-pub apart_sym : (xs ys : List ℕ) → bytes_eq xs ys ≡ false → bytes_eq ys xs ≡ false
-apart_sym xs ys other = apart_sym_at _ xs ys refl other
-
 differ : (k l : List ℕ) → bytes_eq k l ≡ false → k ≡ l → ⊥
 differ k l other is = true≢false (sym ((bytes_eq-Decides k l).1 is) ∙ other)
+
+pub apart_sym : (xs ys : List ℕ) → bytes_eq xs ys ≡ false → bytes_eq ys xs ≡ false
+apart_sym xs ys other = false_from_ne_true _ (λ is. differ xs ys other (sym ((bytes_eq-Decides ys xs).0 is)))
 
 -- ---- each entry is found
 
@@ -33,10 +25,6 @@ here_after k (Some d) ms none = get_member-put k d ms
 other_after : (q k : List ℕ) (o : Option Data) (ms : Members) → bytes_eq q k ≡ false → get_member q (put_or k o ms) ≡ get_member q ms
 other_after q k None ms other = refl
 other_after q k (Some d) ms other = get_member-put_other q k d ms (differ q k other)
-
-pub not_true : (b : Bool) → not b ≡ true → b ≡ false
-not_true true h = sym h
-not_true false h = refl
 
 onto_other : (k : List ℕ) (ms : Members) (es : List Entry) → is_among k (keys_of es) ≡ false → get_member k (members_onto ms es) ≡ get_member k ms
 onto_other k ms [] none = refl
@@ -66,7 +54,7 @@ unfolding AreFree
 onto_holds ms [] apart free = tt
 onto_holds ms (e ∷ es) apart free =
     let both = and_parts _ _ apart in
-    let none = not_true _ both.0 in
+    let none = not-true _ both.0 in
     (onto_other e.0 (put_or e.0 e.1 ms) es none ∙ here_after e.0 e.1 ms free.0, onto_holds (put_or e.0 e.1 ms) es both.1 (still_free e es ms none free.1))
 
 -- at each key, the value that it was given
@@ -96,7 +84,7 @@ among_more k keys (e ∷ es) h = (or_right _ _ h.0, among_more k keys es h.1)
 among_own : (es : List Entry) → AreAmong (keys_of es) es
 unfolding AreAmong
 among_own [] = tt
-among_own (e ∷ es) = (or_left _ _ (same_text e.0), among_more e.0 (keys_of es) es (among_own es))
+among_own (e ∷ es) = (or_left _ _ ((bytes_eq-Decides e.0 e.0).1 refl), among_more e.0 (keys_of es) es (among_own es))
 
 put_known_at : (o : Ordering) (keys : List (List ℕ)) (k l : List ℕ) (d e : Data) (ms : Members) → is_among k keys ≡ true → are_known keys (member l e ms) ≡ true
     → are_known keys (put k d ms) ≡ true → are_known keys (match_ordering o (member k d (member l e ms)) (member l d ms) (member l e (put k d ms))) ≡ true

@@ -1,12 +1,12 @@
 -- L_PACKET and the body that it counts (SUBSET-026, 7.4.1): members of the form of a packet whose
 -- layout is not known.
 use Rattle.std.specs.Prelude.{◌≡◌, ◌+◌, ◌-◌, ◌^◌, ◌&&◌, ℕ, Bool, List, [], ◌∷◌, Some, Result, Ok, codes, length, ltb, nat_le, refl}
-use Rattle.etcs_schema.specs.Prelude.{ap, ◌∙◌, arith, Data, string, l_kept, kept_bits, AreAllowed}
+use Rattle.etcs_schema.specs.Prelude.{arith, Data, string, l_kept, kept_bits, AreAllowed}
 use Rattle.etcs_schema.specs.BodyText.{body_of, body_text}
 use Rattle.etcs_schema.specs.BodyLemmas.{body_again}
 use Rattle.etcs_schema.specs.Entries.{Holds}
-use Rattle.etcs_schema.specs.Fault.{Fault, key as key_step, under}
-use Rattle.etcs_schema.specs.Reading.{◌>>=◌, at_key, key_or, allowed_number}
+use Rattle.etcs_schema.specs.Fault.{Fault}
+use Rattle.etcs_schema.specs.Reading.{◌>>=◌, at_key, allowed_number}
 use Rattle.etcs_schema.specs.Shape.{Part, key_again, number_again, number_data}
 use Rattle.etcs_schema.specs.Variables.{number_allowed}
 
@@ -20,17 +20,13 @@ measured_of head d = at_key (allowed_number (is_length head)) (codes "l_packet")
 
 -- ---- what is written is read again
 
-text_again : (body : List Bool) (d : Data) → Holds ((codes "body", Some (string (body_text body))) ∷ []) d → at_key (body_of (length body)) (codes "body") d ≡ Ok body
-unfolding at_key
-text_again body d holds = ap (key_or (body_of (length body)) (codes "body")) holds.0 ∙ ap (under (key_step (codes "body"))) (body_again body)
-
 pub measured_again : (before : ℕ) (body : List Bool) (d : Data) → AreAllowed ((kept_bits before).rows body)
     → Holds ((codes "l_packet", Some (number_data (before + 13 + length body))) ∷ (codes "body", Some (string (body_text body))) ∷ []) d → measured_of (before + 13) d ≡ Ok body
 measured_again before body d allowed holds =
     let l = before + 13 + length body in
     let rest : l - (before + 13) ≡ length body = omega arith in
     let fits = number_again (is_length (before + 13)) l (number_allowed (l_kept before) l allowed.0) in
-    rw (key_again number_data (allowed_number (is_length (before + 13))) (codes "l_packet") l d fits (holds.0, tt), rest) (text_again body d (holds.1.0, tt))
+    rw (key_again number_data (allowed_number (is_length (before + 13))) (codes "l_packet") l d fits (holds.0, tt), rest) (key_again (λ b. string (body_text b)) (body_of (length body)) (codes "body") body d (body_again body) (holds.1.0, tt))
 
 -- L_PACKET, which counts the `before` bits ahead of it, its own and the bits of the body, and the body
 abbrev pub measured : (before : ℕ) → Part (kept_bits before).rows
