@@ -166,7 +166,7 @@ def test_the_overview_is_sorted_and_searched(frames: List[Any], index: int) -> N
 
 @pytest.mark.parametrize("place, width", enumerate(WIDTHS, len(OVERVIEWS)))
 def test_nothing_is_wider_than_the_window(frames: List[Any], place: int, width: int) -> None:
-    """What is wider, as pictures and tables may be, is scrolled by itself. Findings and remarks are seen before that."""
+    """What is wider, as pictures and tables may be, is scrolled by itself. Findings and remarks are seen at once."""
     needed, there, remarks, _ = frames[place]
     assert needed <= there and abs(there - width) <= 20 and remarks <= there
 
