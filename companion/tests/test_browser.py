@@ -121,7 +121,11 @@ OVERVIEWS: List[Tuple[str, List[str]]] = [
 ]
 """Steps of a user, and the groups that are shown then."""
 WIDTHS = [500, 800, 1400]
-SAYS = "parent.postMessage([%d, document.documentElement.scrollWidth, innerWidth, document.body.innerHTML], '*');"
+SAYS = """
+const remarks = [...document.querySelectorAll("thead th")].find((each) => each.textContent === "remarks");
+const edges = [document.documentElement.scrollWidth, innerWidth, remarks.getBoundingClientRect().right];
+parent.postMessage([%d, ...edges, document.body.innerHTML], "*");
+"""
 HEARS = """
 const said = {};
 onmessage = ({data}) => { said[data[0]] = data; document.title = JSON.stringify(said); };
@@ -130,9 +134,10 @@ onmessage = ({data}) => { said[data[0]] = data; document.title = JSON.stringify(
 
 @pytest.fixture(scope="module")
 def frames(page: Path, tmp_path_factory: pytest.TempPathFactory) -> List[Any]:
-    """How wide each copy of the page is, how wide its window is, and its body, after the steps of its user.
+    """How wide each copy of the page, its window, and its overview up to the remarks are, and its body.
 
-    One browser has them all in frames of these widths. The policy of the page itself would refuse the steps.
+    That is after the steps of its user. One browser has them all in frames of these widths. The policy of the page
+    itself would refuse the steps.
     """
     room = tmp_path_factory.mktemp("frames")
     text = re.sub('<meta http-equiv="Content-Security-Policy"[^>]*>', "", page.read_text("utf-8"))
@@ -153,7 +158,7 @@ def frames(page: Path, tmp_path_factory: pytest.TempPathFactory) -> List[Any]:
 @pytest.mark.parametrize("index", range(len(OVERVIEWS)))
 def test_the_overview_is_sorted_and_searched(frames: List[Any], index: int) -> None:
     """By the headings, as numbers where they are numbers, and by words; empty cells come last."""
-    seen = frames[index][2]
+    seen = frames[index][3]
     body = seen[seen.index('id="overview"') : seen.index('id="tracks"')]
     rows = [row for row in re.findall("<tr.*?</tr>", body)[1:] if 'hidden=""' not in row]
     assert [re.findall("<bdi>(?:Signal )?([A-Za-z]+)", row)[0] for row in rows] == OVERVIEWS[index][1]
@@ -161,9 +166,9 @@ def test_the_overview_is_sorted_and_searched(frames: List[Any], index: int) -> N
 
 @pytest.mark.parametrize("place, width", enumerate(WIDTHS, len(OVERVIEWS)))
 def test_nothing_is_wider_than_the_window(frames: List[Any], place: int, width: int) -> None:
-    """What is wider, as pictures and tables may be, is scrolled by itself."""
-    needed, there, _ = frames[place]
-    assert needed <= there and abs(there - width) <= 20
+    """What is wider, as pictures and tables may be, is scrolled by itself. Findings and remarks are seen at once."""
+    needed, there, remarks, _ = frames[place]
+    assert needed <= there and abs(there - width) <= 20 and remarks <= there
 
 
 def test_pictures_are_kept() -> None:

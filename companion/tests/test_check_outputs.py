@@ -27,6 +27,7 @@ Write = Callable[..., Path]
 EXAMPLES = TOP / "examples"
 LINKS = EXAMPLES / "links" / "distance-differs.csv"
 TABLES = [EXAMPLES / "table" / "line.csv", *sorted((EXAMPLES / "links").glob("*.csv"))]
+SCHEMAS = sorted((TOP / "schemas").glob("*.json"))
 SIGNED = {"reason": "=by design", "who": "J. Doe", "date": "2026-01-02"}
 
 
@@ -34,9 +35,14 @@ SIGNED = {"reason": "=by design", "who": "J. Doe", "date": "2026-01-02"}
 def schema(name: str) -> Any:
     """A validator of a schema of the repository."""
     jsonschema = pytest.importorskip("jsonschema")
-    text = json.loads((TOP / "schemas" / f"{name}.json").read_text("utf-8"))
-    jsonschema.Draft202012Validator.check_schema(text)
-    return jsonschema.Draft202012Validator(text)
+    return jsonschema.Draft202012Validator(json.loads((TOP / "schemas" / f"{name}.json").read_text("utf-8")))
+
+
+@pytest.mark.parametrize("path", SCHEMAS, ids=[path.stem for path in SCHEMAS])
+def test_each_schema_is_one(path: Path) -> None:
+    """By the schema of schemas, which takes long: so this test does it for all others."""
+    validator = schema(path.stem)
+    validator.check_schema(validator.schema)
 
 
 def signed(file: Path) -> Path:

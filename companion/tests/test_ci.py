@@ -9,6 +9,7 @@ import shutil
 import subprocess
 import tarfile
 import xml.etree.ElementTree as ElementTree
+from importlib.util import cache_from_source
 from pathlib import Path
 from typing import Any, Callable, Dict, List
 
@@ -132,6 +133,12 @@ def release(tmp_path_factory: pytest.TempPathFactory, program: Program) -> Path:
         (top / name).parent.mkdir(exist_ok=True)
         shutil.copy(TOP / name, top / name)
     shutil.copytree(TOP / "companion" / "src", top / "companion" / "src", ignore=shutil.ignore_patterns("__pycache__"))
+    for path in (top / "companion" / "src").rglob("*.py"):
+        # (Modules that were compiled already are taken along: else each job would compile them anew.)
+        compiled = Path(cache_from_source(str(TOP / path.relative_to(top))))
+        if compiled.exists():
+            (path.parent / "__pycache__").mkdir(exist_ok=True)
+            shutil.copy(compiled, path.parent / "__pycache__" / compiled.name)
     shutil.copy(program.path, top / "balisecheck")
     tools = room / "tools"
     tools.mkdir()

@@ -7,6 +7,7 @@ import re
 import shlex
 import subprocess
 import sys
+from concurrent.futures import ThreadPoolExecutor
 from functools import lru_cache
 from pathlib import Path
 from typing import Any, Dict, List, Tuple
@@ -76,8 +77,9 @@ def test_a_long_command_shows_its_seconds(more: Dict[str, str], shows: bool, pro
     slow.chmod(0o755)
     words = ["check", "examples/links/line.csv", "--program", str(slow)]
     extras: List[List[str]] = [[], ["--json", "-"]]
-    for extra in extras:
-        status, shown, rest = _on_terminal([*words, *extra], more, "stderr")
+    with ThreadPoolExecutor() as both:  # (they sleep most of the time)
+        answers = list(both.map(lambda extra: _on_terminal([*words, *extra], more, "stderr"), extras))
+    for extra, (status, shown, rest) in zip(extras, answers):
         assert status in (0, 1) and "\x1b" not in rest and rest
         if not extra:
             assert ("\x1b[2Kbalisekit check: 1 s" in shown) == shows and (not shows or shown.endswith("\r\x1b[2K"))

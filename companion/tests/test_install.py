@@ -28,7 +28,7 @@ def test_install(tmp_path: Path, program: Program) -> None:
     shutil.copytree(TOP / "companion", tmp_path / "companion", ignore=shutil.ignore_patterns("tests", "__pycache__"))
     venv.create(tmp_path / "room", system_site_packages=True, with_pip=False)
     python = tmp_path / "room" / "bin" / "python"
-    install = [str(python), *"-m pip install -q --no-build-isolation --no-deps --no-index".split()]
+    install = [str(python), *"-m pip install -q --no-build-isolation --no-deps --no-index --no-compile".split()]
     subprocess.run([*install, str(tmp_path / "companion")], check=True, capture_output=True)
     table = tmp_path / "line.csv"
     shutil.copyfile(TOP / "examples" / "table" / "line.csv", table)

@@ -17,7 +17,6 @@ hypothesis = pytest.importorskip("hypothesis")
 from hypothesis import given, strategies as st  # noqa: E402
 
 pytestmark = pytest.mark.many
-SCHEMAS = {name: schema(name) for name in ("telegram", "message")}
 EXPRESSIONS = {"telegram": records.telegram_expression, "message": records.message_expression}
 LINES: List[Tuple[str, str]] = [
     *(("telegram", case.answer) for case in (*CASES, *EXAMPLES[False]) if case.answer.startswith("{")),
@@ -61,7 +60,7 @@ def line(form: Any) -> str:
 def agree(name: str, form: Any) -> bool:
     """Whether the form is accepted, by the schema and by the package."""
     matches = EXPRESSIONS[name]().fullmatch(line(form)) is not None
-    assert matches == SCHEMAS[name].is_valid(form), (name, form)
+    assert matches == schema(name).is_valid(form), (name, form)
     return matches
 
 

@@ -80,6 +80,7 @@ def _table(path: Path, *rows: Dict[str, str]) -> Path:
 LINKS = sorted((TOP / "examples" / "links").glob("*.csv"))
 
 
+@pytest.mark.many
 @pytest.mark.parametrize("table", [LINE, *LINKS], ids=lambda path: str(path.name))
 @pytest.mark.parametrize("words", [(), ("--only", "F"), ("--only", "L"), ("--only", "f,l", "--tolerance", "20")])
 def test_the_page_has_all_that_was_said(

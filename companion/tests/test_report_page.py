@@ -179,10 +179,10 @@ def test_the_overview_has_all_groups(run: Run, line: Path, tmp_path: Path) -> No
     rows = re.findall(r"<tr[^>]*>(<td>.*?)</tr>", text[: text.index('<section id="tracks">')])
     cells = [re.sub("<[^>]*>", "|", row).split("|") for row in rows]
     assert [list(filter(None, row)) for row in cells[2:6]] == [
-        ["15.300", "Signal C", "352/103", "2", "3", "5 12 21 27", "2"],
-        ["16.500", "Infill of D", "352/201", "1", "2", "12 21 27 136", "2"],
+        ["15.300", "Signal C", "2", "352/103", "2", "3", "5 12 21 27"],
+        ["16.500", "Infill of D", "2", "352/201", "1", "2", "12 21 27 136"],
         ["16.900", "Signal D", "352/104", "2", "3", "5 12 21 27"],
-        ["18.250", "Signal E", "352/105", "2", "3", "5 12 21 27", "1"],
+        ["18.250", "Signal E", "1", "352/105", "2", "3", "5 12 21 27"],
     ]
     assert "not checked" in rows[6] and "Signal F" in rows[6] and len(rows) == 9
     assert [re.findall('href="#(g[0-9]+)"', row) for row in rows] == [[f"g{index}"] for index in range(9)]

@@ -6,7 +6,7 @@ from __future__ import annotations
 
 import re
 import xml.etree.ElementTree as ElementTree
-from itertools import combinations
+from itertools import islice, takewhile
 from pathlib import Path
 from typing import Callable, Dict, Iterable, Iterator, List, NamedTuple, Tuple
 
@@ -71,7 +71,12 @@ def written(style: str, text: str, x: float, y: float) -> Written:
 
 
 def _overlaps(texts: Iterable[Written]) -> List[Tuple[str, str]]:
-    return [(one.text, other.text) for one, other in combinations(texts, 2) if one.meets(other)]
+    """The texts that meet. Those below a text and all behind them are passed over: a track has hundreds."""
+    found, down = [], sorted(texts, key=lambda one: one.top)
+    for place, one in enumerate(down, 1):
+        for other in takewhile(lambda each: each.top < one.bottom, islice(down, place, None)):
+            found += [(one.text, other.text)] if one.meets(other) else []
+    return found
 
 
 def overlaps(picture: Picture) -> List[Tuple[str, str]]:
@@ -113,7 +118,8 @@ def drawn(run: Run, path: Path, folder: Path) -> Dict[str, List[Tuple[str, objec
             run("draw", path, "--track", "--aspect", name, "--svg", folder / f"track of {name}.svg")
     files = list(folder.glob("*.svg"))
     assert files
-    return {one.name: faults(one) for one in files if faults(one)}
+    found = {one.name: faults(one) for one in files}
+    return {name: some for name, some in found.items() if some}
 
 
 @pytest.mark.parametrize("path", TABLES, ids=lambda path: str(path.relative_to(EXAMPLES)))

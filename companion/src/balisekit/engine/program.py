@@ -271,6 +271,7 @@ class Program:
                     raise NoAnswer(f"{self.path} is not the program that this version knows")
 
     def no_answer(self, command: str, why: str) -> NoAnswer:
+        """The error of a command without an answer."""
         return NoAnswer(f"no answer of {self.path}: {command}: {why}")
 
 

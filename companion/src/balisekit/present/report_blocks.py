@@ -313,10 +313,10 @@ def overview_row(block: Block, has_names: bool) -> str:
     packets = " ".join(map(str, sorted(block.packets)))
     numbers = f"<td>{block.identity}</td><td>{block.balises}</td><td>{block.aspects or ''}</td><td>{packets}</td>"
     if block.left_out:
-        found = '<td class="found" colspan="2">not checked</td>'
+        found = '<td class="found">not checked</td><td></td>'
     else:
         found = "".join(f'<td class="found">{_found(block.entries, remarks)}</td>' for remarks in (False, True))
-    return f"<tr{' class=left' * bool(block.left_out)}><td>{block.km}</td>{track}{link}{numbers}{found}</tr>\n"
+    return f"<tr{' class=left' * bool(block.left_out)}><td>{block.km}</td>{track}{link}{found}{numbers}</tr>\n"
 
 
 def _found(entries: Sequence[Listed], remarks: bool) -> str:

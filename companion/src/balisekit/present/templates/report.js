@@ -9,8 +9,7 @@
     const words = text.value.toLowerCase().split(/\s+/);
     let shown = 0;
     for (const row of rows) {
-      const [findings, remarks] = [row.cells[row.cells.length - 2], row.cells[row.cells.length - 1]];
-      const has = row.className === "left" || findings.textContent + remarks.textContent !== "";
+      const has = Array.from(row.querySelectorAll(".found")).some((cell) => cell.textContent !== "");
       row.hidden = (only.checked && !has) || !words.every((word) => texts.get(row).includes(word));
       shown += !row.hidden;
     }
@@ -18,7 +17,7 @@
   }
 
   function value(row, column) {
-    return row.cells[Math.min(column, row.cells.length - 1)].textContent;
+    return row.cells[column].textContent;
   }
 
   function compare(one, other, column) {
