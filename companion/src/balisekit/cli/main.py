@@ -34,8 +34,8 @@ QUIET = ("show",)
 """The commands that do not report that their reader has closed the pipe: no verdict is lost."""
 STATUSES = """\
 exit status:
-  0  `check`, `links` and `diff`: nothing was found, or all of it is accepted; other commands: done
-  1  `check`, `links` or `diff` has found something that is not accepted, or an accepted entry is at fault
+  0  nothing was found or differs, or everything found is accepted; or the command is done
+  1  `check`, `report`, `links`, `diff` or `table --expect` found something, or an entry of accepted findings is at fault
   2  INCOMPLETE: a telegram or message was refused, or a rule compared none of what it had to compare; or refused: a
      table that cannot be read, wrong options, an output that would replace an input or, without --force, another file
   3  no answer: no program, a file that cannot be written, an interrupt
