@@ -35,7 +35,7 @@ QUIET = ("show",)
 STATUSES = """\
 exit status:
   0  nothing was found or differs, or everything found is accepted; or the command is done
-  1  `check`, `report`, `links`, `diff` or `table --expect` found something, or an entry of accepted findings is at fault
+  1  `check`, `report`, `links`, `diff` or `table --expect` found something, or an accepted entry is at fault
   2  INCOMPLETE: a telegram or message was refused, or a rule compared none of what it had to compare; or refused: a
      table that cannot be read, wrong options, an output that would replace an input or, without --force, another file
   3  no answer: no program, a file that cannot be written, an interrupt
