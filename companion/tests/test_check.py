@@ -16,6 +16,7 @@ import pytest
 from conftest import Run
 from telegrams import ALONE, FAULTY, FIRST, MESSAGE, OTHER, SECOND, SPARE
 
+from balisekit.cli import check
 from balisekit.engine.grammar import Refusal
 from balisekit.engine.program import Program, Record
 from balisekit.present import explanations as explain
@@ -345,6 +346,16 @@ def test_document(run: Run, table: Write, tmp_path: Path, program: Program) -> N
         "groups": [{"aspects": [{"balises": [ALONE]}, {"balises": [ALONE]}]}, {"balises": [OTHER]}],
         "messages": [],
     }
+
+
+def test_a_document_without_refused_telegrams(run: Run, table: Write, tmp_path: Path) -> None:
+    """A line before the verdict warns that a yes for it is none for the table."""
+    target = tmp_path / "line.json"
+    status, out, _ = run("check", table("group,telegram", f"A,{ALONE}", f"B,{OTHER[:-1]}1"), "--document", target)
+    assert status == 2 and json.loads(target.read_text())["groups"] == [{"balises": [ALONE]}]
+    assert out[-2] == check.LACKING and out[-1].startswith("INCOMPLETE: ")
+    for path in (table("group,telegram", f"A,{ALONE}"), table("group,telegram", f"A,{ALONE}", f"B,{ALONE}")):
+        assert check.LACKING not in run("check", path, "--document", target, "--force")[1]
 
 
 def test_explain_of_a_rule(run: Run, tmp_path: Path, monkeypatch: pytest.MonkeyPatch) -> None:

@@ -14,9 +14,9 @@ from balisekit.present.outcome_text import lines
 from balisekit.rules import checking
 from balisekit.rules.families import Outcome
 
-
 FILES = ("messages", "accepted", "propose", "junit", "sarif", "xlsx", "json", "document")
 """The options that name files to read or write beside the table."""
+LACKING = "note: the document lacks what was refused or left out: a yes for it is no yes for the table"
 
 
 def add_options(parser: argparse.ArgumentParser) -> None:
@@ -52,7 +52,9 @@ def run(options: argparse.Namespace) -> int:
     if options.document:
         options.document.write(checking.document(checked.kept, [one.message for one in checked.accepted_messages]))
     _write_for_tools(options, outcome)
-    answer = lines(outcome, options.explain, options.propose is not None)
+    answer = list(lines(outcome, options.explain, options.propose is not None))
+    if options.document and not checked.whole:
+        answer.insert(-1, LACKING)
     shared.say(answer, options.json, options.document, options.propose, options.junit, options.sarif, options.xlsx)
     return outcome.status
 
