@@ -15,7 +15,8 @@ from telegrams import ALONE, MESSAGE, OTHER, SPARE, digest
 
 from balisekit.engine.program import Program, Text
 from balisekit.io import csv_writing
-from balisekit.rules.accepted import COLUMNS, FIELDS
+from balisekit.rules.accepted import COLUMNS, FIELDS, VALUES
+from balisekit.rules.families import FAMILIES
 
 Write = Callable[..., Path]
 LINE = TOP / "examples" / "table" / "line.csv"
@@ -49,6 +50,20 @@ def entry(**fields: str) -> str:
         **fields,
     }
     return csv_writing.text([values.get(name, "") for name in COLUMNS], []).rstrip("\n")
+
+
+def test_entries_and_schemas_know_each_rule() -> None:
+    """And not the rule after the last one of a family."""
+    sources = [
+        json.dumps(VALUES["rule"]),
+        *((TOP / f"schemas/kit-{name}.json").read_text() for name in ("check", "sarif")),
+    ]
+    patterns = [re.search(r"F\(\[1-9\][^$\"]*", source)[0].removesuffix(")") for source in sources]
+    assert len(set(patterns)) == 1
+    for letter, family in FAMILIES.items():
+        names = [rule.name for rule in family.rules] or [f"F{number}" for number in range(1, 17)]
+        assert all(re.fullmatch(patterns[0], name) for name in names)
+        assert not re.fullmatch(patterns[0], f"{letter}{len(names) + 1}")
 
 
 def test_nothing_open(run: Run, table: Write) -> None:
@@ -271,7 +286,7 @@ def test_correct_data_is_recognized(run: Run, table: Write, tmp_path: Path) -> N
     assert [(row["rule"], row["reason"].split(":")[0][:28]) for row in rows] == [
         ("F10", "Stop aspect of level 1 witho"),
         ("F12", "Stop aspect of level 1 witho"),
-        ("F16", "One controlled balise, all o"),
+        ("F16", "One controlled balise, one c"),
         ("F6", "Default telegram as an aspec"),
         ("F9", "Default telegram as an aspec"),
         ("F16", "Default telegram as an aspec"),

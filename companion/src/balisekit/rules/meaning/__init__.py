@@ -13,7 +13,9 @@ A rule is added so:
 4. Put the `Rule` into RULES below. State its urgency, `needs_kilometres`, and `is_default=False` if it is less than
    85 % sure. Then run `python3 companion/tests/rules_page.py`, which writes its row of docs/remarks.md from the first
    sentences of its page.
-5. Test a hit, no hit, and the correct data that the page names, by one change of `meaning_line.py`.
+5. Name it in the pattern of rules in rules/accepted.py, schemas/kit-check.json and schemas/kit-sarif.json.
+6. Give it a mistake in companion/tests/meaning_mistakes.py, which writes its example in examples/meaning/mistakes.
+7. Test a hit, no hit, and the correct data that the page names, by one change of `meaning_line.py`.
 
 `Result.not_looked_at` counts only what the user could supply, such as a kilometre: a rule that has looked at nothing
 but has such a count makes the answer incomplete.
