@@ -17,11 +17,11 @@ What may happen. A train releases its brake for an aspect that the signal does n
 How to correct it. Compare both with the design. If the signal is right, copy its packets after packet 136, aspect by
 aspect.
 
-Correct data that gets it. Infill whose aspects are named after a distant signal, and not after the signal that packet
-136 names. Infill that says less than its signal on purpose, such as a lower V_MAIN, shorter profiles or merged
+Correct data that gets it. Infill aspects whose names mean something else at the signal, such as numbers or those of a
+distant signal. Infill that says less than its signal on purpose, such as a lower V_MAIN, shorter profiles or merged
 sections, or that has other timers. Infill with a V_MAIN above 0 and no length for a signal at danger. A signal that the
-table does not have, such as one on a branch line. Without kilometres, a signal whose group faces the other way.
-Kilometres as in E14.
+table does not have, such as on a branch line. Without kilometres, a signal whose group faces the other way. Kilometres
+as in E14.
 
 Example. At yellow the infill of signal 4 has L_ENDSECTION 1,350 m, and signal 4 has 1,500 m.
 

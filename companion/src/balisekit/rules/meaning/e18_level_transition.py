@@ -2,7 +2,7 @@
 
 What it says. Packets 41 for one level transition differ in its place or its levels, or no group there has one that
 orders it. Compared are packets of one track and way whose places are within 500 m of each other. Places may differ by
-the tolerance of E12, and M_LEVELTR and NID_NTC have to be the same in the same order. A place is the kilometre of the
+the tolerance of E12, and M_LEVELTR and NID_NTC must be the same in the same order. A place is the kilometre of the
 group, and D_LEVELTR from it unless that is 32,767 (now). The packet with D_LEVELTR 0 or 32,767 counts as right, or else
 the most frequent place. One that repeats it in a group beyond the border agrees, also by mistake. Only a place between
 the first and the last group of the track needs a packet 41 with D_LEVELTR 0 or 32,767. A packet for both directions
@@ -17,10 +17,10 @@ trackside equipment has ended.
 
 How to correct it. Compare each D_LEVELTR with the kilometre of the border. Put a packet 41 into its group.
 
-Correct data that gets it. A line on which only the last announcement makes the train change its level. A group that has
+Correct data that gets it. A line on which only the last announcement makes trains change their level. A group that has
 D_LEVELTR 32,767 some metres from the border. Two borders within 500 m of each other, a border on another route, or one
-whose group is not in the table. An order of the level in rear of the border, within 500 m of it, for trains that start
-there. Kilometres as in E14.
+whose group is not in the table. An order within 500 m in rear of the border, for trains that start there. Lists of
+levels that differ on purpose. Kilometres as in E14.
 
 Example. Signal 4 announces level 0 at km 16.750, and the group at the border, at km 16.700, has it at once.
 

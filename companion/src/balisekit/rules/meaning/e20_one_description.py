@@ -12,8 +12,8 @@ What may happen. The train waits for a group twice, or opens another window for 
 
 How to correct it. Correct NID_BG, Q_LOCACC or Q_LINKREACTION.
 
-Correct data that gets it. Reactions or accuracies that depend on the route or on the group from which the distance
-counts. A balloon loop, on which a train passes a group twice.
+Correct data that gets it. Reactions or accuracies that depend on the route, the aspect or the group that sends the
+link. A balloon loop, on which a train passes a group twice.
 
 Example. The packet 5 of signal 4 names signal 5 as its first and as its second link.
 

@@ -13,8 +13,8 @@ What may happen. The restriction begins too late, ends too early, or has another
 
 How to correct it. Compare D_TSR, L_TSR and V_TSR with the list of restrictions.
 
-Correct data that gets it. Two restrictions on one line that have the same number. D_TSR and L_TSR that are both rounded
-to the safe side. A V_TSR that depends on the aspect. Kilometres as in E14.
+Correct data that gets it. Two restrictions on one line with the same number. D_TSR and L_TSR that are rounded to the
+safe side. A restriction that depends on the aspect or route. Kilometres as in E14.
 
 Example. Signal 3 has restriction 7 at km 14.000 with 40 km/h, and signal 4 has it at km 14.100.
 

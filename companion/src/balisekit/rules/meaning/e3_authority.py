@@ -8,8 +8,8 @@ above 0 and T_LOA 1,023 (SUBSET-026, 3.8 and 7.4.2).
 
 How urgent. At worst wrong information: one of the two values of the sentence is not what was meant.
 
-Usual cause. A length was changed, and the timers or the overlap were not. Q_SCALE was changed for some of the values.
-Or a value of another signal was copied.
+Usual cause. A length was changed, and the timers or the overlap were not. Q_SCALE was changed for some of the values. A
+value of another signal was copied.
 
 What may happen. A timer starts or stops at a place that the train never passes. The train supervises an overlap that
 ends before its danger point, or may run at V_MAIN without any length.
@@ -19,7 +19,7 @@ How to correct it. Compare both values with the design of the signal, and correc
 Correct data that gets it. A section timer that stops on purpose beyond its section. A timer of the end section or of
 the overlap that starts on purpose in rear of the group. A V_LOA above V_MAIN, by which a project says that the limit of
 authority does not restrict. A section of 0 m, a T_LOA, a danger point or an overlap that a template fills in without
-need. After a packet 136, an authority without length and with V_MAIN above 0 for a signal at danger.
+need. An authority without length and with V_MAIN above 0 for a signal at danger, often after a packet 136.
 
 Example. The overlap of Signal B ends 20 m after the end of authority, and the danger point is 50 m after it.
 

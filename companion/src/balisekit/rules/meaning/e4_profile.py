@@ -16,10 +16,10 @@ element often hides a change that was meant.
 
 How to correct it. Compare the elements with the profile of the track, and correct or remove the wrong one.
 
-Correct data that gets it. A speed of 0 km/h beyond a buffer stop or an end of authority. A stop aspect with 0 km/h, or
-with an end mark only. A V_STATIC that no train uses, because each category has a V_DIFF, or that is for a greater cant
-deficiency. End marks that a tool puts after the first one to fill up the packet. An element that repeats the one before
-it because a tool begins one at each boundary of its data.
+Correct data that gets it. A speed of 0 km/h beyond a buffer stop or end of authority. A stop aspect with 0 km/h, or
+with a profile of no length. A V_STATIC that no train uses, because each category has a V_DIFF, or that is for a greater
+cant deficiency. End marks that a tool puts after the first one to fill up the packet. An element that repeats the one
+before it because a tool begins one at each boundary of its data.
 
 Example. In the gradient profile of Signal B the third element has D_GRADIENT 0 m, the place of the second one.
 

@@ -13,10 +13,10 @@ What may happen. A train that passes the more restrictive aspect gets the author
 
 How to correct it. Compare both telegrams with the aspect table of the signal, and correct the wrong one.
 
-Correct data that gets it. One aspect that the table has under two names. Aspects that differ only beyond the end of
-authority: yellow and green of the last signal before a buffer stop or a level border, which can have the lowest
-urgency. Aspects that the driver sees as two and that give the train one authority. Two routes for which the group has
-the same data.
+Correct data that gets it. One aspect under two names in the table, or a default telegram that repeats an aspect.
+Aspects that differ only beyond the end of authority: yellow and green of the last signal before a buffer stop or a
+level border, which can have the lowest urgency. Aspects that the driver sees as two and the train as one. Two routes
+with the same data.
 
 Example. Signal B has the packets of green at yellow: both allow 120 km/h for 1,400 m.
 

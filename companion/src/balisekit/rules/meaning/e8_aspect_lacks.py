@@ -4,21 +4,22 @@ What it says. An aspect lacks a packet 5, 12, 21 or 27 that its siblings have, o
 132. Siblings are three or more aspects with a V_MAIN above 0 in one direction, for packets 12 in either direction. An
 aspect is also named if it has one of these packets only for the other direction than all others that have it, two at
 least. A stop aspect has a packet 12 with V_MAIN 0, not after a packet 136. It is named if it has no packet 137 and four
-of five stop aspects of the table have one with "stop". So is the only one of three or more stop aspects of a group
-without a packet 132, if a stop aspect of its name has one elsewhere (SUBSET-026, 3.8).
+of five stop aspects of the table have one with "stop". It is also named if only it, of three or more in its group, has
+no packet 132, and a stop aspect of its name has one elsewhere (SUBSET-026, 3.8).
 
 How urgent. At worst wrong information: what the aspect lacks does not restrict the train.
 
-Usual cause. A packet was lost, or its Q_DIR is wrong. The aspect was added later than the others.
+Usual cause. A packet was lost, or its Q_DIR is wrong. The aspect was added later.
 
-What may happen. Without linking or profiles the authority may be refused. With packets for the other direction the
-aspect says nothing to its train. Without packet 137 a train in staff responsible mode passes the signal.
+What may happen. Without profiles the authority may be refused. Without linking nothing shows a missed group. With a
+wrong Q_DIR the aspect says nothing to its train. Without packet 137 a train in staff responsible mode passes the
+signal.
 
 How to correct it. Compare the aspect with the others, and add the packet or correct Q_DIR.
 
 Correct data that gets it. Aspects for one route only, or calling-on aspects, that do not need the packet. A group for
-both directions, one aspect of which is for another direction than all others. A stop aspect without packet 137, which a
-train in staff responsible mode may pass. A signal with a stop aspect at which shunting is allowed, if that aspect has a
+both directions, one aspect of which is for another direction than all others, or only for one. A stop aspect without
+packet 137, which a train in staff responsible mode may pass. A stop aspect at which shunting is allowed, if it has a
 packet 132 at another group.
 
 Example. The aspects red and yellow of Signal B have packets 12 for the nominal direction, and green for the reverse

@@ -16,10 +16,10 @@ What may happen. The train supervises another speed than that of the track.
 How to correct it. Correct V_STATIC or D_STATIC of the packet, or the row of the plan.
 
 Correct data that gets it. A profile for limited supervision, which leaves out restrictions of the track. A V_STATIC for
-trains of no category, if the plan has the speed of a category. A profile with a lower speed for its route or aspect, or
-one that leaves out a short stretch of higher speed. A temporary restriction that is written into the profile. A route
-to a faster track, if no `point` of the plan says where trains may leave this one. A change of speed that is some metres
-early or late on the safe side. Rounding and kilometres as in E14.
+trains of no category, if the plan has the speed of a category. A profile with a lower speed for its route or aspect,
+beyond its end of authority, or instead of a short stretch of higher speed. A temporary restriction in the profile. A
+route to a faster track, if no `point` of the plan says where trains may leave this one. A change of speed that is early
+or late on the safe side. Rounding and kilometres as in E14.
 
 Example. The profile of signal B has 120 km/h from km 15.900 to km 15.950, where the plan has 100 km/h.
 """

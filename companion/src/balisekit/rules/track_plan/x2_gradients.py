@@ -7,17 +7,17 @@ compared, nor the track beyond a point, as in X1 (SUBSET-026, 7.4.2 and 7.5.1).
 How urgent. At worst wrong information: with a gradient less downhill than the track the train brakes too late. One that
 is more downhill makes it brake early.
 
-Usual cause. The sign of the other way along the track was taken. The gradient of the neighbouring stretch was copied.
-Q_SCALE is not that of the distances.
+Usual cause. The sign of the other direction was taken. The gradient of the neighbouring stretch was copied. Q_SCALE is
+not that of the distances.
 
 What may happen. The train computes its braking curves with another gradient than that of the track.
 
 How to correct it. Correct Q_GDIR, G_A or D_GRADIENT of the packet, or the row of the plan.
 
-Correct data that gets it. A mean gradient of several stretches. A safe gradient: one value, the most downhill one, for
-several gradients of the track, or one that is rounded down in each direction. Write the safe gradients into the plan, a
-row for each way. A route to another track, if no `point` of the plan says where trains may leave it, or through a loop
-that comes back to it. Rounding and kilometres as in E14.
+Correct data that gets it. A mean gradient of several stretches. A safe gradient: the most downhill one of several, one
+rounded down in each direction, or one of a stop aspect or beyond an end of authority. Write safe gradients into the
+plan, a row for each way. A route to another track, if no `point` of the plan says where trains may leave it, or through
+a loop that comes back to it. Rounding and kilometres as in E14.
 
 Example. The profile of signal C has +5 ‰ from km 14.200 to km 16.000, where the plan has -5 ‰: the sign is wrong.
 """

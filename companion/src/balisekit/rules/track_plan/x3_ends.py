@@ -1,8 +1,8 @@
 """X3: end of authority at no signal of the plan.
 
-What it says. A movement authority ends at no signal of the plan for trains of its way. The line names the nearest
-signal of the plan and its distance. Authorities are packets 12 with V_MAIN above 0 and packets 15; each ends at the end
-of its end section. Allowed are `--tolerance` (0 without it), one unit of Q_SCALE, half a unit for each further section,
+What it says. A movement authority ends at no signal of the plan for trains of its way. The line names the plan's
+nearest signal and its distance. Authorities are packets 12 with V_MAIN above 0 and packets 15; each ends at the end of
+its end section. Allowed are `--tolerance` (0 without it), one unit of Q_SCALE, half a unit for each further section,
 and one unit of the last decimal of the kilometres. A track with a signal in the plan for one way needs all signals of
 that way at which authorities end. An end beyond a point is not compared, as in X1 (SUBSET-026, 7.4.2 and 7.5.1).
 
@@ -14,10 +14,10 @@ What may happen. The train stops beyond the signal, or too far in rear of it.
 
 How to correct it. Correct L_SECTION and L_ENDSECTION, or the row of the plan.
 
-Correct data that gets it. An authority for limited supervision, which may end at no signal. An authority that ends on
-purpose in rear of a signal, such as at a marker board or on a calling-on route, or a limit of authority (V_LOA above
-0). Write its place into the plan. A route to another track, if no `point` of the plan says where trains may leave it.
-Rounding and kilometres as in E14.
+Correct data that gets it. An authority for limited supervision, which may end at no signal. An authority that ends
+elsewhere on purpose, such as at a marker board, buffer stop or level border, on a calling-on route, or at a limit of
+authority (V_LOA above 0). Write its place into the plan. A route to another track, if no `point` of the plan says where
+trains may leave it. Rounding and kilometres as in E14.
 
 Example. The authority of signal A at green ends at km 15.350, and the nearest signal of the plan is at km 15.300.
 """

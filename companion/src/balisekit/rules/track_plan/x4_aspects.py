@@ -14,9 +14,9 @@ What may happen. The train runs farther or faster than the route that is set for
 
 How to correct it. Correct the packet 12, or the row of the plan.
 
-Correct data that gets it. A V_MAIN that does not restrict, if the plan has the speed of the route. An end or an overlap
-that is shortened on purpose. An authority for limited supervision, if the plan has the route. Lengths that are rounded
-as in E14. A group with both directions, if its rows of the plan do not state their `way`.
+Correct data that gets it. A V_MAIN that does not restrict, if the plan has the speed of the route. A V_MAIN, release
+speed, end or overlap that is reduced on purpose. An authority for limited supervision, if the plan has the route.
+Lengths that are rounded as in E14. A group with both directions, if its rows of the plan state no `way`.
 
 Example. Signal B has V_MAIN 160 km/h at yellow, and the plan has 120 km/h.
 """

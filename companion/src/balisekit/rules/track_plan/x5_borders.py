@@ -17,12 +17,12 @@ What may happen. The train is in a level that the track does not support there, 
 
 How to correct it. Correct the packet, or the row of the plan.
 
-Correct data that gets it. A level transition at a place of its own, such as for trains without radio or for trains that
-start near the border. A group some metres from the border that has D_LEVELTR 32,767 or D_RBCTR 0, or one beyond it that
-repeats the order. Write such places into the plan. A packet 46 with other levels than the border. A packet 42 for the
-RBC of another route, or for the one in whose area the table begins, if the plan has no row for it. A border that only
-radio names, or groups that the table does not have. A route to another track, if no `point` of the plan says where
-trains may leave it. Kilometres as in E14.
+Correct data that gets it. A level transition at a place of its own, such as for trains that have no radio or start near
+the border. A group some metres from the border that has D_LEVELTR 32,767 or D_RBCTR 0, or one beyond it that repeats
+the order. Write such places into the plan. A packet 41 or 46 whose levels differ on purpose. A packet 42 for the RBC of
+another route, or for the one in whose area the table begins, if the plan has no row for it. A border that only radio
+names, or groups that the table does not have. A route to another track, if no `point` of the plan says where trains may
+leave it. Kilometres as in E14.
 
 Example. Group F announces level 2 at km 20.050, and the plan has the border at km 20.000.
 """
