@@ -58,7 +58,7 @@ def test_entries_and_schemas_know_each_rule() -> None:
         json.dumps(VALUES["rule"]),
         *((TOP / f"schemas/kit-{name}.json").read_text() for name in ("check", "sarif")),
     ]
-    patterns = [re.search(r"F\(\[1-9\][^$\"]*", source)[0].removesuffix(")") for source in sources]
+    patterns = [re.findall(r"F\(\[1-9\][^$\"]*", source)[0].removesuffix(")") for source in sources]
     assert len(set(patterns)) == 1
     for letter, family in FAMILIES.items():
         names = [rule.name for rule in family.rules] or [f"F{number}" for number in range(1, 17)]
