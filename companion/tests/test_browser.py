@@ -96,7 +96,7 @@ def test_what_is_folded_is_opened_at_its_place(
         seen = browse(tmp_path, page, "--dump-dom", "--virtual-time-budget=2000", place=place).stdout
         row = place.split("p", maxsplit=1)[0][1:]
         opened = seen[seen.index(f'<details id="{row}" open="">') :]
-        assert '<button type="button">copy the digits</button><pre class="digits">' in opened[:400]
+        assert '<button type="button">copy the digits</button><pre>' in opened[:400]
         assert seen.count("copy the digits</button>") == 2, "of this row, and of the refused one"
 
 

@@ -1,6 +1,7 @@
 """Pages as a browser's parser takes them: html5lib reads them without an error, and says what is where."""
 from __future__ import annotations
 
+import re
 from collections import Counter
 from pathlib import Path
 from typing import Any, List
@@ -83,7 +84,7 @@ def test_folded_telegrams(page: Any) -> None:
     for one in telegrams:
         kinds = [part.tag for part in one if part.tag != "p"]
         assert kinds in (["summary", "pre", "pre"], ["summary", "pre"])
-        assert one.find("pre").get("class") == "digits" and one.find("pre").text.strip()
+        assert re.fullmatch("[0-9a-f .]{20,}", one.find("pre").text, re.I)
 
 
 def test_the_page_of_a_diff(run: Run, tmp_path: Path) -> None:

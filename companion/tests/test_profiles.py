@@ -85,13 +85,17 @@ WAYS: Dict[str, Sequence[Form]] = {
 }
 
 
+IN_ONE = re.compile(r"[0-9.]+ m, (?=km)|, nominal|, Group A|, release speed (calculated on board|[0-9]+ km/h)")
+"""What only the titles of one of the two pictures have."""
+
+
 def titles(picture: Picture) -> Counts[Tuple[str, str]]:
     """The shapes of a picture with their titles, in which metres from the group and its name are left out.
 
-    The picture of a group for nominal direction alone does not name the direction.
+    The picture of a group for nominal direction alone does not name the direction. It has release speeds as texts.
     """
     shapes = [shape for shape in picture.shapes if shape.style in STYLES and shape.title]
-    return Counter((shape.style, re.sub(r"[0-9.]+ m, (?=km)|, nominal|, Group A", "", shape.title)) for shape in shapes)
+    return Counter((shape.style, re.sub(IN_ONE, "", shape.title)) for shape in shapes)
 
 
 @pytest.mark.parametrize("rising", [1, -1])
@@ -103,6 +107,8 @@ def test_both_pictures_have_the_same_shapes(name: str, direction: int, rising: i
     picture = draw("Group A", [Content("", [form])], Kilometres(Decimal("2.5"), rising))
     shapes = titles(picture)
     assert shapes and titles(page) == shapes
+    said = sum("release speed" in shape.title for shape in page.shapes)
+    assert said == sum("release speed" in shape.text for shape in picture.shapes) and bool(said) == ("danger" in name)
     looks: List[str] = [style for style, _ in shapes]
     assert ("pale" in looks) == ("after" in name) and ("arrow" in looks) == (name in ("open profiles", "two of each"))
 
@@ -203,7 +209,7 @@ def test_what_a_picture_says_without_being_seen() -> None:
     """The group, its authorities, speeds, gradients and levels, in a few sentences."""
     picture = pictured(*picture_lines.run(1, 1000, 100), picture_lines.level(1, 700, 3, 200))
     assert picture.description == (
-        "A, km 10.000. : nominal, authority to 1000 m. speeds 80 to 100 km/h; gradients \u22123 to 3 \u2030; "
+        "km 10.000. : nominal, authority to 1000 m. speeds 80 to 100 km/h; gradients \u22123 to 3 \u2030; "
         "change to level 2 at 700 m, acknowledged from 500 m"
     )
 

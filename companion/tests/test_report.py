@@ -480,8 +480,8 @@ def test_an_authority_has_all_its_places() -> None:
         assert titles >= {
             f"section 0: 800 m, to {km(800)}",
             f"end section: 900 m, to {km(1700)}",
-            f"danger point: {km(1760, ', release speed 25 km/h')}",
-            f"overlap: 120 m, to {km(1820, ' (SvL), release speed calculated on board')}",
+            f"danger point: {km(1760)}",
+            f"overlap: 120 m, to {km(1820, ' (SvL)')}",
         }
     texts = [one.text for one in picture.shapes]
     said = "V_MAIN 120 km/h; V_LOA 0 km/h, stop"

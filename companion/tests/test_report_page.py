@@ -23,6 +23,8 @@ from balisekit.present import pages
 LINE = TOP / "examples" / "table" / "line.csv"
 LINKED = TOP / "examples" / "links" / "distance-differs.csv"
 VOID = ("meta", "br", "input")
+CELLS = ("td", "th")
+"""A cell ends where the next one begins."""
 Write = Callable[..., Path]
 Attributes = Dict[str, Optional[str]]
 
@@ -41,6 +43,8 @@ class Page(HTMLParser):
 
     def handle_starttag(self, tag: str, attrs: List[Tuple[str, Optional[str]]]) -> None:
         """Notes an element."""
+        if tag in CELLS and self.elements[self.around[-1]][0] in CELLS:
+            self.around.pop()
         self.elements.append((tag, dict(attrs), list(self.around)))
         if tag not in VOID:
             self.around.append(len(self.elements) - 1)
@@ -50,7 +54,9 @@ class Page(HTMLParser):
         self.elements.append((tag, dict(attrs), list(self.around)))
 
     def handle_endtag(self, tag: str) -> None:
-        """Each element is closed before those around it."""
+        """Each element is closed before those around it. A cell ends with its row too."""
+        if tag == "tr" and self.elements[self.around[-1]][0] in CELLS:
+            self.around.pop()
         assert self.elements[self.around.pop()][0] == tag
 
     def handle_data(self, data: str) -> None:
@@ -185,7 +191,7 @@ def test_the_overview_has_all_groups(run: Run, line: Path, tmp_path: Path) -> No
         ["18.250", "Signal E", "1", "352/105", "2", "3", "5 12 21 27"],
     ]
     assert "not checked" in rows[6] and "Signal F" in rows[6] and len(rows) == 9
-    assert [re.findall('href="#(g[0-9]+)"', row) for row in rows] == [[f"g{index}"] for index in range(9)]
+    assert [re.findall("href=#(g[0-9]+)>", row) for row in rows] == [[f"g{index}"] for index in range(9)]
     proposed = tmp_path / "proposed.csv"
     run("check", line, "--only", "F", "--propose", proposed)
     signed = [
@@ -198,7 +204,7 @@ def test_the_overview_has_all_groups(run: Run, line: Path, tmp_path: Path) -> No
         writer.writeheader()
         writer.writerows(signed)
     text = report(run, line, "--only", "F", "--accepted", tmp_path / "signed.csv")
-    assert '<td class="found">2, 1 accepted</td>' in text
+    assert "<td class=found>2, 1 accepted<td>" in text
     assert "1 accepted, 4 open" in text
 
 
@@ -207,8 +213,8 @@ def test_messages_are_in_the_overview(run: Run, line: Path, tmp_path: Path) -> N
     messages = tmp_path / "m.txt"
     messages.write_text((TOP / "examples" / "radio-position-report.txt").read_text())
     text = report(run, line, "--messages", messages)
-    (row,) = re.findall('<tr><td></td><th scope="row"><a href="#m1">.*?</tr>', text)
-    assert "message of line 1" in row and "<td>0 44</td>" in row
+    (row,) = re.findall("<tr><td><th scope=row><a href=#m1>.*?</tr>", text)
+    assert "message of line 1" in row and row.endswith("<td>0 44</tr>")
 
 
 SENTENCES = [

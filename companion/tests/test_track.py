@@ -350,8 +350,8 @@ def test_links_have_arrows_and_distances() -> None:
         (group("B", "3", nominal="rising"), [header(2, link_tables.linking(0, link_tables.link(2000, 1, 0)))]),
     ]
     (picture,) = drawn(*some)
-    tips = [float(one.path[1:].split()[0]) - float(one.path.split("L")[1].split()[0]) for one in looks(picture, "way")]
-    assert sorted(tip > 0 for tip in tips) == [False, True]
+    backs = [float(one.path.split("l")[1].split()[0]) for one in looks(picture, "way")]
+    assert sorted(back > 0 for back in backs) == [False, True]
     assert [one.text for one in picture.shapes if one.text == "2000 m"] == ["2000 m"]
 
 
@@ -378,7 +378,7 @@ def test_what_a_picture_says_without_being_seen() -> None:
     """Its groups, authorities, speeds and gradients, in a few sentences."""
     (picture,) = drawn((group("A", "2", nominal="falling"), [header(1, *authority())]))
     assert picture.description == (
-        "km 0 to 5: A at km 2.000, each group in the aspect with the farthest end of authority. A, V_MAIN 100 km/h, "
+        "A at km 2.000, each group in the aspect with the farthest end of authority. A, V_MAIN 100 km/h, "
         "authority to km 1.000; speeds 100 km/h; gradients 5 \u2030"
     )
 

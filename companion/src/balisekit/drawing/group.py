@@ -162,7 +162,7 @@ def draw(title: str, contents: Sequence[Content], where: Kilometres, titled: boo
     """The picture of a group: a row for each content, below the title if it is to be seen."""
     drawn = _drawn(title if titled else "", contents, where)
     km, name = where.words(0, NOMINAL), name or clean(title)
-    description = ". ".join(filter(None, [f"{name}, km {km}" if km else name, drawn.description]))
+    description = f"km {km}. {drawn.description}" if km else drawn.description
     return replace(drawn, title=name, description=description)
 
 
@@ -323,7 +323,7 @@ def _write_at(drawing: WayDrawing, words: str, place: int, bottom: int, is_towar
     if spot:
         sheet.y = max(sheet.y, spot[1])
         if is_toward:
-            return f"M{tenths(x)} {bottom}V{spot[1] - 8 * (left < spot[0] < right)}"
+            return f"M{tenths(x)} {bottom}v{spot[1] - bottom - 8 * (left < spot[0] < right)}"
     return ""
 
 

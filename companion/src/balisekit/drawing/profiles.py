@@ -243,7 +243,7 @@ class WayDrawing(NamedTuple):
         end, supervised, out = authority.end, authority.supervised, self.sizes.end
         if authority.overlap is not None:
             title = f"overlap: {metres(authority.overlap - end)}, to {self._end_words(authority, authority.overlap)}"
-            title = self._titled(f"{title}, {release(authority, 'overlap')}")
+            title = self._titled(title + self._release(authority, "overlap"))
             self.sheet.stripes("overlap", title, (self.at(end), self.at(authority.overlap)), bar)
         self._mark("end", limit_words(authority, self.describe(end)), end, Lane(bar.top - out, bar.height + 2 * out))
         self._danger_point(authority, bar)
@@ -271,8 +271,12 @@ class WayDrawing(NamedTuple):
         place = authority.danger_point
         if place is not None and self.sheet.shows(self.at(place)):
             half, x = bar.height // 2 + 1, tenths(self.sheet.x(self.at(place)))
-            words = f"danger point: {self._end_words(authority, place)}, {release(authority, 'danger_point')}"
+            words = f"danger point: {self._end_words(authority, place)}{self._release(authority, 'danger_point')}"
             self.sheet.path("danger", self._titled(words), f"M{x} {bar.top - 1}l5 {half}l-5 {half}l-5 -{half}z")
+
+    def _release(self, authority: Authority, part: str) -> str:
+        """The release speed in a title, unless it is written below the bar."""
+        return "" if self.sizes.has_words else f", {release(authority, part)}"
 
     def area(self, area: Area, lane: Lane) -> Edges:
         """A restriction, condition or mode, or the place at which the level changes, and where it is acknowledged."""

@@ -205,9 +205,10 @@ class Sheet:
 
     def axis(self, title: str, places: Iterable[int]) -> None:
         """A line from the least place to the greatest, with a tick at each of these places."""
-        ticks = "".join(f"M{tenths(self.x(place))} {self.y}v4" for place in places)
-        ends = f"M{tenths(self.x(self.least))} {self.y}H{tenths(self.x(self.greatest))}"
-        self.path("axis", title, ends + ticks)
+        at = [self.x(self.least), *map(self.x, places)]
+        ticks = "".join(f"m{tenths(x - before)}-4v4" for before, x in zip(at, at[1:]))
+        line = f"M{tenths(at[0])} {self.y}H{tenths(self.x(self.greatest))}"
+        self.path("axis", title, f"{line}M{tenths(at[0])} {self.y + 4}{ticks}")
 
     def tick(self, text: str, place: int, y: int) -> None:
         """A text below the axis, within the picture."""

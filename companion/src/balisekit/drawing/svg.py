@@ -25,14 +25,19 @@ def _look(style: str, quote: str) -> str:
     return f" class={quote}{style}{quote}" if style else ""
 
 
+def _short(path: str) -> str:
+    """A path without blanks."""
+    return path.replace(" -", "-").replace(" ", ",")
+
+
 def _paths(titled: Written, bare: Written, quote: str) -> List[str]:
     """Areas or lines: those of a style that have no title are one path."""
     found = []
     for style in dict.fromkeys((*titled, *bare)):
         inside, look = "".join(titled.get(style, ())), _look(style, quote)
-        path = "".join(bare[style]).replace(" ", ",") if style in bare else ""
-        line = f"<path{{}} d={quote}{path}{quote}></path>" if path else ""
-        found.append(f"<g{look}>{inside}{line.format('')}</g>\n" if inside else f"{line.format(look)}\n")
+        path = _short("".join(bare.get(style, ())))
+        line = f"<path{{}} d={quote}{path}{quote} />" if path else ""
+        found.append(f"<g{look}>{inside}{line.format('')}</g>" if inside else line.format(look))
     return found
 
 
@@ -42,14 +47,14 @@ def _texts(texts: Written, ticks: Written, quote: str) -> str:
     inside = "".join(texts.pop("", ()))
     for style, some in (*texts.items(), ("tick", rows)):
         inside += f"\n<g{_look(style, quote)}>{''.join(some)}</g>" if some else ""
-    return f"<g{_look('text', quote)}>{inside}</g>\n" if inside else ""
+    return f"<g{_look('text', quote)}>{inside}</g>" if inside else ""
 
 
 def in_page(picture: Picture) -> str:
     """A picture in a page."""
     described = f"<desc>{escaped(picture.description)}</desc>" if picture.description else ""
     head = f'<svg class=picture role=img viewBox="0 0 {picture.width} {picture.height}">'
-    return f"{head}<title>{escaped(picture.title)}</title>{described}\n{svg(picture.shapes, True)}</svg>\n"
+    return f"{head}<title>{escaped(picture.title)}</title>{described}\n{svg(picture.shapes, True)}\n</svg>\n"
 
 
 def svg(shapes: Iterable[Shape], in_page: bool = False) -> str:
@@ -71,11 +76,11 @@ def svg(shapes: Iterable[Shape], in_page: bool = False) -> str:
             texts[style].append(f"<text x={quote}{x}{quote} y={quote}{y}{quote}>{inside}</text>")
         else:
             is_area = tag == "rect"
-            path = f"M{x},{y}h{width}v{height}H{x}z" if is_area else path.replace(" ", ",")
+            path = f"M{x},{y}h{width}v{height}H{x}z" if is_area else _short(path)
             if title:
                 titled = f"<path d={quote}{path}{quote}><title>{escaped(title)}</title></path>"
                 (areas if is_area else lines)[style].append(titled)
             else:
                 bare_areas[style].append(path)
     written = (*_paths(areas, bare_areas, quote), *_paths(lines, bare_lines, quote), _texts(texts, ticks, quote))
-    return "".join(written)
+    return ("" if in_page else "\n").join(written)

@@ -76,7 +76,7 @@ def track_pictures(
                 sheet.text("", "no authority, gradient or speed profile", 4000, sheet.y + 12)
                 sheet.y += 20
             bands = [one.band for _, lane in part for one in lane]
-            yield sheet.picture(title, 8, _description(title, page, bands, shown_words(aspect)))
+            yield sheet.picture(title, 8, _description(page, bands, shown_words(aspect)))
 
 
 def _head(sheet: Sheet, page: Page, title: str, shown: str) -> None:
@@ -89,13 +89,13 @@ def _head(sheet: Sheet, page: Page, title: str, shown: str) -> None:
         sheet.text("", page.left_out, EDGE, sheet.y)
 
 
-def _description(title: str, page: Page, bands: Sequence[Band], shown: str) -> str:
+def _description(page: Page, bands: Sequence[Band], shown: str) -> str:
     """What a page shows, for those who do not see it."""
     stations = [f"{clean(each.group.name)} at {at_km(place_of(each))}" for each in page.stations[:NAMED]]
     groups = listed(stations, NAMED, len(page.stations)) if stations else "no group"
     said = listed([band.words for band in bands[:NAMED]], NAMED, len(bands))
     found = [f"{flag.words} at {at_km(flag.place)}" for flag in page.flags[:NAMED]]
-    parts = [f"{title}: {groups}, {shown}", page.left_out, said, listed(found, NAMED, len(page.flags))]
+    parts = [f"{groups}, {shown}", page.left_out, said, listed(found, NAMED, len(page.flags))]
     return ". ".join(filter(None, parts))
 
 
@@ -201,7 +201,7 @@ def _names(sheet: Sheet, stations: Sequence[BaliseGroup], found: Sequence[Flag])
         items.append((min(max(sheet.x(place) - wide // 2, EDGES[0]), EDGES[1] - wide), wide, place, style, name))
     for begin, wide, place, style, name in sorted(items):
         y = base + 22 + 13 * rows.reserve(begin, begin + wide)
-        sheet.path("leader", "", f"M{tenths(sheet.x(place))} {base + 4}V{y + 2}")
+        sheet.path("leader", "", f"M{tenths(sheet.x(place))} {base + 4}v{y - base - 2}")
         sheet.short(style, name, begin + wide // 2, y + 11, NAME)
     for flag in found:
         style, top = f"flag{' links' * flag.is_of_links}{' quiet' * flag.is_quiet}", FLAGS[flag.is_of_links]
@@ -249,7 +249,7 @@ def _name(sheet: Sheet, one: Placed) -> None:
     parts.insert(0 if band.sign > 0 else 1, ("", one.words, width("", one.words) + SPACE))
     left = one.name + (ARROW if band.sign > 0 else 0)
     for style, words, wide in parts:
-        sheet.text(style, words, left, y, band.label if words != band.label and not style else "")
+        sheet.text(style, words, left, y, "" if style or words.startswith(band.label) else band.label)
         left += wide
     tail = one.name if band.sign > 0 else left - SPACE + ARROW
     sheet.path("run", "", f"M{tenths(tail)} {y - 8}l{8 * band.sign} 4l{-8 * band.sign} 4z")
@@ -286,13 +286,13 @@ class Curve(NamedTuple):
         right, down = (self.end - self.begin) / 10, -4 * self.high * (1 - 2 * at)
         long = hypot(right, down) or 1
         dx, dy = 4 * right / long, 4 * down / long
-        tip, one = _spot(x + 10 * dx, y + dy), _spot(x + 10 * (-dx - dy * 0.7), y + (-dy + dx * 0.7))
-        return f"M{tip}L{one}L{_spot(x + 10 * (-dx + dy * 0.7), y + (-dy - dx * 0.7))}z"
+        tip, one = (x + 10 * dx, y + dy), (x + 10 * (-dx - dy * 0.7), y + (-dy + dx * 0.7))
+        return f"M{_spot(*tip)}l{_spot(*one, tip)} {_spot(x + 10 * (-dx + dy * 0.7), y + (-dy - dx * 0.7), one)}z"
 
 
-def _spot(across: float, down: float) -> str:
-    """A point of a path, of tenths of a pixel and of pixels."""
-    return f"{tenths(round(across))} {tenths(round(10 * down))}"
+def _spot(across: float, down: float, origin: Tuple[float, float] = (0, 0)) -> str:
+    """A point of a path, of tenths of a pixel and of pixels, counted from another one."""
+    return f"{tenths(round(across) - round(origin[0]))} {tenths(round(10 * down) - round(10 * origin[1]))}"
 
 
 def _arc(sheet: Sheet, arc: Arc, high: int, words: str) -> None:

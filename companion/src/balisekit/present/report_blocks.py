@@ -247,7 +247,7 @@ def _telegram(id: str, heading: str, digits: str, words: str, is_open: bool, ref
     """A telegram or message, with the program's words if it has refused it. `words` are HTML."""
     head = f"<details{f' id={id}' * bool(id)}{' open' * is_open}><summary><bdi>{escaped(heading)}</bdi></summary>"
     said = f"<p class=program>{escaped(refused)}</p>" if refused else ""
-    return f"{head}{said}<pre class=digits>{escaped(digits)}</pre>{words and f'<pre>{words}</pre>'}</details>\n"
+    return f"{head}{said}<pre>{escaped(digits)}</pre>{words and f'<pre>{words}</pre>'}</details>\n"
 
 
 def _marked(entries: Sequence[Listed], kind: str) -> Dict[int, Set[int]]:
@@ -308,19 +308,19 @@ def _hidden(block: Block, full: bool) -> str:
 
 def overview_row(block: Block, has_names: bool) -> str:
     """Its row in the table of all groups."""
-    track = f"<td><bdi>{escaped(block.track)}</bdi></td>" if has_names else ""
-    link = f'<th scope="row"><a href="#{block.id}"><bdi>{escaped(block.title)}</bdi></a></th>'
+    track = f"<td><bdi>{escaped(block.track)}</bdi>" if has_names else ""
+    link = f"<th scope=row><a href=#{block.id}><bdi>{escaped(block.title)}</bdi></a>"
     packets = " ".join(map(str, sorted(block.packets)))
-    numbers = f"<td>{block.identity}</td><td>{block.balises}</td><td>{block.aspects or ''}</td><td>{packets}</td>"
+    numbers = f"<td>{block.identity}<td>{block.balises}<td>{block.aspects or ''}<td>{packets}"
     if block.left_out:
-        found = '<td class="found">not checked</td><td></td>'
+        found = "<td class=found>not checked<td>"
     else:
-        found = "".join(f'<td class="found">{_found(block.entries, remarks)}</td>' for remarks in (False, True))
-    return f"<tr{' class=left' * bool(block.left_out)}><td>{block.km}</td>{track}{link}{found}{numbers}</tr>\n"
+        found = "".join(_found(block.entries, remarks) for remarks in (False, True))
+    return f"<tr{' class=left' * bool(block.left_out)}><td>{block.km}{track}{link}{found}{numbers}</tr>\n"
 
 
 def _found(entries: Sequence[Listed], remarks: bool) -> str:
-    """How many remarks, or else findings, there are, and how many of them were accepted. Nothing for none."""
+    """A cell: how many remarks, or else findings, there are, and how many of them were accepted. Empty for none."""
     some = [each for each in entries if bool(each.entry.remark) == remarks] if entries else ()
     total, accepted = sum(each.items for each in some), sum(each.items for each in some if each.accepted)
-    return f"{total or ''}{f', {accepted} accepted' if accepted else ''}"
+    return f"<td class=found>{total}{f', {accepted} accepted' if accepted else ''}" if total else "<td>"

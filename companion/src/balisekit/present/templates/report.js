@@ -9,8 +9,7 @@
     const words = text.value.toLowerCase().split(/\s+/);
     let shown = 0;
     for (const row of rows) {
-      const has = Array.from(row.querySelectorAll(".found")).some((cell) => cell.textContent !== "");
-      row.hidden = (only.checked && !has) || !words.every((word) => texts.get(row).includes(word));
+      row.hidden = (only.checked && !row.querySelector(".found")) || !words.every((word) => texts.get(row).includes(word));
       shown += !row.hidden;
     }
     output.textContent = shown === rows.length ? "" : shown + " of " + rows.length;
@@ -62,7 +61,7 @@
   }
 
   function addButton(telegram) {
-    const digits = telegram.open && telegram.querySelector(":scope > .digits");
+    const digits = telegram.open && telegram.querySelector(":scope > pre");
     if (!digits || telegram.querySelector("button")) return;
     const button = document.createElement("button");
     button.type = "button";
