@@ -1,5 +1,5 @@
 #!/bin/sh
-# Installs both commands with their manual pages into PREFIX, else into /usr/local:   ./install.sh [PREFIX]
+# Installs both commands with their manual pages into PREFIX, by default /usr/local:   ./install.sh [PREFIX]
 #
 # PREFIX/bin/balisecheck is one file that needs only the C library. In a clone it is the program that ./balisecheck would
 # run. PREFIX/bin/balisekit needs python3; its files are in PREFIX/share/balisecheck.
@@ -19,8 +19,8 @@ fi
 
 for folder in "$prefix/bin" "$kit" "$manual"; do
     lack=$(mkdir -p "$folder" 2>&1) && [ -w "$folder" ] && continue
-    echo "install: not installed, since $folder cannot be written${lack:+ ($lack)}." >&2
-    echo 'install: to install for yourself alone: ./install.sh ~/.local' >&2
+    echo "install: not installed, because $folder cannot be written${lack:+ ($lack)}." >&2
+    echo 'install: to install only for yourself: ./install.sh ~/.local' >&2
     exit 1
 done
 # Not `cp`, which would write through a link, or into a program that runs.
@@ -40,7 +40,7 @@ for page in balisecheck.1 balisekit.1; do
     install -m 644 "$top/$page" "$manual/$page"
     echo "installed: $manual/$page" >&2
 done
-# A clone has no page of balisekit: it is made of what the help of its commands writes.
+# A clone has no manual page of balisekit: it is made here from the --help of its commands.
 if [ -e "$top/dist/pack/manual" ]; then
     if command -v help2man >/dev/null && "$top/dist/pack/manual" "$kit"; then
         install -m 644 "$kit/balisekit.1" "$manual/balisekit.1"

@@ -1,18 +1,17 @@
 #!/usr/bin/env bash
-# Makes what is handed out, of the program that was proved and built here.
+# Makes a release of the program that was proved and built here.
 #
-#     ./release.sh raise        gives the next program a number of its own, in VERSION and wherever else it stands
-#     ./release.sh store        stores the program in dist/x86_64-linux with its papers, and adds a line to dist/RELEASES
+#     ./release.sh raise        writes the next version number into VERSION and each other file that has it
+#     ./release.sh store        stores the program and its ABOUT in dist/x86_64-linux, and adds a line to dist/RELEASES
 #     ./release.sh              writes the release into out/release: tarball, wheel, .deb, SPDX, the logs of the gate and
 #                               of all edits, a README and SHA256SUMS
-#     ./release.sh --try DIR    the same into an empty DIR, without the logs, of the program that ./balisecheck would run,
-#                               and of edits that nobody has judged: the names of its files end in -untested
+#     ./release.sh --try DIR    the same into an empty DIR, with the program that ./balisecheck would run, without logs
+#                               and without judged edits: the names of its files end in -untested
 #
-# `store` takes the program of these sources that the gate or ./build has left in out/, and tests nothing. A program
-# that differs from the stored one needs a number of its own. A release needs out/edits of `tests/edits --all`, and
-# out/gate.log and out/edits.log, which are what `.ci/run` and `tests/edits --all` have written. Two runs on one commit
-# give the same bytes. They need git, python3-hatchling, advancecomp,
-# help2man and dpkg-deb.
+# `store` takes the program that the gate or ./build has built from these sources in out/, and runs tests/dist. A program
+# that differs from the stored one needs a new version number. A release needs out/edits of `tests/edits --all`, and the
+# output of `.ci/run` in out/gate.log and of `tests/edits --all` in out/edits.log. Two runs on one commit give the same
+# bytes. They need git, python3-hatchling, advancecomp, help2man and dpkg-deb.
 set -euo pipefail
 
 cd "$(dirname "${BASH_SOURCE[0]}")"
@@ -43,15 +42,15 @@ sum_of() {
     sha256sum <"$1" | cut -d ' ' -f 1
 }
 
-# is_right FOLDER REMEDY: fails if the program in the folder is damaged, or not of these sources, by its papers.
+# is_right FOLDER REMEDY: fails if the program in the folder is damaged or, by ABOUT, was built from other sources.
 is_right() {
-    grep -qsx "sources $(dist/sources)" "$1/ABOUT" || fail "the program in $1 is of other sources: $2"
+    grep -qsx "sources $(dist/sources)" "$1/ABOUT" || fail "the program in $1 was built from other sources: $2"
     grep -qx "program $(sum_of "$1/balisecheck")" "$1/ABOUT" || fail "the program in $1 is damaged: $2"
 }
 
-# is_passed LOG COMMAND: fails if the log is not there, or does not end as one in which all has passed.
+# is_passed LOG COMMAND: fails if there is no log, or its last line does not report that everything passed.
 is_passed() {
-    tail -n 1 "$1" 2>/dev/null | grep -qE '(^|[ :])[1-9][0-9]* passed, 0 failed$' || fail "no $1 in which all has passed: $2 | tee $1"
+    tail -n 1 "$1" 2>/dev/null | grep -qE '(^|[ :])[1-9][0-9]* passed, 0 failed$' || fail "no $1 in which everything passed: $2 | tee $1"
 }
 
 # are_judged: fails if tests/edits --all has not judged every edit of these sources.
@@ -81,7 +80,7 @@ raise() {
     local next=${version%.*}.$((${version##*.} + 1))
     sed -i "s/\<${version//./\\.}\>/$next/" "${numbered[@]}"
     sed -i "s/^## Unreleased\$/&\n\n## $next - $(date -u +%F)/" CHANGELOG.md
-    echo "raised: $next. Commit, ./build (which proves the last crate alone), and ./release.sh store" >&2
+    echo "raised: $next. Commit, ./build (which proves only the last crate), and ./release.sh store" >&2
 }
 
 # has_a_number: fails if another program has the number of the one in out/, and raises the number then.
@@ -90,7 +89,7 @@ has_a_number() {
     other=$(awk -v version="$version" -v program="$(sum_of out/balisecheck)" '$1 == version && $4 != program' dist/RELEASES)
     [ -z "$other" ] && return
     raise
-    fail "$version is the number of another program (dist/RELEASES), and this one has it inside"
+    fail "$version is the number of another program (dist/RELEASES), and the new program has it built in"
 }
 
 store() {
@@ -155,7 +154,7 @@ release() {
     [ "$(said version "$dist")" = "$version" ] || fail "the stored program is not $version: ./release.sh store"
     are_judged
     is_passed out/gate.log .ci/run
-    grep -qx "== sources $(said sources "$dist")" out/gate.log || fail 'out/gate.log is of other sources: .ci/run | tee out/gate.log'
+    grep -qx "== sources $(said sources "$dist")" out/gate.log || fail 'out/gate.log is from other sources: .ci/run | tee out/gate.log'
     is_passed out/edits.log 'tests/edits --all'
     rm -rf out/release
     pack out/release "$dist/balisecheck" "$dist/ABOUT" ''
@@ -177,5 +176,5 @@ case "$#:${1:-}" in
 1:store) store ;;
 2:--try) try "$2" ;;
 0:) release ;;
-*) fail 'the words are raise, store, --try DIR, or none' ;;
+*) fail 'usage: ./release.sh [raise | store | --try DIR]' ;;
 esac

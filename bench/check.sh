@@ -3,8 +3,8 @@
 #
 # In a copy of the tree the program of bench/check is proved and built. It makes lines of 10,000 and of
 # 100,000 groups, each a pair with packets 12, 21 and 27, and calls `check` many times. The processor time
-# of a call is what the program takes more than without these calls, divided by their number, the least of
-# five runs each. The load of the machine changes it less than the time elapsed, of which the fastest call of
+# of a call is the time that these calls add to the program's, divided by their number, by the least of five
+# runs each. The load of the machine changes it less than the time elapsed, of which the fastest call of
 # the last run is shown. On a machine that is busy the longer line may seem too slow all the same: it does
 # not fit into the processor's caches. The identities of the groups rise, are spread over all countries, or
 # are all the same, which gives a finding for each group but the first. The stack has 512 KiB.
@@ -14,7 +14,7 @@
 # in a group with six findings ("wrong"), and with equal identities. It also counts the requests for memory of such a line
 # that is checked once, and ten times more.
 #
-# The status is 1 if there are other findings, if 100,000 groups take more than 13 times as long as 10,000,
+# The status is 1 if the findings are wrong, if 100,000 groups take more than 13 times as long as 10,000,
 # if 100,000 groups with rising identities take more than 0.3 seconds, or if a line without a finding asks for memory.
 # The longest line takes 160 MB of memory.
 set -euo pipefail

@@ -3,7 +3,7 @@
 
 room=$(mktemp -d)
 trap 'rm -rf "$room"' EXIT
-export PYTHONDONTWRITEBYTECODE=1 # so that no folder of it comes into being beside the scripts
+export PYTHONDONTWRITEBYTECODE=1 # so that Python writes no folder beside the scripts
 
 fail() {
     echo "failed: $1" >&2
@@ -12,10 +12,10 @@ fail() {
 
 # The program to measure: the one that ./balisecheck would run, or the one that BALISECHECK names.
 find_program() {
-    program=${BALISECHECK:-$(BALISECHECK_PATH=1 "$here/../balisecheck")} || fail 'no program is there'
+    program=${BALISECHECK:-$(BALISECHECK_PATH=1 "$here/../balisecheck")} || fail 'there is no program'
 }
 
-# machine: a line on what the rates stand on.
+# machine: a line that describes this machine, for the rates.
 machine() {
     echo "$(uname -m), $(nproc) processors, load $(cut -d' ' -f1 /proc/loadavg), $(python3 --version)"
 }

@@ -1,11 +1,11 @@
 #!/usr/bin/env bash
 # Measures `balisecheck decode`: bench/decode.sh [COUNT..]
 #
-# For each count of telegrams of 210 bits with a header alone (100,000 and 1,000,000 if none is given)
-# it stands beside bench/decode.py, ten lines of Python: both read the same file and have to write the
-# same bytes. Then half as many telegrams of 830 bits, filled with packets: what it writes has to be
-# what bench/packets.py chose to put in. At last a line of a million digits has to be refused. The first
-# failure ends the run with status 1. Where valgrind is there, it counts the instructions for each byte of a
+# For each count of telegrams of 210 bits with only a header (100,000 and 1,000,000 if none is given),
+# `decode` and bench/decode.py, ten lines of Python, read the same file and have to write the same bytes.
+# Then `decode` reads half as many telegrams of 830 bits, filled with packets, and has to write the values
+# that bench/packets.py chose. Finally a line of a million digits has to be refused. The first
+# failure ends the run with status 1. If valgrind is there, it counts the instructions for each byte of a
 # thousand telegrams, which no load of the machine changes. The counts above take 2 GB of the temporary folder,
 # which TMPDIR names.
 #

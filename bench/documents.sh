@@ -3,10 +3,10 @@
 #
 # bench/documents.py writes documents of so many sound groups (1,000, 10,000 and 100,000 if no count is
 # given), each a pair with an authority and its profiles, all identities different. After them comes one of
-# 10,000 groups with two aspects each. `check` has to say yes. Beside it a `serde_json::Value` is made of the
-# same bytes, by the program of bench/json, which is proved and built first. The first failure ends the run
+# 10,000 groups with two aspects each. `check` has to answer yes. For comparison the program of bench/json, which
+# is proved and built first, makes a `serde_json::Value` of the same bytes. The first failure ends the run
 # with status 1. The rates are by processor time, which the load of the machine changes less than the time
-# elapsed. Where valgrind is there, it counts the instructions of `check` for each byte of 1,000 groups.
+# elapsed. If valgrind is there, it counts the instructions of `check` for each byte of 1,000 groups.
 # 100,000 groups take 44 MB of the temporary folder, which TMPDIR names, and `check` takes 45 MiB of memory.
 #
 # BALISECHECK names another program to measure.

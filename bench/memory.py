@@ -32,7 +32,7 @@ def program():
     """The program to measure."""
     found = subprocess.run([HERE.parent / "balisecheck"], env={**os.environ, "BALISECHECK_PATH": "1"}, text=True,
                            check=False, stdout=subprocess.PIPE).stdout.strip()
-    return os.environ.get("BALISECHECK") or found or sys.exit("no program is there")
+    return os.environ.get("BALISECHECK") or found or sys.exit("there is no program")
 
 
 def document(texts):

@@ -5,9 +5,9 @@
 # (100,000 and 1,000,000 if none is given) it reads the file that bench/messages.py writes, by blocks of
 # 64 KiB, cuts it into messages and decodes each. What it counts has to be what was put in. Then it feeds
 # the same file byte by byte, and decodes nothing. Rates are by the processor time that the program took,
-# which the load of the machine changes less than the time elapsed. The status is 1 if a count is another
-# one, if fewer than 500,000 messages or 20 MB of single bytes are done in a second, or if more than 4 MiB
-# of memory are taken. Where valgrind is there, it counts the instructions for each byte. The counts above take
+# which the load of the machine changes less than the time elapsed. The status is 1 if a count is
+# wrong, if fewer than 500,000 messages or 20 MB of single bytes are done in a second, or if more than 4 MiB
+# of memory are taken. If valgrind is there, it counts the instructions for each byte. The counts above take
 # 90 MB of the temporary folder, which TMPDIR names.
 set -euo pipefail
 

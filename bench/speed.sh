@@ -2,7 +2,7 @@
 # Measures the table of times in docs/performance.md: bench/speed.sh [GROUPS..]
 #
 # bench/documents.py writes documents of so many sound groups (100, 10,000 and 100,000 if no count is given). `check` has
-# to say yes, also where the keys of the document stand in the other order. `decode` then reads the telegrams of the
+# to answer yes, also if the keys of the document are in the other order. `decode` then reads the telegrams of the
 # document, two a group, and `encode` has to make the same telegrams of what it writes. The first failure ends the run
 # with status 1. Each command runs five times. A row has its least processor time, its least time elapsed, and its
 # greatest peak of memory, which is looked up every millisecond and so may be 0 of a run that is as short. A million

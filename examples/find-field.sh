@@ -1,15 +1,14 @@
 # shellcheck shell=bash
-# Functions for bash that find a refused field of a telegram, mend a text, and help in a pipe. docs/refusals.md says
-# what for; `balisekit show` names the refused field of each line of a file. Read them into a bash:
+# Functions for bash that find a refused field of a telegram, correct a text, and help in a pipe. docs/refusals.md
+# describes their use. `balisekit show` names the refused field of each line of a file. Read them into a bash:
 #
 #     . examples/find-field.sh
 #
-# Bits are counted from 0 and lines from 1. Where a line or a bit is not there, or a number is too great for its
-# bits, a function says so on standard error and ends with status 1. What has been written by then is no mended
-# file. A pad bit counts as a bit of the line. A text that was mended so is for finding the cause and for tests, never
-# for a balise.
+# Bits are counted from 0 and lines from 1. If the line or bit does not exist, or a number is too great for its bits, a
+# function reports this on standard error and ends with status 1. Its output is then incomplete. A pad bit counts as a bit
+# of the line. Use a text that was changed this way only to find the cause and for tests, never for a balise.
 
-# What the functions below share: bits of a line, and a word on standard error where there are none.
+# What the functions below share: bits of a line, and an error if there are none.
 # shellcheck disable=SC2016
 line_bits='
     function refuse(why) {
@@ -60,7 +59,7 @@ put_number() {
     { print }'
 }
 
-# move_zeros LINE: the input, with the zeros that stand before the telegram of this line put after it.
+# move_zeros LINE: the input, with the zeros in front of the telegram of this line moved behind it.
 move_zeros() {
     awk -v line="$1" "$line_bits"'
     NR == line {
@@ -76,7 +75,7 @@ move_zeros() {
     { print }'
 }
 
-# list_packets LINE: where the packets of this line of the input begin, as their L_PACKETs say.
+# list_packets LINE: where the packets of this line of the input begin by their L_PACKETs.
 list_packets() {
     awk -v line="$1" "$line_bits"'
     NR == line {

@@ -1,12 +1,12 @@
 # shellcheck shell=bash
 # Functions for bash that share work among processors by GNU parallel, and find with jq which identities documents share
 # (in Debian the packages `parallel` and `jq`). docs/performance.md says when to use them. tests/recipes.py runs the
-# commands below. Read the functions into a bash, in the folder of ./balisecheck:
+# commands below. Read the functions into a bash in the folder of ./balisecheck:
 #
 #     $ . examples/parallel.sh
 #
 # They run the program that BALISECHECK names, if that is exported, else ./balisecheck. In a clone this is faster for many
-# small documents, because ./balisecheck then looks at the sources once:
+# small documents, because ./balisecheck then hashes the sources only once:
 # export BALISECHECK=$(BALISECHECK_PATH=1 ./balisecheck)
 #
 # check_documents writes the report of each document, each line after the name of the document. In each document groups
@@ -31,9 +31,9 @@
 #     $ ./balisecheck decode < examples/pad-bits-set.txt | tail -n 1
 #     refused: line 3: pad bits set
 #
-# The answers are in the order of the file. With status 0 they are those of a single run, byte for byte. A refusal ends its
-# block: the lines after it in this block have no answer, and all other blocks have theirs. It counts lines from the
-# beginning of its block. There is little to gain, because parallel copies all that is read and written: with an earlier
+# The answers are in the order of the file. With status 0 the output equals a single run's, byte for byte. A refusal ends its
+# block: the lines after it in this block have no answer. All other blocks are answered. A refusal counts lines from
+# the beginning of its block. There is little to gain, because parallel copies all that is read and written: with an earlier
 # program, for 200,000 telegrams, parallel took 0.6 s and `decode` 0.4 s; with `encode` 1.3 s and 1.5 s. Its start takes
 # 0.2 s. Answers wait for their turn in the folder that TMPDIR names.
 #
@@ -49,7 +49,7 @@
 #   the answers cannot be written, as on a full disk                0                                 3
 
 # status_of_parts LOG COLUMN WHOLE PARALLEL CAT: ends with the greatest status in parallel's log. This column of the log
-# has to add up to the whole; column 0 counts its lines. The last two are the statuses of parallel and of cat behind it.
+# has to add up to the whole; column 0 counts its lines. The last two are the statuses of parallel and of the cat after it.
 status_of_parts() {
     [ "$4" -le 101 ] && [ "$5" -eq 0 ] || return 3
     awk -F '\t' -v column="$2" -v whole="$3" '
@@ -72,13 +72,13 @@ check_documents() (
 )
 
 # run_in_blocks SIZE FILE COMMAND WORD..: what the command writes for each block of whole lines of the file, in the order
-# of the file. A block has about so many bytes: 10M, say.
+# of the file. SIZE is about the size of a block in bytes, such as 10M.
 run_in_blocks() (
     [ $# -gt 2 ] || { echo 'run_in_blocks SIZE FILE COMMAND WORD..' >&2; exit 3; }
     size=$1 file=$2
     shift 2
     bytes=$(wc -c <"$file") && log=$(mktemp) && trap 'rm -f "$log"' EXIT || exit 3
-    # What a refused block leaves is read too. Else parallel cannot hand it over, and logs a signal in place of status 2.
+    # What a refused block leaves is read too. Else parallel cannot hand it over, and logs a signal instead of status 2.
     parallel --pipe --block "$size" -k --joblog "$log" "$*; ended=\$?; cat >/dev/null; exit \$ended" <"$file" | cat
     status_of_parts "$log" 5 "$bytes" "${PIPESTATUS[@]}"
 )

@@ -33,9 +33,9 @@ advancecomp           advzip                 a release
 python3-venv          python:ensurepip       a release
 END
 )
-# By itself, since it is great, and not to be had everywhere.
+# Installed separately: it is large, and some distributions lack it.
 browser='chromium chromium tests in a browser'
-# Not to be had from Debian.
+# Debian does not have it.
 toolchain='toolchain rt edits-test and library calls with refused memory'
 
 # Debian's Python has Debian's packages, whatever comes first on the path.
@@ -84,7 +84,7 @@ install() {
     command=$(to_install "$1")
     may_install || { echo "to try everything: $command"; return; }
     echo "== ${command#sudo }"
-    # (its words are parted here)
+    # (unquoted, to split its words)
     DEBIAN_FRONTEND=noninteractive timeout 600 ${command#sudo } -y >"$room/installed" 2>&1 ||
         { tail -n 3 "$room/installed"; echo 'not installed: what needs them is left out'; }
 }

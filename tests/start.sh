@@ -107,7 +107,7 @@ changed() {
     begin
     is_built
     (cd "$tree" && "$@")
-    answers_none "$name" 'out/balisecheck is of other sources; dist/x86_64-linux/balisecheck is of other sources; run ./build'
+    answers_none "$name" 'out/balisecheck was built from other sources; dist/x86_64-linux/balisecheck was built from other sources; run ./build'
 }
 
 takes_no_other_sources() {
@@ -145,9 +145,9 @@ half_built() {
 takes_no_damaged_one() {
     local dist=dist/x86_64-linux
     spoilt 'a damaged stored program' "$dist/balisecheck is damaged" sh -c "echo '# more' >>$dist/balisecheck"
-    spoilt 'no papers' "$dist/balisecheck is of other sources" rm "$dist/ABOUT"
+    spoilt 'no papers' "$dist/balisecheck was built from other sources" rm "$dist/ABOUT"
     spoilt 'no program' "out/balisecheck is not there; $dist/balisecheck is not there" rm -r "$dist"
-    spoilt 'one without its mode' "$dist/balisecheck lost its mode when it was unpacked: chmod +x it, balisecheck and balisekit" \
+    spoilt 'one without its mode' "$dist/balisecheck is not executable: chmod +x it, balisecheck and balisekit" \
         chmod -x "$dist/balisecheck"
     begin
     chmod -R -x+X "$tree"
@@ -184,7 +184,7 @@ writes_nothing() {
     local number other
     begin
     mv "$bare/sha256sum" "$room/sha256sum"
-    holds 'no sha256sum' "$(answers 3 '' 'balisecheck: not built: the sources cannot be summed up')"
+    holds 'no sha256sum' "$(answers 3 '' 'balisecheck: not built: the sources cannot be hashed')"
     mv "$room/sha256sum" "$bare/sha256sum"
     echo 'no folder' >"$tree/out"
     answers_by 'out/ is a file' stored
@@ -197,7 +197,7 @@ writes_nothing() {
     answers_by 'a checkout that cannot be written' stored "${other[@]}" "$tree/balisecheck"
     chmod a-r "$tree/crates/etcs_low/src/lib.rt"
     holds 'a source that cannot be read' \
-        "$(answers 3 '' 'balisecheck: not built: the sources cannot be summed up' "${other[@]}" "$tree/balisecheck")"
+        "$(answers 3 '' 'balisecheck: not built: the sources cannot be hashed' "${other[@]}" "$tree/balisecheck")"
     begin
     for number in {1..12}; do
         (PATH=$bare "$tree/balisecheck" decode <<<a1 >"$room/many.$number" 2>&1; echo "$?" >>"$room/many.$number") &
@@ -256,11 +256,11 @@ keeps_the_old() {
 
 builds_in_trouble() {
     begin; is_built; toolchain 'echo "the lines of a refused proof"; exit 1'
-    keeps_the_old 'a proof that is refused' 3 'balisecheck: not built: the lines above end out/build.log'
+    keeps_the_old 'a proof that is refused' 3 'balisecheck: not built: the lines above are the end of out/build.log'
     begin; is_built; toolchain 'read -r build <'"$room/build"'; kill -TERM "$build"; sleep 1'
     keeps_the_old 'an interruption' 3 'balisecheck: not built: interrupted'
     begin; is_built; toolchain 'echo "//" >>crates/etcs_low/src/lib.rt; cp out/ABOUT old'
-    holds 'a source saved meanwhile' "$(builds 3 'a source was saved meanwhile'; diff "$tree/old" "$tree/out/ABOUT"; grep -q 'echo "built' "$tree/out/balisecheck" || echo 'another program stands in out/')"
+    holds 'a source saved meanwhile' "$(builds 3 'a source changed meanwhile'; diff "$tree/old" "$tree/out/ABOUT"; grep -q 'echo "built' "$tree/out/balisecheck" || echo 'another program stands in out/')"
     begin; toolchain; echo 'no folder' >"$tree/out"
     holds 'out/ is a file, for a build' "$(builds 3 'balisecheck: not built: out/ cannot be written'; answers 0 $'stored a1\n' '')"
     begin; toolchain; mkdir "$tree/out"; ln -s /dev/full "$tree/out/part"
@@ -299,8 +299,8 @@ installs() {
     begin
     touch "$room/file"
     holds 'what to do if a folder cannot be written' "$(PATH=$bare "$tree/install.sh" "$room/file" >"$room/stdout" 2>&1 && echo 'status 0'
-        grep -qF "install: not installed, since $room/file/bin cannot be written" "$room/stdout" || cat "$room/stdout"
-        tail -n 1 "$room/stdout" | diff <(echo 'install: to install for yourself alone: ./install.sh ~/.local') -)"
+        grep -qF "install: not installed, because $room/file/bin cannot be written" "$room/stdout" || cat "$room/stdout"
+        tail -n 1 "$room/stdout" | diff <(echo 'install: to install only for yourself: ./install.sh ~/.local') -)"
 }
 
 mkdir "$bare"

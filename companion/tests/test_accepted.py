@@ -120,7 +120,7 @@ def test_an_unused_entry_is_no_success(run: Run, table: Write) -> None:
     file = table(HEADING, entry(), entry(rule="F1", balise="0"), name="accepted.csv")
     status, out, _ = run("check", twice(table), "--accepted", file)
     assert status == 1 and out[-3:] == [
-        f"{file}: row 3: unused: no finding is as it says",
+        f"{file}: row 3: unused: it matches no finding",
         'program: "no: findings 1"',
         "findings 1: accepted 1, open 0; entries at fault 1",
     ]
@@ -207,7 +207,7 @@ def test_messages_are_named(run: Run, table: Write) -> None:
         ([], "row 1: no column rule"),
         (["rule,reason"], "row 1: no column nid_c"),
         ([HEADING + ",untill"], "row 1: there is no column untill"),
-        ([HEADING + ",who"], "row 1: the heading who stands"),
+        ([HEADING + ",who"], "row 1: two columns have the heading who"),
         ([HEADING, entry(rule="F17")], f"row 2, column rule: F17 is {NO_RULE}"),
         ([HEADING, entry(rule="")], f"row 2, column rule: nothing is {NO_RULE}"),
         ([HEADING, entry(nid_bg="x")], "row 2, column nid_bg: x is no whole number"),
@@ -219,7 +219,7 @@ def test_messages_are_named(run: Run, table: Write) -> None:
         ),
         ([HEADING, entry(until="2026-02-30")], "row 2, column until: 2026-02-30 is no date"),
         ([HEADING, entry() + ",more,still"], "row 2: it has 15 cells, and the heading 13"),
-        ([HEADING, entry(reason="a\nb")], "row 2, column reason: a line end stands in the cell"),
+        ([HEADING, entry(reason="a\nb")], "row 2, column reason: the cell contains a line end"),
         ([HEADING, '"open'], "row 2: a quote is not closed"),
     ],
 )

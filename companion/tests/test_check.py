@@ -83,7 +83,7 @@ def test_messages(run: Run, table: Write) -> None:
         "message of line 2  cut: L_MESSAGE is 18, but the message has 17 bytes",
         "    program: length at 8 end 18",
     ]
-    assert "message of line 3: NID_MESSAGE is 4; 3 and 136 are read" in out
+    assert "message of line 3: NID_MESSAGE is 4: only 3 and 136 are read" in out
     odd = "it has 35 digits, an odd number: a digit is missing, or one too many; a message 3 begins with 03"
     assert f"message of line 4: {odd}" in out
     said = "no packet 21 (gradient profile) and no packet 27 (international static speed profile) with packet 15 ("
@@ -103,7 +103,7 @@ def test_by_position(run: Run, table: Write) -> None:
     assert (status, out[1:]) == (
         0,
         [
-            "note: balises are ordered by N_PIG, as --by-position says, which hides a wrong N_PIG",
+            "note: --by-position orders balises by N_PIG, which hides a wrong N_PIG",
             "aspects found: 1 in 1 group",
             'program: "yes: groups 1, messages 0"',
         ],
@@ -189,9 +189,9 @@ def test_a_remark_on_aspects_changes_no_yes(run: Run, table: Write) -> None:
     [
         (["A1,13.850", "A2,13.950"], []),
         (["A1,", "A2,13.950"], []),
-        (["A1,13.850", "A2,13.9501"], ['row 2 "A1" (km 13.850) and row 3 "A2" (km 13.9501) stand 100.1 m apart by km']),
-        (["A1,18.850", "A2,13.850"], ['row 2 "A1" (km 18.850) and row 3 "A2" (km 13.850) stand 5000 m apart by km']),
-        ([",-1", ",1"], ["row 2 (km -1.000) and row 3 (km 1.000) stand 2000 m apart by km"]),
+        (["A1,13.850", "A2,13.9501"], ['row 2 "A1" (km 13.850) and row 3 "A2" (km 13.9501) are 100.1 m apart by km']),
+        (["A1,18.850", "A2,13.850"], ['row 2 "A1" (km 18.850) and row 3 "A2" (km 13.850) are 5000 m apart by km']),
+        ([",-1", ",1"], ["row 2 (km -1.000) and row 3 (km 1.000) are 2000 m apart by km"]),
     ],
 )
 def test_balises_far_apart(run: Run, table: Write, tmp_path: Path, rows: List[str], said: List[str]) -> None:
@@ -220,7 +220,7 @@ def test_balises_far_apart(run: Run, table: Write, tmp_path: Path, rows: List[st
         ("O" + ALONE[1:], 'character 1 is "O", no hexadecimal digit', "not hexadecimal"),
         ("\u0430" + ALONE[1:], 'character 1 is "\u0430" (U+0430), no hexadecimal digit', "not hexadecimal"),
         (ALONE[:-1] + "1", "the last 6 bits are not all 0: the text has to end with zeros", "pad bits set"),
-        ("90" + ALONE[2:], "M_VERSION is 16 (1.0); 32 (2.0) and 33 (2.1) are read", "version at 1 end 8"),
+        ("90" + ALONE[2:], "M_VERSION is 16 (1.0): only 32 (2.0) and 33 (2.1) are read", "version at 1 end 8"),
         ("a180" + ALONE[4:], "Q_MEDIA is 1: it is for a loop, not for a balise", "loop at 8 end 9"),
         ("2" + ALONE[1:], "Q_UPDOWN is 0: it goes from train to track", "down-link at 0 end 1"),
         (SPARE, "M_DUP is 3, which is spare", "spare at 15 end 17"),
@@ -236,7 +236,7 @@ def test_balises_far_apart(run: Run, table: Write, tmp_path: Path, rows: List[st
         ),
         (
             "a1007f802000cb2050".ljust(54, "0"),
-            "no packet 255 behind packet 44: the packets end at bit 210",
+            "no packet 255 after packet 44: the packets end at bit 210",
             "no end at 210 end 210",
         ),
         (
@@ -400,7 +400,7 @@ def test_after_too_many_refused_messages(
     path = table(*SOUND)
     radio = table(MESSAGE, *["0304"] * 3, MESSAGE, "0304", name="messages.txt")
     status, out, _ = run("check", path, "--messages", radio, "--json", tmp_path / "out.json")
-    assert status == 2 and "and 2 messages not looked at: --all goes on" in out
+    assert status == 2 and "and 2 messages not looked at: --all continues" in out
     assert out[-1] == (
         "INCOMPLETE: 0 of 3 telegrams refused, 3 of 6 messages refused, 0 of 2 groups left out, "
         "2 messages not looked at; findings in the rest: 2"
@@ -408,7 +408,7 @@ def test_after_too_many_refused_messages(
     assert json.loads((tmp_path / "out.json").read_text())["counts"]["messages_not_looked_at"] == 2
     assert "4 of 6 messages refused" in run("check", path, "--messages", radio, "--all")[1][-1]
     status, out, _ = run("show", "--messages", radio)
-    assert status == 2 and "and 2 messages not looked at: --all goes on" in out
+    assert status == 2 and "and 2 messages not looked at: --all continues" in out
     assert "not looked at" not in "".join(run("show", "--messages", radio, "--all")[1])
 
 

@@ -80,7 +80,7 @@ def test_a_case_for_each_group_and_message(run: Run, table: Write, tmp_path: Pat
     assert whole["C"].message == "1 open: F14 group 2: identity used before"
     assert "    program: F14 group 2: identity used before" in whole["C"].text
     assert whole["D"].message == "left out: refused: row 5" and "M_DUP is 3" in whole["D"].text
-    assert whole["row 3"].message == "unused: no finding is as it says"
+    assert whole["row 3"].message == "unused: it matches no finding"
     said = (tmp_path / "out.xml").read_text("utf-8")
     assert "balisekit is not proved; the program's own lines" in said and "INCOMPLETE: " in said
 

@@ -221,7 +221,7 @@ def test_a_list_that_grew_shows_its_new_item() -> None:
     assert said[1] == "packet 0 (linking, nominal)  link 2  D_LINK 1600 m [1600] -> 400 m [400]"
     said = changes(new, old)
     assert len(said) == 2
-    assert said[0].startswith("packet 0 (linking, nominal)  link 1 of the old one  removed: D_LINK 1200 m")
+    assert said[0].startswith("packet 0 (linking, nominal)  link 1 of the old release  removed: D_LINK 1200 m")
 
 
 def test_units_and_scales() -> None:
@@ -250,7 +250,7 @@ def test_packets_are_paired_by_number_direction_and_order() -> None:
     one, two, three = ({"nid_packet": 68, "q_dir": 1, "l_packet": 31, "body": body} for body in ("00", "7f", "55"))
     said = changes([one, two, three], [two, three])
     assert [change.split("  ")[0] for change in said] == [
-        "packet 0 of the old one (track condition, balisekit's own layout)"
+        "packet 0 of the old release (track condition, balisekit's own layout)"
     ]
     cover = {"nid_packet": 0, "nid_vbcmk": 1}
     assert changes([one, cover], [cover, one]) == ["the packets stand in another order"]

@@ -158,7 +158,7 @@ def test_one_file_accepts_both(run: Run, program: Program, tmp_path: Path) -> No
     assert status == 1 and out[-1] == "findings 1, links 1: accepted 1, open 1"
     entries(file, *({**row, **SIGNED} for row in rows), {**rows[1], **SIGNED, "rule": "L2"})
     status, out, _ = run("check", path, "--accepted", file)
-    assert status == 1 and f"{file}: row 4: unused: no finding is as it says" in out
+    assert status == 1 and f"{file}: row 4: unused: it matches no finding" in out
 
 
 @pytest.mark.parametrize("name", sorted(link_tables.FAULTS))

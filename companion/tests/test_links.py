@@ -467,9 +467,9 @@ def test_notes_on_groups() -> None:
     notes = compare(one).notes
     assert found(one) == [] and [note.split(": ", 1)[1][:36] for note in notes] == [
         "its direction along the kilometres i",
-        "it has no kilometre: L2 and L9 are n",
+        "it has no kilometre: L2 and L9 do no",
         "no telegram of it could be read, so ",
-        "B has its identity too, and links ar",
+        "links to its identity count for B, w",
     ]
 
 
@@ -687,7 +687,7 @@ def test_links_that_disagree_give_no_direction() -> None:
     some = [*linked(link_tables.link(1000, 2, 1)), *linked(link_tables.link(2000, 2, 0), name="C", km="3")]
     one = line_with(*some, (group("B", "1"), [header(2)]))
     assert [(each.rising, each.by_links, each.links_differ) for each in one.groups][2] == (None, False, True)
-    assert any("is not known, as the links that name it disagree: L3" in note for note in compare(one).notes)
+    assert any("is not known, because the links that name it disagree: L3" in note for note in compare(one).notes)
     assert with_directions(one.table_groups, one.forms)[1] == []
 
 

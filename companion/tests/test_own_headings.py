@@ -87,9 +87,9 @@ def test_the_line_that_a_refusal_gives_is_toml(table: Write, heading: str, cells
     "text, said",
     [
         ("group = ", "it is no TOML, with lines such as telegram = "),
-        ("grup = 'x'", '[columns] names a column grup, which is none: did you mean "group"?'),
-        ("signal = 'x'", "[columns] names a column signal, which is none: the columns are group, telegram, name, km, "),
-        ("[expect]\nvalu = 'x'", '[expect] names a column valu, which is none: did you mean "value"?'),
+        ("grup = 'x'", '[columns] names an unknown column grup: did you mean "group"?'),
+        ("signal = 'x'", "[columns] names an unknown column signal: the columns are group, telegram, name, km, "),
+        ("[expect]\nvalu = 'x'", '[expect] names an unknown column valu: did you mean "value"?'),
         ("group = 7", 'the heading of group is no text: write group = "..."'),
         ("group = ' '", 'the heading of group is no text: write group = "..."'),
         ("columns = 'x'", "columns is no table: write [columns], and a line for each heading below it"),
@@ -217,4 +217,4 @@ class TestWorkbooks:
 
     def test_a_csv_has_no_merged_cells(self, table: Write) -> None:
         path = table("group,telegram", f"A,{ALONE}")
-        assert refusal(path, fill_merged=True).startswith("table.csv: --fill-merged is for an .xlsx, and this is none")
+        assert refusal(path, fill_merged=True).startswith("table.csv: --fill-merged is only for .xlsx files")

@@ -114,7 +114,7 @@ def stand(tmp_path: Path) -> Stand:
         ("kill -9 $$", "killed by signal 9"),
         ("echo 'refused: usage is balisecheck check'; exit 2", "refused: usage is"),
         ("echo 'refused: line 2: wrong size'; exit 2", "refused: line 2: wrong size"),
-        (f"echo 'refused: line 1: wrong size'; echo '{RECORD}'; exit 2", "a line stands behind a refusal"),
+        (f"echo 'refused: line 1: wrong size'; echo '{RECORD}'; exit 2", "a line follows a refusal"),
         ("echo 'refused: line 1: wrong size'; exit 0", "status 0"),
         (
             f"echo '{RECORD}'; echo '{RECORD}'; echo 'refused: line 3: wrong size'; exit 2",

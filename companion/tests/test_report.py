@@ -158,7 +158,7 @@ def test_the_cover_says_how_balises_are_ordered(tmp_path: Path) -> None:
     path = _table(tmp_path / "t.csv", {"group": "A", "telegram": SECOND}, {"group": "A", "telegram": FIRST})
     for words, status in (((), 1), (("--by-position",), 0)):
         found, page = _report(path, tmp_path / "report.html", *words)
-        assert found == status and ("ordered by N_PIG, as --by-position says" in page) == bool(words)
+        assert found == status and ("--by-position orders balises by N_PIG" in page) == bool(words)
 
 
 def test_a_page_on_standard_output(

@@ -288,7 +288,7 @@ def test_the_heading_is_that_of_the_project(run: Run, line: Path) -> None:
 @pytest.mark.parametrize(
     "toml, why",
     [
-        ('[report]\nprojekt = "x"', '[report] has a key projekt, which is none: did you mean "project"?'),
+        ('[report]\nprojekt = "x"', '[report] has an unknown key projekt: did you mean "project"?'),
         ("[report]\nrevision = 3", '[report] revision is no text: write revision = "..."'),
         ('[report]\nproject = [""]', "[report] project is no text"),
         ('[report]\nsignatures = "a"', '[report] signatures is no text: write signatures = ["prepared", "verified"]'),

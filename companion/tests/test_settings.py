@@ -32,8 +32,8 @@ def test_a_project_states_its_line_once(run: Run, program: Program, tmp_path: Pa
 @pytest.mark.parametrize(
     "toml, why",
     [
-        ("[check]\nspeed = 1", "[check] has a key speed, which is none: the keys are line_speed, release_speed, "),
-        ("[check]\nline_sped = 1", '[check] has a key line_sped, which is none: did you mean "line_speed"?'),
+        ("[check]\nspeed = 1", "[check] has an unknown key speed: the keys are line_speed, release_speed, "),
+        ("[check]\nline_sped = 1", '[check] has an unknown key line_sped: did you mean "line_speed"?'),
         ("[check]\nline_speed = 900", "[check] line_speed: 900 is no speed in km/h from 1 to 600"),
         ("[check]\nline_speed = true", "[check] line_speed: True is no speed in km/h from 1 to 600"),
         ("[check]\ntolerance = 'x'", "[check] tolerance: x is no number of metres: write 5 or 2.5"),

@@ -229,7 +229,7 @@ def test_show_stops_after_too_many_refused(
     assert cli.main(["show", str(table), *words]) == 2
     said = capsys.readouterr().out
     assert said.count("    program: spare at 15 end 17\n") == (5 if words else 3)
-    assert ("\nand 2 rows not looked at: --all goes on\n" in said) == (not words)
+    assert ("\nand 2 rows not looked at: --all continues\n" in said) == (not words)
     _input(monkeypatch, f"{SPARE}\n".encode() * 7)
     assert cli.main(["show", *words]) == 2
-    assert ("\nand 4 lines not looked at: --all goes on\n" in capsys.readouterr().out) == (not words)
+    assert ("\nand 4 lines not looked at: --all continues\n" in capsys.readouterr().out) == (not words)

@@ -136,13 +136,13 @@ H = "group,telegram"
 BAD: Sequence[Any] = [
     ([], "the table is empty: it needs a row with the headings group and telegram"),
     (["", ","], "the table is empty: it needs a row with the headings group and telegram"),
-    (["", H], "the table has no row but its heading"),
+    (["", H], "the table has no row below its heading"),
     (
         [f"A,{ALONE}"],
-        "row 1: there is no heading, as the first row has a telegram: put a row with the names of the "
-        "columns above it, of which group and telegram are needed",
+        "row 1: there is no heading, because the first row has a telegram: put a row with the names of the "
+        "columns above it; group and telegram are needed",
     ),
-    ([f"A;A1;{ALONE.upper()}", f"A;A2;{ALONE}"], "row 1: there is no heading, as the first row has a telegram"),
+    ([f"A;A1;{ALONE.upper()}", f"A;A2;{ALONE}"], "row 1: there is no heading, because the first row has a telegram"),
     (
         ["Signal,Text", f"A,{ALONE}"],
         "row 1: no column group and no column telegram: the headings are Signal, Text; give --columns FILE, a text "
@@ -153,14 +153,14 @@ BAD: Sequence[Any] = [
         ["Line 7,,", "", "Signal,Text,km", f"A,{ALONE},1", f"B,{ALONE},2"],
         "row 3: no column group and no column telegram: the headings are Signal, Text, km; give --columns FILE",
     ),
-    (["group,telegram,Group", f"A,{ALONE},B"], "row 1: the heading group stands twice, in columns 1 and 3"),
-    ([H], "the table has no row but its heading"),
+    (["group,telegram,Group", f"A,{ALONE},B"], "row 1: columns 1 and 3 have one heading, group"),
+    ([H], "the table has no row below its heading"),
     ([H, f",{ALONE}"], "row 2, column group: no group; fill merged cells"),
     ([H, "A,"], "row 2, column telegram: empty, or a formula"),
     ([H, "A,9.00720E+52"], "row 2, column telegram: a number, not digits: the spreadsheet has changed it"),
     (
         [H, f"A,{ALONE}", f"b,{OTHER}", f"A,{OTHER}"],
-        'row 3, column group: "b" stands between rows 2, 4 of group "A": is it mistyped? If it is not, put the rows of '
+        'row 3, column group: "b" is between rows 2, 4 of group "A": is it mistyped? If it is not, put the rows of '
         'group "A" together',
     ),
     (
@@ -174,7 +174,7 @@ BAD: Sequence[Any] = [
             f"B,*,0,{FIRST}",
             f"B,x,1,{SECOND}",
         ],
-        'row 3, column group: "B" stands between rows 2, 5 of group "A": is it mistyped?',
+        'row 3, column group: "B" is between rows 2, 5 of group "A": is it mistyped?',
     ),
     ([H, *[f"A,{ALONE}"] * 9], 'row 10: group "A" has 9 balises, and at most 8 are possible'),
     (
@@ -196,11 +196,11 @@ BAD: Sequence[Any] = [
     ),
     (
         ["group,aspect,telegram", f"A,x,{ALONE}", f"A,,{ALONE}"],
-        "row 3, column aspect: empty beside named aspects: write *",
+        "row 3, column aspect: empty, but the group has named aspects: write *",
     ),
     (
         ["group,aspect,telegram", f"A,*,{ALONE}", f"A,,{ALONE}"],
-        "row 3, column aspect: empty beside named aspects: write *",
+        "row 3, column aspect: empty, but the group has named aspects: write *",
     ),
     (
         ["group,aspect,telegram", f"A,x,{ALONE}", f"A,*,{ALONE}", f"A,y,{ALONE}"],
@@ -244,7 +244,7 @@ BAD: Sequence[Any] = [
         ["group,aspect,km,telegram", f"A,*,1,{FIRST}", *[f"A,{one},1,{SECOND}" for one in "xyyz"]],
         'row 4: aspect "y" of group "A" has 3 balises (rows 2, 4, 5), and aspect "x" has 2 (rows 2, 3): a row',
     ),
-    (["group,balise,telegram", f"A,1,{ALONE}", f"A,,{ALONE}"], "row 3, column balise: empty beside numbered balises"),
+    (["group,balise,telegram", f"A,1,{ALONE}", f"A,,{ALONE}"], "row 3, column balise: empty, but the group has"),
     (["group,balise,telegram", f"A,1.5,{ALONE}"], "row 2, column balise: 1.5 is no whole number"),
     (
         ["group,balise,telegram", f"A,1,{FIRST}", f"A,A-2,{SECOND}"],
@@ -295,10 +295,10 @@ BAD: Sequence[Any] = [
     ),
     (["group,aspect,telegram", f"#BEZUG!,,{ALONE}"], "row 2, column group: #BEZUG! is an error of the spreadsheet"),
     (["group,aspect,telegram", f"A,#N/A,{ALONE}"], "row 2, column aspect: #N/A is an error of the spreadsheet"),
-    ([H, f'"A\nB",{ALONE}'], "row 2, column group: a line end stands in the cell"),
+    ([H, f'"A\nB",{ALONE}'], "row 2, column group: the cell contains a line end"),
     ([H, f'A,"{ALONE}'], "row 2: a quote is not closed"),
-    ([H, f'A,"{ALONE}"x'], "row 2: a quote stands inside a cell"),
-    ([H, f"A\0,{ALONE}"], "a NUL stands at character 17"),
+    ([H, f'A,"{ALONE}"x'], "row 2: a cell contains a quote"),
+    ([H, f"A\0,{ALONE}"], "character 17 is NUL"),
     ([H, f"A,{'a' * 100_001}"], "row 2: a cell has more than 100,000 characters"),
     ([H, f"{'a' * 2000},{ALONE}"], "row 2, column group: it has more than 1,000 characters"),
 ]
@@ -324,7 +324,7 @@ def test_several_faults_have_a_line_each(table: Write) -> None:
     [
         ("group,telegram".encode("utf-32"), "it is UTF-32: save it as UTF-8"),
         (b"group,telegram\nA\x81,00\n", "it is neither UTF-8 nor Windows-1252: byte 81 at 16: save it as UTF-8"),
-        (b"\xff\xfea", "it begins as UTF-16, and is none"),
+        (b"\xff\xfea", "it begins like UTF-16, but is not"),
         (b"\xd0\xcf\x11\xe0more", "it is an .xls, or protected by a password: save it as .xlsx or CSV"),
         (b"PK\x03\x04more", "it is cut short or damaged (File is not a zip file): copy it again, or save it as CSV"),
     ],
@@ -380,7 +380,7 @@ def test_aspects_that_lack_balises_have_a_line_each(table: Write) -> None:
     assert lines == [
         'row 3: balise "A2" of group "A" has no telegram for aspect "z" (rows 2, 6)',
         'row 4: balise "A3" of group "A" has no telegram for aspect "x" (rows 2, 3)',
-        "row 8, column aspect: empty beside named aspects",
+        "row 8, column aspect: empty, but the group has named aspects",
     ]
 
 
@@ -460,8 +460,8 @@ def test_a_name_that_all_balises_of_groups_share_has_one_hint(table: Write) -> N
             tables.read(str(table("group,aspect,name,telegram", *lines)))
         said = [line.split(": ", 1)[1] for line in raised.value.lines()]
         hint = (
-            'row 1, column name: in 2 groups all balises have one name, as "S A" in group "A": it tells no balise. '
-            "If it is that of a signal, give the column another heading, under which it is passed over"
+            'row 1, column name: in 2 groups all balises have one name, such as "S A" in group "A": it tells no '
+            "balise from another. If it names a signal, give the column another heading, under which it is passed over"
         )
         assert said[:1] == [hint] if hints else not any(line.startswith("row 1") for line in said)
         assert any(line.startswith("row 3, column ") for line in said)
@@ -472,7 +472,7 @@ def test_notes(table: Write) -> None:
         str(table("group,balise,telegram", f"Signal A,1,{ALONE}", f"signal  a,1,{OTHER}", f"signal  a,3,{OTHER}"))
     )
     assert read.notes == (
-        'groups "Signal A" and "signal  a" differ in case or blanks alone',
+        'groups "Signal A" and "signal  a" differ only in case or blanks',
         'group "signal  a": the balises are numbered 1, 3',
     )
     read = tables.read(str(table("group,aspect,balise,telegram", f"A,x,1,{ALONE}", f"A,y,2,{ALONE}")))

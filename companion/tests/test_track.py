@@ -176,8 +176,8 @@ def test_what_was_written(run: Run, table: Write, tmp_path: Path) -> None:
     status, out, err = run(*words, "--svg", tmp_path / "t.svg")
     assert status == 2 and out == [
         f"written: {tmp_path / 't.svg'}: 9 groups of the track, aspect \"yellow\"",
-        'a mark alone, no aspect "yellow": Infill of D',
-        "a mark alone, refused: Signal F",
+        'only a mark, no aspect "yellow": Infill of D',
+        "only a mark, refused: Signal F",
         "left out: 1 message, which --message draws",
     ]
     assert [line.split(": ")[1] for line in err] == [
@@ -205,7 +205,7 @@ def test_groups_that_are_left_out(run: Run, table: Write) -> None:
         0,
         [
             'written: standard output: 2 groups of track "0", each in the aspect with the farthest end of authority',
-            "a mark alone, the direction of its kilometres is not known: G0",
+            "only a mark, the direction of its kilometres is not known: G0",
             "left out, on another track: G2",
             "left out, no kilometre: G3, G4, G5, G6, G7 and 2 more",
         ],

@@ -133,7 +133,7 @@ def test_a_sheet_that_is_no_csv(table: Write, run: Run) -> None:
     path = table(content=b"group,variable\0raw", name="s.csv")
     assert run("table", LINE, "--expect", path)[::2] == (
         2,
-        [f"balisekit: {path}: a NUL stands at character 15: it is no table of text"],
+        [f"balisekit: {path}: character 15 is NUL: this is no text file"],
     )
 
 
@@ -151,7 +151,7 @@ def test_same() -> None:
         (["group,variable", "A,1"], "row 1: no column raw or value: it needs one of them"),
         (["group,variable,value", "A,,1"], "row 2, column variable: no variable"),
         (["group,variable,value", "A,D_LINK,#N/A"], "row 2, column value: #N/A is an error of the spreadsheet"),
-        (["group,variable,value"], "the sheet has no row but its heading"),
+        (["group,variable,value"], "the sheet has no row below its heading"),
     ],
 )
 def test_sheets_that_cannot_be_compared(table: Write, run: Run, lines: List[str], said: str) -> None:

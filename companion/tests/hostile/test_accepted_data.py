@@ -136,7 +136,7 @@ def test_what_a_star_accepts_is_counted(run: Run, table: Write, tmp_path: Path) 
     assert out[-2:] == ["findings 2: accepted 2 (1 by *), open 0", "no open findings or remarks; accepted by *: 1"]
     entries(file, {**one, "balise": "*", "sha256": ""}, *others)
     assert (
-        f"{file}: row 2: no sha256: that of the finding that it fits is {one['sha256']}"
+        f"{file}: row 2: no sha256: the sha256 of the finding that it fits is {one['sha256']}"
         in run("check", path, "--accepted", file)[1]
     )
 

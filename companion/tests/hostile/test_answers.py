@@ -191,7 +191,7 @@ def test_a_record_that_is_none(record: str, answers: Answers) -> None:
 @pytest.mark.parametrize("command", COMMANDS)
 @pytest.mark.parametrize("record", ["garbage", "{}", line(nid_c=None), line(packets=[{}])])
 def test_a_record_that_is_none_in_each_command(command: str, record: str, answers: Answers) -> None:
-    counted = "it has counted otherwise" if "--group" in command else ": decode: no record of a telegram: "
+    counted = "its counts are wrong" if "--group" in command else ": decode: no record of a telegram: "
     assert counted in answers(command, decoding(record))[0]
 
 

@@ -107,4 +107,4 @@ def test_many_notes_are_counted(program: Program, run: Run, table: Write) -> Non
     rows = chain_of_groups(program, 1, [""] * 40 + ["1"], by=1000)
     out = run("links", table(HEADING, *rows))[1]
     notes = [line for line in out if line.startswith("note: ") and "no kilometre" in line]
-    assert len(notes) == 21 and notes[-1] == "note: and 20 more: it has no kilometre: L2 and L9 are not looked for"
+    assert len(notes) == 21 and notes[-1] == "note: and 20 more: it has no kilometre: L2 and L9 do not look at it"

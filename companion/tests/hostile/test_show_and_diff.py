@@ -26,7 +26,7 @@ BOTH_WAYS = {**GRADIENTS, "q_dir": 2}
 INFILL: Form = {"nid_packet": 136, "q_dir": 1, "l_packet": 38, "body": "00ca"}
 OWN = "reaches 1000 m, km 11.000"
 ELSEWHERE = "infill: counted from the group of packet 136; reaches 1000 m"
-UNREAD = "counted from this group, or from that of a packet 136 in a telegram that is not read; reaches 1000 m"
+UNREAD = "counted from this group, or from the group of a packet 136 in a telegram that is not read; reaches 1000 m"
 
 
 def packets(position: int, counter: int, *forms: Form) -> Form:
@@ -156,11 +156,11 @@ BROKEN: List[Tuple[Any, str]] = [
         {"balises": [OTHER], "aspects": [{"balises": [ALONE]}]},
         "/groups/0 has the keys balises, aspects, and aspects stands",
     ),
-    ({"balises": [ALONE], "x": 1}, "/groups/0 has the keys balises, x, and balises stands alone in a document"),
+    ({"balises": [ALONE], "x": 1}, "/groups/0 has the keys balises, x, and balises has to be the only key"),
     ({"aspects": [{"balises": [ALONE], "x": 1}]}, "/groups/0/aspects/0 has the keys balises, x, and balises stands"),
     ({"aspects": []}, "/groups/0: each aspect has equally many balises, one to 8"),
     ({"balises": [ALONE] * 9}, "/groups/0: each aspect has equally many balises, one to 8"),
-    ({"balises": ["zz"], "x": 1}, "/groups/0 has the keys balises, x, and balises stands alone in a document"),
+    ({"balises": ["zz"], "x": 1}, "/groups/0 has the keys balises, x, and balises has to be the only key"),
 ]
 """Groups of a document that the program refuses."""
 ENCODED = "or with a byte order mark: save it as UTF-8 without one"
@@ -292,7 +292,7 @@ def test_show_by_position(run: Run, table: Write) -> None:
         'row 2  S  balise "X" (N_PIG 1)',
         'row 3  S  balise "Y" (N_PIG 0)',
     ]
-    assert "note: balises are ordered by N_PIG, as --by-position says, which hides a wrong N_PIG" in out
+    assert "note: --by-position orders balises by N_PIG, which hides a wrong N_PIG" in out
     assert [line for line in run("show", path)[1] if line.startswith("row ")] == [
         'row 2  S  balise "X" (N_PIG 1)',
         'row 3  S  balise "Y" (N_PIG 0)',
@@ -343,7 +343,7 @@ def test_show_says_last_that_something_was_refused(
 def test_empty_standard_input(run: Run, monkeypatch: pytest.MonkeyPatch, content: bytes) -> None:
     """It is no answer that all is well."""
     standard_input(monkeypatch, content)
-    why = "balisekit: standard input has no telegram: it holds one a line; or name a TABLE, or --messages"
+    why = "balisekit: standard input has no telegram: write one per line, or name a TABLE or --messages"
     assert run("show") == (2, [], [why])
 
 

@@ -102,7 +102,7 @@ def test_many_aspects(table: Write) -> None:
 UNREADABLE: List[Tuple[bytes, str]] = [
     (b"", "the table is empty: it needs a row with the headings group and telegram"),
     (b"\n\n", "the table is empty: it needs a row with the headings group and telegram"),
-    (b"\ngroup,telegram\n\n", "the table has no row but its heading"),
+    (b"\ngroup,telegram\n\n", "the table has no row below its heading"),
     (
         b"group,tele\xe2\x80\x8bgram\nA,00\n",
         "row 1: no column telegram: the headings are group, tele\\u200bgram; give --columns FILE, a text file with the "
@@ -123,7 +123,7 @@ def test_texts(run: Run, tmp_path: Path, content: bytes, wanted: str) -> None:
 def test_messages_without_a_message(run: Run, table: Write, content: str) -> None:
     """As a table without a row, they are no input at all."""
     path, file = table("group,telegram", f"A,{ALONE}"), table(content, name="m.txt")
-    why = "the file has no message: hexadecimal digits in a line, and a name behind ;"
+    why = "the file has no message: write one per line in hexadecimal digits, with its name after ;"
     for command in ("check", "show", "links"):
         assert run(command, path, "--messages", file) == (2, [], [f"balisekit: {file}: {why}"])
     assert len(messages.read(str(table(MESSAGE, name="m.txt"))).messages) == 1

@@ -30,7 +30,7 @@ def add_options(parser: argparse.ArgumentParser) -> None:
     settings.add_options(parser)
     proposal = "write entries for what is open, to be signed, into a new file"
     parser.add_argument("--propose", **shared.output_file(proposal, always_new=True))
-    parser.add_argument("--junit", **shared.output_file("write a case for each group and message as JUnit does"))
+    parser.add_argument("--junit", **shared.output_file("write JUnit, with a case for each group and message"))
     parser.add_argument("--sarif", **shared.output_file("write SARIF 2.1.0, so that code hosts show what was found"))
     parser.add_argument("--xlsx", **shared.output_file("write a sheet with a row for each entry"))
     shared.add(parser, "--json")

@@ -24,11 +24,11 @@ def add_options(parser: argparse.ArgumentParser) -> None:
     for side in ("old", "new"):
         text = "a table, or a document of a line as --document writes it"
         parser.add_argument(side, **shared.input_file(text, side.upper()))
-        parser.add_argument(f"--{side}-messages", **shared.input_file(f"radio messages beside the {side} table"))
+        parser.add_argument(f"--{side}-messages", **shared.input_file(f"radio messages of the {side} release"))
     shared.add(parser, "--sheet", help="the sheet to read, in both .xlsx files")
     shared.add(parser, *shared.READING[1:])
     shared.add(parser, "--program", "--timeout")
-    parser.add_argument("--html", **shared.output_file("write the answer as one page of HTML"))
+    parser.add_argument("--html", **shared.output_file("write the comparison as one page of HTML"))
     shared.add(parser, "--json", "--force")
 
 
@@ -59,7 +59,7 @@ def _read(path: str, messages: Optional[str], how: Dict[str, Any]) -> Tuple[Tabl
     if not document_file.is_document(file.content):
         return tables.read(path, **how), messages_file.read(messages) if messages else None, None
     if messages:
-        raise TableError(f"{path}: a document has its messages itself: {messages} can't be beside it")
+        raise TableError(f"{path}: a document contains its messages: leave out {messages}")
     return (*document_file.read(file), file)
 
 

@@ -34,7 +34,7 @@ def add_options(parser: argparse.ArgumentParser) -> None:
     what = parser.add_mutually_exclusive_group(required=True)
     what.add_argument("--group", **shared.value("NAME", shared.name, "the group's name in the table"))
     what.add_argument("--message", metavar="LINE", type=int, help="the message in this line of the file of --messages")
-    track = "a whole track, in strips of 5 km; without NAME the only one, or the one without a name"
+    track = "a whole track, in strips of 5 km; without NAME the only track, or the track without a name"
     what.add_argument("--track", nargs="?", const=True, **shared.value("NAME", shared.name, track))
     text = "every group in each aspect, every track and message, into a folder that is new or empty"
     what.add_argument("--all", **shared.value("DIR", lambda path: OutputFolder(shared.name(path)), text))

@@ -19,7 +19,7 @@ from balisekit.tables.names import passed_over
 
 TABLE = "a CSV file or an .xlsx with the columns group and telegram"
 TIMEOUT = "how long to wait for each answer of the program; by default one minute, and longer for a large input"
-ASPECT = "the aspect of the groups that a track shows; by default the one with the farthest end of authority"
+ASPECT = "the aspect of the groups that a track shows; by default the aspect with the farthest end of authority"
 TOLERANCE = "the error to allow for in the kilometres of the table, in addition to Q_LOCACC; by default 0"
 EXACT = Decimal()
 """The tolerance without --tolerance."""
@@ -78,7 +78,7 @@ OPTIONS: Dict[str, Dict[str, Any]] = {
     "--explain": flag("show cause and remedy of each finding"),
     "--all": flag(checking.ALL_HELP),
     "--accepted": input_file("a CSV file of accepted entries, each with who accepted it"),
-    "--json": output_file("write the whole answer as JSON"),
+    "--json": output_file("write the complete result as JSON"),
     "--force": flag("let outputs replace existing files; an input is never replaced"),
     "--aspect": value("NAME", name, ASPECT),
     "--tolerance": {**value("METRES", tolerance, TOLERANCE), "default": EXACT},

@@ -48,7 +48,7 @@ def run(options: argparse.Namespace) -> int:
     for lines in shown.blocks():
         print("\n".join(lines), end="\n\n", flush=options.table is None)
     for count in shown.not_looked_at:
-        print(f"and {count}: --all goes on\n")
+        print(f"and {count}: --all continues\n")
     print(textwrap.fill(LEGEND, WIDTH))
     refused = [f"{count} of {shown.total[what]} {what} refused" for what, count in shown.refused.items() if count]
     if refused:

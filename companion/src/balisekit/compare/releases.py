@@ -24,7 +24,7 @@ BY_ORDER = (3, 14, 15, 16)
 """The rules whose findings depend on the order of groups or aspects: one is compared with an earlier one."""
 OTHER_ORDER = (
     "F3, F14, F15 and F16 depend on which group or aspect comes first: the new release was checked for them in the "
-    "order of the old release, with what is added last"
+    "order of the old release, with additions last"
 )
 
 

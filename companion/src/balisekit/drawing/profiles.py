@@ -162,7 +162,7 @@ class WayDrawing(NamedTuple):
         else:
             self._mark("endmark", "", profile.reach, lane)
         for element in profile.beyond:
-            title = f"behind the end mark: an element at {describe(element.begin)}"
+            title = f"after the end mark: an element at {describe(element.begin)}"
             self._mark("pale", title, element.begin, lane)
 
     def _level(self, speed: int, lane: Lane, top_speed: int) -> int:

@@ -97,7 +97,7 @@ def _stored(script: str) -> str:
     path = os.fsdecode(output.rstrip(b"\n"))
     if run.returncode != 0 or not os.path.isfile(path):
         said = errors.decode("utf-8", "backslashreplace").strip().split("\n")[-1]
-        raise NoAnswer(f"{script} names no program: {said or 'it says nothing'}")
+        raise NoAnswer(f"{script} names no program: {said or 'it prints nothing'}")
     return path
 
 

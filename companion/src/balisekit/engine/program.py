@@ -284,7 +284,7 @@ def _answers(run: Run, command: str, left: int) -> Iterator[Answer]:
     answer: Optional[Answer] = None
     for line in run.lines():
         if isinstance(answer, Refusal):
-            raise run.no_answer("a line stands behind a refusal")
+            raise run.no_answer("a line follows a refusal")
         if read == left:
             raise run.no_answer("it writes more lines than it was given")
         if answer is not None:

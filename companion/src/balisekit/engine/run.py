@@ -167,5 +167,5 @@ class Run:
         if self._waited >= self._limit.seconds:
             raise self.no_answer(f"it has not ended within {self._limit.seconds:g} s; --timeout SECONDS allows more")
         if self._limit.stop.is_set():
-            raise self.no_answer("it is ended here")
+            raise self.no_answer("balisekit ended it")
         return now

@@ -61,7 +61,7 @@ def differences(old: Form, new: Form) -> List[Change]:
         if was is None and now is not None:
             changes.append(_packet_alone(ADDED, f"packet {now}", new["packets"][now], after))
         elif now is None and was is not None:
-            changes.append(_packet_alone(REMOVED, f"packet {was} of the old one", old["packets"][was], before))
+            changes.append(_packet_alone(REMOVED, f"packet {was} of the old release", old["packets"][was], before))
         elif was is not None and now is not None:
             packet = new["packets"][now]
             label = f"packet {now} ({_packet_words(packet, after, DIRECTIONS.get(packet.get('q_dir', -1), ''))})"
@@ -149,7 +149,7 @@ def _list(
         elif now is not None:
             yield _part(f"{label} {now}", ADDED, now_items[now], after)
         elif was is not None:
-            yield _part(f"{label} {was} of the old one", REMOVED, was_items[was], before)
+            yield _part(f"{label} {was} of the old release", REMOVED, was_items[was], before)
 
 
 def _part(where: str, kind: str, form: Any, around: Around) -> Change:

@@ -17,7 +17,7 @@ Place = Callable[[int], str]
 """How a place of whole decimetres is written."""
 ORIGINS = {
     Origin.INFILL: "infill: counted from the group of packet 136",
-    Origin.UNREAD: "counted from this group, or from that of a packet 136 in a telegram that is not read",
+    Origin.UNREAD: "counted from this group, or from the group of a packet 136 in a telegram that is not read",
 }
 
 
@@ -149,7 +149,7 @@ def _profile_notes(packet: Form, place: Place) -> Notes:
     places = [place(at * unit) for at in accumulate(element[distance] for element in elements)]
     end = next((index for index, element in enumerate(elements) if element[value] == mark), len(elements))
     for index, where in enumerate(places):
-        behind = ", behind the end" if index > end else ""
+        behind = ", after the end" if index > end else ""
         yield f"/elements/{index}", f"{'at' if index == end else 'from'} {where}{behind}"
     yield "", f"reaches {places[end]}" if end < len(elements) else "no end mark: an open profile"
 

@@ -40,7 +40,7 @@ class OutputFolder:
 
     def _check(self, inputs: Sequence[str]) -> None:
         if self.path == "-":
-            raise TableError(f"pictures are files, and standard output is one alone: {NEW}")
+            raise TableError(f"several pictures cannot go to standard output: {NEW}")
         folder = self.target
         if os.path.isdir(folder):
             if os.listdir(folder):

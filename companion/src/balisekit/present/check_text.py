@@ -19,7 +19,7 @@ def opening_lines(checked: Checked) -> Iterator[str]:
     yield from (f"note: {clean(note)}" for note in table.notes)
     yield from refused_lines(checked)
     yield from (f"left out: {describe_group(one.group)}: {one.why}" for one in checked.left_out)
-    yield from (f"and {count}: --all goes on" for count in not_looked_at(checked))
+    yield from (f"and {count}: --all continues" for count in not_looked_at(checked))
 
 
 def head_line(table: Table) -> str:

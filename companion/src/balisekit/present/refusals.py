@@ -17,10 +17,10 @@ SENTENCES = {
     "short": "{name} needs {width} bits, and {left} are left: a count or length before it is too great, or the text is "
     "too small",
     "length": "{name} is {value}, but its fields have {fields} bits",
-    "version": "{name} is {value}{version}; 32 (2.0) and 33 (2.1) are read",
+    "version": "{name} is {value}{version}: only 32 (2.0) and 33 (2.1) are read",
     "loop": "{name} is {value}: it is for a loop, not for a balise",
     "down-link": "{name} is {value}: it goes from train to track",
-    "message kind": "{name} is {value}; 3 and 136 are read",
+    "message kind": "{name} is {value}: only 3 and 136 are read",
     "no authority": "message 3 has no packet 15: its packets end at bit {at}",
     "no report": "message 136 has no packet 0 or 1: its packets end at bit {at}",
 }
@@ -124,7 +124,7 @@ def _at_field(fields: Sequence[Field], refusal: Refusal, before_length: int) -> 
     at, end, why = refusal.at or 0, refusal.end or 0, refusal.why
     if why == "no end":
         packets = [field for field in fields if field.packet is not None and field.at < at]
-        last = f" behind packet {packets[-1].number}" if packets else ""
+        last = f" after packet {packets[-1].number}" if packets else ""
         return f"no packet 255{last}: the packets end at bit {at}"
     field = _field(fields, at)
     if field is None or why not in SENTENCES:

@@ -8,7 +8,7 @@ from balisekit.rules.checking import Checked
 from balisekit.rules.line import Line
 from balisekit.tables.names import clean, listed, quoted
 
-MARK_ALONE = "a mark alone"
+MARK_ALONE = "only a mark"
 NAMED = 5
 """So many groups, rows or lines are named."""
 

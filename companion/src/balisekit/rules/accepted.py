@@ -89,7 +89,7 @@ class Acceptance(NamedTuple):
             why = f"{self.rule} is not accepted by * as aspect, since no correct data gets it: name the aspect"
             return TableError(why, column="aspect")
         if self.is_wide and self.key[2] in ("", ANY) and self.until is None:
-            return TableError("an entry with * that names no identity needs a last day", column="until")
+            return TableError("an entry with * that names no identity needs a last day (until)", column="until")
         return None
 
     def faults(self, day: datetime.date) -> List[str]:
@@ -112,7 +112,7 @@ class Acceptance(NamedTuple):
         if self.sha256 == now:
             return []
         fitted = f"the {len(items)} findings" if len(items) > 1 else "the finding"
-        hint = f": that of {fitted} that it fits is {now}" if self.is_wide else ""
+        hint = f": the sha256 of {fitted} that it fits is {now}" if self.is_wide else ""
         if not self.sha256:
             return [f"no sha256{hint}"]
         what = "telegram has" if len(_texts(items[0])) == 1 else "telegrams have"
@@ -181,7 +181,7 @@ def _entries(rows: Sequence[Sequence[str]]) -> Tuple[Acceptance, ...]:
         if name and name not in COLUMNS:
             raise TableError(f"there is no column {name[:40]}: the columns are {', '.join(COLUMNS)}", row=1)
         if name and heading.count(name) > 1:
-            raise TableError(f"the heading {name} stands twice", row=1)
+            raise TableError(f"two columns have the heading {name}", row=1)
     missing = [name for name in NEEDED if name not in heading]
     if missing:
         raise TableError(f"no column {' and no column '.join(missing)}", row=1)
@@ -205,7 +205,7 @@ def _entry(number: int, heading: Sequence[str], cells: Sequence[str]) -> Accepta
     values = {name: found.get(name, "") for name in COLUMNS}
     for name, value in values.items():
         if "\n" in value or "\r" in value:
-            raise TableError("a line end stands in the cell", column=name)
+            raise TableError("the cell contains a line end", column=name)
     key = tuple(_value(name, values[name]) for name in FIELDS)
     if {"", ANY} & set(key[1:3]) and key[3] in ("", ANY):
         why = "an entry is about one group, by nid_c and nid_bg, or about one message, by its name"
@@ -359,7 +359,7 @@ def judge(
     faults: Dict[int, List[str]] = {}
     for entry in applied:
         fitted = fitting.get(entry.row)
-        why = entry.changed(fitted) if fitted else ["unused: no finding is as it says"]
+        why = entry.changed(fitted) if fitted else ["unused: it matches no finding"]
         faults[entry.row] = why + entry.faults(day)
     by_item = [next((entry for entry in fits if not faults[entry.row]), None) for fits in about]
     former = [next((entry for entry in fits if not entry.is_wide), None) for fits in about]

@@ -319,7 +319,7 @@ def _with(report: Report, readable: Checked) -> Checked:
     """The same with this report, and what the numbers of each finding stand for."""
     counts = (report.verdict.groups, report.verdict.messages)
     if report.verdict.yes and counts != (len(readable.kept), len(readable.accepted_messages)):
-        raise readable.program.no_answer("check", f"it has counted otherwise: {report.verdict.line}")
+        raise readable.program.no_answer("check", f"its counts are wrong: {report.verdict.line}")
     names = _Names(readable, report.findings)
     return replace(readable, verdict=report.verdict, findings=tuple(map(names.place, report.findings)))
 

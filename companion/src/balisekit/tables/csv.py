@@ -104,5 +104,5 @@ def _why(error: str) -> str:
     if "field limit" in error:
         return f"a cell has more than {GREATEST_CELL:,} characters"
     if "expected after" in error:
-        return "a quote stands inside a cell: double it, and put the cell in quotes"
+        return "a cell contains a quote: double it, and put the cell in quotes"
     return error

@@ -69,7 +69,7 @@ def _list(form: Any, key: str, path: str, alone: bool = False) -> List[Any]:
     if not isinstance(values, list):
         raise TableError(f"{path}/{key} is no list: it is no document of a line")
     if alone and len(form) > 1:
-        raise TableError(f"{path} has the keys {', '.join(form)[:100]}, and {key} stands alone in a document")
+        raise TableError(f"{path} has the keys {', '.join(form)[:100]}, and {key} has to be the only key")
     return values
 
 

@@ -21,7 +21,7 @@ def text_of(content: bytes) -> Tuple[str, str]:
         raise TableError("it is a workbook or another zip: save it as text, such as CSV")
     text, encoding = _decoded(content)
     if "\0" in text:
-        raise TableError(f"a NUL stands at character {text.index(chr(0)) + 1}: it is no table of text")
+        raise TableError(f"character {text.index(chr(0)) + 1} is NUL: this is no text file")
     return text, encoding
 
 
@@ -60,5 +60,5 @@ def _strict(content: bytes, encoding: str) -> str:
         return content.decode(encoding)
     except UnicodeDecodeError as error:
         byte = content[error.start]
-        known = "it is neither UTF-8 nor Windows-1252" if encoding == "cp1252" else "it begins as UTF-16, and is none"
+        known = "it is neither UTF-8 nor Windows-1252" if encoding == "cp1252" else "it begins like UTF-16, but is not"
         raise TableError(f"{known}: byte {byte:02x} at {error.start}: save it as UTF-8") from error

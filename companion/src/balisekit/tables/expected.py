@@ -58,7 +58,7 @@ class Expected:
         if faults:
             raise TableErrors(faults)
         if not row:
-            raise TableError("the sheet has no row but its heading")
+            raise TableError("the sheet has no row below its heading")
 
 
 def read(path: str, columns: Optional[str] = None) -> Expected:

@@ -75,8 +75,8 @@ def _shared_names(shared: Sequence[Sequence[Row]], heading: int) -> List[TableEr
     row = shared[0][0]
     return [
         TableError(
-            f'in {len(shared)} groups all balises have one name, as "{row.name}" in group "{row.group}": it '
-            "tells no balise. If it is that of a signal, give the column another heading, under which it is "
+            f'in {len(shared)} groups all balises have one name, such as "{row.name}" in group "{row.group}": it '
+            "tells no balise from another. If it names a signal, give the column another heading, under which it is "
             "passed over",
             row=heading,
             column="name",
@@ -104,7 +104,7 @@ def _blocks(rows: Sequence[Row]) -> Tuple[Dict[str, List[Row]], List[List[Row]],
             around = runs[place - 1][-1], runs[place + 1][0]
             torn.add(around[0].group)
             why = (
-                f'"{name}" stands between {_rows(around)} of group "{around[0].group}": is it mistyped? If it is not, '
+                f'"{name}" is between {_rows(around)} of group "{around[0].group}": is it mistyped? If it is not, '
                 f'put the rows of group "{around[0].group}" together'
             )
             faults.append(TableError(why, run[0].number, "group"))
@@ -132,7 +132,7 @@ def _alike(names: Iterable[str]) -> List[str]:
     for name in names:
         key = re.sub(r"\s+", " ", name).casefold()
         if key in seen:
-            notes.append(f'groups "{seen[key]}" and "{name}" differ in case or blanks alone')
+            notes.append(f'groups "{seen[key]}" and "{name}" differ only in case or blanks')
         seen.setdefault(key, name)
     return notes
 
@@ -197,7 +197,7 @@ def _members(block: List[Row]) -> Dict[str, List[Row]]:
     for row in block:
         members.setdefault(row.aspect, []).append(row)
     if "" in members and len(members) > 1:
-        why = f"empty beside named aspects: write {EVERY} for a telegram that is sent in every aspect"
+        why = f"empty, but the group has named aspects: write {EVERY} for a telegram that is sent in every aspect"
         raise TableError(why, members[""][0].number, "aspect")
     every = members.pop(EVERY, [])
     if not every:
@@ -240,7 +240,7 @@ def _order(rows: List[Row], notes: List[str]) -> Tuple[Row, ...]:
         return tuple(rows)
     if len(numbers) < len(rows):
         empty = next(row for row in rows if row.balise is None)
-        raise TableError("empty beside numbered balises", empty.number, "balise")
+        raise TableError("empty, but the group has numbered balises", empty.number, "balise")
     if numbers[-1] - numbers[0] + 1 != len(numbers):
         notes.append(f'group "{rows[0].group}": the balises are numbered {", ".join(map(str, numbers))}')
     return tuple(sorted(rows, key=attrgetter("balise")))

@@ -65,7 +65,7 @@ class Headings(NamedTuple):
         for at in places.values():
             if names.count(names[at]) > 1:
                 second = names.index(names[at], at + 1) + 1
-                raise TableError(f"the heading {shown(row[at])} stands twice, in columns {at + 1} and {second}", number)
+                raise TableError(f"columns {at + 1} and {second} have one heading, {shown(row[at])}", number)
         return places
 
     def _refusal(self, rows: Sequence[Sequence[str]], place: int) -> TableError:
@@ -73,8 +73,8 @@ class Headings(NamedTuple):
         row, missing = rows[place], self.missing(rows[place])
         if is_data(row) and "telegram" in self.needed:
             return TableError(
-                "there is no heading, as the first row has a telegram: put a row with the names of the "
-                f"columns above it, of which {' and '.join(self.needed)} are needed",
+                "there is no heading, because the first row has a telegram: put a row with the names of the "
+                f"columns above it; {' and '.join(self.needed)} are needed",
                 row=place + 1,
             )
         named = [f'{name} ("{self.own[name]}" by {self.source})' if name in self.own else name for name in missing]

@@ -33,5 +33,5 @@ def _messages(text: str) -> List[Message]:
     if faults:
         raise TableErrors(faults)
     if not messages:
-        raise TableError("the file has no message: hexadecimal digits in a line, and a name behind ;")
+        raise TableError("the file has no message: write one per line in hexadecimal digits, with its name after ;")
     return messages

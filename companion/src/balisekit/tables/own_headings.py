@@ -100,7 +100,7 @@ def _look_at_stated(table: str, stated: Any, keys: Sequence[str]) -> None:
         raise TableError(f"{table} is no table: write [{table}], and a line for each key below it")
     for name in stated:
         if name not in keys:
-            raise TableError(f"[{table}] has a key {name}, which is none: {_meant(name, keys, 'keys')}")
+            raise TableError(f"[{table}] has an unknown key {name}: {_meant(name, keys, 'keys')}")
 
 
 def _meant(name: str, known: Sequence[str], what: str) -> str:
@@ -117,7 +117,7 @@ def _look_at(table: str, headings: Any) -> None:
     for name, heading in headings.items():
         if name not in KNOWN[table]:
             hint = _meant(name, KNOWN[table], "columns")
-            raise TableError(f"[{table}] names a column {name}, which is none: {hint}")
+            raise TableError(f"[{table}] names an unknown column {name}: {hint}")
         if not isinstance(heading, str) or not heading.strip():
             raise TableError(f'the heading of {name} is no text: write {name} = "..."')
         key = " ".join(heading.split()).lower()

@@ -222,7 +222,7 @@ def _rows(sheet: Sheet, place: int, places: Mapping[str, int]) -> Tuple[PlanRow,
     if faults:
         raise TableErrors(faults)
     if not rows:
-        raise TableError("the plan has no row but its heading")
+        raise TableError("the plan has no row below its heading")
     return tuple(rows)
 
 
@@ -230,7 +230,7 @@ def _cell(name: str, cell: str) -> str:
     """The text of a cell."""
     text = plain(cell.strip())
     if "\n" in text or "\r" in text:
-        raise TableError("a line end stands in the cell", column=name)
+        raise TableError("the cell contains a line end", column=name)
     if ERROR.fullmatch(text):
         raise TableError(f"{text} is an error of the spreadsheet: its formula failed", column=name)
     if len(text) > GREATEST_NAME:
@@ -263,7 +263,7 @@ def _kilometres(kind: str, cells: Mapping[str, str]) -> Tuple[Decimal, Optional[
     if km_to is not None and kind not in (*STRETCHES, "jump"):
         raise TableError(f"{cells['km_to']}: a row of this kind has one kilometre only", column="km_to")
     if km_to is None and kind == "jump":
-        raise TableError("empty: a jump needs the kilometre behind it", column="km_to")
+        raise TableError("empty: a jump needs the kilometre after it", column="km_to")
     if km is not None and km_to is not None and (km_to == km or km_to < km and kind in STRETCHES):
         why = f"{kilometre(km_to)} is {'the same as' if km_to == km else 'before'} km {kilometre(km)}"
         raise TableError(why, column="km_to")

@@ -77,7 +77,7 @@ def terms(text: str) -> Terms:
         if key not in ASPECT_KEYS or not equals:
             raise TableError(f"{_shown(part)} is none of v=.., end=.., overlap=.. and release=..")
         if key in found:
-            raise TableError(f"{key} stands twice")
+            raise TableError(f"{key} is given twice")
         try:
             found[key] = ASPECT_KEYS[key](value)
         except TableError as fault:

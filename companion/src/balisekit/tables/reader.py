@@ -19,7 +19,7 @@ from balisekit.tables.model import Row, Table
 
 KM = re.compile(r"(?!-[0-9]+\+)(-?[0-9]{1,4})(?:[.,]([0-9]{1,6})|\+([0-9]{3})(?:[.,]([0-9]{1,3}))?)?")
 SCIENTIFIC = re.compile(r"[0-9]+[.,][0-9]+[eE]\+?[0-9]+|[0-9][eE]\+[0-9]+")
-BY_POSITION = "balises are ordered by N_PIG, as --by-position says, which hides a wrong N_PIG"
+BY_POSITION = "--by-position orders balises by N_PIG, which hides a wrong N_PIG"
 COMPARED = 1000
 """So many headings that are passed over are compared with the known ones."""
 ABSENT = -1
@@ -81,9 +81,9 @@ def sheet_of(content: bytes, headings: Headings, sheet: Optional[str] = None, fi
 
         return xlsx_file.read(content, sheet, headings, fill_merged)
     if sheet is not None:
-        raise TableError("--sheet is for an .xlsx, and this is none")
+        raise TableError("--sheet is only for .xlsx files")
     if fill_merged:
-        raise TableError("--fill-merged is for an .xlsx, and this is none: fill the cells, or name the .xlsx")
+        raise TableError("--fill-merged is only for .xlsx files: fill the cells, or name the .xlsx")
     return csv_file.read(content, headings)
 
 
@@ -164,7 +164,7 @@ def _rows(sheet: Sheet, place: int, places: Dict[str, int]) -> Tuple[Row, ...]:
     if faults:
         raise TableErrors(faults)
     if not rows:
-        raise TableError("the table has no row but its heading")
+        raise TableError("the table has no row below its heading")
     return tuple(rows)
 
 
@@ -194,7 +194,7 @@ class _Column(Dict[str, Any]):
 
     def _read(self, kind: str, text: str) -> object:
         if "\n" in text or "\r" in text:
-            raise TableError("a line end stands in the cell")
+            raise TableError("the cell contains a line end")
         if ERROR.fullmatch(text.strip()):
             raise TableError(f"{text.strip()} is an error of the spreadsheet: its formula failed")
         if self.name != "telegram" and len(text) > GREATEST_NAME:

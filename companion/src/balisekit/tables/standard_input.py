@@ -12,7 +12,7 @@ from balisekit.tables.cells import digits
 CHUNK = 1 << 20
 GREATEST_LINE = 100_000
 """In characters."""
-EMPTY = "standard input has no telegram: it holds one a line; or name a TABLE, or --messages"
+EMPTY = "standard input has no telegram: write one per line, or name a TABLE or --messages"
 
 
 def batches() -> Iterator[List[Tuple[int, str]]]:

@@ -256,7 +256,7 @@ def _areas(references: Sequence[str]) -> Tuple[Area, ...]:
             left, top, right, bottom = range_boundaries(reference)
             areas.append((int(left), int(top), int(right), int(bottom)))
         except (TypeError, ValueError) as error:
-            raise TableError(f"the merged range {reference[:40]} is none: save the workbook again") from error
+            raise TableError(f"the merged range {reference[:40]} is invalid: save the workbook again") from error
     return tuple(areas)
 
 

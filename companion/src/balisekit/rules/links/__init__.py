@@ -54,7 +54,7 @@ def _all(line: Line) -> Iterator[Note]:
             yield describe_group(group.group), why
         first = line.passages.by_identity.get(group.identity) if group.identity else None
         if first is not None and first.number != group.number:
-            why = f"{clean(first.group.name)} has its identity too, and links are taken for that one"
+            why = f"links to its identity count for {clean(first.group.name)}, which has it too"
             yield describe_group(group.group), why
     yield from ((str(chain.location), INFILL) for chain in line.passages.infill_chains)
     for chain in line.chains:
@@ -66,11 +66,11 @@ def _lacks(group: BaliseGroup) -> str:
     if group.identity is None:
         return "no telegram of it could be read, so its identity is not known: L1 may be about it"
     if group.km is None:
-        return "it has no kilometre: L2 and L9 are not looked for"
+        return "it has no kilometre: L2 and L9 do not look at it"
     if group.rising is None:
-        differ = ", as the links that name it disagree" if group.links_differ else ""
+        differ = ", because the links that name it disagree" if group.links_differ else ""
         return (
-            f"its direction along the kilometres is not known{differ}: L3 is not looked for, and L2 takes it from the "
-            "first link; write rising or falling in the column nominal"
+            f"its direction along the kilometres is not known{differ}: L3 does not look at it, and L2 takes "
+            "the direction from the first link; write rising or falling in the column nominal"
         )
     return BY_LINKS if group.by_links else ""

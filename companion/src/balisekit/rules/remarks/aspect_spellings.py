@@ -58,7 +58,7 @@ def _remark(groups: List[Group], name: str, usual: str, count: int) -> Remark:
     have = "has" if len(groups) == 1 else "have"
     sentence = (
         f"{who} {have} an aspect {quoted(name)}, and {count} groups with the same other aspects have {quoted(usual)}: "
-        "is it the same one?"
+        "is it the same aspect?"
     )
     return Remark(RULE.name, Location(row=groups[0].aspects[0].rows[0]), sentence)
 

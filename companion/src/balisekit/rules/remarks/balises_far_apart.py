@@ -38,7 +38,7 @@ def _look_at(group: Group) -> Optional[Remark]:
     if metres <= FAR:
         return None
     rows = sorted((places[low], places[high]), key=lambda row: row.number)
-    sentence = f"{clean(group.name)}: {' and '.join(map(_row, rows))} stand {metres.normalize():f} m apart by km"
+    sentence = f"{clean(group.name)}: {' and '.join(map(_row, rows))} are {metres.normalize():f} m apart by km"
     return Remark(RULE.name, Location(row=rows[0]), sentence, values={"metres": metres})
 
 

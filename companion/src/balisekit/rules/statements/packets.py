@@ -59,7 +59,7 @@ def _packet_differs(other: Balise, where: str, words: str, mine: Form, yours: Fo
 
 def _part(change: Change) -> str:
     """Where in its packet a difference is: "the first difference of the second element of "."""
-    parts = change.where.replace(" of the old one", "").split("  ") if change.where else []
+    parts = change.where.replace(" of the old release", "").split("  ") if change.where else []
     return "".join(f"the {_with_ordinal(part)} of " for part in reversed(parts))
 
 

@@ -151,7 +151,8 @@ class Placed:
         ends = [(row, km) for row in rows if row.track in tracks for km in (row.km, row.km_to) if km is not None]
         lost = [row.number for row, km in ends if self.place(row.track, km) is None]
         if lost:
-            yield f"{self.plan.path}: {rows_words(lost)}: not compared, as a jump leaves out or repeats the kilometre"
+            why = "not compared, because a jump leaves out or repeats the kilometre"
+            yield f"{self.plan.path}: {rows_words(lost)}: {why}"
 
     def km(self, passage: Passage, place: int) -> str:
         """The kilometre of a place in words."""
