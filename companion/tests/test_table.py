@@ -139,10 +139,10 @@ BAD: Sequence[Any] = [
     (["", H], "the table has no row below its heading"),
     (
         [f"A,{ALONE}"],
-        "row 1: there is no heading, because the first row has a telegram: put a row with the names of the "
+        "row 1: there is no heading: the first row has a telegram; put a row with the names of the "
         "columns above it; group and telegram are needed",
     ),
-    ([f"A;A1;{ALONE.upper()}", f"A;A2;{ALONE}"], "row 1: there is no heading, because the first row has a telegram"),
+    ([f"A;A1;{ALONE.upper()}", f"A;A2;{ALONE}"], "row 1: there is no heading: the first row has a telegram"),
     (
         ["Signal,Text", f"A,{ALONE}"],
         "row 1: no column group and no column telegram: the headings are Signal, Text; give --columns FILE, a text "

@@ -422,7 +422,7 @@ def test_jumps(run: Run, program: Program, tmp_path: Path) -> None:
     rows.append({**of_kind(rows, "signal"), "km": "22.000"})
     file.write_text(text_of(rows), "utf-8")
     status, out, _ = run("check", path, "--plan", file, "--only", "X")
-    why = f"row {len(rows) + 1}: not compared, because a jump leaves out or repeats the kilometre"
+    why = f"row {len(rows) + 1}: not compared: a jump leaves out or repeats the kilometre"
     assert status == 0 and f"note: {file}: {why}" in out
     file.write_text(text_of(rows[1:]), "utf-8")
     assert run("check", path, "--plan", file, "--only", "X")[0] == 1

@@ -154,10 +154,10 @@ def document(group: Any, messages: Any = ()) -> Form:
 BROKEN: List[Tuple[Any, str]] = [
     (
         {"balises": [OTHER], "aspects": [{"balises": [ALONE]}]},
-        "/groups/0 has the keys balises, aspects, and aspects stands",
+        "/groups/0 has the keys balises, aspects, and aspects has",
     ),
     ({"balises": [ALONE], "x": 1}, "/groups/0 has the keys balises, x, and balises has to be the only key"),
-    ({"aspects": [{"balises": [ALONE], "x": 1}]}, "/groups/0/aspects/0 has the keys balises, x, and balises stands"),
+    ({"aspects": [{"balises": [ALONE], "x": 1}]}, "/groups/0/aspects/0 has the keys balises, x, and balises has"),
     ({"aspects": []}, "/groups/0: each aspect has equally many balises, one to 8"),
     ({"balises": [ALONE] * 9}, "/groups/0: each aspect has equally many balises, one to 8"),
     ({"balises": ["zz"], "x": 1}, "/groups/0 has the keys balises, x, and balises has to be the only key"),

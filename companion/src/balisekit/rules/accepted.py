@@ -89,7 +89,7 @@ class Acceptance(NamedTuple):
             why = f"{self.rule} is not accepted by * as aspect, since no correct data gets it: name the aspect"
             return TableError(why, column="aspect")
         if self.is_wide and self.key[2] in ("", ANY) and self.until is None:
-            return TableError("an entry with * that names no identity needs a last day (until)", column="until")
+            return TableError("an entry with * that names no identity needs a last day", column="until")
         return None
 
     def faults(self, day: datetime.date) -> List[str]:

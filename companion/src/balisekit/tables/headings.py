@@ -73,7 +73,7 @@ class Headings(NamedTuple):
         row, missing = rows[place], self.missing(rows[place])
         if is_data(row) and "telegram" in self.needed:
             return TableError(
-                "there is no heading, because the first row has a telegram: put a row with the names of the "
+                "there is no heading: the first row has a telegram; put a row with the names of the "
                 f"columns above it; {' and '.join(self.needed)} are needed",
                 row=place + 1,
             )

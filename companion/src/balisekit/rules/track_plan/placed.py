@@ -151,8 +151,7 @@ class Placed:
         ends = [(row, km) for row in rows if row.track in tracks for km in (row.km, row.km_to) if km is not None]
         lost = [row.number for row, km in ends if self.place(row.track, km) is None]
         if lost:
-            why = "not compared, because a jump leaves out or repeats the kilometre"
-            yield f"{self.plan.path}: {rows_words(lost)}: {why}"
+            yield f"{self.plan.path}: {rows_words(lost)}: not compared: a jump leaves out or repeats the kilometre"
 
     def km(self, passage: Passage, place: int) -> str:
         """The kilometre of a place in words."""
