@@ -54,7 +54,7 @@ def test_each_word_has_its_help(command: str) -> None:
 @pytest.mark.parametrize("text", [README, PAGE, GUIDE], ids=["README", "commands", "guide"])
 def test_no_page_has_a_word_that_is_none(text: str) -> None:
     """Each word of a page is one of a command, and what stands behind a command is a word of it."""
-    known = set().union(*map(_options, COMMANDS)) | OF_ALL | {"--radio"}
+    known = set().union(*map(_options, COMMANDS)) | OF_ALL | {"--radio", "--anew"}  # (of balisecheck and .ci/run)
     assert set(_named(text)) - known == set()
     shown = re.findall(r"(?:balisekit|`)\s?(" + "|".join(COMMANDS) + r")\b([^|`\n]*)", text)
     assert shown and not any(set(_named(words)) - _options(command) - OF_ALL for command, words in shown)
