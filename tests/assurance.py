@@ -197,7 +197,9 @@ def test_counts(tests):
     with open(FOLDER / "trace.csv", encoding="utf-8", newline="") as file:
         table = [row for row in csv.DictReader(file) if not row["layouts"].startswith("raw")]
     tests.holds("rows with a doubt", f"the {sum(bool(row['doubt']) for row in table)} of these rows" in SAFETY)
-    tests.holds("rows of rules", f"the {sum(row['layouts'].startswith('rule ') for row in table)} rows `rule`" in SAFETY)
+    for kind in ("rule", "word"):
+        count = sum(row["layouts"].startswith(f"{kind} ") for row in table)
+        tests.holds(f"rows of kind {kind}", f"the {count} rows `{kind}`" in SAFETY, count)
     tests.holds("rows", f" of {len(table)} rows" in SAFETY)
     changes = (TOP / "CHANGELOG.md").read_text(encoding="utf-8")
     tests.holds("changes of judgement are named", "Judgement" in changes and '"Judgement" in [CHANGELOG]' in SAFETY)

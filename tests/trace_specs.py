@@ -77,6 +77,18 @@ def specs_of(*crates):
             yield f"{crate}/{path.relative_to(folder).with_suffix('')}", path.read_text(encoding="utf-8")
 
 
+def in_one_line(text):
+    """A text, or a comment, without its line ends."""
+    return re.sub(r"\s+(-- )?", " ", f" {text}").strip()
+
+
+def comment_above(path, name):
+    """The comment on the definition of this name in a file; none if the file, definition or comment is not there."""
+    text = (TOP / path).read_text(encoding="utf-8") if (TOP / path).is_file() else ""
+    found = re.search(rf"(?m)((?:^--.*\n)+)^(?:(?:abbrev|unfoldable) )?pub (?:record )?{re.escape(name)} ", text)
+    return in_one_line(found[1]) if found else None
+
+
 def comments_on(name, after, *crates):
     """What comments say that begin with names of this form, by the names; `after` is what stands between."""
     found = {}
@@ -100,7 +112,7 @@ class Specs:
                 for name, _, other in (it.partition(" as ") for it in items.split(", ")):
                     self.imports[place, other or name] = f"{crate}/{path.replace('.', '/')}", name
             for comment, name, *texts in re.findall(pattern, text):
-                comment, kind, said = (re.sub(r"\s+(-- )?", " ", f" {it}").strip() for it in (comment, *texts))
+                comment, kind, said = map(in_one_line, (comment, *texts))
                 kind = kind.rpartition("→")[2].split()[0]
                 self.definitions[place, name] = Definition(place, name, comment, kind, said)
 

@@ -1,8 +1,8 @@
 """The table of variables, docs/assurance/trace.csv: its rows, the layouts that they belong to, and its words.
 
-A row is about a variable of one or more layouts, in the order of the bits, or, without a variable, about a layout or a
-rule of findings. Rows whose layouts begin with `raw` are about packets that the program keeps as bits: trace_raw makes
-them.
+A row is about a variable of one or more layouts, in the order of the bits, or, without a variable, about a layout, a
+rule of findings (`rule F1`) or a word that these rules rest on (`word covered`). Rows whose layouts begin with `raw` are
+about packets that the program keeps as bits: trace_raw makes them.
 
 - `numbers`: those that are read, with the meaning of each; `counted` if only the count of what is read is.
 - `fault`: what any other number is refused as.
@@ -10,7 +10,8 @@ them.
 - `key`: where the JSON has it, from its packet, message or telegram on. `links[]` is a list: a row with this key counts
   its items, the further ones if rows of the first item are before it. A path that ends in / has no key of its own.
 - `unit`: of the numbers without a meaning. That of distances is the variable Q_SCALE.
-- `about`: of a layout, what it is for, its size, and other sentences for people.
+- `about`: of a layout, what it is for, its size, and other sentences for people. Of a word, the file and name of its
+  definition.
 - `doubt`: what is believed from memory only.
 - `unstated`: the numbers whose meaning, and the unit, that no definition states. tests/trace makes it.
 - `compared` and `date`: who compared the row with a print of which issue of the standard, and when. `sum` is of the row
@@ -66,6 +67,10 @@ class Row(namedtuple("Row", COLUMNS)):
         """Whether it is about a rule of findings, and not about bits."""
         return self.layouts.startswith("rule ")
 
+    def is_word(self):
+        """Whether it is about a word that the rules rest on."""
+        return self.layouts.startswith("word ")
+
     def is_raw(self):
         """Whether it is about a packet that the program keeps as bits."""
         return self.layouts.startswith(RAW)
@@ -112,7 +117,7 @@ def write_rows(rows):
 
 def layouts_of(rows):
     """The rows of variables of each layout that the table has."""
-    rows = [it for it in rows if not it.is_rule()]
+    rows = [it for it in rows if not (it.is_rule() or it.is_word())]
     found = {name: [] for it in rows if not it.variable for name in it.names()}
     for row in rows:
         for name in row.names():
