@@ -7,6 +7,7 @@ from pathlib import Path
 from typing import Any, Callable, Dict, List, Optional, Tuple, cast
 
 import pytest
+from cases_of_program import TOP
 from conftest import Run
 
 from balisekit.engine.program import Program, Text
@@ -328,6 +329,9 @@ def test_each_layout_has_a_body() -> None:
     certain = [layout for layout in layouts().values() if layout.is_certain]
     assert (len([each for each in certain if each.from_track]), len(certain), len(layouts())) == (26, 29, 54)
     assert all(layout.doubt for layout in layouts().values() if not layout.is_certain)
+    page = (TOP / "docs" / "commands.md").read_text("utf-8")
+    counts = f"For {len(layouts())} of", f". {len(certain)} packets,", f". {len(layouts()) - len(certain)} packets,"
+    assert all(count in page for count in counts)
 
 
 @pytest.mark.parametrize("number, from_track, body, values", BODIES)

@@ -21,6 +21,7 @@ from test_check_outputs import schema
 
 from balisekit.engine.program import Program, Text
 from balisekit.io import csv_writing
+from balisekit.present import links_text
 from balisekit.rules import checking, decoded, track_plan
 from balisekit.rules.chainage import Jump
 from balisekit.rules.line import Line as LineOfTable
@@ -488,6 +489,12 @@ def test_what_most_groups_say_is_in_the_plan(program: Program, tmp_path: Path) -
     assert all(
         each.location.group and each.location.group.group.name == "Signal 5" for each in remarks(line, rows, tmp_path)
     )
+
+
+def test_one_thing_is_named_by_the_singular() -> None:
+    """Also if the plural is not the last word."""
+    found = [links_text._things(rule, 1) for rule in track_plan.RULES]
+    assert found == ["1 speed", "1 gradient", "1 end of authority", "1 authority of aspects", "1 border"]
 
 
 def test_a_plan_that_compares_nothing(run: Run, program: Program, tmp_path: Path) -> None:

@@ -67,14 +67,15 @@ def _seconds(time: float) -> str:
 
 
 def _cases(outcome: Outcome, part: Part) -> Iterator[Case]:
-    """The cases of a suite. What was refused is in the first suite."""
+    """The cases of a suite. A refused message is only in the first one."""
     checked, judged, is_first = outcome.checked, outcome.judged, part is outcome.parts[0]
     items: Dict[object, List[Item]] = {}
     for item in part.items:
         items.setdefault(_about(item), []).append(item)
-    left_out = dict(_left_out(checked)) if is_first else {}
+    left_out = dict(_left_out(checked))
     for group in checked.table.groups:
-        yield left_out.get(group.name) or _case("group", clean(group.name), items.get(group.name, []), judged)
+        case = _case("group", clean(group.name), items.get(group.name, []), judged)
+        yield case if case.result == "failure" else left_out.get(group.name, case)
     for accepted in checked.accepted_messages:
         name = describe_message(accepted.message)
         yield _case("message", name, items.get(accepted.message.number, []), judged)

@@ -1,6 +1,7 @@
 """The answer of `links` in words and as JSON."""
 from __future__ import annotations
 
+import re
 from collections import Counter
 from typing import Any, Dict, Iterator, List, Sequence
 
@@ -122,7 +123,8 @@ def not_compared(links: Links) -> Iterator[str]:
 
 
 def _things(rule: Rule, count: int) -> str:
-    return f"{count} {rule.looks_at[:-1] if count == 1 else rule.looks_at}"
+    one = re.sub("(ie)?s\\b", lambda end: "y" if end[1] else "", rule.looks_at, count=1)
+    return f"{count} {one if count == 1 else rule.looks_at}"
 
 
 def as_json(checked: Checked, links: Links) -> Dict[str, Any]:
