@@ -268,7 +268,7 @@ def test_the_page_is_made_of_the_rules() -> None:
 
 
 def test_the_page_names_the_rules_that_correct_data_may_get() -> None:
-    (named,) = re.findall(r"([^.]*) can get correct data", PAGE)
+    (named,) = re.findall(r"Correct data can get ([^.]*), such as", PAGE)
     assert re.findall(r"L\d", named) == [rule.name for rule in RULES if rule.has_correct_data]
     assert re.findall(r"L\d", named) == ["L1", "L2", "L8", "L9"]
 
