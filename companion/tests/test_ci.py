@@ -46,7 +46,7 @@ def entry(**fields: str) -> str:
 
 
 def read(path: Path) -> Any:
-    """The suite of the program's findings, by Debian's reader. That of remarks has only the groups that were left out."""
+    """The suite of the program's findings, by Debian's reader. That of remarks has only what was left out."""
     junitparser = pytest.importorskip("junitparser")
     findings, remarks = junitparser.JUnitXml.fromfile(str(path))
     lost = {name: result for name, result in results(findings).items() if result == ["Error"] and name[:5] == "group"}
