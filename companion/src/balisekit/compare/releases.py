@@ -1,6 +1,6 @@
 """What differs between two releases of a line: groups, telegrams, messages and findings.
 
-Groups are paired by their identity, telegrams by aspect and position. So the order of rows says nothing.
+Groups are paired by their identity, telegrams by aspect and position. So the order of groups says nothing.
 """
 from __future__ import annotations
 

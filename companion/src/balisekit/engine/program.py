@@ -94,7 +94,7 @@ class Program:
     def find(cls, named: Optional[str] = None, timeout: Optional[float] = None) -> Program:
         """The program of this path, else of BALISECHECK, else that of the clone, else that on the path.
 
-        NoAnswer is raised if there is none, or if it answers as another program or version does.
+        NoAnswer is raised if there is none, or if it fails a trial run.
         """
         path = find_program.find(named)
         sha256 = find_program.checksum(path)
