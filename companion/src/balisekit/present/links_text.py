@@ -110,7 +110,7 @@ def _reasons(result: Result) -> str:
 def _compared(rule: Rule, result: Result, with_reasons: bool) -> str:
     """What a rule has compared, and of how many things if there are more."""
     of_how_many = f"{result.looked_at} of " if result.skipped else ""
-    reasons = f" without {_reasons(result)}" if with_reasons and result.skipped else ""
+    reasons = f" ({_reasons(result)})" if with_reasons and result.skipped else ""
     return f"{of_how_many}{_things(rule, result.looked_at + result.skipped)}{reasons}"
 
 
