@@ -116,7 +116,8 @@ def bits_part(trace, layout):
 def keys_part(trace, kind):
     """The keys of the JSON of a telegram, or of packets or messages and of the objects inside."""
     if kind == "header":
-        return f"A telegram has the keys {', '.join(sorted([*members(trace.layouts[kind], ''), 'packets', 'user_bits']))}.\n\n"
+        keys = sorted([*members(trace.layouts[kind]), "packets", "user_bits"])
+        return f"A telegram has the keys {', '.join(keys)}.\n\n"
     found = {}
     for layout, rows in trace.layouts.items():
         name, _, number = layout.rpartition(" ")
