@@ -3,10 +3,10 @@
 #
 #     ./release.sh raise        writes the next version number into VERSION and each other file that has it
 #     ./release.sh store        stores the program and its ABOUT in dist/x86_64-linux, and adds a line to dist/RELEASES
-#     ./release.sh              writes the release into out/release: tarball, wheel, .deb, SPDX, the logs of the gate and
-#                               of all edits, a README and SHA256SUMS
+#     ./release.sh              writes the release into out/release: tarball and its checksum, wheel, .deb, SPDX, the logs
+#                               of the gate and of all edits, a README and SHA256SUMS
 #     ./release.sh --try DIR    the same into an empty DIR, with the program that ./balisecheck would run, without logs
-#                               and without judged edits: the names of its files end in -untested
+#                               and without judged edits: the names of its packages have "untested"
 #
 # `store` takes the program that the gate or ./build has built from these sources in out/, and runs tests/dist. A program
 # that differs from the stored one needs a new version number. A release needs out/edits of `tests/edits --all`, and the

@@ -8,7 +8,7 @@
 # cut into lines of 127 bytes. Beside them a `serde_json::Value` is made of each of the same lines, by the
 # program of bench/json, which is proved and built first. The first failure ends the run with status 1. The
 # rates are by processor time, which the load of the machine changes less than the time elapsed.
-# bench/instructions.sh counts the instructions of the same inputs. 50,000 of each take 270 MB of the temporary
+# bench/instructions.sh counts the instructions of the same inputs. 50,000 of each take 220 MB of the temporary
 # folder, which TMPDIR names.
 #
 # BALISECHECK names another program to measure.

@@ -6,7 +6,7 @@
 # document, two a group, and `encode` has to make the same telegrams of what it writes. The first failure ends the run
 # with status 1. Each command runs five times. A row has its least processor time, its least time elapsed, and its
 # greatest peak of memory, which is looked up every millisecond and so may be 0 of a run that is as short. A million
-# groups take 3 GB of the temporary folder, which TMPDIR names, 431 MiB of memory, and about ten minutes.
+# groups take 2.3 GB of the temporary folder, which TMPDIR names, and 431 MiB of memory.
 #
 # It needs python3, and no toolchain. BALISECHECK names another program to measure.
 set -euo pipefail

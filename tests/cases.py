@@ -1,4 +1,5 @@
-"""Writes the cases of tests/cases/, one a line: a name, a line of input and what is written for it, between tabs.
+"""Writes the cases of telegrams, packets and messages in tests/cases/, one a line: a name, a line of input and what is
+written for it, between tabs.
 
 With the word `--radio` they are those of `decode --radio`, each with one column more, the text that `encode --radio`
 writes. Nothing here asks the program: each answer stands in the files, or follows from numbers that were put into the

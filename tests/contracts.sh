@@ -4,7 +4,7 @@
 #
 #     tests/contracts.sh COMMIT
 #
-# Two commits promise the same if both print the same:
+# Two commits promise the same if both print the same and have the same crates/*/specs:
 #
 #     diff <(tests/contracts.sh BEFORE) <(tests/contracts.sh AFTER)
 #

@@ -6,7 +6,7 @@
     tests/pages.py --counts PAGE..
 
 Counted are the Markdown pages of the repository, without licences, THIRD-PARTY.md, the tables that tests/trace makes
-and what the tests of balisekit read. Sentences and `where` are counted outside code, quotes and links.
+and what the tests of balisekit read. Sentences and `where` are counted outside code, quotes and targets of links.
 """
 import re
 import subprocess

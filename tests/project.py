@@ -1,7 +1,7 @@
 #!/usr/bin/env -S python3 -B
-"""Tests of what the repository has for those who read, fork or call it: links between pages, what the pages on assurance
-name and state (assurance.py), the sentence on a yes, the list of crates, the pre-commit hook, the job file of its own
-tests, .editorconfig.
+"""Tests of what the repository has for those who read, fork or call it: links between pages and commands on them, what the
+pages on assurance name and state (assurance.py), the sentence on a yes, the list of crates and counts of their edits and
+limits, the pre-commit hook, the job file of its own tests, .editorconfig.
 
 BALISECHECK names the program. The last line is `the project: N passed, M failed`, and the exit status is 1 if a test
 failed.
@@ -17,6 +17,7 @@ import subprocess
 import tempfile
 
 from assurance import PARTS
+from hostile_process import LONG, STACK
 from runner import EXAMPLES, TOP, play, program
 
 PAGES = [*sorted(TOP.glob("*.md")), *sorted((TOP / "docs").rglob("*.md")), TOP / "examples" / "README.md"]
@@ -43,6 +44,16 @@ def test_links(tests):
             tests.holds(f"{page.name} links to {target}", is_there or re.match(r"[a-z]+:", target))
     safety = (TOP / "docs" / "assurance" / "safety.md").read_text(encoding="utf-8")
     tests.holds("the page on safety links to the errata", "](../../ERRATA.md)" in safety)
+
+
+def test_commands(tests):
+    """Each file that a page tells to run, or shows with words after it, can be executed."""
+    for page in PAGES:
+        text = re.sub(r"(?ms)^ *```.*?^ *```$", "", page.read_text(encoding="utf-8"))
+        for lead, code in re.findall(r"(?i)(\brun |\bby )?`([^`\n]+)`", text):
+            name, _, words = code.partition(" ")
+            if "/" in name and (lead or words) and (TOP / name).is_file():
+                tests.holds(f"{page.name}: {code} can be executed", os.access(TOP / name, os.X_OK))
 
 
 def comment(lines):
@@ -85,6 +96,12 @@ def test_crates(tests):
     tests.equal("the picture's crates", set(height), {name for name in uses if not name.startswith("trials_")})
     for name in height.keys() & uses.keys():
         tests.holds(f"{name} is above what it uses", all(height[name] < height[it] for it in direct[name] & height.keys()))
+    for limit in (f"{LONG:,} sound groups", f"{STACK} KiB of stack"):
+        tests.holds(f"architecture.md: {limit}", limit in page)
+    edits = {name: len(list((TOP / "crates" / name / "must-fail").glob("*.edit"))) for name in uses}
+    counts = f"{sum(not it for it in edits.values())} of {len(edits)} crates have none"
+    tests.holds(f"testing.md: {counts}", counts in (TOP / "docs/contributing/testing.md").read_text(encoding="utf-8"))
+    tests.holds("no crate has more than twelve edits in must-fail/", max(edits.values()) <= 12, edits)
 
 
 def test_hook(tests):
@@ -172,4 +189,4 @@ def is_utf8(content):
 
 
 if __name__ == "__main__":
-    play("the project", test_links, *PARTS, test_yes, test_crates, test_hook, test_job, test_editorconfig)
+    play("the project", test_links, test_commands, *PARTS, test_yes, test_crates, test_hook, test_job, test_editorconfig)

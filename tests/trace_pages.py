@@ -5,7 +5,7 @@ docs/variables.md is made as a whole from tests/trace_variables.txt. There a lin
 - `{layout LAYOUT}`: its name, its sections and what it is for
 - `{rows LAYOUT}`, `{rows LAYOUT to VARIABLE}`, `{rows LAYOUT after VARIABLE}`: its variables, and how many bits it has
 - `{bits LAYOUT}`: how many bits it has
-- `{keys packet}`, `{keys train packet}`, `{keys message}`: their JSON
+- `{keys header}`, `{keys packet}`, `{keys train packet}`, `{keys message}`: the JSON of telegrams, packets and messages
 - `{raw layouts}`, `{raw variables}`: packets that the program keeps as bits
 - `{names track}`, `{names train}`: what balisekit calls packets
 """
@@ -114,7 +114,10 @@ def bits_part(trace, layout):
 
 
 def keys_part(trace, kind):
-    """The keys of the JSON of packets or messages, and of the objects inside."""
+    """The keys of the JSON of a telegram, or of packets or messages and of the objects inside."""
+    if kind == "header":
+        keys = sorted([*members(trace.layouts[kind]), "packets", "user_bits"])
+        return f"A telegram has the keys {', '.join(keys)}.\n\n"
     found = {}
     for layout, rows in trace.layouts.items():
         name, _, number = layout.rpartition(" ")
