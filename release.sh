@@ -167,6 +167,7 @@ try() {
     local program
     program=${BALISECHECK:-$(BALISECHECK_PATH=1 ./balisecheck)}
     papers "$program" >"$room/ABOUT"
+    ! cmp -s "$program" "$dist/balisecheck" || sed -i "s/^kit .*/kit $(said kit "$dist")/" "$room/ABOUT"
     pack "$1" "$program" "$room/ABOUT" -untested
     sums "$1"
 }

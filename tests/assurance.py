@@ -5,12 +5,14 @@
   lines. The same page with any of these names misspelled is reported.
 - safety.md: failures and conditions are numbered without gaps, each condition meets a failure and each failure names only
   conditions that are there; numbers of rows are those of the table.
+- yes.md names each field of the record that defines a yes, and THIRD-PARTY.md each package that balisekit imports.
 - The statuses and answers that safety.md states of empty and repeated input, of other encodings and of a program that the
   system does not start.
 
 tests/project.py plays these tests too. BALISECHECK names the program. The last line is `assurance: N passed, M failed`, and
 the exit status is 1 if a test failed.
 """
+import ast
 import csv
 import functools
 import os
@@ -159,6 +161,24 @@ def test_memory(tests):
     tests.holds(f"proofs.md has: {wanted}", wanted in PROOFS)
 
 
+def test_lists(tests):
+    """Lists that are meant to be complete: fields of a yes, packages, and the crate without clauses."""
+    record = definitions("etcs_document/Verdict").split("pub record SaysYes ", 1)[1].split("\n\n")[0].split("\n-- ")[0]
+    page = (FOLDER / "yes.md").read_text(encoding="utf-8")
+    listed = re.findall(r"`(\w+)`", "".join(re.findall(r"(?m)^- ((?:`\w+`(?:, )?)+):", page)))
+    tests.equal("yes.md lists the fields of SaysYes", sorted(listed), sorted(re.findall(r"\n  pub (\w+)", record)))
+    trees = [ast.parse(path.read_text(encoding="utf-8")) for path in (TOP / "companion" / "src").rglob("*.py")]
+    nodes = [node for tree in trees for node in ast.walk(tree)]
+    found = {node.module for node in nodes if isinstance(node, ast.ImportFrom) and not node.level}
+    found |= {one.name for node in nodes if isinstance(node, ast.Import) for one in node.names}
+    others = {name.split(".")[0] for name in found} - {"balisekit"}
+    others -= set(getattr(sys, "stdlib_module_names", others))  # before Python 3.10 nobody knows
+    third = (TOP / "THIRD-PARTY.md").read_text(encoding="utf-8")
+    tests.equal("packages that THIRD-PARTY.md lacks", [name for name in sorted(others) if not re.search(rf"\b{name}\b", third)], [])
+    texts = [path.read_text(encoding="utf-8") for path in (TOP / "crates" / "balisecheck" / "src").glob("*.rt")]
+    tests.holds("the crate balisecheck has no clause", texts and not any(re.search(r"(?m)^ *(?:ensures|requires)\b", it) for it in texts))
+
+
 def rows(text, begin):
     """The rows of a page's tables whose first cell begins so, by that cell."""
     found = [line.strip("|").split(" | ") for line in text.split("\n") if re.match(rf"\| {begin}\d+ \|", line)]
@@ -252,7 +272,7 @@ def test_statuses(tests):
         tests.holds(f"safety.md names: {name}", name in SAFETY)
 
 
-PARTS = test_proofs, test_memory, test_failures_and_conditions, test_counts, test_answers, test_statuses
+PARTS = test_proofs, test_memory, test_lists, test_failures_and_conditions, test_counts, test_answers, test_statuses
 
 
 if __name__ == "__main__":

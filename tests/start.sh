@@ -199,6 +199,13 @@ writes_nothing() {
     holds 'a source that cannot be read' \
         "$(answers 3 '' 'balisecheck: not built: the sources cannot be hashed' "${other[@]}" "$tree/balisecheck")"
     begin
+    chmod -R a+rX "$room"
+    # (limits of processes do not bind root)
+    if [ "$(id -u)" != 0 ] || [ "${other[0]##*/}" = setpriv ]; then
+        PATH=$bare "${other[@]}" "$BASH" -c 'ulimit -u 1; exec "$@"' - "$tree/balisecheck" decode <<<a1 >"$room/stdout" 2>&1
+        number=$?
+        holds 'no process can be started' "$([ "$number" -ge 3 ] || echo "status $number")"
+    fi
     for number in {1..12}; do
         (PATH=$bare "$tree/balisecheck" decode <<<a1 >"$room/many.$number" 2>&1; echo "$?" >>"$room/many.$number") &
     done
