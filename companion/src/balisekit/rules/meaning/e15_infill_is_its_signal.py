@@ -8,7 +8,7 @@ allowed. Packets that only one of the groups has are passed over. If no group ah
 authority in its direction, a missing signal gets only a note: it may be beyond the table. The layouts of packets 80 and
 136 are balisekit's own (SUBSET-026, 3.6.2 and 7.4.2).
 
-How urgent. At worst wrong information: the train gets another aspect than the signal shows.
+How urgent. At worst wrong information.
 
 Usual cause. The infill was not changed with its signal. It was copied from the wrong aspect.
 
@@ -17,11 +17,12 @@ What may happen. A train releases its brake for an aspect that the signal does n
 How to correct it. Compare both with the design. If the signal is right, copy its packets after packet 136, aspect by
 aspect.
 
-Correct data that gets it. Infill aspects whose names mean something else at the signal, such as numbers or those of a
-distant signal. Infill that says less than its signal on purpose, such as a lower V_MAIN, shorter profiles or merged
-sections, or that has other timers. Infill with a V_MAIN above 0 and no length for a signal at danger. A signal that the
-table does not have, such as on a branch line. Without kilometres, a signal whose group faces the other way. Kilometres
-as in E14.
+Correct data that gets it. Any that break one of these assumptions; usual cases follow `not`. An aspect name means the
+same at the infill and its signal: not if it is a number, or that of a distant signal. Infill repeats its signal: not if
+it says less on purpose, such as a lower V_MAIN, shorter or merged profiles, or other timers. Nor if it has V_MAIN above
+0 and no length for a signal at danger. The table has the signal: not on a branch line. Without kilometres both groups
+face the same way. Kilometres give the place on the track: not if they jump unstated, follow another axis, are rounded
+more than others, or belong to signals or to tracks without names.
 
 Example. At yellow the infill of signal 4 has L_ENDSECTION 1,350 m, and signal 4 has 1,500 m.
 
