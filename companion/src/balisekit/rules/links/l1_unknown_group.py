@@ -15,7 +15,7 @@ identity, this group may have the wrong one.
 What may happen. The train waits for a group that does not come, and applies the linking reaction (Q_LINKREACTION). A
 group there with another identity and Q_LINK 1 is passed over, and its information is lost.
 
-How to correct it. Correct NID_C and NID_BG of the link, or add the group to the table.
+How to correct it. Correct the link, or add the group to the table.
 
 Correct data that gets it. Any that break one of these assumptions; usual cases follow `not`. The table lacks only
 groups beyond its ends: not those of a branch line that is linked from its middle. D_LINK shows that: not if the group

@@ -4,10 +4,9 @@ What it says. An authority ends elsewhere than others that lead to the same grou
 ends at the kilometre of its group and the sum of L_SECTION and L_ENDSECTION of a packet 12 with V_MAIN above 0, or a
 packet 15. It leads to the group of its packets 5 that is nearest to its end, within 200 m. If none is so near, it is
 the last one before the end, if another one is beyond it. Without packets 5 ends at most 20 m from the next one are
-compared. A packet 12 is not at a group if the first balise of the nearest one is 50 m (and the tolerance) to 200 m
-away. Only ends between the first and the last signal of the track and way count. The tolerance is `--tolerance` (else 1
-m), one unit of the last decimal of the kilometres, and rounding: for each packet one unit of Q_SCALE, and half a unit
-for each further length (SUBSET-026, 3.8 and 7.4.2).
+compared. A packet 12 is not at a group if the first balise of the nearest one is more than 50 m and at most 200 m away.
+Only ends between the first and the last signal of the track and way count. Places may differ by `--tolerance` (else 1
+m) and rounding (SUBSET-026, 3.8 and 7.4.2).
 
 How urgent. At worst wrong information: a train may pass the signal at which it has to stop.
 
@@ -21,8 +20,8 @@ Correct data that gets it. Any that break one of these assumptions; usual cases 
 group end at one place: not on a calling-on route, at a limit of authority (V_LOA above 0), or by radio at a marker
 board. Each ends at a group: not in limited supervision, or at a buffer stop, board or border without a group of the
 table within 50 m. Trains stay on the track: not on a route to another one, if no `point` of the track plan says where.
-Kilometres give the place on the track: not if they jump unstated, follow another axis, are rounded more than others, or
-belong to signals or to tracks without names. Lengths are rounded as Q_SCALE states.
+Kilometres and distances show the place on the track: not if they jump unstated, follow another axis, are rounded
+coarsely, or belong to signals or to tracks without names.
 
 Example. At green the authority of signal 3 ends at km 16.050, and three others that lead to signal 5 end at km 16.000.
 

@@ -14,15 +14,14 @@ Usual cause. The infill was not changed with its signal. It was copied from the 
 
 What may happen. A train releases its brake for an aspect that the signal does not show.
 
-How to correct it. Compare both with the design. If the signal is right, copy its packets after packet 136, aspect by
-aspect.
+How to correct it. If the signal is right, copy its packets after packet 136, aspect by aspect.
 
 Correct data that gets it. Any that break one of these assumptions; usual cases follow `not`. An aspect name means the
 same at the infill and its signal: not if it is a number, or that of a distant signal. Infill repeats its signal: not if
 it says less on purpose, such as a lower V_MAIN, shorter or merged profiles, or other timers. Nor if it has V_MAIN above
 0 and no length for a signal at danger. The table has the signal: not on a branch line. Without kilometres both groups
-face the same way. Kilometres give the place on the track: not if they jump unstated, follow another axis, are rounded
-more than others, or belong to signals or to tracks without names.
+face the same way. Kilometres and distances show the place on the track: not if they jump unstated, follow another axis,
+are rounded coarsely, or belong to signals or to tracks without names.
 
 Example. At yellow the infill of signal 4 has L_ENDSECTION 1,350 m, and signal 4 has 1,500 m.
 

@@ -19,9 +19,9 @@ How to correct it. Correct each D_LEVELTR by the kilometre of the border. Put a 
 Correct data that gets it. Any that break one of these assumptions; usual cases follow `not`. Within 500 m all packets
 41 are for one border: not if there are two, one on another route, or an order for trains that start there. They have
 one place: not with D_LEVELTR 32,767 some metres from the border. They have one list of levels: not if announcement and
-border differ on purpose. A group of the table orders the change: not if only the last announcement does. Kilometres
-give the place on the track: not if they jump unstated, follow another axis, are rounded more than others, or belong to
-signals or to tracks without names.
+border differ on purpose. A group of the table orders the change: not if only the last announcement does. Kilometres and
+distances show the place on the track: not if they jump unstated, follow another axis, are rounded coarsely, or belong
+to signals or to tracks without names.
 
 Example. Signal 4 announces level 0 at km 16.750, and the group at the border, at km 16.700, has it at once.
 

@@ -2,8 +2,8 @@
 
 What it says. A packet that the program keeps as bits does not fit its layout, or has a spare number. It has fewer or
 more bits than the layout. Spare are an M_LEVELTR from 5 to 7, a Q_SCALE 3, an M_MAMODE 3, and a speed above 120 without
-a special meaning. Only packets whose layout is certain are compared, and the sentence names the first place that does
-not fit. The layouts are balisekit's own and not compared with a print (SUBSET-026, 7.4 and 7.5.1).
+a special meaning. Only certain layouts are compared, and the first place that does not fit is named. The layouts are
+balisekit's own and not compared with a print (SUBSET-026, 7.4 and 7.5.1).
 
 How urgent. At worst wrong information.
 

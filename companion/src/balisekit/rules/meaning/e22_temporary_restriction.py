@@ -6,7 +6,7 @@ their NID_TSR is below 255, and each is at most 2 km from the next one. Place an
 restriction, V_TSR is equal and the end is the same. The layout of packet 65 is balisekit's own (SUBSET-026, 3.11.5 and
 7.4.2).
 
-How urgent. At worst wrong information: the train takes the restriction that it gets last instead of the first one.
+How urgent. At worst wrong information: the train takes the restriction that it gets last.
 
 Usual cause. D_TSR was not made anew for the second group. A restriction was changed in one group only.
 
@@ -16,8 +16,8 @@ How to correct it. Correct D_TSR, L_TSR and V_TSR by the list of restrictions.
 
 Correct data that gets it. Any that break one of these assumptions; usual cases follow `not`. A number is that of one
 restriction: not if two have it, or one on another route. All packets state the whole of it exactly: not if D_TSR or
-L_TSR is on the safe side, or depends on the aspect or route. Kilometres give the place on the track: not if they jump
-unstated, follow another axis, are rounded more than others, or belong to signals or to tracks without names.
+L_TSR is on the safe side, or depends on the aspect or route. Kilometres and distances show the place on the track: not
+if they jump unstated, follow another axis, are rounded coarsely, or belong to signals or to tracks without names.
 
 Example. Signal 3 has restriction 7 at km 14.000 with 40 km/h, and signal 4 has it at km 14.100.
 

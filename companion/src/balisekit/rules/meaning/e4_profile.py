@@ -19,8 +19,8 @@ How to correct it. Correct or remove the wrong element by the profile of the tra
 Correct data that gets it. Any that break one of these assumptions; usual cases follow `not`. Trains run over the whole
 profile: not beyond a buffer stop or end of authority, or at a stop aspect. It may have 0 km/h there, or no length.
 Trains use V_STATIC: not if each category has a V_DIFF. V_STATIC may then be 0, or for a greater cant deficiency. More
-cant deficiency never means less speed: not if tilting trains have their own restriction. Each element is needed: not if
-a tool begins one at each boundary of its data, or fills up with end marks.
+cant deficiency never means less speed: not if tilting trains have their own restriction. Each element and category is
+needed: not if a tool begins one at each boundary of its data, or fills up with end marks.
 
 Example. In the gradient profile of Signal B the third element has D_GRADIENT 0 m, the place of the second one.
 

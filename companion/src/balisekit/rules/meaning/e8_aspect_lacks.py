@@ -11,9 +11,8 @@ How urgent. At worst wrong information.
 
 Usual cause. A packet was lost, or its Q_DIR is wrong. The aspect was added later.
 
-What may happen. Without profiles the authority may be refused. Without linking nothing shows a missed group. With a
-wrong Q_DIR the aspect says nothing to its train. Without packet 137 a train in staff responsible mode passes the
-signal.
+What may happen. Without profiles the authority may be refused. Without linking nothing shows a missed group. Without
+packet 137 a train in staff responsible mode passes the signal.
 
 How to correct it. Add the packet, or correct Q_DIR.
 

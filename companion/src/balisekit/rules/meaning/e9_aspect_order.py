@@ -6,7 +6,7 @@ authorities have the lowest urgency, and are not named if both aspects say the s
 names an aspect with V_MAIN 0 if this name has a V_MAIN above 0 in at least three cases and four of five. It names the
 reverse too. `--tolerance` and the rounding of lengths are allowed (SUBSET-026, 3.8).
 
-How urgent. At worst wrong information: the restrictive aspect gives the longer authority.
+How urgent. At worst wrong information.
 
 Usual cause. The telegrams of two aspects were exchanged, or their names in the table.
 

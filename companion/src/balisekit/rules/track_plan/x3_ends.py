@@ -7,7 +7,7 @@ and one unit of the last decimal of the kilometres. A track with a signal in the
 that way at which authorities end. Beyond a `point` of the plan nothing is compared, unless a packet 5 of the same
 message names a group of the track at or beyond that point (SUBSET-026, 7.4.2 and 7.5.1).
 
-How urgent. At worst wrong information: the train may pass the signal before its authority ends.
+How urgent. At worst wrong information.
 
 Usual cause. A section is missing or was counted twice. The length was taken to another signal, or from another group.
 
@@ -18,9 +18,9 @@ How to correct it. Correct L_SECTION and L_ENDSECTION, or the row of the plan.
 Correct data that gets it. Any that break one of these assumptions; usual cases follow `not`. The plan has all ends of
 authority: not a marker board, buffer stop, level border, limit of authority (V_LOA above 0) or end of a calling-on
 route. Write such places into the plan. In limited supervision an authority may end at no signal. Trains stay on the
-track: not on a route to another one, if no `point` of the track plan says where. Kilometres give the place on the
-track: not if they jump unstated, follow another axis, are rounded more than others, or belong to signals or to tracks
-without names.
+track: not on a route to another one, if no `point` of the track plan says where. Kilometres and distances show the
+place on the track: not if they jump unstated, follow another axis, are rounded coarsely, or belong to signals or to
+tracks without names.
 
 Example. The authority of signal A at green ends at km 15.350, and the nearest signal of the plan is at km 15.300.
 """

@@ -5,7 +5,7 @@ end is its distance from the group. The release speed is that of the overlap, or
 overlap. Lengths may differ by the rounding of Q_SCALE and by `--tolerance`. A row of the plan for an aspect without a
 packet 12 for that way is named too. What follows a packet 136 is not compared (SUBSET-026, 7.4.2 and 7.5.1).
 
-How urgent. At worst wrong information: the aspect allows another speed or another distance than its route.
+How urgent. At worst wrong information.
 
 Usual cause. The telegrams of two aspects were exchanged. A value was copied from another signal. The route table has
 changed since the telegrams were made.

@@ -9,7 +9,7 @@ in the plan for one way needs all borders of that kind. If it begins in the area
 rear of the first group. A border of the plan within the table that no packet names is named at the nearest group. What
 follows a packet 136 is not compared (SUBSET-026, 7.4.2 and 7.5.1).
 
-How urgent. At worst wrong information: the train changes its level or its RBC too early or too late.
+How urgent. At worst wrong information.
 
 Usual cause. The distance was counted from another group, or not all announcements followed a border that was moved.
 
@@ -22,8 +22,8 @@ of all trains and routes: not those of trains that have no radio or start near o
 are exactly at the border: not D_LEVELTR 32,767 or D_RBCTR 0 some metres from it, or one repeated beyond it. Write such
 places into the plan. Packets have its levels: not if announcement and border differ on purpose. Groups of the table
 name each border: not if only radio does. Trains stay on the track: not on a route to another one, if no `point` of the
-track plan says where. Kilometres give the place on the track: not if they jump unstated, follow another axis, are
-rounded more than others, or belong to signals or to tracks without names.
+track plan says where. Kilometres and distances show the place on the track: not if they jump unstated, follow another
+axis, are rounded coarsely, or belong to signals or to tracks without names.
 
 Example. Group F announces level 2 at km 20.050, and the plan has the border at km 20.000.
 """
