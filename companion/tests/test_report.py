@@ -16,6 +16,7 @@ from typing import Any, Dict, List, Optional, Tuple
 
 import pytest
 from cases_of_program import TOP
+from conftest import Run
 from telegrams import FIRST, MESSAGE, OTHER, SECOND, digest
 from test_text_boxes import faults
 
