@@ -18,8 +18,8 @@ Correct data that gets it. Any that break one of these assumptions; usual cases 
 groups are for one route: not if routes part before the last of these, or end at one distance without packets 5.
 Profiles have the values and places of the track: not if merged, rounded or on the safe side, such as for an overlap.
 V_STATIC is the speed of the track: not if it includes that of the route, the aspect or a temporary restriction. Nor if
-it is for limited supervision, or unused because categories have a V_DIFF. Trains use each profile: not that of a stop
-aspect.
+it is for limited supervision, or unused, such as 0 beside a V_DIFF of each category. Trains use each profile: not that
+of a stop aspect.
 
 Example. At Signal B yellow has 120 km/h from 500 m to 1,000 m, and green 100 km/h.
 

@@ -6,7 +6,7 @@ their NID_TSR is below 255, and each is at most 2 km from the next one. Place an
 restriction, V_TSR is equal and the end is the same. The layout of packet 65 is balisekit's own (SUBSET-026, 3.11.5 and
 7.4.2).
 
-How urgent. At worst wrong information: the train takes the restriction that it gets last.
+How urgent. At worst wrong information.
 
 Usual cause. D_TSR was not made anew for the second group. A restriction was changed in one group only.
 

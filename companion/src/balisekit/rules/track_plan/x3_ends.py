@@ -18,9 +18,9 @@ How to correct it. Correct L_SECTION and L_ENDSECTION, or the row of the plan.
 Correct data that gets it. Any that break one of these assumptions; usual cases follow `not`. The plan has all ends of
 authority: not a marker board, buffer stop, level border, limit of authority (V_LOA above 0) or end of a calling-on
 route. Write such places into the plan. In limited supervision an authority may end at no signal. Trains stay on the
-track: not on a route to another one, if no `point` of the track plan says where. Kilometres and distances show the
-place on the track: not if they jump unstated, follow another axis, are rounded coarsely, or belong to signals or to
-tracks without names.
+track: not through a loop, or on a route to another one, if no `point` of the track plan says where. Kilometres and
+distances show the place on the track: not if they jump unstated, follow another axis, are rounded coarsely, or belong
+to signals or to tracks without names.
 
 Example. The authority of signal A at green ends at km 15.350, and the nearest signal of the plan is at km 15.300.
 """
