@@ -17,7 +17,7 @@ group there with another identity and Q_LINK 1 is passed over, and its informati
 
 How to correct it. Correct the link, or add the group to the table.
 
-Correct data that gets it. Any that break one of these assumptions; usual cases follow `not`. The table lacks only
+Correct data that gets it. Any that break one of these assumptions; usual cases follow "not". The table lacks only
 groups beyond its ends: not those of a branch line that is linked from its middle. D_LINK shows that: not if the
 kilometres jump, or the sender has no kilometre or direction. Nor if the group is within Q_LOCACC and `--tolerance` of
 the end, or has the NID_BG of another one.

@@ -18,7 +18,7 @@ the expectation window. Else it corrects its position by a wrong distance.
 How to correct it. Correct D_LINK, or the kilometre of the table. If the kilometres are rounded, state by how much with
 `--tolerance`.
 
-Correct data that gets it. Any that break one of these assumptions; usual cases follow `not`. Kilometres give the place
+Correct data that gets it. Any that break one of these assumptions; usual cases follow "not". Kilometres give the place
 on the track: not if they follow another axis, are rounded coarsely or belong to signals. Nor if they jump, and neither
 `--jumps` nor a track plan states it: all links over that place then differ by the same amount. Links stay on the track:
 not on a route through another one, or on a balloon loop, which leads back to a group that was passed.

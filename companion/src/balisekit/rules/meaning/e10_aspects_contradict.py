@@ -14,7 +14,7 @@ What may happen. The train gets a speed that is too great, or a gradient that is
 
 How to correct it. Correct the wrong profile by the track plan.
 
-Correct data that gets it. Any that break one of these assumptions; usual cases follow `not`. Aspects that name the same
+Correct data that gets it. Any that break one of these assumptions; usual cases follow "not". Aspects that name the same
 groups are for one route: not if routes part before the last of these, or end at one distance without packets 5.
 Profiles have the values and places of the track: not if merged, rounded or on the safe side, such as for an overlap.
 V_STATIC is the speed of the track: not if it includes that of the route, the aspect or a temporary restriction. Nor if

@@ -15,7 +15,7 @@ not taken for a part of the group.
 
 How to correct it. Correct the kilometre, the group of the row or the column `nominal`.
 
-Correct data that gets it. Any that break one of these assumptions; usual cases follow `not`. The track keeps these
+Correct data that gets it. Any that break one of these assumptions; usual cases follow "not". The track keeps these
 distances: not with an exception, or if `--line-speed` is that of a faster track. Within a group kilometres follow the
 track: not if they jump, or if a balise has the kilometre of something else.
 

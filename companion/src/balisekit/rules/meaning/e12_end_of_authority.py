@@ -16,7 +16,7 @@ What may happen. The train stops beyond the signal, or some metres in rear of it
 
 How to correct it. Correct the sum of the lengths by the distance to the signal.
 
-Correct data that gets it. Any that break one of these assumptions; usual cases follow `not`. All authorities to one
+Correct data that gets it. Any that break one of these assumptions; usual cases follow "not". All authorities to one
 group end at one place: not on a calling-on route, at a limit of authority (V_LOA above 0), or by radio at a marker
 board. Each ends at a group: not in limited supervision, or at a buffer stop, board or border without a group of the
 table within 50 m. Trains stay on the track: not through a loop, or on a route to another one, if no `point` of the

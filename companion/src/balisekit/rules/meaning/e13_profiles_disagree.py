@@ -14,7 +14,7 @@ What may happen. The train goes by the profile that it got last, which may be th
 
 How to correct it. Correct the wrong profile by the track plan.
 
-Correct data that gets it. Any that break one of these assumptions; usual cases follow `not`. Profiles have the values
+Correct data that gets it. Any that break one of these assumptions; usual cases follow "not". Profiles have the values
 and places of the track: not if merged, rounded or on the safe side, such as for an overlap, or a speed 20 m early.
 V_STATIC is the speed of the track: not if it includes that of the route, the aspect or a temporary restriction. Nor if
 it is for limited supervision, or unused, such as 0 beside a V_DIFF of each category. Trains stay on the track: not

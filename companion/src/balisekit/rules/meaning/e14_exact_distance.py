@@ -17,7 +17,7 @@ What may happen. The train believes itself some metres from where it is, and all
 How to correct it. Correct D_LINK or the kilometre. Give jumps of the kilometres by `--jumps` or in the track plan.
 State a greater `--tolerance` if the kilometres follow another axis.
 
-Correct data that gets it. Any that break one of these assumptions; usual cases follow `not`. Kilometres and distances
+Correct data that gets it. Any that break one of these assumptions; usual cases follow "not". Kilometres and distances
 show the place on the track: not if they jump unstated, follow another axis, are rounded coarsely, or belong to signals
 or to tracks without names. D_LINK is rounded to the nearest unit: not if always to one side. Trains stay on the track:
 not on a route to another one, or through a loop.

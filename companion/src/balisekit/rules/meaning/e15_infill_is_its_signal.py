@@ -15,7 +15,7 @@ What may happen. A train releases its brake for an aspect that the signal does n
 
 How to correct it. If the signal is right, copy its packets after packet 136, aspect by aspect.
 
-Correct data that gets it. Any that break one of these assumptions; usual cases follow `not`. An aspect name means the
+Correct data that gets it. Any that break one of these assumptions; usual cases follow "not". An aspect name means the
 same at the infill and its signal: not if it is a number, or that of a distant signal. Infill repeats its signal: not if
 it says less on purpose, such as a lower V_MAIN, shorter or merged profiles, or other timers. Nor if it has V_MAIN above
 0 and no length for a signal at danger. The table has the signal: not on a branch line. If the kilometres show no

@@ -15,7 +15,7 @@ train ignores what is for one direction; with the wrong one it takes what is for
 
 How to correct it. Name the balise in the packets 5 of the groups before it, and give all these links one orientation.
 
-Correct data that gets it. Any that break one of these assumptions; usual cases follow `not`. The table has all links:
+Correct data that gets it. Any that break one of these assumptions; usual cases follow "not". The table has all links:
 not in level 2, also as an overlay of level 1, if radio sends them. Packets 5 that lead past a balise are for trains
 that pass it: not if it is on another route. Trains of one way of a track come to it from one side: not on a balloon
 loop or triangle. Kilometres and distances show the place on the track: not if they jump unstated, follow another axis,

@@ -15,7 +15,7 @@ What may happen. Nothing shows that a train missed such a group, and it does not
 
 How to correct it. Name all groups to the end of the authority in the packet 5.
 
-Correct data that gets it. Any that break one of these assumptions; usual cases follow `not`. The line uses linking: not
+Correct data that gets it. Any that break one of these assumptions; usual cases follow "not". The line uses linking: not
 if on no part, or not on this one, such as in rear of a level 2 area. Packets 5 lead to the end of authority: not if
 only to the next signal, which has its own, or if groups that the table lacks have them. Groups ahead are for these
 trains: not those of level 2 or a national system (packet 44). Trains stay on the track: not through a loop, or on a

@@ -16,7 +16,7 @@ trackside equipment has ended.
 
 How to correct it. Correct each D_LEVELTR by the kilometre of the border. Put a packet 41 into its group.
 
-Correct data that gets it. Any that break one of these assumptions; usual cases follow `not`. Within 500 m all packets
+Correct data that gets it. Any that break one of these assumptions; usual cases follow "not". Within 500 m all packets
 41 are for one border: not if there are two, one on another route, or orders for trains that start there. They have one
 place: not with D_LEVELTR 32,767 some metres from the border. They have one list of levels: not if announcement and
 border differ on purpose. A group of the table orders the change: not if only the last announcement does. Kilometres and

@@ -14,7 +14,7 @@ What may happen. The brake curve is wrong by twice the gradient.
 
 How to correct it. Compare both directions with the track plan, which has one gradient for each stretch.
 
-Correct data that gets it. Any that break one of these assumptions; usual cases follow `not`. Each gradient is that of
+Correct data that gets it. Any that break one of these assumptions; usual cases follow "not". Each gradient is that of
 its place: not the steepest or mean value of a longer stretch. Safe gradients near a summit or a valley are so, and may
 both go down. Trains stay on the track: not on a route to another one, or through a loop. Kilometres and distances show
 the place on the track: not if they jump unstated, follow another axis, are rounded coarsely, or belong to signals or to

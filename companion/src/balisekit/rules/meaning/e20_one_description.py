@@ -12,7 +12,7 @@ What may happen. The train waits for a group twice, or opens another window for 
 
 How to correct it. Correct NID_BG, Q_LOCACC or Q_LINKREACTION.
 
-Correct data that gets it. Any that break one of these assumptions; usual cases follow `not`. A train passes each group
+Correct data that gets it. Any that break one of these assumptions; usual cases follow "not". A train passes each group
 of a packet 5 once: not on a balloon loop. With `--rules E20`, Q_LOCACC and Q_LINKREACTION belong to the group: not if
 they depend on the route, the aspect or the sender.
 

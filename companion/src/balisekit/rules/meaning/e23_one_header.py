@@ -13,7 +13,7 @@ another one for it.
 
 How to correct it. Correct the header.
 
-Correct data that gets it. Any that break one of these assumptions; usual cases follow `not`. A table has one version:
+Correct data that gets it. Any that break one of these assumptions; usual cases follow "not". A table has one version:
 not at a border between versions, or if balises differ on purpose. A track has one NID_C between its ends: not if the
 groups of two countries alternate, or a region has several.
 

@@ -15,7 +15,7 @@ or too late.
 
 How to correct it. Correct the value. If the line is faster, state its greatest speed with `--line-speed`.
 
-Correct data that gets it. Any that break one of these assumptions; usual cases follow `not`. The limits hold for all
+Correct data that gets it. Any that break one of these assumptions; usual cases follow "not". The limits hold for all
 trains: not if the line is faster or steeper or has greater release speeds, or for the V_DIFF of tilting trains. Each
 speed restricts: not one by which a project says that it does not. With `--rules E2`, the profile with a V_MAIN has the
 greatest speed of its route: not if another group states that stretch.

@@ -16,7 +16,7 @@ ends before its danger point, or may run at V_MAIN without any length.
 
 How to correct it. Correct the wrong value by the design of the signal.
 
-Correct data that gets it. Any that break one of these assumptions; usual cases follow `not`. Trains use each value: not
+Correct data that gets it. Any that break one of these assumptions; usual cases follow "not". Trains use each value: not
 a section of 0 m, a T_LOA, a danger point or an overlap that a template fills in. Timers start and stop within their
 lengths: not one that on purpose stops later, or starts in rear of the group. V_LOA restricts: not one above V_MAIN by
 which a project says that it does not. V_MAIN above 0 has a length: not at a signal at danger, often after a packet 136.

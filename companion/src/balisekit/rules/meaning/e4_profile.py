@@ -16,7 +16,7 @@ element often hides a change that was meant.
 
 How to correct it. Correct or remove the wrong element by the profile of the track.
 
-Correct data that gets it. Any that break one of these assumptions; usual cases follow `not`. Trains run over the whole
+Correct data that gets it. Any that break one of these assumptions; usual cases follow "not". Trains run over the whole
 profile: not beyond a buffer stop or end of authority, or at a stop aspect. It may have 0 km/h there, or no length.
 Trains use V_STATIC: not if each category has a V_DIFF. V_STATIC may then be 0, or for a greater cant deficiency. More
 cant deficiency never means less speed: not if tilting trains have their own restriction. Each element and category is

@@ -17,7 +17,7 @@ restriction is then on both sides of the group.
 
 How to correct it. Set Q_DIR to 1 or 0. A group of one balise gets its direction if it is linked, or by a second balise.
 
-Correct data that gets it. Any that break one of these assumptions; usual cases follow `not`. Trains of both directions
+Correct data that gets it. Any that break one of these assumptions; usual cases follow "not". Trains of both directions
 get the packet: not on a track for one direction, or by a radio message. The track differs on both sides: not for a
 level track, one speed, big metal masses or a restriction around the group. Nobody wants to stop both directions: not at
 a group for signals of both.

@@ -12,7 +12,7 @@ What may happen. A train that passes the more restrictive aspect gets the author
 
 How to correct it. Correct the wrong telegram by the aspect table of the signal.
 
-Correct data that gets it. Any that break one of these assumptions; usual cases follow `not`. Two names are two aspects:
+Correct data that gets it. Any that break one of these assumptions; usual cases follow "not". Two names are two aspects:
 not if one has two names, or a default telegram repeats it. A train gets different data at them: not if only the driver
 sees the difference, or two routes have the same data. Nor if they differ only beyond the end of authority, such as
 yellow and green in rear of a buffer stop or level border, which can have the lowest urgency.

@@ -16,7 +16,7 @@ packet 137 a train in staff responsible mode passes the signal.
 
 How to correct it. Add the packet, or correct Q_DIR.
 
-Correct data that gets it. Any that break one of these assumptions; usual cases follow `not`. The aspects of a group
+Correct data that gets it. Any that break one of these assumptions; usual cases follow "not". The aspects of a group
 need the same packets for one direction: not for calling-on, for another route, or for another direction, which one of
 them may only stop. All stop aspects of the table, in both directions, stop trains in staff responsible mode too: not
 where these may pass. Stop aspects of one name treat shunting alike: not if it is allowed at some.

@@ -15,7 +15,7 @@ with V_MAIN above 0 does not stop it.
 
 How to correct it. Exchange the telegrams of the two aspects, or correct their names.
 
-Correct data that gets it. Any that break one of these assumptions; usual cases follow `not`. An aspect name means the
+Correct data that gets it. Any that break one of these assumptions; usual cases follow "not". An aspect name means the
 same at each signal: not if one uses it otherwise, or names are numbers of routes. Nor if one of a group for both
 directions stops the trains of one. The more restrictive aspect ends first: not if both end at a buffer stop or level
 border. Nor if one is for another track whose next signal is farther away, such as at a junction or staggered exit

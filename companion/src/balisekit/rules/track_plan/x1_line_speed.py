@@ -14,7 +14,7 @@ What may happen. The train supervises another speed than that of the track.
 
 How to correct it. Correct V_STATIC or D_STATIC of the packet, or the row of the plan.
 
-Correct data that gets it. Any that break one of these assumptions; usual cases follow `not`. The plan has the speed
+Correct data that gets it. Any that break one of these assumptions; usual cases follow "not". The plan has the speed
 that V_STATIC must have: not that of a category. V_STATIC is the speed of the track: not if it includes that of the
 route, the aspect or a temporary restriction. Nor if it is for limited supervision, or unused, such as 0 beside a V_DIFF
 of each category. Profiles have the values and places of the track: not if merged, rounded or on the safe side, such as

@@ -15,7 +15,7 @@ What may happen. The train computes its braking curves with another gradient tha
 
 How to correct it. Correct Q_GDIR, G_A or D_GRADIENT of the packet, or the row of the plan.
 
-Correct data that gets it. Any that break one of these assumptions; usual cases follow `not`. Plan and profile have the
+Correct data that gets it. Any that break one of these assumptions; usual cases follow "not". Plan and profile have the
 gradient of each place: not a mean of several, or a safe gradient. That may be the most downhill one, one rounded down,
 or one of a stop aspect or overlap. Write safe gradients into the plan, a row for each way. Trains stay on the track:
 not through a loop, or on a route to another one, if no `point` of the track plan says where. Kilometres and distances

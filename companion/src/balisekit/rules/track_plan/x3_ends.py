@@ -15,7 +15,7 @@ What may happen. The train stops beyond the signal, or too far in rear of it.
 
 How to correct it. Correct L_SECTION and L_ENDSECTION, or the row of the plan.
 
-Correct data that gets it. Any that break one of these assumptions; usual cases follow `not`. The plan has all ends of
+Correct data that gets it. Any that break one of these assumptions; usual cases follow "not". The plan has all ends of
 authority: not a marker board, buffer stop, level border, limit of authority (V_LOA above 0) or end of a calling-on
 route. Write such places into the plan. In limited supervision an authority may end at no signal. Trains stay on the
 track: not through a loop, or on a route to another one, if no `point` of the track plan says where. Kilometres and

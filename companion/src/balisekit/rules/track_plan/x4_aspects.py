@@ -14,7 +14,7 @@ What may happen. The train runs farther or faster than the route that is set for
 
 How to correct it. Correct the packet 12, or the row of the plan.
 
-Correct data that gets it. Any that break one of these assumptions; usual cases follow `not`. The plan has the values of
+Correct data that gets it. Any that break one of these assumptions; usual cases follow "not". The plan has the values of
 the packet: not if it has those of the route, and the packet reduces one, does not restrict, or is for limited
 supervision. Each aspect of the plan has a packet 12: not one that lacks it on purpose, such as a stop by other packets.
 A row has the way of its packet: not if rows for a group with both directions state no `way`. Lengths are rounded as

@@ -17,7 +17,7 @@ What may happen. The train is in a level that the track does not support there, 
 
 How to correct it. Correct the packet, or the row of the plan.
 
-Correct data that gets it. Any that break one of these assumptions; usual cases follow `not`. The plan has the borders
+Correct data that gets it. Any that break one of these assumptions; usual cases follow "not". The plan has the borders
 of all trains and routes: not those of trains that have no radio or start near one, or an RBC of another route. Orders
 are exactly at the border: not D_LEVELTR 32,767 or D_RBCTR 0 some metres from it, or one repeated beyond it. Write such
 places into the plan. Packets have its levels: not if announcement and border differ on purpose. Groups of the table
