@@ -456,6 +456,19 @@ def test_e16_of_a_balise_that_nobody_names(found: Found) -> None:
     assert not found("E16", SHORT, all_of(without_links, changed()))
 
 
+def test_e16_of_a_balise_that_infill_names(found: Found) -> None:
+    """A packet 5 after a packet 136 names it too."""
+
+    def named(rows: List[Row]) -> None:
+        single_balise(rows, named=False)
+        links = change(rows, "Signal 4", FIXED, 5)
+        own = {**links, "links": [{**links["links"][0], "nid_bg": 7000}]}
+        form_of(rows, "Infill of Signal 4", GREEN)["packets"].append(own)
+
+    assert len(found("E16", INFILL, lambda rows: single_balise(rows, named=False))) == 1
+    assert not found("E16", INFILL, named)
+
+
 def repositioned(metres: int, with_packet_16: bool = True) -> Change:
     """Signals 3 and 4 name a group that is not known, this far from signal 5, in its place."""
 
@@ -552,6 +565,39 @@ def test_e18_levels(found: Found) -> None:
     assert len(without) == 1 and "no group within 500 m of that place has a packet 41" in without[0].sentence
     cut = found("E18", BORDER, only(lambda row: row.place < 16_100))
     assert not cut
+
+
+def test_e18_of_a_border_whose_direction_is_not_known(found: Found) -> None:
+    """A single balise that no packet 5 names orders the transition in both directions, or only in one of them."""
+
+    def single(rows: List[Row], q_dir: int = 2) -> None:
+        rows[:] = [row for row in rows if row.group != "Border" or row.balise == 0]
+        border = next(row for row in rows if row.group == "Border")
+        border.form.update(n_total=0, q_link=0)
+        for each in border.form["packets"]:
+            each.update({"q_dir": q_dir} if each["nid_packet"] == 41 else {})
+        for row in rows:
+            for each in row.form["packets"]:
+                if each["nid_packet"] == 5:
+                    each["links"] = [one for one in each["links"] if one["nid_bg"] != border.form["nid_bg"]]
+
+    for q_dir, count in ((2, 0), (1, 1)):
+        made = found("E18", BORDER, lambda rows, q_dir=q_dir: single(rows, q_dir))
+        assert len(made) == count and all(each.sentence.endswith(" in this direction") for each in made)
+
+
+def test_e19_of_several_values(found: Found) -> None:
+    """The values are those of the first stretch, and the other end is that of the last one."""
+
+    line, turned = Line(signals=6, both=True), meaning_mistakes.reverse_gradients_turned
+    line.gradients = [(0, 10), (11_500, 8)]
+    (up,) = [each for each in found("E19", line, turned) if not each.urgency]
+    assert "+10 per mille from km 10.000 to km 11.500 (1500 m), and +10 per mille" in up.sentence
+    assert up.sentence.endswith(": they add up to 20 per mille, and to more than 1 per mille up to km 18.100")
+    line.gradients = [(0, -10), (11_500, -8)]
+    (down,) = [each for each in found("E19", line, turned) if each.urgency]
+    assert "-10 per mille from km 10.000 to km 11.500 (1500 m), and -10 per mille" in down.sentence
+    assert down.sentence.endswith(": up to km 18.100 both go down")
 
 
 def test_e19(found: Found) -> None:

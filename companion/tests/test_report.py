@@ -16,6 +16,7 @@ from typing import Any, Dict, List, Optional, Tuple
 
 import pytest
 from cases_of_program import TOP
+from conftest import Run
 from telegrams import FIRST, MESSAGE, OTHER, SECOND, digest
 from test_text_boxes import faults
 
@@ -633,3 +634,16 @@ def test_places_of_remarks_are_marked(tmp_path: Path) -> None:
     for name, marks in (("E2", ["E2: 0 m"]), ("E9", ["E9: 1500 m", "E9: 3000 m"]), ("E18", ["E18: 2250 m"])):
         _, page = _report(TOP / f"examples/meaning/mistakes/{name}.csv", tmp_path / "r.html", "--only", "E")
         assert sorted(re.findall(rf">({name}: [0-9]+ m)<", page)) == marks, name
+
+
+def test_a_jump_that_is_stated_is_no_wrong_link_in_pictures(run: Run, tmp_path: Path) -> None:
+    """Also if rules L are not applied: pictures show links in any case."""
+    rows = (TOP / "examples" / "links" / "line.csv").read_text("utf-8")
+    (tmp_path / "t.csv").write_text(re.sub(r",1[23]([.]\d+),", lambda km: f",2{km[0][2:]}", rows), "utf-8")
+    pages = []
+    for text in ("", "jumps = 'j.csv'\n"):
+        (tmp_path / "balisekit.toml").write_text(f"[check]\n{text}", "utf-8")
+        (tmp_path / "j.csv").write_text("km,km_after\n11.5,21.5\n", "utf-8")
+        run("report", tmp_path / "t.csv", "--only", "F", "--html", tmp_path / "r.html", "--force")
+        pages.append((tmp_path / "r.html").read_text("utf-8"))
+    assert ["L2: " in page for page in pages] == [True, False]

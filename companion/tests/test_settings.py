@@ -3,11 +3,11 @@ from __future__ import annotations
 
 from decimal import Decimal
 from pathlib import Path
-from typing import List
+from typing import List, Sequence, Tuple
 
 import pytest
 from conftest import Run
-from meaning_line import Line
+from meaning_line import Line, Row
 from test_meaning import written
 
 from balisekit.engine.program import Program
@@ -62,6 +62,35 @@ def test_bad_values(run: Run, program: Program, tmp_path: Path, toml: str, why: 
 def test_bad_options(run: Run, program: Program, tmp_path: Path, words: List[str], why: str) -> None:
     status, out, err = run("check", written(program, tmp_path / "t.csv", Line(5)), *words)
     assert (status, out) == (2, []) and why in err[-1]
+
+
+def test_links_finds_what_check_finds(run: Run, program: Program, tmp_path: Path) -> None:
+    """With a jump and a tolerance that are given as options, by [check] of balisekit.toml or by its track plan."""
+
+    def shifted(rows: List[Row]) -> None:
+        for row in rows:
+            row.place += 50 if row.place > 14_000 else 0
+
+    path = written(program, tmp_path / "t.csv", Line(5), shifted)
+    (tmp_path / "j.csv").write_text("km,km_after\n14.0,14.050\n", "utf-8")
+    (tmp_path / "p.csv").write_text("kind,km,km_to,value\njump,14.0,14.050,\nspeed,10,,80\n", "utf-8")
+    file = tmp_path / "balisekit.toml"
+    jumps, metres = ["--jumps", tmp_path / "j.csv"], ["--tolerance", "50"]
+    stated: Sequence[Tuple[str, Sequence[object]]] = [
+        *(("", words) for words in ([], jumps, metres)),
+        *((text, []) for text in ("jumps = 'j.csv'", "plan = 'p.csv'", "tolerance = 50")),
+        ("jumps = 'j.csv'", ["--tolerance", "0"]),
+    ]
+    for text, words in stated:
+        file.write_text(f"[check]\nline_speed = 200\n{text}\n", "utf-8")
+        status, out, _ = run("links", path, *words)
+        assert status == int(not text and not words), (text, words, out)
+        assert run("check", path, "--only", "L", *words)[0] == status
+    file.write_text("[check]\ntolerance = 'x'\n", "utf-8")
+    assert run("links", path)[2] == [f"balisekit: {file}: [check] tolerance: x is no number of metres: write 5 or 2.5"]
+    file.unlink()
+    unused = ["balisekit: --jumps is not used with --only F"]
+    assert run("check", path, "--only", "F", *jumps)[2] == unused
 
 
 JUMPS = [

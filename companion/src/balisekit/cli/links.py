@@ -3,13 +3,12 @@ from __future__ import annotations
 
 import argparse
 
-from balisekit.cli import options as shared
+from balisekit.cli import options as shared, settings
 from balisekit.io.outputs import write_json
 from balisekit.present.entries_json import entries_json
 from balisekit.present.links_text import as_json, lines, status_of
 from balisekit.rules import checking
 from balisekit.rules.families import apply
-from balisekit.rules.rule import Options
 
 LETTERS = ("L",)
 
@@ -17,16 +16,18 @@ LETTERS = ("L",)
 def add_options(parser: argparse.ArgumentParser) -> None:
     """The options of this command."""
     shared.add(parser, *shared.INPUTS, "--tolerance")
+    parser.add_argument("--jumps", **shared.input_file(settings.JUMPS))
     shared.add(parser, "--explain", help="show cause and remedy of each rule that has found something")
     shared.add(parser, "--json", "--force")
 
 
 def run(options: argparse.Namespace) -> int:
     """Does it. The answer is the exit status."""
+    line = settings.of_line(options)
     program, table, messages = shared.inputs(options)
     shared.refuse_without_kilometres(table)
     checked = checking.check(program, table, messages, options.by_position)
-    outcome = apply(checked, LETTERS, Options(options.tolerance))
+    outcome = apply(checked, LETTERS, line)
     links = next(part.applied for part in outcome.parts if part.applied)
     if options.json:
         write_json(options.json, {**as_json(checked, links), "entries": entries_json(outcome)})

@@ -68,4 +68,4 @@ def links_of(outcome: Outcome, options: Options) -> Links:
     for part in outcome.parts:
         if part.applied is not None and L2 in part.applied.results:
             return part.applied
-    return compare(Line.of(outcome.checked), options, [L2])
+    return compare(Line.of(outcome.checked, options.jumps), options, [L2])

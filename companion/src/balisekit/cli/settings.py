@@ -72,11 +72,11 @@ def refuse_unused(options: argparse.Namespace, letters: Sequence[str]) -> None:
     """Raises TableError if an option is given that the rules of these families do not use."""
     purpose = f"with --only {','.join(letters)}"
     if "E" not in letters:
-        shared.refuse_unused(options, purpose, "line_speed", "release_speed", "jumps", "rules")
+        shared.refuse_unused(options, purpose, "line_speed", "release_speed", "rules")
     if not {"E", "X"} & set(letters):
         shared.refuse_unused(options, purpose, "plan")
     if set(letters) == {"F"}:
-        shared.refuse_unused(options, purpose, "tolerance")
+        shared.refuse_unused(options, purpose, "tolerance", "jumps")
 
 
 def of_line(options: argparse.Namespace) -> Options:
@@ -104,8 +104,8 @@ def jumps(options: argparse.Namespace) -> Tuple[Jump, ...]:
 
 
 def _given(options: argparse.Namespace) -> Dict[str, Any]:
-    """The options that were given."""
-    values = {name: getattr(options, name) for name in KINDS}
+    """The options that were given, of those that the command has."""
+    values = {name: getattr(options, name, None) for name in KINDS}
     return {name: value for name, value in values.items() if value is not None and value is not shared.EXACT}
 
 

@@ -9,17 +9,18 @@ is not reported (SUBSET-026, 3.4.4 and 7.4.2).
 How urgent. At worst the train brakes or is tripped at each passage.
 
 Usual cause. The number of the group was mistyped. The group got a new number. Or Q_NEWCOUNTRY and NID_C were forgotten
-at a border. If the table has another group at that place, the line names it with its identity. It names F14 too if the
-program has found that identity used twice: then that group may have the wrong one.
+at a border. If the table has another group at that place, the line names it with its identity. If F14 is found for that
+identity, this group may have the wrong one.
 
 What may happen. The train waits for a group that does not come, and applies the linking reaction (Q_LINKREACTION). A
 group there with another identity and Q_LINK 1 is passed over, and its information is lost.
 
-How to correct it. Correct NID_C and NID_BG of the link, or add the group to the table.
+How to correct it. Correct the link, or add the group to the table.
 
-Correct data that gets it. A section of a longer line whose next group is within Q_LOCACC and `--tolerance` of the end
-of the table, or whose sending group has no kilometre or direction. A route to a line that is not in the table, such as
-a branch line that is linked from the middle of the table.
+Correct data that gets it. Any that break one of these assumptions; usual cases follow "not". The table lacks only
+groups beyond its ends: not those of a branch line that is linked from its middle. D_LINK shows that: not if the
+kilometres jump, or the sender has no kilometre or direction. Nor if the group is within Q_LOCACC and `--tolerance` of
+the end, or has the NID_BG of another one.
 
 Example. The reverse link of group B names group 5, and the table has no group 5.
 """

@@ -18,9 +18,10 @@ the expectation window. Else it corrects its position by a wrong distance.
 How to correct it. Correct D_LINK, or the kilometre of the table. If the kilometres are rounded, state by how much with
 `--tolerance`.
 
-Correct data that gets it. Kilometres that follow another axis than the track, or that jump, if neither `--jumps` nor a
-track plan states it: all links over that place differ by the same amount. A route through another track. A balloon
-loop, which leads a train back to a group that it has passed.
+Correct data that gets it. Any that break one of these assumptions; usual cases follow "not". Kilometres give the place
+on the track: not if they follow another axis, are rounded coarsely or belong to signals. Nor if they jump, and neither
+`--jumps` nor a track plan states it: all links over that place then differ by the same amount. Links stay on the track:
+not on a route through another one, or on a balloon loop, which leads back to a group that was passed.
 
 Example. The link of group A to group B says 1,010 m, and their kilometres are 1,000 m apart.
 """

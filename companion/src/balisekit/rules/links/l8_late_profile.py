@@ -12,11 +12,10 @@ profile from an earlier message.
 What may happen. Before the first element the train has no profile, or one of an earlier message. It may refuse the
 authority.
 
-How to correct it. Set the first distance to 0, with the value that holds at the group. Or note which earlier message
-gives the profile.
+How to correct it. Set the first distance to 0, or note which earlier message gives the profile.
 
-Correct data that gets it. A message 3 that continues the profiles of an earlier message which the file does not have. A
-group whose track has its profile from an earlier group.
+Correct data that gets it. Any that break one of these assumptions; usual cases follow "not". A message has the profiles
+from its group on: not if an earlier group, or a message 3 that the file lacks, gave those of the track before them.
 
 Example. The speed profile of balise A2 begins at 50 m.
 """

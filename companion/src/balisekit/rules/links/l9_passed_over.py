@@ -17,9 +17,11 @@ lost without a reaction.
 How to correct it. Add the group to the packet 5, and correct the distance of the group after it. If trains are to take
 it without linking, set Q_LINK to 0.
 
-Correct data that gets it. A packet 5 for one of several routes, which does not pass the group. A group with
-repositioning information (packet 16) on another route, to which packets 5 lead by NID_BG 16,383. A group for other
-trains only, such as those of level 2 or of a national system (packet 44), on a line whose packets 5 are for level 1.
+Correct data that gets it. Any that break one of these assumptions; usual cases follow "not". Trains that use a packet 5
+pass the groups between those that it names: not on another route. Such is a group with repositioning information
+(packet 16) to which NID_BG 16,383 leads. A group with Q_LINK 1 is for them: not one of level 2 or a national system
+(packet 44), if the packets 5 are for level 1. Groups are passed in the order of their kilometres: not if these jump
+back.
 
 Example. Group A links only group C, and group B stands between them.
 """

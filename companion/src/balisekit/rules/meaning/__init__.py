@@ -4,7 +4,7 @@ A rule is added so:
 
 1. Write `eN_what_is_wrong.py`, with fewer than 150 lines. Its docstring is its page: the title, then the paragraphs
    `What it says`, `How urgent`, `Usual cause`, `What may happen`, `How to correct it`, `Correct data that gets it`
-   (it begins with `None` if there are none), `Example` and `How sure`.
+   (`None`, or what the rule assumes, so that such data breaks one assumption), `Example` and `How sure`.
 2. Write `find(line, options) -> Result`. `line.decoded` has all packets and passages, `line.groups` the groups, and
    `line.chains` the linking packets with their groups. `options` has what the user states of the line, and
    `options.asks_for("E2")` says whether the part that is off by default is wanted.

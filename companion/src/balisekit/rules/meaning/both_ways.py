@@ -82,15 +82,17 @@ def least(rising: Sequence[Step], falling: Sequence[Step], is_least: bool) -> It
         before = place
 
 
-def joined(stretches: Sequence[Both]) -> Iterator[Both]:
-    """Neighbouring stretches as one, with the values of the first one."""
-    last: Optional[Both] = None
+def joined(stretches: Sequence[Both]) -> Iterator[Tuple[Both, int]]:
+    """Neighbouring stretches as one: the first one, as far as its values go, and the end of the last one."""
+    first: Optional[Both] = None
+    until = 0
     for each in stretches:
-        if last and last.high == each.low:
-            last = last._replace(high=each.high)
-            continue
-        if last:
-            yield last
-        last = each
-    if last:
-        yield last
+        if first is None or until != each.low:
+            if first:
+                yield first, until
+            first = each
+        elif until == first.high and each.values == first.values:
+            first = first._replace(high=each.high)
+        until = each.high
+    if first:
+        yield first, until

@@ -6,18 +6,20 @@ authority. Without packets 5 they are compared if both authorities end at the sa
 shorter than `--tolerance` and the rounding of the lengths, and what lies beyond a `point` of the track plan. One remark
 names the aspect that most others disagree with, and the longest stretch (SUBSET-026, 3.11).
 
-How urgent. At worst wrong information: one of the aspects has a speed or gradient that the track does not have.
+How urgent. At worst wrong information.
 
 Usual cause. The profile of one aspect was not made anew. It has a wrong sign, scale or unit.
 
 What may happen. The train gets a speed that is too great, or a gradient that is too favourable, at one of the aspects.
 
-How to correct it. Compare both profiles with the track, and correct the wrong one.
+How to correct it. Correct the wrong profile by the track plan.
 
-Correct data that gets it. Aspects for routes that part before the last group that both name, or that end at one
-distance without packets 5. Gradients or speeds that are merged at one aspect, or at each over another stretch. A safe
-value for the overlap, beyond the end of authority of one aspect. A speed profile that includes the speed of the aspect,
-or is for limited supervision. A profile of a stop aspect, which no train uses.
+Correct data that gets it. Any that break one of these assumptions; usual cases follow "not". Aspects that name the same
+groups are for one route: not if routes part before the last of these, or end at one distance without packets 5.
+Profiles have the values and places of the track: not if merged, rounded or on the safe side, such as for an overlap.
+V_STATIC is the speed of the track: not if it includes that of the route, the aspect or a temporary restriction. Nor if
+it is for limited supervision, or unused, such as 0 beside a V_DIFF of each category. Trains use each profile: not that
+of a stop aspect.
 
 Example. At Signal B yellow has 120 km/h from 500 m to 1,000 m, and green 100 km/h.
 

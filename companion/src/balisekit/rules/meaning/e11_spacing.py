@@ -1,9 +1,9 @@
 """E11: spacing of balises.
 
 What it says. Neighbouring balises of a group are less than 2.3 m or more than 12 m apart, or the column `nominal`
-contradicts their kilometres. With a `--line-speed` above 180 km/h the least spacing is 3.0 m; a greater one above 300
-km/h is not looked for. One unit of the last decimal of the kilometres is allowed in either direction. The rule passes
-over a group whose balises all have the same kilometre (SUBSET-036 and SUBSET-040, installation of balise groups).
+contradicts their kilometres. With a `--line-speed` above 180 km/h the least spacing is 3.0 m. One unit of the last
+decimal of the kilometres is allowed in either direction. The rule passes over a group whose balises all have the same
+kilometre (SUBSET-036 and SUBSET-040, installation of balise groups).
 
 How urgent. At worst a wrong position of the train: distances of the group count from its first balise.
 
@@ -15,13 +15,13 @@ not taken for a part of the group.
 
 How to correct it. Correct the kilometre, the group of the row or the column `nominal`.
 
-Correct data that gets it. A spacing that was allowed as an exception on the track. A jump of the kilometres between two
-balises of one group. On a track for 180 km/h or less, a spacing from 2.3 m, if `--line-speed` is that of a faster
-track.
+Correct data that gets it. Any that break one of these assumptions; usual cases follow "not". The track keeps these
+distances: not with an exception, or if `--line-speed` is that of a faster track. Within a group kilometres follow the
+track: not if they jump, or if a balise has the kilometre of something else.
 
 Example. The second balise of group C is at km 12.033, 33 m from the first one at km 12.000.
 
-How sure. 88 %: the distances were written from memory of the standard.
+How sure. 88 %: the distances are from memory.
 """
 from __future__ import annotations
 

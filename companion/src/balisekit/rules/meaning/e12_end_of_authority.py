@@ -1,13 +1,12 @@
 """E12: end of authority.
 
-What it says. An authority ends elsewhere than others that lead to the same group, or near a group and not at it. The
-end is the kilometre of the group and the sum of L_SECTION and L_ENDSECTION of a packet 12 with V_MAIN above 0, or a
-packet 15. An authority leads to the group of its packets 5 that is nearest to its end, within 200 m. If none is so
-near, it is the last one before the end, if another one is beyond it. Without packets 5 ends within 20 m of each other
-are compared. Near a group means that a packet 12 ends between the first and the last signal of its track, at most 200 m
-from the first balise of the nearest group. It is not at the group if it is more than 50 m and the tolerance away. The
-tolerance is `--tolerance` (else 1 m), one unit of the last decimal of the kilometres, and the rounding of the lengths.
-Each packet adds one unit of Q_SCALE, and half a unit for each further length of a sum (SUBSET-026, 3.8 and 7.4.2).
+What it says. An authority ends elsewhere than others that lead to the same group, or near a group and not at it. It
+ends at the kilometre of its group and the sum of L_SECTION and L_ENDSECTION of a packet 12 with V_MAIN above 0, or a
+packet 15. It leads to the group of its packets 5 that is nearest to its end, within 200 m. If none is so near, it is
+the last one before the end, if another one is beyond it. Without packets 5 ends at most 20 m from the next one are
+compared. A packet 12 is not at a group if the first balise of the nearest one is more than 50 m and at most 200 m away.
+Only ends between the first and the last signal of the track and way count. Places may differ by `--tolerance` (else 1
+m) and rounding (SUBSET-026, 3.8 and 7.4.2).
 
 How urgent. At worst wrong information: a train may pass the signal at which it has to stop.
 
@@ -15,13 +14,14 @@ Usual cause. A length was mistyped, or has a wrong Q_SCALE. A signal was moved, 
 
 What may happen. The train stops beyond the signal, or some metres in rear of it.
 
-How to correct it. Compare the sum of the lengths with the distance to the signal.
+How to correct it. Correct the sum of the lengths by the distance to the signal.
 
-Correct data that gets it. Buffer stops, and marker boards without balises. A signal or border whose group is more than
-50 m from it, or not in the table. A route that ends in rear of the signal, such as a calling-on route, or a limit of
-authority (V_LOA above 0). An authority for limited supervision, which may end at no signal. A route to another track,
-if no `point` of the track plan says where trains may leave the track. Parallel tracks without names in the column
-`track`. Rounding and kilometres as in E14.
+Correct data that gets it. Any that break one of these assumptions; usual cases follow "not". All authorities to one
+group end at one place: not on a calling-on route, at a limit of authority (V_LOA above 0), or by radio at a marker
+board. Each ends at a group: not in limited supervision, or at a buffer stop, board or border without a group of the
+table within 50 m. Trains stay on the track: not through a loop, or on a route to another one, if no `point` of the
+track plan says where. Kilometres and distances show the place on the track: not if they jump unstated, follow another
+axis, are rounded coarsely, or belong to signals or to tracks without names.
 
 Example. At green the authority of signal 3 ends at km 16.050, and three others that lead to signal 5 end at km 16.000.
 

@@ -3,8 +3,8 @@
 What it says. For one stretch the profiles of two groups state different V_STATIC, or gradients more than 5 ‰ apart.
 Each group is compared with the next one ahead of its track and way that has a profile there. They differ if no value of
 one group fits one of the other, in any aspect. Of the group in rear only those aspects count whose packet 5 names the
-group ahead, if any does. Stretches up to the tolerance of E12 are passed over. A group that differs from those on both
-sides has the remark (SUBSET-026, 3.11.3 and 3.11.12).
+group ahead, if any does. Stretches up to `--tolerance` (else 1 m) and rounding are passed over. A group that differs
+from those on both sides has the remark (SUBSET-026, 3.11.3 and 3.11.12).
 
 How urgent. At worst wrong information: a train may go too fast, or brake too late on a slope.
 
@@ -12,13 +12,15 @@ Usual cause. V_STATIC is in km/h, or Q_SCALE or Q_GDIR is wrong. A speed or a gr
 
 What may happen. The train goes by the profile that it got last, which may be the wrong one.
 
-How to correct it. Compare both groups with the track plan.
+How to correct it. Correct the wrong profile by the track plan.
 
-Correct data that gets it. Gradients or speeds that were merged in one group only, or in each over another stretch. A
-profile for limited supervision. A safe value for the overlap, beyond an end of authority. A temporary restriction that
-is written into one profile. A route to another track, if no `point` of the track plan says where trains may leave it.
-Parallel tracks without names in the column `track`. A speed profile that includes the speed of the route or aspect.
-Rounding and kilometres as in E14.
+Correct data that gets it. Any that break one of these assumptions; usual cases follow "not". Profiles have the values
+and places of the track: not if merged, rounded or on the safe side, such as for an overlap, or a speed 20 m early.
+V_STATIC is the speed of the track: not if it includes that of the route, the aspect or a temporary restriction. Nor if
+it is for limited supervision, or unused, such as 0 beside a V_DIFF of each category. Trains stay on the track: not
+through a loop, or on a route to another one, if no `point` of the track plan says where. Kilometres and distances show
+the place on the track: not if they jump unstated, follow another axis, are rounded coarsely, or belong to signals or to
+tracks without names.
 
 Example. From km 14.500 to km 15.200 signal 3 says 500 km/h, and signal 4 says 100 km/h.
 

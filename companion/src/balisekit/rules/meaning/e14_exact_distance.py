@@ -1,12 +1,13 @@
 """E14: distance not as it is written.
 
-What it says. A distance by D_LINK differs from the kilometres by more than the tolerance of E12, but not enough for L2.
-L2 allows Q_LOCACC, which describes how exactly a group is installed, not how exactly D_LINK is written. The distance
-counts from the sender, or from the linked group before. If all links over a stretch differ by one amount, one remark
-asks whether the kilometres jump there. If five links of a track or more differ, and more than a fifth of all, one note
-counts them: the kilometres then follow another axis than the track (SUBSET-026, 3.4.4 and 7.5.1).
+What it says. A distance by D_LINK differs from the kilometres by more than `--tolerance` (else 1 m) and rounding, but
+not enough for L2. L2 allows Q_LOCACC, which describes how exactly a group is installed, not how exactly D_LINK is
+written. The distance counts from the sender, or from the linked group before. If all links over a stretch differ by one
+amount, one remark asks whether the kilometres jump there. If five links of a track or more differ, and more than a
+fifth of all, one note counts them: the kilometres then follow another axis than the track (SUBSET-026, 3.4.4 and
+7.5.1).
 
-How urgent. At worst a wrong position of the train: it corrects its position by a wrong distance.
+How urgent. At worst a wrong position of the train.
 
 Usual cause. A distance was counted from or to another balise than the first. A group was moved a few metres. The
 kilometre of the table is wrong.
@@ -16,9 +17,10 @@ What may happen. The train believes itself some metres from where it is, and all
 How to correct it. Correct D_LINK or the kilometre. Give jumps of the kilometres by `--jumps` or in the track plan.
 State a greater `--tolerance` if the kilometres follow another axis.
 
-Correct data that gets it. Kilometres that jump, if neither `--jumps` nor a track plan says so. Kilometres of signals,
-or of another axis, as on curves and second tracks. Lengths that are rounded more coarsely than Q_SCALE states, or all
-to one side. A route through another track.
+Correct data that gets it. Any that break one of these assumptions; usual cases follow "not". Kilometres and distances
+show the place on the track: not if they jump unstated, follow another axis, are rounded coarsely, or belong to signals
+or to tracks without names. D_LINK is rounded to the nearest unit: not if always to one side. Trains stay on the track:
+not on a route to another one, or through a loop.
 
 Example. Signal 5 is 1,504 m from signal 4 by D_LINK and 1,500 m by the kilometres, and Q_LOCACC is 5 m.
 

@@ -2,26 +2,25 @@
 
 What it says. What follows a packet 136 differs from its signal's aspect of the same name, or the signal is missing or
 not ahead. The signal is the group that the packet 136 names. Packets 12, 21, 27 and 80 are compared in all fields but
-Q_DIR and Q_SCALE, for the direction in which the train passes the signal. If the kilometres show no direction, both
-groups are taken to face the same way. Distances are compared in metres; if Q_SCALE differs, the greater unit is
-allowed. Packets that only one of the groups has are passed over. If no group ahead of the infill group gives an
-authority in its direction, a missing signal gets only a note: it may be beyond the table. The layouts of packets 80 and
-136 are balisekit's own (SUBSET-026, 3.6.2 and 7.4.2).
+Q_DIR and Q_SCALE, for the direction in which the train passes the signal. Distances are compared in metres; if Q_SCALE
+differs, the greater unit is allowed. Packets that only one of the groups has are passed over. If no group ahead of the
+infill group gives an authority in its direction, a missing signal gets only a note: it may be beyond the table. The
+layouts of packets 80 and 136 are balisekit's own (SUBSET-026, 3.6.2 and 7.4.2).
 
-How urgent. At worst wrong information: the train gets another aspect than the signal shows.
+How urgent. At worst wrong information.
 
 Usual cause. The infill was not changed with its signal. It was copied from the wrong aspect.
 
 What may happen. A train releases its brake for an aspect that the signal does not show.
 
-How to correct it. Compare both with the design. If the signal is right, copy its packets after packet 136, aspect by
-aspect.
+How to correct it. If the signal is right, copy its packets after packet 136, aspect by aspect.
 
-Correct data that gets it. Infill aspects whose names mean something else at the signal, such as numbers or those of a
-distant signal. Infill that says less than its signal on purpose, such as a lower V_MAIN, shorter profiles or merged
-sections, or that has other timers. Infill with a V_MAIN above 0 and no length for a signal at danger. A signal that the
-table does not have, such as on a branch line. Without kilometres, a signal whose group faces the other way. Kilometres
-as in E14.
+Correct data that gets it. Any that break one of these assumptions; usual cases follow "not". An aspect name means the
+same at the infill and its signal: not if it is a number, or that of a distant signal. Infill repeats its signal: not if
+it says less on purpose, such as a lower V_MAIN, shorter or merged profiles, or other timers. Nor if it has V_MAIN above
+0 and no length for a signal at danger. The table has the signal: not on a branch line. If the kilometres show no
+direction, both groups face the same way. Kilometres and distances show the place on the track: not if they jump
+unstated, follow another axis, are rounded coarsely, or belong to signals or to tracks without names.
 
 Example. At yellow the infill of signal 4 has L_ENDSECTION 1,350 m, and signal 4 has 1,500 m.
 

@@ -3,22 +3,23 @@
 What it says. A single balise with Q_LINK 1 has packets for one direction, and packets 5 do not name it, or disagree
 about its direction. A direction other than that of the column `nominal` is named too. Packets 44, 145 and 254 do not
 count. A balise that is not named is passed over if no packet 5 for that way leads past its kilometre. So is one with a
-packet 16, if a link with NID_BG 16,383 leads to a place within 500 m. Single balises with Q_LINK 0 are L5 (SUBSET-026,
-3.4.2 and 3.4.4).
+packet 16 within 500 m of a link to NID_BG 16,383. Single balises with Q_LINK 0 are L5 (SUBSET-026, 3.4.2 and 3.4.4).
 
-How urgent. At worst wrong information: the packet may be taken for the other direction, or not at all.
+How urgent. At worst wrong information.
 
 Usual cause. The link to an infill balise was forgotten. Q_LINKORIENTATION was copied from another link. The column
 `nominal` was filled in for the other direction.
 
-What may happen. A train learns the direction of a single balise only by linking. Without it the train ignores what is
-for one direction; with the wrong one it takes what is for the other.
+What may happen. A train learns the direction of a single balise by linking, or by radio in level 2. Without it the
+train ignores what is for one direction; with the wrong one it takes what is for the other.
 
 How to correct it. Name the balise in the packets 5 of the groups before it, and give all these links one orientation.
 
-Correct data that gets it. Level 2, also as an overlay of level 1, if linking comes by radio and the messages are not
-among the data. A balise on another route than the packets 5 that lead past it. A balloon loop or a triangle, in which
-trains of one track come to the balise from both sides.
+Correct data that gets it. Any that break one of these assumptions; usual cases follow "not". The table has all links:
+not in level 2, also as an overlay of level 1, if radio sends them. Packets 5 that lead past a balise are for trains
+that pass it: not if it is on another route. Trains of one way of a track come to it from one side: not on a balloon
+loop or triangle. Kilometres and distances show the place on the track: not if they jump unstated, follow another axis,
+are rounded coarsely, or belong to signals or to tracks without names.
 
 Example. Infill balise 5 has a packet 12 for the nominal direction. Signals 3 and 4 lead past it and do not name it.
 
@@ -49,7 +50,7 @@ def find(line: Line, options: Options) -> Result:
     decoded, passed, found = line.decoded, Passed(line), []
     single = [data for data in decoded.groups if data.group.balises == 1]
     named = _named(line) if single else {}
-    all_named = {link.identity for chain in line.chains for link in chain.links} if single else set()
+    all_named = {link.identity for chain in (*line.chains, *line.passages.infill_chains) for link in chain.links}
     for data in single:
         links = named.get(data.group.number, {})
         found += list(_directions(data.group, links))

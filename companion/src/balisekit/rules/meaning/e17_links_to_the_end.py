@@ -4,23 +4,23 @@ What it says. A packet 12 leads more than 50 m beyond the last group that packet
 Its V_MAIN is above 0. The packets 5 are those of all aspects of the group, and of groups before it on that track and
 way. The other group has Q_LINK 1, is at most 50 m beyond the end of the authority, and has packets for that direction
 other than 254 and 255. The rule is silent if the end is beyond the last such group of the track. It is also silent if
-the last link of the passage has NID_BG 16,383: the group with repositioning information there names the next ones. If
-that group names too few of them, nothing is found. A table without any packet 5 gets one remark for all (SUBSET-026,
-3.4.4).
+the last link is NID_BG 16,383: the group with repositioning information there names the next ones. A table without any
+packet 5 gets one remark (SUBSET-026, 3.4.4).
 
-How urgent. At worst a wrong position of the train: a train misses a group and goes on.
+How urgent. At worst a wrong position of the train.
 
 Usual cause. A link was forgotten. The packet 5 was made for another aspect.
 
-What may happen. Nothing shows that a train missed a group that no link names, and it does not correct its position
-there.
+What may happen. Nothing shows that a train missed such a group, and it does not correct its position there.
 
 How to correct it. Name all groups to the end of the authority in the packet 5.
 
-Correct data that gets it. A line that never uses linking, or that uses it on a part only, such as in rear of a level 2
-area. Packets 5 that each lead only to the next signal, which has a packet 5 of its own. Links of groups that the table
-does not have. Groups for other trains only, as in L9, which the packets 5 leave out. A route to another track, if no
-`point` of the track plan says where trains may leave it. Kilometres as in E14.
+Correct data that gets it. Any that break one of these assumptions; usual cases follow "not". The line uses linking: not
+if on no part, or not on this one, such as in rear of a level 2 area. Packets 5 lead to the end of authority: not if
+only to the next signal, which has its own, or if groups that the table lacks have them. Groups ahead are for these
+trains: not those of level 2 or a national system (packet 44). Trains stay on the track: not through a loop, or on a
+route to another one, if no `point` of the track plan says where. Kilometres and distances show the place on the track:
+not if they jump unstated, follow another axis, are rounded coarsely, or belong to signals or to tracks without names.
 
 Example. The authority of signal 3 ends at km 16.000, and its packet 5 names groups to km 14.500 only.
 

@@ -1,26 +1,27 @@
 """E18: level transition.
 
 What it says. Packets 41 for one level transition differ in its place or its levels, or no group there has one that
-orders it. Compared are packets of one track and way whose places are within 500 m of each other. Places may differ by
-the tolerance of E12, and M_LEVELTR and NID_NTC must be the same in the same order. A place is the kilometre of the
-group, and D_LEVELTR from it unless that is 32,767 (now). The packet with D_LEVELTR 0 or 32,767 counts as right, or else
-the most frequent place. One that repeats it in a group beyond the border agrees, also by mistake. Only a place between
-the first and the last group of the track needs a packet 41 with D_LEVELTR 0 or 32,767. A packet for both directions
-with a distance is E5 (SUBSET-026, 5.10 and 7.4.2).
+orders it. Compared are packets of one track and way, each at most 500 m from the next one. Places may differ by
+`--tolerance` (else 1 m) and rounding, and M_LEVELTR and NID_NTC must be the same in the same order. A place is that of
+D_LEVELTR, or of the group if that is 0 or 32,767 (now). Such a packet counts as right, or else the most frequent place.
+One that repeats it beyond the border agrees. Only a place between the first and the last group of the track needs one.
+A packet for both directions with a distance is E5 (SUBSET-026, 5.10 and 7.4.2).
 
-How urgent. At worst wrong information: the train changes its level at another place.
+How urgent. At worst wrong information.
 
 Usual cause. D_LEVELTR is mistyped, or did not follow a moved border. The border has no packet 41.
 
 What may happen. A driver acknowledges at one place and the train changes at another. Or it goes on in a level whose
 trackside equipment has ended.
 
-How to correct it. Compare each D_LEVELTR with the kilometre of the border. Put a packet 41 into its group.
+How to correct it. Correct each D_LEVELTR by the kilometre of the border. Put a packet 41 into its group.
 
-Correct data that gets it. A line on which only the last announcement makes trains change their level. A group that has
-D_LEVELTR 32,767 some metres from the border. Two borders within 500 m of each other, a border on another route, or one
-whose group is not in the table. An order within 500 m in rear of the border, for trains that start there. Lists of
-levels that differ on purpose. Kilometres as in E14.
+Correct data that gets it. Any that break one of these assumptions; usual cases follow "not". Within 500 m all packets
+41 are for one border: not if there are two, one on another route, or orders for trains that start there. They have one
+place: not with D_LEVELTR 32,767 some metres from the border. They have one list of levels: not if announcement and
+border differ on purpose. A group of the table orders the change: not if only the last announcement does. Kilometres and
+distances show the place on the track: not if they jump unstated, follow another axis, are rounded coarsely, or belong
+to signals or to tracks without names.
 
 Example. Signal 4 announces level 0 at km 16.750, and the group at the border, at km 16.700, has it at once.
 
@@ -32,10 +33,11 @@ from collections import Counter
 from decimal import Decimal
 from typing import Dict, Iterator, List, NamedTuple, Sequence, Tuple
 
+from balisekit.etcs.geometry import NOMINAL
 from balisekit.etcs.variables import Around, metres, value_words
 from balisekit.rules.decoded import LEVELS, Decoded, Packet, Passage
 from balisekit.rules.line import Line
-from balisekit.rules.meaning.along import Lane, lane_of
+from balisekit.rules.meaning.along import Lane
 from balisekit.rules.meaning.words import at_place, merged, source
 from balisekit.rules.rule import Options, Remark, Result, Rule, Urgency
 
@@ -47,6 +49,7 @@ class Order(NamedTuple):
     """A level transition order at its place."""
 
     place: int
+    way: int
     passage: Passage
     packet: Packet
 
@@ -58,7 +61,7 @@ class Order(NamedTuple):
     @property
     def along(self) -> int:
         """Its place, counted along the way."""
-        return self.place * (self.passage.way or 1)
+        return self.place * self.way
 
     @property
     def levels(self) -> Sequence[Tuple[int, int]]:
@@ -89,15 +92,13 @@ def _orders(decoded: Decoded) -> Dict[Lane, List[Order]]:
     """All orders of each track and way: what several aspects have in common once."""
     found: Dict[Lane, Dict[Tuple[int, str], Order]] = {}
     for passage in decoded.passages:
-        for packet in passage.said:
-            if packet.number == LEVELS and passage.way is not None:
-                sent = packet.form["d_leveltr"]
-                if packet.form["q_dir"] == BOTH_DIRECTIONS and sent not in (0, NOW):
-                    continue
-                place = passage.place(0 if sent == NOW else sent * packet.unit)
-                if place is not None:
-                    own = found.setdefault(lane_of(passage), {})
-                    own[id(packet), passage.direction] = Order(place, passage, packet)
+        for packet in passage.of(LEVELS):
+            sent, is_both = packet.form["d_leveltr"], packet.form["q_dir"] == BOTH_DIRECTIONS
+            way = passage.way or (is_both and (1 if passage.direction == NOMINAL else -1))
+            place = passage.place(0 if sent == NOW else sent * packet.unit)
+            if way and place is not None and (not is_both or sent in (0, NOW)):
+                own = found.setdefault((passage.track, way), {})
+                own[id(packet), passage.direction] = Order(place, way, passage, packet)
     return {lane: sorted(own.values(), key=lambda each: each.place) for lane, own in found.items()}
 
 
@@ -140,7 +141,7 @@ def _compare(decoded: Decoded, options: Options, orders: Sequence[Order]) -> Ite
     if not usual.is_now and decoded.is_inside(track, usual.place):
         sentence = (
             f"it announces {usual.words} at {decoded.km(track, usual.place)}, and no group within {NEAR // 10} m of "
-            "that place has a packet 41 with D_LEVELTR 0 or 32,767"
+            "that place has a packet 41 with D_LEVELTR 0 or 32,767 in this direction"
         )
         yield Remark("E18", usual.passage.at(usual.packet), sentence, None, {"place_m": Decimal(usual.place) / 10})
 

@@ -1,9 +1,10 @@
 """E19: gradients of both directions.
 
 What it says. By its gradients a stretch goes uphill in both directions, or downhill in both by 3 ‰ or more. Uphill both
-ways means that the gradients, as each train meets them, add up to more than 1 ‰, on a stretch longer than the tolerance
-of E12. Of all profiles of one way the one that goes up least counts: groups of one way that disagree are E13 only.
-Downhill both ways has the lowest urgency, and is named from 1 km on (SUBSET-026, 3.11.12).
+ways means that the gradients, as each train meets them, add up to more than 1 ‰, on a stretch longer than `--tolerance`
+(else 1 m) and rounding. Of each group the longest profile counts, and of one way the one that contradicts the other way
+least: groups of one way that disagree are E13 only. Downhill both ways has the lowest urgency, and is named from 1 km
+on (SUBSET-026, 3.11.12).
 
 How urgent. At worst wrong information: a train brakes too late, because it believes that it goes uphill.
 
@@ -13,9 +14,11 @@ What may happen. The brake curve is wrong by twice the gradient.
 
 How to correct it. Compare both directions with the track plan, which has one gradient for each stretch.
 
-Correct data that gets it. Safe gradients near a summit or a valley, if each direction has the steepest value of a
-longer stretch; both may then go down. Mean gradients of longer stretches. Two parallel tracks that have no names in the
-column `track`. A route to another track. Rounding and kilometres as in E14.
+Correct data that gets it. Any that break one of these assumptions; usual cases follow "not". Each gradient is that of
+its place: not the steepest or mean value of a longer stretch. Safe gradients near a summit or a valley are so, and may
+both go down. Trains stay on the track: not on a route to another one, or through a loop. Kilometres and distances show
+the place on the track: not if they jump unstated, follow another axis, are rounded coarsely, or belong to signals or to
+tracks without names.
 
 Example. From km 14.500 to km 15.200 signal 3 says +8 per mille, and signal R4 of the other direction says +8 per mille.
 
@@ -53,24 +56,29 @@ def find(line: Line, options: Options) -> Result:
 
 
 def _uphill(decoded: Decoded, options: Options, stretches: Iterator[Both]) -> Iterator[Remark]:
-    for both in joined([each for each in stretches if sum(each.values) > UP]):
+    for both, until in joined([each for each in stretches if sum(each.values) > UP]):
         packets = [step.aspect.packet for step in (both.rising, both.falling)]
         parts = (allowance(packet, len(packet.stretches)) for packet in packets)
-        if both.high - both.low > decoded.tolerance(options.tolerance_of_places, *parts):
-            yield _remark(decoded, both, f"they add up to {sum(both.values)} per mille")
+        if until - both.low > decoded.tolerance(options.tolerance_of_places, *parts):
+            more = f", and to more than {UP} per mille up to {_km(decoded, both, until)}" if until > both.high else ""
+            yield _remark(decoded, both, f"they add up to {sum(both.values)} per mille{more}")
 
 
 def _downhill(decoded: Decoded, stretches: Iterator[Both]) -> Iterator[Remark]:
-    for both in joined([each for each in stretches if max(each.values) <= DOWN]):
-        if both.high - both.low >= LONG:
-            yield _remark(decoded, both, "both go down", Urgency.RULE_ONLY)
+    for both, until in joined([each for each in stretches if max(each.values) <= DOWN]):
+        if until - both.low >= LONG:
+            more = f"up to {_km(decoded, both, until)} " if until > both.high else ""
+            yield _remark(decoded, both, f"{more}both go down", Urgency.RULE_ONLY)
+
+
+def _km(decoded: Decoded, both: Both, place: int) -> str:
+    return decoded.km(both.rising.aspect.passage.track, place)
 
 
 def _remark(decoded: Decoded, both: Both, why: str, urgency: Optional[Urgency] = None) -> Remark:
     own, other = both.rising.aspect, both.falling.aspect
-    track = own.passage.track
     sentence = (
-        f"G_A is {both.values[0]:+} per mille from {decoded.km(track, both.low)} to {decoded.km(track, both.high)} "
+        f"G_A is {both.values[0]:+} per mille from {_km(decoded, both, both.low)} to {_km(decoded, both, both.high)} "
         f"({metres(both.high - both.low)}), and {both.values[1]:+} per mille for the other direction by "
         f"{source(other.passage, other.packet)}: {why}"
     )

@@ -2,10 +2,10 @@
 
 What it says. A packet that the program keeps as bits does not fit its layout, or has a spare number. It has fewer or
 more bits than the layout. Spare are an M_LEVELTR from 5 to 7, a Q_SCALE 3, an M_MAMODE 3, and a speed above 120 without
-a special meaning. Only packets whose layout is certain are compared, and the sentence names the first place that does
-not fit. The layouts are balisekit's own and not compared with a print (SUBSET-026, 7.4 and 7.5.1).
+a special meaning. Only certain layouts are compared, and the first place that does not fit is named. The layouts are
+balisekit's own and not compared with a print (SUBSET-026, 7.4 and 7.5.1).
 
-How urgent. At worst wrong information: the train reads other values than were meant.
+How urgent. At worst wrong information.
 
 Usual cause. The body was made by hand or with another tool. L_PACKET was not adapted. A condition, such as Q_NEWCOUNTRY
 or N_ITER, does not fit what follows.
@@ -14,11 +14,11 @@ What may happen. The train rejects the message, or takes the bits of one variabl
 
 How to correct it. Make the packet anew, with the bits of the layout that `balisekit show` writes.
 
-Correct data that gets it. None.
+Correct data that gets it. None, if the layout and its spare numbers are those of the standard.
 
 Example. A packet 65 has 8 bits more than its layout.
 
-How sure. 97 %: only layouts are used that are as sure as that.
+How sure. 97 %.
 """
 from __future__ import annotations
 

@@ -4,7 +4,7 @@ What it says. A packet 5 names its own group, or one group twice. With `--rules 
 one group. It names different Q_LOCACC, and different Q_LINKREACTION for trains of one way; the most frequent value
 counts as right (SUBSET-026, 3.4.4 and 7.4.2).
 
-How urgent. At worst the train brakes without need: it does not find the group where it expects it.
+How urgent. At worst the train brakes without need.
 
 Usual cause. A NID_BG was copied from the link before it. Q_LOCACC was changed in one packet only.
 
@@ -12,12 +12,13 @@ What may happen. The train waits for a group twice, or opens another window for 
 
 How to correct it. Correct NID_BG, Q_LOCACC or Q_LINKREACTION.
 
-Correct data that gets it. Reactions or accuracies that depend on the route, the aspect or the group that sends the
-link. A balloon loop, on which a train passes a group twice.
+Correct data that gets it. Any that break one of these assumptions; usual cases follow "not". A train passes each group
+of a packet 5 once: not on a balloon loop. With `--rules E20`, Q_LOCACC and Q_LINKREACTION belong to the group: not if
+they depend on the route, the aspect or the sender.
 
 Example. The packet 5 of signal 4 names signal 5 as its first and as its second link.
 
-How sure. 95 % for the part that is always applied, 82 % for the others.
+How sure. 95 % for the part that is always applied, 82 % for the other.
 """
 from __future__ import annotations
 

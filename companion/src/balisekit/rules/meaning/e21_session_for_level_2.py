@@ -4,7 +4,7 @@ What it says. A packet 41 or 46 names level 2 or 3, and no packet 42 with Q_RBC 
 of its group and of those before it on that track and way count. The rule is off unless it is asked for. The layouts of
 packets 42 and 46 are balisekit's own (SUBSET-026, 3.5.3, 5.10 and 7.4.2).
 
-How urgent. At worst the train brakes without need: it has no session when it changes its level.
+How urgent. At worst the train brakes without need.
 
 Usual cause. The packet 42 was forgotten, or has Q_RBC 0. It may be for the other direction.
 
@@ -12,8 +12,8 @@ What may happen. The train reaches the border without a movement authority by ra
 
 How to correct it. Put a packet 42 with Q_RBC 1 far enough before the border.
 
-Correct data that gets it. Trains that come with a session, from another track or a line that is not among the data.
-Trains that open their session at the start of mission.
+Correct data that gets it. Any that break one of these assumptions; usual cases follow "not". The table has the packet
+42 of each train: not if it comes with a session, or opens one at the start of mission.
 
 Example. Signal 4 announces level 2 in 2,200 m, and no group before it has a packet 42.
 

@@ -1,20 +1,23 @@
 """E22: temporary speed restriction.
 
 What it says. Packets 65 with one NID_TSR state different places, lengths or speeds. They are for one track and way,
-their NID_TSR is below 255, and their places are within 2 km of each other. Place and L_TSR may differ by the tolerance
-of E12. The most frequent one counts as right. A packet with D_TSR 0 agrees if its group is within the restriction,
-V_TSR is equal and the end is the same. The layout of packet 65 is balisekit's own (SUBSET-026, 3.11.5 and 7.4.2).
+their NID_TSR is below 255, and each is at most 2 km from the next one. Place and L_TSR may differ by `--tolerance`
+(else 1 m) and rounding. The most frequent one counts as right. A packet with D_TSR 0 agrees if its group is within the
+restriction, V_TSR is equal and the end is the same. The layout of packet 65 is balisekit's own (SUBSET-026, 3.11.5 and
+7.4.2).
 
-How urgent. At worst wrong information: the train takes the restriction that it gets last instead of the first one.
+How urgent. At worst wrong information.
 
 Usual cause. D_TSR was not made anew for the second group. A restriction was changed in one group only.
 
 What may happen. The restriction begins too late, ends too early, or has another speed.
 
-How to correct it. Compare D_TSR, L_TSR and V_TSR with the list of restrictions.
+How to correct it. Correct D_TSR, L_TSR and V_TSR by the list of restrictions.
 
-Correct data that gets it. Two restrictions on one line with the same number. D_TSR and L_TSR that are rounded to the
-safe side. A restriction that depends on the aspect or route. Kilometres as in E14.
+Correct data that gets it. Any that break one of these assumptions; usual cases follow "not". A number is that of one
+restriction: not if two have it, or one on another route. All packets state the whole of it exactly: not if D_TSR or
+L_TSR is on the safe side, or depends on the aspect or route. Kilometres and distances show the place on the track: not
+if they jump unstated, follow another axis, are rounded coarsely, or belong to signals or to tracks without names.
 
 Example. Signal 3 has restriction 7 at km 14.000 with 40 km/h, and signal 4 has it at km 14.100.
 

@@ -1,21 +1,21 @@
 """E23: one line, one header.
 
-What it says. A telegram has another M_VERSION than most of the table, or a group another NID_C than most of its track.
-Such a group has groups with the usual NID_C on both sides of it, in the order of the kilometres, or else of the table.
-The rule is off unless it is asked for (SUBSET-026, 7.5.1 and 8.4.2).
+What it says. A telegram has another M_VERSION than is most frequent in the table, or a group another NID_C than is most
+frequent on its track. Such a group has groups with the usual NID_C on both sides of it, in the order of the kilometres,
+or else of the table. The rule is off unless it is asked for (SUBSET-026, 7.5.1 and 8.4.2).
 
-How urgent. To be looked at: what it means for a train depends on the other telegrams. L1 finds links that do not name
-the group by its NID_C.
+How urgent. To be looked at. L1 finds links that name the group by another NID_C.
 
 Usual cause. A telegram was made with another version of a tool. It was copied from another line.
 
-What may happen. A train that knows only the older version ignores packets or values that the later one has added, if
-the telegram has any. A group with a wrong NID_C is another one for the train.
+What may happen. A train with the older version ignores what the later one has added. A group with a wrong NID_C is
+another one for it.
 
 How to correct it. Correct the header.
 
-Correct data that gets it. A border between two countries or versions, also if their groups alternate. A country or
-region with several NID_C. Versions that differ by balise on purpose.
+Correct data that gets it. Any that break one of these assumptions; usual cases follow "not". A table has one version:
+not at a border between versions, or if balises differ on purpose. A track has one NID_C between its ends: not if the
+groups of two countries alternate, or a region has several.
 
 Example. Row 14 has M_VERSION 32, and the 44 other telegrams have 33.
 

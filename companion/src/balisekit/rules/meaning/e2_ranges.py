@@ -5,7 +5,7 @@ or G_A above 40 ‰. The speeds are V_MAIN, V_LOA, V_STATIC, V_DIFF, V_TSR and V
 mark, are no speeds or gradients. With `--rules E2` it also names a V_MAIN above the greatest speed of the speed
 profiles that are said with it (SUBSET-026, 3.8, 3.11 and 7.5.1).
 
-How urgent. At worst wrong information: a train may run faster than the track allows.
+How urgent. At worst wrong information.
 
 Usual cause. A speed was entered in km/h and not in steps of 5 km/h. So 100 means 500 km/h. Or a gradient was entered in
 tenths of a per mille.
@@ -15,13 +15,14 @@ or too late.
 
 How to correct it. Correct the value. If the line is faster, state its greatest speed with `--line-speed`.
 
-Correct data that gets it. A line that is faster or steeper, or has greater release speeds, than these limits. A V_MAIN,
-V_LOA, V_STATIC or V_MAMODE by which a project says that it does not restrict. A V_DIFF of tilting trains, if
-`--line-speed` is the speed of other trains.
+Correct data that gets it. Any that break one of these assumptions; usual cases follow "not". The limits hold for all
+trains: not if the line is faster or steeper or has greater release speeds, or for the V_DIFF of tilting trains. Each
+speed restricts: not one by which a project says that it does not. With `--rules E2`, the profile with a V_MAIN has the
+greatest speed of its route: not if another group states that stretch.
 
 Example. V_STATIC of the first element at Signal B is 500 km/h, sent as 100: 100 km/h are sent as 20.
 
-How sure. 92 %. V_MAIN above the profile is below 85 %, and is off by default.
+How sure. 92 %. V_MAIN above the profile is below 85 %, and off.
 """
 from __future__ import annotations
 

@@ -6,7 +6,7 @@ lengths, if that is above 0. It names D_OL below D_DP, V_LOA above V_MAIN, an L_
 lengths are 0. It names V_LOA 0 with a T_LOA other than 1,023 (no time limit), and a danger point or overlap with V_LOA
 above 0 and T_LOA 1,023 (SUBSET-026, 3.8 and 7.4.2).
 
-How urgent. At worst wrong information: one of the two values of the sentence is not what was meant.
+How urgent. At worst wrong information.
 
 Usual cause. A length was changed, and the timers or the overlap were not. Q_SCALE was changed for some of the values. A
 value of another signal was copied.
@@ -14,12 +14,12 @@ value of another signal was copied.
 What may happen. A timer starts or stops at a place that the train never passes. The train supervises an overlap that
 ends before its danger point, or may run at V_MAIN without any length.
 
-How to correct it. Compare both values with the design of the signal, and correct the wrong one.
+How to correct it. Correct the wrong value by the design of the signal.
 
-Correct data that gets it. A section timer that stops on purpose beyond its section. A timer of the end section or of
-the overlap that starts on purpose in rear of the group. A V_LOA above V_MAIN, by which a project says that the limit of
-authority does not restrict. A section of 0 m, a T_LOA, a danger point or an overlap that a template fills in without
-need. An authority without length and with V_MAIN above 0 for a signal at danger, often after a packet 136.
+Correct data that gets it. Any that break one of these assumptions; usual cases follow "not". Trains use each value: not
+a section of 0 m, a T_LOA, a danger point or an overlap that a template fills in. Timers start and stop within their
+lengths: not one that on purpose stops later, or starts in rear of the group. V_LOA restricts: not one above V_MAIN by
+which a project says that it does not. V_MAIN above 0 has a length: not at a signal at danger, often after a packet 136.
 
 Example. The overlap of Signal B ends 20 m after the end of authority, and the danger point is 50 m after it.
 

@@ -6,7 +6,7 @@ gradient, or a speed with its Q_FRONT and categories, if one distance (up to 32,
 also names a train category twice in an element, and a V_DIFF by cant deficiency that is below V_STATIC or falls while
 NC_CDDIFF rises (SUBSET-026, 3.11 and 7.4.2).
 
-How urgent. At worst wrong information: a speed or gradient holds at another place, or for other trains, than was meant.
+How urgent. At worst wrong information.
 
 Usual cause. The elements were sorted wrongly, or one was entered twice. A distance was forgotten. An end mark is left
 from a shorter profile, or a value of the categories was mistyped.
@@ -14,12 +14,13 @@ from a shorter profile, or a value of the categories was mistyped.
 What may happen. Of two elements at one place only one can hold. What follows an end mark is not used. A repeated
 element often hides a change that was meant.
 
-How to correct it. Compare the elements with the profile of the track, and correct or remove the wrong one.
+How to correct it. Correct or remove the wrong element by the profile of the track.
 
-Correct data that gets it. A speed of 0 km/h beyond a buffer stop or end of authority. A stop aspect with 0 km/h, or
-with a profile of no length. A V_STATIC that no train uses, because each category has a V_DIFF, or that is for a greater
-cant deficiency. End marks that a tool puts after the first one to fill up the packet. An element that repeats the one
-before it because a tool begins one at each boundary of its data.
+Correct data that gets it. Any that break one of these assumptions; usual cases follow "not". Trains run over the whole
+profile: not beyond a buffer stop or end of authority, or at a stop aspect. It may have 0 km/h there, or no length.
+Trains use V_STATIC: not if each category has a V_DIFF. V_STATIC may then be 0, or for a greater cant deficiency. More
+cant deficiency never means less speed: not if tilting trains have their own restriction. Each element and category is
+needed: not if a tool begins one at each boundary of its data, or fills up with end marks.
 
 Example. In the gradient profile of Signal B the third element has D_GRADIENT 0 m, the place of the second one.
 

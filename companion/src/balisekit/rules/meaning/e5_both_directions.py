@@ -17,9 +17,10 @@ restriction is then on both sides of the group.
 
 How to correct it. Set Q_DIR to 1 or 0. A group of one balise gets its direction if it is linked, or by a second balise.
 
-Correct data that gets it. What holds over the same length on both sides of the group, such as a level track, one speed,
-big metal masses or a temporary speed restriction around it. A track that trains use in one direction only. A stop
-aspect of a group that serves signals of both directions.
+Correct data that gets it. Any that break one of these assumptions; usual cases follow "not". Trains of both directions
+get the packet: not on a track for one direction, or by a radio message. The track differs on both sides: not for a
+level track, one speed, big metal masses or a restriction around the group. Nobody wants to stop both directions: not at
+a group for signals of both.
 
 Example. The level transition order of group D has Q_DIR 2 and D_LEVELTR 500 m.
 

@@ -2,11 +2,11 @@
 
 What it says. A balise has a packet that only radio sends, packet 0 is not the first one, or a train gets two packets 5.
 Only radio sends 15, 57, 58, 63 and 140. The two packets 5 hold in one direction, and what follows a packet 136 is
-counted by itself. With `--rules E6` it also names two different packets of one kind in one direction: 2, 3, 12, 15, 16,
-21, 27, 41, 45, 46, 80, 131, 132, 136, 137, 141 or 254. It then names in a message 3 a packet 0, 6, 12, 16, 46, 90, 132
-to 137, 145 or 254 (SUBSET-026, 7.4 and 8.4.4).
+counted by itself. With `--rules E6` it also names two different packets of one kind in one direction. These are 2, 3,
+12, 15, 16, 21, 27, 41, 45, 46, 80, 131, 132, 136, 137, 141 and 254. It then names in a message 3 a packet 0, 6, 12, 16,
+46, 90, 132 to 137, 145 or 254 (SUBSET-026, 7.4 and 8.4.4).
 
-How urgent. At worst wrong information: nobody knows which of two packets a train uses.
+How urgent. At worst wrong information.
 
 Usual cause. Telegrams were put together from parts that both have the packet. A packet was copied from a message of the
 other kind.
@@ -16,8 +16,8 @@ used.
 
 How to correct it. Remove the packet that is too many, or put packet 0 at the beginning.
 
-Correct data that gets it. None, unless a project gives one direction a fixed and a switched packet 5 on purpose. With
-`--rules E6`, packets of one kind that differ on purpose.
+Correct data that gets it. None, unless a project sends two packets 5 for one direction on purpose, such as a fixed and
+a switched one, or the same in two balises. With `--rules E6`, packets of one kind that differ on purpose.
 
 Example. Both balises of Signal B have a packet 5 for the nominal direction.
 

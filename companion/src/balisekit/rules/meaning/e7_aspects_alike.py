@@ -3,20 +3,19 @@
 What it says. Aspects of a group have equal packets in every balise, among them a packet 12 with V_MAIN above 0.
 M_MCOUNT may differ. If no packet 12 of such aspects has a V_MAIN above 0, one note for the table counts them.
 
-How urgent. At worst wrong information: one of the aspects allows what another aspect is meant to allow. The urgency is
-the lowest one if the authority ends within 50 m of the last group of its track and way, with no other signal in
-between.
+How urgent. At worst wrong information. The urgency is the lowest one if the authority ends within 50 m of the last
+group of its track and way, with no other signal in between.
 
 Usual cause. The telegram of one aspect was copied and not changed.
 
 What may happen. A train that passes the more restrictive aspect gets the authority and the speed of the other one.
 
-How to correct it. Compare both telegrams with the aspect table of the signal, and correct the wrong one.
+How to correct it. Correct the wrong telegram by the aspect table of the signal.
 
-Correct data that gets it. One aspect under two names in the table, or a default telegram that repeats an aspect.
-Aspects that differ only beyond the end of authority: yellow and green of the last signal before a buffer stop or a
-level border, which can have the lowest urgency. Aspects that the driver sees as two and the train as one. Two routes
-with the same data.
+Correct data that gets it. Any that break one of these assumptions; usual cases follow "not". Two names are two aspects:
+not if one has two names, or a default telegram repeats it. A train gets different data at them: not if only the driver
+sees the difference, or two routes have the same data. Nor if they differ only beyond the end of authority, such as
+yellow and green in rear of a buffer stop or level border, which can have the lowest urgency.
 
 Example. Signal B has the packets of green at yellow: both allow 120 km/h for 1,400 m.
 

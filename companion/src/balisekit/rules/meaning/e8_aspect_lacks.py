@@ -7,20 +7,19 @@ least. A stop aspect has a packet 12 with V_MAIN 0, not after a packet 136. It i
 of five stop aspects of the table have one with "stop". It is also named if only it, of three or more in its group, has
 no packet 132, and a stop aspect of its name has one elsewhere (SUBSET-026, 3.8).
 
-How urgent. At worst wrong information: what the aspect lacks does not restrict the train.
+How urgent. At worst wrong information.
 
 Usual cause. A packet was lost, or its Q_DIR is wrong. The aspect was added later.
 
-What may happen. Without profiles the authority may be refused. Without linking nothing shows a missed group. With a
-wrong Q_DIR the aspect says nothing to its train. Without packet 137 a train in staff responsible mode passes the
-signal.
+What may happen. Without profiles the authority may be refused. Without linking nothing shows a missed group. Without
+packet 137 a train in staff responsible mode passes the signal.
 
-How to correct it. Compare the aspect with the others, and add the packet or correct Q_DIR.
+How to correct it. Add the packet, or correct Q_DIR.
 
-Correct data that gets it. Aspects for one route only, or calling-on aspects, that do not need the packet. A group for
-both directions, one aspect of which is for another direction than all others, or only for one. A stop aspect without
-packet 137, which a train in staff responsible mode may pass. A stop aspect at which shunting is allowed, if it has a
-packet 132 at another group.
+Correct data that gets it. Any that break one of these assumptions; usual cases follow "not". The aspects of a group
+need the same packets for one direction: not for calling-on, for another route, or for another direction, which one of
+them may only stop. All stop aspects of the table, in both directions, stop trains in staff responsible mode too: not
+where these may pass. Stop aspects of one name treat shunting alike: not if it is allowed at some.
 
 Example. The aspects red and yellow of Signal B have packets 12 for the nominal direction, and green for the reverse
 one.

@@ -2,11 +2,11 @@
 
 What it says. Of two aspects one has the longer or an equal authority, although in most groups it has the shorter one.
 Most are at least three cases, and four of five in which a group has both aspects with a V_MAIN above 0. Equal
-authorities have the lowest urgency, and copies are left to E7. The rule also names an aspect with V_MAIN 0 if this name
-has a V_MAIN above 0 in at least three cases and four of five. It names the reverse too. `--tolerance` and the rounding
-of lengths are allowed (SUBSET-026, 3.8).
+authorities have the lowest urgency, and are not named if both aspects say the same in that direction. The rule also
+names an aspect with V_MAIN 0 if this name has a V_MAIN above 0 in at least three cases and four of five. It names the
+reverse too. `--tolerance` and the rounding of lengths are allowed (SUBSET-026, 3.8).
 
-How urgent. At worst wrong information: the restrictive aspect gives the longer authority.
+How urgent. At worst wrong information.
 
 Usual cause. The telegrams of two aspects were exchanged, or their names in the table.
 
@@ -15,10 +15,11 @@ with V_MAIN above 0 does not stop it.
 
 How to correct it. Exchange the telegrams of the two aspects, or correct their names.
 
-Correct data that gets it. A signal in rear of a buffer stop or a level border, at which both authorities end. An aspect
-that one signal uses otherwise than all others. At a group for both directions, an aspect that stops the trains of one.
-A route to another track whose next signal is farther away, such as at a junction or staggered exit signals. Names of
-routes, such as "1" and "2", without an order.
+Correct data that gets it. Any that break one of these assumptions; usual cases follow "not". An aspect name means the
+same at each signal: not if one uses it otherwise, or names are numbers of routes. Nor if one of a group for both
+directions stops the trains of one. The more restrictive aspect ends first: not if both end at a buffer stop or level
+border. Nor if one is for another track whose next signal is farther away, such as at a junction or staggered exit
+signals.
 
 Example. In 14 of 15 cases yellow ends before green, and at Signal B green ends at 1,400 m and yellow at 2,900 m.
 

@@ -1,12 +1,11 @@
 """X1: speed other than in the plan.
 
-What it says. A speed profile has a V_STATIC that is not the line speed of the plan, on a stretch longer than the
-tolerance of E12. Speeds for train categories are not compared, nor is what follows a packet 136. Beyond a `point` of
-the plan a profile is compared only if a packet 5 of the same message names a group of the track at or beyond that point
-(SUBSET-026, 7.4.2 and 7.5.1).
+What it says. A speed profile has a V_STATIC that is not the line speed of the plan, on a stretch longer than
+`--tolerance` (else 1 m) and rounding. Speeds for train categories are not compared, nor is what follows a packet 136.
+Beyond a `point` of the plan nothing is compared, unless a packet 5 of the same message names a group of the track at or
+beyond that point (SUBSET-026, 7.4.2 and 7.5.1).
 
-How urgent. At worst wrong information: the train may run faster than the track allows. A lower speed than that of the
-plan only slows trains.
+How urgent. At worst wrong information: the train may run faster than the track allows. A lower speed only slows trains.
 
 Usual cause. A speed was typed in km/h and not in steps of 5 km/h. The place of a change of speed was counted from
 another group. Q_SCALE is not that of the distances. The line speed has changed since the telegrams were made.
@@ -15,11 +14,13 @@ What may happen. The train supervises another speed than that of the track.
 
 How to correct it. Correct V_STATIC or D_STATIC of the packet, or the row of the plan.
 
-Correct data that gets it. A profile for limited supervision, which leaves out restrictions of the track. A V_STATIC for
-trains of no category, if the plan has the speed of a category. A profile with a lower speed for its route or aspect,
-beyond its end of authority, or instead of a short stretch of higher speed. A temporary restriction in the profile. A
-route to a faster track, if no `point` of the plan says where trains may leave this one. A change of speed that is early
-or late on the safe side. Rounding and kilometres as in E14.
+Correct data that gets it. Any that break one of these assumptions; usual cases follow "not". The plan has the speed
+that V_STATIC must have: not that of a category. V_STATIC is the speed of the track: not if it includes that of the
+route, the aspect or a temporary restriction. Nor if it is for limited supervision, or unused, such as 0 beside a V_DIFF
+of each category. Profiles have the values and places of the track: not if merged, rounded or on the safe side, such as
+for an overlap, or without a short higher speed. Trains stay on the track: not through a loop, or on a route to another
+one, if no `point` of the track plan says where. Kilometres and distances show the place on the track: not if they jump
+unstated, follow another axis, are rounded coarsely, or belong to signals or to tracks without names.
 
 Example. The profile of signal B has 120 km/h from km 15.900 to km 15.950, where the plan has 100 km/h.
 """

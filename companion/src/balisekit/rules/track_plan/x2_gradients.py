@@ -1,8 +1,9 @@
 """X2: gradient other than in the plan.
 
-What it says. A gradient profile has another gradient than the plan, on a stretch longer than the tolerance of E12.
-Uphill is positive: by Q_GDIR as the train meets it, in the plan by the row's way. What follows a packet 136 is not
-compared, nor the track beyond a point, as in X1 (SUBSET-026, 7.4.2 and 7.5.1).
+What it says. A gradient profile has another gradient than the plan, on a stretch longer than `--tolerance` (else 1 m)
+and rounding. Uphill is positive: by Q_GDIR as the train meets it, in the plan by the row's way. What follows a packet
+136 is not compared. Beyond a `point` of the plan nothing is compared, unless a packet 5 of the same message names a
+group of the track at or beyond that point (SUBSET-026, 7.4.2 and 7.5.1).
 
 How urgent. At worst wrong information: with a gradient less downhill than the track the train brakes too late. One that
 is more downhill makes it brake early.
@@ -14,10 +15,12 @@ What may happen. The train computes its braking curves with another gradient tha
 
 How to correct it. Correct Q_GDIR, G_A or D_GRADIENT of the packet, or the row of the plan.
 
-Correct data that gets it. A mean gradient of several stretches. A safe gradient: the most downhill one of several, one
-rounded down in each direction, or one of a stop aspect or beyond an end of authority. Write safe gradients into the
-plan, a row for each way. A route to another track, if no `point` of the plan says where trains may leave it, or through
-a loop that comes back to it. Rounding and kilometres as in E14.
+Correct data that gets it. Any that break one of these assumptions; usual cases follow "not". Plan and profile have the
+gradient of each place: not a mean of several, or a safe gradient. That may be the most downhill one, one rounded down,
+or one of a stop aspect or overlap. Write safe gradients into the plan, a row for each way. Trains stay on the track:
+not through a loop, or on a route to another one, if no `point` of the track plan says where. Kilometres and distances
+show the place on the track: not if they jump unstated, follow another axis, are rounded coarsely, or belong to signals
+or to tracks without names.
 
 Example. The profile of signal C has +5 ‰ from km 14.200 to km 16.000, where the plan has -5 ‰: the sign is wrong.
 """

@@ -4,9 +4,10 @@ What it says. A movement authority ends at no signal of the plan for trains of i
 nearest signal and its distance. Authorities are packets 12 with V_MAIN above 0 and packets 15; each ends at the end of
 its end section. Allowed are `--tolerance` (0 without it), one unit of Q_SCALE, half a unit for each further section,
 and one unit of the last decimal of the kilometres. A track with a signal in the plan for one way needs all signals of
-that way at which authorities end. An end beyond a point is not compared, as in X1 (SUBSET-026, 7.4.2 and 7.5.1).
+that way at which authorities end. Beyond a `point` of the plan nothing is compared, unless a packet 5 of the same
+message names a group of the track at or beyond that point (SUBSET-026, 7.4.2 and 7.5.1).
 
-How urgent. At worst wrong information: the train may pass the signal before its authority ends.
+How urgent. At worst wrong information.
 
 Usual cause. A section is missing or was counted twice. The length was taken to another signal, or from another group.
 
@@ -14,10 +15,12 @@ What may happen. The train stops beyond the signal, or too far in rear of it.
 
 How to correct it. Correct L_SECTION and L_ENDSECTION, or the row of the plan.
 
-Correct data that gets it. An authority for limited supervision, which may end at no signal. An authority that ends
-elsewhere on purpose, such as at a marker board, buffer stop or level border, on a calling-on route, or at a limit of
-authority (V_LOA above 0). Write its place into the plan. A route to another track, if no `point` of the plan says where
-trains may leave it. Rounding and kilometres as in E14.
+Correct data that gets it. Any that break one of these assumptions; usual cases follow "not". The plan has all ends of
+authority: not a marker board, buffer stop, level border, limit of authority (V_LOA above 0) or end of a calling-on
+route. Write such places into the plan. In limited supervision an authority may end at no signal. Trains stay on the
+track: not through a loop, or on a route to another one, if no `point` of the track plan says where. Kilometres and
+distances show the place on the track: not if they jump unstated, follow another axis, are rounded coarsely, or belong
+to signals or to tracks without names.
 
 Example. The authority of signal A at green ends at km 15.350, and the nearest signal of the plan is at km 15.300.
 """

@@ -5,7 +5,7 @@ end is its distance from the group. The release speed is that of the overlap, or
 overlap. Lengths may differ by the rounding of Q_SCALE and by `--tolerance`. A row of the plan for an aspect without a
 packet 12 for that way is named too. What follows a packet 136 is not compared (SUBSET-026, 7.4.2 and 7.5.1).
 
-How urgent. At worst wrong information: the aspect allows another speed or another distance than its route.
+How urgent. At worst wrong information.
 
 Usual cause. The telegrams of two aspects were exchanged. A value was copied from another signal. The route table has
 changed since the telegrams were made.
@@ -14,9 +14,11 @@ What may happen. The train runs farther or faster than the route that is set for
 
 How to correct it. Correct the packet 12, or the row of the plan.
 
-Correct data that gets it. A V_MAIN that does not restrict, if the plan has the speed of the route. A V_MAIN, release
-speed, end or overlap that is reduced on purpose. An authority for limited supervision, if the plan has the route.
-Lengths that are rounded as in E14. A group with both directions, if its rows of the plan state no `way`.
+Correct data that gets it. Any that break one of these assumptions; usual cases follow "not". The plan has the values of
+the packet: not if it has those of the route, and the packet reduces one, does not restrict, or is for limited
+supervision. Each aspect of the plan has a packet 12: not one that lacks it on purpose, such as a stop by other packets.
+A row has the way of its packet: not if rows for a group with both directions state no `way`. Lengths are rounded as
+Q_SCALE states.
 
 Example. Signal B has V_MAIN 160 km/h at yellow, and the plan has 120 km/h.
 """

@@ -5,11 +5,11 @@ it. It is compared with the nearest border of its kind for trains of that way. A
 beyond the last border in rear. A packet 42 that establishes a session is compared with the RBCs beyond the next border
 ahead and beyond the last one in rear. NID_RBC 16,383 (the last known RBC) is not compared. For places `--tolerance` (0
 without it), one unit of Q_SCALE and one unit of the last decimal of the kilometres are allowed. A track with a border
-in the plan for one way needs all borders of that kind. If it begins in the area of an RBC, it also needs a row `rbc`
-for that one in rear of the first group. A border of the plan within the table that no packet names is named at the
-nearest group. What follows a packet 136 is not compared (SUBSET-026, 7.4.2 and 7.5.1).
+in the plan for one way needs all borders of that kind. If it begins in the area of an RBC, it also needs a row `rbc` in
+rear of the first group. A border of the plan within the table that no packet names is named at the nearest group. What
+follows a packet 136 is not compared (SUBSET-026, 7.4.2 and 7.5.1).
 
-How urgent. At worst wrong information: the train changes its level or its RBC too early or too late.
+How urgent. At worst wrong information.
 
 Usual cause. The distance was counted from another group, or not all announcements followed a border that was moved.
 
@@ -17,12 +17,13 @@ What may happen. The train is in a level that the track does not support there, 
 
 How to correct it. Correct the packet, or the row of the plan.
 
-Correct data that gets it. A level transition at a place of its own, such as for trains that have no radio or start near
-the border. A group some metres from the border that has D_LEVELTR 32,767 or D_RBCTR 0, or one beyond it that repeats
-the order. Write such places into the plan. A packet 41 or 46 whose levels differ on purpose. A packet 42 for the RBC of
-another route, or for the one in whose area the table begins, if the plan has no row for it. A border that only radio
-names, or groups that the table does not have. A route to another track, if no `point` of the plan says where trains may
-leave it. Kilometres as in E14.
+Correct data that gets it. Any that break one of these assumptions; usual cases follow "not". The plan has the borders
+of all trains and routes: not those of trains that have no radio or start near one, or an RBC of another route. Orders
+are exactly at the border: not D_LEVELTR 32,767 or D_RBCTR 0 some metres from it, or one repeated beyond it. Write such
+places into the plan. Packets have its levels: not if announcement and border differ on purpose. Groups of the table
+name each border: not if only radio does. Trains stay on the track: not through a loop, or on a route to another one, if
+no `point` of the track plan says where. Kilometres and distances show the place on the track: not if they jump
+unstated, follow another axis, are rounded coarsely, or belong to signals or to tracks without names.
 
 Example. Group F announces level 2 at km 20.050, and the plan has the border at km 20.000.
 """
