@@ -5,3 +5,4 @@ pub mod VariableLemmas
 pub mod VariableFormats
 pub mod Identity
 pub mod Level
+pub mod Train3

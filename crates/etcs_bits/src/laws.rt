@@ -17,6 +17,7 @@ ghost use Rattle.etcs_bits.specs.variables.VariableValues.{transmission_of, medi
 ghost use Rattle.etcs_bits.specs.variables.VariableFormats.{q_updown, q_media, m_version, m_dup, q_scale, q_dir};
 ghost use Rattle.etcs_bits.specs.variables.Identity.{identity};
 ghost use Rattle.etcs_bits.specs.variables.Level.{m_level, level_variable, level_number};
+ghost use Rattle.etcs_bits.specs.variables.Train3.{train3, train3_variable, train3_number, train3_of};
 
 use crate::layout::Layout;
 use crate::layout::body::Body;
@@ -29,6 +30,7 @@ use crate::variables::medium::Medium;
 use crate::variables::plain::Plain;
 use crate::variables::ranged::Ranged;
 use crate::variables::scale::Scale;
+use crate::variables::train3::Train3;
 use crate::variables::transmission::Transmission;
 use crate::variables::version::Version;
 
@@ -224,6 +226,16 @@ pub fn directions_have_their_numbers()
     ensures laid_out { AreLaidOut q_dir }
 {
     records_are_laid_out::<Dir>();
+}
+
+/// Q_DIRLRBG, Q_DLRBG and Q_DIRTRAIN have two bits. Each value has its number, and no other number is
+/// allowed.
+#[tactic(auto, using(crate::specs::variables::VariableLemmas::names_have_values, crate::specs::variables::Train3::train3_names))]
+pub fn sides_have_their_numbers()
+    ensures numbers { HasValues train3_variable 2 train3_number train3_of }
+    ensures laid_out { AreLaidOut train3 }
+{
+    records_are_laid_out::<Train3>();
 }
 
 /// M_LEVEL and M_LEVELTR have three bits. Each level has its number, and no other number is

@@ -9,5 +9,6 @@ pub(crate) mod medium;
 pub(crate) mod plain;
 pub(crate) mod ranged;
 pub(crate) mod scale;
+pub(crate) mod train3;
 pub(crate) mod transmission;
 pub(crate) mod version;

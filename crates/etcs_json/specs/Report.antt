@@ -9,9 +9,9 @@ use Rattle.etcs_bits.specs.variables.Identity.{identity as identity_layout, iden
 use Rattle.etcs_radio.specs.Integrity.{length_numbered, q_length}
 use Rattle.etcs_radio.specs.Lrbg.{lrbg_rows}
 use Rattle.etcs_radio.specs.Report.{WithOne, WithTwo, again, d_lrbg, l_doubtover, l_doubtunder, m_mode, numbered_of, report_of, report_variable, situation as situation_layout, v_train, with_one as with_one_layout, with_two as with_two_layout}
-use Rattle.etcs_radio.specs.Train3.{train3_names, train3_number, train3_of, train3_variable}
+use Rattle.etcs_bits.specs.variables.Train3.{train3_names, train3_number, train3_of, train3_variable}
 use Rattle.etcs_radio.specs.declared.report.Report.{Report}
-use Rattle.etcs_radio.specs.declared.train3.Train3.{Train3}
+use Rattle.etcs_bits.specs.declared.variables.train3.Train3.{Train3}
 use Rattle.etcs_schema.specs.Chosen.{Choice, behind, chosen, either, last}
 use Rattle.etcs_schema.specs.Head.{Packet}
 use Rattle.etcs_schema.specs.KeyedVariables.{HasKeys, keys_by, variables_at}

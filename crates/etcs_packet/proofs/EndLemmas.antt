@@ -1,6 +1,6 @@
 -- Eight bits decide whether a list ends. A record that begins with NID_PACKET has as many.
-use Rattle.std.proofs.Common.{◌≡◌, ℕ, ◌+◌, ◌-◌, ◌<◌, ◌≤◌, Bool, true, false, List, [], length, take, drop, refl, sym, ap, subst, ◌∙◌, arith, inl, inr, ◌⊎◌}
-use Rattle.std.proofs.lemmas.Bool.{lt-ltb}
+use Rattle.std.proofs.Common.{◌≡◌, ℕ, ◌+◌, ◌-◌, ◌<◌, ◌≤◌, Bool, true, false, ltb, List, [], length, take, drop, refl, sym, ap, subst, ◌∙◌, arith, inl, inr, ◌⊎◌}
+use Rattle.std.proofs.lemmas.Bool.{lt-ltb, ltb-true, ltb-false}
 use Rattle.std.proofs.lemmas.List.{take-take, drop-take}
 use Rattle.etcs_bits.specs.declared.layout.fault.Fault.{Fault}
 use Rattle.etcs_bits.specs.layout.Rows.{Variable, Row, Place, IsSpelled, join, width}
@@ -8,6 +8,7 @@ use Rattle.etcs_bits.specs.layout.Fields.{Fields, nothing, field, ◌▹◌, siz
 use Rattle.etcs_bits.specs.layout.Fault.{lack, IsDueFault, IsFault}
 use Rattle.etcs_bits.proofs.StandLemmas.{place_in, length-join, stands_nothing, stands_within}
 use Rattle.etcs_packet.specs.declared.stop.Stop.{Stop}
+use Rattle.etcs_packet.specs.declared.stop.Stop.TheVariants as stops
 use Rattle.etcs_packet.specs.Lists.{IsHeaded, ends}
 
 -- Two inputs have the same length and the same first `n` bits. A list ends at a place in both or in
@@ -23,6 +24,19 @@ settled stop p bits n len same (inl le) =
     sym (drop-take p.at 8 bits) ∙ ap (drop p.at) front ∙ drop-take p.at 8 p.bits in
     rw (len, eight) refl
 settled stop p bits n len same (inr lt) = rw (len, lt-ltb (length p.bits) (p.at + 8) lt) refl
+
+-- where a list goes on, NID_PACKET has room, unless a telegram has too few bits for it
+pub has_room : (stop : Stop) (p : Place) → (stop ≡ stops.Telegram → length p.bits < p.at + 8 → ⊥)
+    → ends stop p ≡ false → p.at + 8 ≤ length p.bits
+has_room stop p enough goes = by_size stop (ltb (length p.bits) (p.at + 8)) refl enough goes
+  where
+    by_size : (s : Stop) (b : Bool) → ltb (length p.bits) (p.at + 8) ≡ b
+        → (s ≡ stops.Telegram → length p.bits < p.at + 8 → ⊥) → ends s p ≡ false
+        → p.at + 8 ≤ length p.bits
+    by_size stops.Telegram true few enough goes =
+        absurd (enough refl (ltb-true (length p.bits) (p.at + 8) few))
+    by_size stops.Message true few enough goes = let ended = rw few at goes in absurd cc
+    by_size _ false many enough goes = ltb-false (length p.bits) (p.at + 8) many
 
 -- ---- a fault after NID_PACKET's eight bits
 

@@ -1,11 +1,11 @@
 -- A head and its list: what stands is read, a fault is read, and there is only one of them.
-use Rattle.std.proofs.Common.{◌≡◌, ◌≤◌, Bool, false, List, length, take, Result, Ok, Err, refl, sym, ap, subst, ◌∙◌, arith, inl, inr}
+use Rattle.std.proofs.Common.{◌≡◌, ◌+◌, ◌<◌, ◌≤◌, Bool, true, false, List, length, take, Result, Ok, Err, refl, sym, ap, subst, ◌∙◌, arith, inl, inr}
 use Rattle.etcs_bits.specs.declared.layout.fault.Fault.{Fault}
 use Rattle.etcs_bits.specs.declared.layout.fault.DecodeError.{DecodeError}
 use Rattle.etcs_bits.specs.declared.layout.fault.DecodeError.TheVariants as errors
 use Rattle.etcs_bits.specs.layout.Rows.{Row, Place, IsSpelled, join}
 use Rattle.etcs_bits.specs.layout.Fields.{Fields, AreRowsOf}
-use Rattle.etcs_bits.specs.layout.Fault.{IsFault}
+use Rattle.etcs_bits.specs.layout.Fault.{IsFault, lack}
 use Rattle.etcs_bits.specs.layout.Reading.{◌>>=◌, rows_at}
 use Rattle.etcs_bits.specs.layout.Results.{Fails, Gives, OfFault, OfMemory, Means}
 use Rattle.etcs_bits.proofs.BindLemmas.{bind_ok, bind_err, ok_is}
@@ -15,10 +15,11 @@ use Rattle.etcs_bits.proofs.StandLemmas.{place_in, stands_moved}
 use Rattle.etcs_bits.proofs.ReadingLemmas.{read_is_spelled, spelled_is_read, read_is_fault}
 use Rattle.etcs_bits.proofs.FaultLemmas.{fault_is_given, fault_stays, none_stands, same_fault}
 use Rattle.etcs_packet.specs.declared.stop.Stop.{Stop}
+use Rattle.etcs_packet.specs.declared.stop.Stop.TheVariants as stops
 use Rattle.etcs_packet.specs.Lists.{IsHeaded, IsListFault, ends}
 use Rattle.etcs_packet.specs.Reading.{items_at, whole_at, whole_of}
 use Rattle.etcs_packet.specs.Whole.{start, BeginsWith, IsFollowed, HeadAndListStand, IsWholeFault, NoHeadAndListStands}
-use Rattle.etcs_packet.proofs.EndLemmas.{fault_past, next_within}
+use Rattle.etcs_packet.proofs.EndLemmas.{fault_past, has_room, next_within}
 use Rattle.etcs_packet.proofs.FollowLemmas.{follow_forward, follow_within, list_fault_stays}
 use Rattle.etcs_packet.proofs.ItemLemmas.{list_fault_is_read, read_is_list_fault}
 use Rattle.etcs_packet.proofs.ListLemmas.{stand_is_read, read_stands}
@@ -267,7 +268,16 @@ pub head_stands : {H : Type 0} (header : Fields) (head : H → List Row) (h : H)
 head_stands header head h p q f within are_rows spelled fault =
     none_stands header p f p.bits (head h) q within refl refl fault (are_rows h) spelled
 
--- a head that stands, where the list after it does not end
-pub followed : {H : Type 0} (head : H → List Row) (h : H) (stop : Stop) (p q : Place)
-    → IsSpelled (head h) p q → ends stop q ≡ false → IsFollowed stop head p
-followed head h stop p q spelled goes = record { h = h; middle = q; first = spelled; goes_on = goes }
+-- a head that stands, where a record is due: a telegram with too few bits for it has no end
+pub followed : {H : Type 0} (head : H → List Row) (h : H) (e : DecodeError) (stop : Stop) (p q : Place)
+    → IsSpelled (head h) p q
+    → (stop ≡ stops.Telegram → length q.bits < q.at + 8 → e ≡ errors.Fault (lack true q))
+    → OfMemory e (ends stop q ≡ false) → OfMemory e (IsFollowed stop head p)
+followed head h (errors.Fault f) stop p q spelled no_end goes = tt
+followed head h errors.Memory stop p q spelled no_end goes = record {
+  h = h;
+  middle = q;
+  first = spelled;
+  goes_on = goes;
+  room = has_room stop q (λ telegram few. let error = no_end telegram few in cc) goes;
+}

@@ -1,6 +1,6 @@
 -- A head and the list of packets after it. In a telegram the head is the header (SUBSET-026, 8.4.2). In
 -- a radio message the head is the message's own fields (SUBSET-026, 8.6 and 8.7).
-use Rattle.std.specs.Prelude.{◌≡◌, ◌⊎◌, List, Bool, true, false, ◌++◌}
+use Rattle.std.specs.Prelude.{◌≡◌, ◌⊎◌, ◌+◌, ◌≤◌, List, Bool, true, false, ◌++◌, length}
 use Rattle.std.specs.List.{flat_map}
 use Rattle.etcs_bits.specs.declared.layout.fault.Fault.{Fault}
 use Rattle.etcs_bits.specs.layout.Rows.{Row, Place, AreAllowed, join, IsSpelled}
@@ -20,12 +20,14 @@ pub record HeadAndListStand {H X : Type 0} (stop : Stop) (head : H → List Row)
   pub first : IsSpelled (head h) from middle
   pub items : Stand stop rows xs middle to
 
--- A head stands here, and the list after it does not end at once: a record is due.
+-- A head stands here, and the list after it does not end at once: a record is due. Its NID_PACKET
+-- has room in the bits.
 pub record IsFollowed {H : Type 0} (stop : Stop) (head : H → List Row) (from : Place) : Type 0 where
   pub h : H
   pub middle : Place
   pub first : IsSpelled (head h) from middle
   pub goes_on : ends stop middle ≡ false
+  pub room : middle.at + 8 ≤ length middle.bits
 
 -- Bits begin with this head and these records. What comes after the end of the list carries no
 -- information.

@@ -1,6 +1,6 @@
 //! Packets whose layout is not known here.
 
-ghost use Rattle.std.specs.Prelude.{◌≡◌, ◌≤◌, length, true, IfOk, IfErr, IsOk, ◌↔◌};
+ghost use Rattle.std.specs.Prelude.{◌≡◌, ◌<◌, ◌≤◌, length, true, IfOk, IfErr, IsOk, IsTrue, ◌↔◌};
 ghost use Rattle.etcs_bits.specs.layout.Combined.{is_countable};
 ghost use Rattle.etcs_bits.specs.layout.Reading.{rows_at};
 ghost use Rattle.etcs_bits.specs.layout.Results.{Gives, IfMemory};
@@ -29,12 +29,13 @@ pub struct RawPacket {
 
 impl RawPacket {
     /// Whether packets of this number are kept as bits: it is neither that of a packet whose layout
-    /// is known nor that of the end mark.
+    /// is known nor that of the end mark, and it has eight bits.
     #[inline]
     pub fn has_number(number: u64) -> bool
-        ensures { result ≡ is_kept_number number }
+        ensures value { number < 256 → result ≡ is_kept_number number }
+        ensures small { IsTrue result → number < 256 }
     {
-        number != 255 && !has_layout(number)
+        number < 255 && !has_layout(number)
     }
 
     /// The packet of these parts.

@@ -8,7 +8,7 @@ use crate::error::BuildError;
 use crate::packet::Packet;
 use etcs_bits::{
     Bits, Country, Cursor, DecodeError, Dir, Distance, GroupNumber, Layout, Memory, Plain, Ranged,
-    Same, Scale,
+    Reaction, Same, Scale,
 };
 use std::alloc::Global;
 
@@ -36,10 +36,6 @@ impl Packet<5, Elements<Link>> {
         Packet::build(dir, scale, first, further)
     }
 }
-
-/// What the train does where it misses the group: Q_LINKREACTION, 2 bits. 0 is train trip, 1
-/// service brake, 2 nothing. 3 is spare: a Spare fault (SUBSET-026, 7.5.1).
-pub type Reaction = Ranged<2, 2, 4>;
 
 /// A balise group that comes, and how far away it is. A link has 39 bits, and 10 more where it
 /// names another country (SUBSET-026, 3.4.4 and 7.4.2).

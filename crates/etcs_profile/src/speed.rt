@@ -8,8 +8,8 @@ use crate::elements::Elements;
 use crate::error::BuildError;
 use crate::packet::Packet;
 use etcs_bits::{
-    Bits, Cursor, DecodeError, Dir, Distance, Items, Layout, Memory, Plain, Ranged, Same, Scale,
-    Speed, StaticSpeed,
+    Bits, Cursor, DecodeError, DifferenceKind, Dir, Distance, Items, Layout, Memory, Plain, Ranged,
+    Same, Scale, Speed, StaticSpeed,
 };
 use std::alloc::Global;
 
@@ -45,9 +45,8 @@ impl Packet<27, Elements<SpeedElement>> {
 /// Another speed for some trains: 13 bits (SUBSET-026, 7.4.2).
 #[derive(Clone, Copy, Debug, PartialEq, Eq)]
 pub struct Difference {
-    /// Q_DIFF, 2 bits: the kind of category. 0 is cant deficiency, 1 and 2 are another category of
-    /// train, 3 is spare (SUBSET-026, 7.5.1).
-    pub kind: Ranged<2, 2, 4>,
+    /// Q_DIFF, 2 bits: the kind of category.
+    pub kind: DifferenceKind,
     /// NC_CDDIFF if Q_DIFF is 0, NC_DIFF if it is 1 or 2, 4 bits: the category of train. No number
     /// is refused.
     pub category: Plain<4>,

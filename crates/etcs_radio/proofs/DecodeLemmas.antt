@@ -23,6 +23,7 @@ use Rattle.etcs_bits.proofs.ViewLemmas.{in_few_bytes}
 use Rattle.etcs_packet.specs.declared.stop.Stop.TheVariants as stops
 use Rattle.etcs_packet.specs.Lists.{ends}
 use Rattle.etcs_packet.specs.Whole.{IsFollowed, start}
+use Rattle.etcs_packet.proofs.EndLemmas.{has_room}
 use Rattle.etcs_radio.specs.declared.message.Message.{Message}
 use Rattle.etcs_radio.specs.Head.{Head, head, head_numbered, nid_message, movement_head, position_head}
 use Rattle.etcs_radio.specs.Meaning.{packets_of, message_of}
@@ -179,7 +180,7 @@ if_followed (Err (errors.Fault f)) bytes p q h s read goes = tt
 if_followed (Err errors.Memory) bytes p q h s read goes =
     let here = sym (seen_head bytes p s) ∙ read in
     let first = is_spelled (head (length bytes)).fields ((head (length bytes)).rows h) (beginning bytes) q (omega arith) here in
-    record { h = h; middle = q; first = first; goes_on = goes }
+    record { h = h; middle = q; first = first; goes_on = goes; room = has_room stops.Message q (λ telegram few. cc) goes }
 
 -- ---- the first bytes of a message
 

@@ -14,10 +14,10 @@ use Rattle.etcs_bits.proofs.WidthLemmas.{width_both}
 use Rattle.etcs_radio.specs.declared.integrity.Integrity.{Integrity}
 use Rattle.etcs_radio.specs.declared.integrity.Integrity.TheVariants as lengths
 use Rattle.etcs_radio.specs.declared.report.Report.{Report}
-use Rattle.etcs_radio.specs.declared.train3.Train3.{Train3}
+use Rattle.etcs_bits.specs.declared.variables.train3.Train3.{Train3}
 use Rattle.etcs_radio.specs.Integrity.{q_length}
 use Rattle.etcs_radio.specs.Lrbg.{nid_lrbg, nid_prvlrbg}
-use Rattle.etcs_radio.specs.Train3.{q_dirtrain}
+use Rattle.etcs_bits.specs.variables.Train3.{q_dirtrain}
 use Rattle.etcs_radio.specs.Report.{v_train, m_mode, Situation, situation, WithOne, WithTwo, with_one, with_two, report_numbered, numbered_by, numbered_of, report_variable, report, situation_of}
 
 integrity_width : (v : Integrity) → width (q_length.rows v) ≤ 17

@@ -1,4 +1,3 @@
-pub mod Train3
 pub mod Integrity
 pub mod Lrbg
 pub mod Report

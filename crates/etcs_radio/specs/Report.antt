@@ -13,10 +13,10 @@ use Rattle.etcs_bits.specs.variables.Level.{m_level}
 use Rattle.etcs_bits.specs.variables.VariableFormats.{q_scale}
 use Rattle.etcs_radio.specs.declared.integrity.Integrity.{Integrity}
 use Rattle.etcs_radio.specs.declared.report.Report.{Report}
-use Rattle.etcs_radio.specs.declared.train3.Train3.{Train3}
+use Rattle.etcs_bits.specs.declared.variables.train3.Train3.{Train3}
 use Rattle.etcs_radio.specs.Integrity.{q_length}
 use Rattle.etcs_radio.specs.Lrbg.{nid_lrbg, nid_prvlrbg}
-use Rattle.etcs_radio.specs.Train3.{q_dirlrbg, q_dlrbg, q_dirtrain}
+use Rattle.etcs_bits.specs.variables.Train3.{q_dirlrbg, q_dlrbg, q_dirtrain}
 
 -- D_LRBG, 15 bits: from the group to the train's estimated front
 abbrev pub d_lrbg : Format ℕ

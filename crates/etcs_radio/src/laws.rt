@@ -7,7 +7,6 @@ ghost use Rattle.std.specs.List.{concat};
 ghost use Rattle.etcs_bits.specs.Laws.{AreLaidOut};
 ghost use Rattle.etcs_bits.specs.declared.layout.fault.Fault.{Fault};
 ghost use Rattle.etcs_bits.specs.layout.Rows.{join};
-ghost use Rattle.etcs_bits.specs.layout.Values.{HasValues};
 ghost use Rattle.etcs_radio.specs.declared.message.Message.{Message};
 ghost use Rattle.etcs_radio.specs.declared.train_packet.TrainPacket.{TrainPacket as AnyTrainPacket};
 ghost use Rattle.etcs_radio.specs.Laws.{AreSpelledOut};
@@ -18,7 +17,6 @@ ghost use Rattle.etcs_radio.specs.Message.{IsMessage, IsMessageFault, IsNoMessag
 ghost use Rattle.etcs_radio.specs.Report.{report};
 ghost use Rattle.etcs_radio.specs.Text.{IsMessageText, IsCanonicalText, IsReason};
 ghost use Rattle.etcs_radio.specs.TextMeaning.{message_of_text};
-ghost use Rattle.etcs_radio.specs.Train3.{train3, train3_variable, train3_number, train3_of};
 ghost use Rattle.etcs_radio.specs.RawTrain.{raw_train_packet};
 ghost use Rattle.etcs_radio.specs.TrainPacket.{own_rows, train_packet};
 ghost use Rattle.etcs_radio.specs.Splitter.{IsTaken, state_of};
@@ -32,20 +30,10 @@ use crate::lrbg::Lrbg;
 use crate::raw_train::RawTrainPacket;
 use crate::report::Report;
 use crate::train_packet::TrainPacket;
-use crate::train3::Train3;
 use etcs_bits::laws::records_are_laid_out;
+pub use etcs_bits::laws::sides_have_their_numbers;
 
 // ---- variables and packets
-
-/// Q_DIRLRBG, Q_DLRBG and Q_DIRTRAIN have two bits. Each value has its number, and no other number is
-/// allowed.
-#[tactic(auto, using(etcs_bits::specs::variables::VariableLemmas::names_have_values, crate::specs::Train3::train3_names))]
-pub fn sides_have_their_numbers()
-    ensures numbers { HasValues train3_variable 2 train3_number train3_of }
-    ensures laid_out { AreLaidOut train3 }
-{
-    records_are_laid_out::<Train3>();
-}
 
 /// Q_LENGTH is laid out with L_TRAININT after 1 and 2.
 pub fn integrities_are_laid_out()

@@ -25,12 +25,12 @@ mod raw_train;
 mod report;
 mod splitter;
 mod text;
-mod train3;
 mod train_packet;
 
 pub use decoding::decode;
 pub use encoding::encode;
 pub use error::{EncodeError, RadioTextError};
+pub use etcs_bits::Train3;
 pub use integrity::Integrity;
 pub use lrbg::Lrbg;
 pub use message::Message;
@@ -41,4 +41,3 @@ pub use report::Report;
 pub use splitter::{Fed, Splitter, State};
 pub use text::{from_hex, to_hex};
 pub use train_packet::TrainPacket;
-pub use train3::Train3;

@@ -1,6 +1,6 @@
 //! Packets from train to track whose layout is not known here.
 
-ghost use Rattle.std.specs.Prelude.{◌≡◌, ◌≤◌, ◌<◌, ◌+◌, length, true, IfOk, IfErr, IsOk, ◌↔◌};
+ghost use Rattle.std.specs.Prelude.{◌≡◌, ◌≤◌, ◌<◌, ◌+◌, length, true, IfOk, IfErr, IsOk, IsTrue, ◌↔◌};
 ghost use Rattle.etcs_bits.specs.layout.Combined.{is_countable};
 ghost use Rattle.etcs_bits.specs.layout.Format.{kept_bits};
 ghost use Rattle.etcs_bits.specs.layout.Reading.{rows_at};
@@ -38,11 +38,12 @@ pub struct RawTrainPacket {
 
 impl RawTrainPacket {
     /// Whether packets of this number are kept as bits: it is neither that of a position report nor
-    /// that of the end mark.
+    /// that of the end mark, and it has eight bits.
     pub fn has_number(number: u64) -> bool
-        ensures { result ≡ is_kept_number number }
+        ensures value { number < 256 → result ≡ is_kept_number number }
+        ensures small { IsTrue result → number < 256 }
     {
-        !matches!(number, 0 | 1 | 255)
+        matches!(number, 2..=254)
     }
 
     /// The packet of these parts.

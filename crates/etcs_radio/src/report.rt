@@ -4,10 +4,9 @@ ghost use Rattle.std.specs.Prelude.{◌≡◌, IsTrue};
 
 use crate::integrity::Integrity;
 use crate::lrbg::Lrbg;
-use crate::train3::Train3;
 use etcs_bits::{
     Bits, Body, Cursor, DecodeError, Distance, FaultKind, Identity, Layout, Level, Memory, Plain,
-    Same, Scale, refused,
+    Same, Scale, Train3, refused,
 };
 use std::alloc::Global;
 

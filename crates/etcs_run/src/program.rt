@@ -1,6 +1,7 @@
 //! `run`: the whole program, from words and a reader to a writer and a status.
 
-ghost use Rattle.std.specs.Prelude.{◌≡◌, None, IfErr, map};
+ghost use Rattle.std.specs.Prelude.{◌≡◌, None, Some, IfErr, OnOk, map};
+ghost use Rattle.std.specs.Io.KnownBytes.{IsAtEnd};
 ghost use Rattle.etcs_run.specs.Command.{command_of};
 ghost use Rattle.etcs_run.specs.Counted.{CanCount, inner_of};
 ghost use Rattle.etcs_run.specs.LineReading.{CountsDevice};
@@ -68,6 +69,8 @@ fn obey<R: Read, W: Write>(
     ensures ran { Runs R.remaining W.contents reader.old reader.new writer.old writer.new
         (of_command command) result }
     ensures unread { command ≡ None → reader.new ≡ reader.old }
+    ensures to_end { command ≡ Some Command.Check
+        → OnOk result (IsAtEnd (R.remaining (inner_of reader.new))) }
     ensures flushed { EndsFlushed result writer.old writer.new }
     ensures counts { CountsOneDevice result reader.old reader.new writer.old writer.new }
 {
@@ -86,7 +89,8 @@ fn obey<R: Read, W: Write>(
 }
 
 /// Runs the command that the words give, from the reader to the writer. The first word is the
-/// program's name. Words that are no command give the usage line, and then nothing is read.
+/// program's name. Words that are no command give the usage line, and then nothing is read. `check`
+/// gives a status only once the input was read to its end.
 ///
 /// On a known input, the text written and the status are the output of that input. They depend only
 /// on what was read, so they are the output of every input that begins with it. The end of the
@@ -115,6 +119,10 @@ pub fn run<'a, R: Read, W: Write>(
     ensures ran { Runs R.remaining W.contents reader.old reader.new writer.old writer.new
         (output_of (map (λ w. w.now) words.entry.now)) result }
     ensures unread { command_of (map (λ w. w.now) words.entry.now) ≡ None → reader.new ≡ reader.old }
+
+    // `check` reads its input to the end.
+    ensures to_end { command_of (map (λ w. w.now) words.entry.now) ≡ Some Command.Check
+        → OnOk result (IsAtEnd (R.remaining (inner_of reader.new))) }
     ensures flushed { EndsFlushed result writer.old writer.new }
 
     // Only a device that failed is counted, and `Device` is never answered for anything else.

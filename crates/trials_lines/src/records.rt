@@ -46,6 +46,77 @@ fn the_longest_bodies_are_read_and_written(rt: HostRuntime) -> Result<(), Fail> 
     Ok(())
 }
 
+// The text with `count` of this item in a list between these parts.
+fn listed(
+    alloc: Global,
+    before: &str,
+    item: &str,
+    count: u32,
+    after: &str,
+) -> Result<String, Halt> {
+    let mut text = format!(in alloc; "{before}[{item}")?;
+    'items: for _ in 1..count {
+        text.push_str(",")?;
+        text.push_str(item)?;
+    }
+    text.push_str("]")?;
+    text.push_str(after)?;
+    Ok(text)
+}
+
+// The greatest list of each packet: what stands before it, an item, how many there are, and what follows.
+const GREATEST: [(&str, &str, u32, &str); 6] = [
+    (
+        "{\"links\":",
+        "{\"d_link\":1,\"nid_bg\":2,\"nid_c\":444,\"q_linkorientation\":0,\"q_linkreaction\":1,\"q_locacc\":3}",
+        32,
+        ",\"nid_packet\":5,\"q_dir\":1,\"q_scale\":1}",
+    ),
+    (
+        "{\"end_speed\":0,\"end_timeout\":0,\"l_endsection\":1,\"nid_packet\":15,\"q_dir\":1,\"q_scale\":1,\"sections\":",
+        "{\"l_section\":2,\"section_timer\":{\"d_sectiontimerstoploc\":3,\"t_sectiontimer\":4}}",
+        31,
+        "}",
+    ),
+    (
+        "{\"elements\":",
+        "{\"d_gradient\":100,\"g_a\":5,\"q_gdir\":1}",
+        32,
+        ",\"nid_packet\":21,\"q_dir\":2,\"q_scale\":2}",
+    ),
+    (
+        "{\"elements\":",
+        "{\"d_static\":100,\"differences\":[],\"q_front\":1,\"v_static\":20}",
+        32,
+        ",\"nid_packet\":27,\"q_dir\":0,\"q_scale\":0}",
+    ),
+    (
+        "{\"elements\":[{\"d_static\":0,\"differences\":",
+        "{\"nc\":1,\"q_diff\":0,\"v_diff\":30}",
+        31,
+        ",\"q_front\":1,\"v_static\":20}],\"nid_packet\":27,\"q_dir\":0,\"q_scale\":0}",
+    ),
+    (
+        "{\"d_leveltr\":0,\"nid_packet\":41,\"q_dir\":1,\"q_scale\":1,\"transitions\":",
+        "{\"l_ackleveltr\":300,\"m_leveltr\":1,\"nid_ntc\":8}",
+        32,
+        "}",
+    ),
+];
+
+#[test]
+fn the_greatest_lists_are_read_and_written(rt: HostRuntime) -> Result<(), Fail> {
+    let alloc = rt.alloc();
+    for (before, item, count, after) in GREATEST {
+        let text = listed(alloc, before, item, count, after)?;
+        assert!(rt;
+            comes_back::<TrackPacket>(alloc, text.as_str())?,
+            "{before}"
+        );
+    }
+    Ok(())
+}
+
 // Whether it is said of the form that its packet's number is not one of the record's.
 fn has_other_number<T: Form>(alloc: Global, text: &str) -> Result<bool, Halt> {
     match T::of_form(alloc, &value_of(alloc, text)?) {

@@ -1,7 +1,8 @@
-//! The texts of errors of forms and documents. A refusal has the same words.
+//! The texts of errors of forms, documents and checks. A refusal has the same words.
 
 use crate::halt::Halt;
 use etcs_bits::{Fault, FaultKind};
+use etcs_check::CheckError;
 use etcs_form::{FormError, LineError, Refusal, Step, refusal_text};
 use etcs_radio::RadioTextError;
 use etcs_telegram::TextError;
@@ -58,5 +59,13 @@ fn errors_of_documents_say_what_is_wrong_and_where(rt: HostRuntime) -> Result<()
     let message = LineError::Message(1, RadioTextError::Fault(Fault { at, end, why }));
     assert!(rt; tells(alloc, message, "message 1: spare at 15 end 17")?);
     assert!(rt; says(alloc, &LineError::Memory, "out of memory")?);
+    Ok(())
+}
+
+#[test]
+fn errors_of_checks_say_what_is_wrong(rt: HostRuntime) -> Result<(), Fail> {
+    let alloc = rt.alloc();
+    assert!(rt; says(alloc, &CheckError::Memory, "out of memory")?);
+    assert!(rt; says(alloc, &CheckError::TooMany, "too many to be counted")?);
     Ok(())
 }

@@ -2,8 +2,9 @@
 
 use crate::spelled::{comes_back, fault, read_one};
 use etcs_bits::{
-    Bits, Country, Cursor, Dir, Dup, FaultKind, GroupNumber, Layout, Level, Medium, Plain,
-    ReleaseSpeed, Scale, Speed, StaticSpeed, Total, Transmission, Version,
+    Bits, Counter, Country, Cursor, DifferenceKind, Dir, Distance, Dup, FaultKind, GroupNumber,
+    Layout, Level, Medium, Plain, Position, Reaction, ReleaseSpeed, Scale, Speed, StaticSpeed,
+    Time, Total, Train3, Transmission, Version,
 };
 use std::test::Fail;
 
@@ -17,9 +18,23 @@ fn numbers_that_are_not_allowed_make_no_variable(rt: HostRuntime) {
         assert!(rt; Total::new(n).is_some() == (n < 8), "{n}");
         assert!(rt; Scale::new(n).is_some() == (n < 3), "{n}");
         assert!(rt; Dir::new(n).is_some() == (n < 3), "{n}");
+        assert!(rt; Reaction::new(n).is_some() == (n < 3), "{n}");
+        assert!(rt; DifferenceKind::new(n).is_some() == (n < 3), "{n}");
+        assert!(rt; Train3::new(n).is_some() == (n < 3), "{n}");
+        assert!(rt; Position::new(n).is_some() == (n < 8), "{n}");
     }
+    assert!(rt; Counter::new(255).is_some() && Counter::new(256).is_none());
+    assert!(rt; Time::new(1023).is_some() && Time::new(1024).is_none());
+    assert!(rt; Distance::new(32767).is_some() && Distance::new(32768).is_none());
     assert!(rt; Country::new(1023).is_some() && Country::new(1024).is_none());
     assert!(rt; GroupNumber::new(16383).is_some() && GroupNumber::new(16384).is_none());
+}
+
+#[test]
+fn a_variable_of_packets_is_exported_above_too(rt: HostRuntime) {
+    assert!(rt; etcs_radio::Train3::Unknown == Train3::Unknown);
+    assert!(rt; etcs_profile::Reaction::new(2) == Reaction::new(2));
+    assert!(rt; etcs_packet::Reaction::new(2) == Reaction::new(2));
 }
 
 #[test]

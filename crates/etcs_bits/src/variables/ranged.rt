@@ -32,6 +32,14 @@ pub type StaticSpeed = Ranged<7, 120, 127>;
 /// Spare fault (SUBSET-026, 7.5.1).
 pub type ReleaseSpeed = Ranged<7, 120, 126>;
 
+/// Q_LINKREACTION, 2 bits: what the train does where it misses a linked group. 0 is train trip, 1
+/// service brake, 2 nothing. 3 is spare: a Spare fault (SUBSET-026, 7.5.1).
+pub type Reaction = Ranged<2, 2, 4>;
+
+/// Q_DIFF, 2 bits: which trains a difference of speed is for. 0 is by cant deficiency, 1 and 2 are
+/// another category of train. 3 is spare: a Spare fault (SUBSET-026, 7.5.1).
+pub type DifferenceKind = Ranged<2, 2, 4>;
+
 impl<const W: u32, const LAST: u32, const FROM: u32> Model for Ranged<W, LAST, FROM> {
     ghost use Rattle.std.specs.Prelude.{ℕ, ◌<◌, ◌^◌, IsTrue};
     ghost use Rattle.etcs_bits.specs.variables.Variables.{ranged};

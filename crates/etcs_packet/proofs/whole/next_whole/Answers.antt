@@ -4,7 +4,7 @@ use Rattle.etcs_bits.specs.layout.Rows.{IsSpelled}
 use Rattle.etcs_bits.specs.layout.Fault.{IsFault}
 use Rattle.etcs_bits.specs.layout.Results.{OfFault}
 use Rattle.etcs_packet.specs.Whole.{HeadAndListStand}
-use Rattle.etcs_packet.proofs.ListLemmas.{of_memory}
+use Rattle.etcs_packet.proofs.ListLemmas.{of_memory, same_error}
 use Rattle.etcs_packet.proofs.WholeLemmas.{head_fault, followed, head_stands, head_fault_is_reported, later_fault, whole_fails, whole_is_read, none_of_whole}
 use Rattle.etcs_packet.proofs.whole.next_whole.Goals as goal
 
@@ -80,4 +80,5 @@ pub returns-in_err-items-clause-memory : goal.returns-in_err-items-clause-memory
 returns-in_err-items-clause-memory g c = λ none.
     let failed = err_from_is_err_and c.from_residual-in_err-items.result c.from_residual-in_err-items.ensures.1 in
     let spelled : IsSpelled (g.H.Layout.format.rows c.in_ok-head.head) c.args.cur.now c.read.new.cur = rw c.fork-ahead.ensures.same at c.in_ok-head.ensures.ok in
-    rw (failed.1, failed.2) (of_memory c.in_err-items.field-0.0 (followed g.H.Layout.format.rows c.in_ok-head.head c.args.stop c.args.cur.now c.read.new.cur spelled) c.in_err-items.ensures.memory)
+    let e = c.in_err-items.field-0.0 in
+    rw (failed.1, failed.2) (followed g.H.Layout.format.rows c.in_ok-head.head e c.args.stop c.args.cur.now c.read.new.cur spelled (λ telegram few. same_error _ _ (c.in_err-items.ensures.no_end telegram few)) c.in_err-items.ensures.memory)

@@ -15,7 +15,7 @@ returns-then-has_number-clause-gives c =
     let n = c.in_ok-number.number in
     let dir = c.in_ok-dir.dir in
     let body = c.in_ok-dir.body in
-    let other : is_kept_number n ≡ true = sym c.has_number.ensures ∙ c.if-has_number.true in
+    let other : is_kept_number n ≡ true = sym (c.has_number.ensures.value c.in_ok-number.ensures.number.0) ∙ c.if-has_number.true in
     let rest : rows_at (track_numbered.next n) c.scan_number.new.cur ≡ Ok (raw_rest.rows (dir, body), c.scan_rest.new.cur) = rw (other_next n other) c.in_ok-dir.ensures.gives in
     let read = rest_read nid_track track_numbered.next n n c.args.cur.now c.scan_number.new.cur c.scan_rest.new.cur (raw_rest.rows (dir, body)) c.in_ok-number.ensures.gives refl rest in
     rw (c.in_ok-packet.ensures.0, c.in_ok-packet.ensures.1.0, c.in_ok-packet.ensures.1.1) read

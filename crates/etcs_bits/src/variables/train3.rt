@@ -2,7 +2,7 @@
 
 ghost use Rattle.std.specs.Prelude.{◌≡◌, ◌↔◌, IsTrue, IsSome, IfSome};
 
-use etcs_bits::{Bits, Cursor, DecodeError, FaultKind, Layout, Memory, Same, refused};
+use crate::{Bits, Cursor, DecodeError, FaultKind, Layout, Memory, Same, refused};
 use std::alloc::Global;
 
 /// Q_DIRLRBG, Q_DLRBG and Q_DIRTRAIN, 2 bits each: how a train stands, where its front is, and which
@@ -19,7 +19,7 @@ pub enum Train3 {
 }
 
 impl Train3 {
-    ghost use Rattle.etcs_radio.specs.Train3.{train3_variable, train3_number};
+    ghost use Rattle.etcs_bits.specs.variables.Train3.{train3_variable, train3_number};
 
     /// The value with this number; None from 3 on.
     #[inline(always)]
@@ -44,9 +44,9 @@ impl Train3 {
     }
 }
 
-#[tactic(auto, unfolding(etcs_bits::specs::layout::Rows::alone))]
+#[tactic(auto, unfolding(crate::specs::layout::Rows::alone))]
 impl Layout for Train3 {
-    ghost use Rattle.etcs_radio.specs.Train3.{train3};
+    ghost use Rattle.etcs_bits.specs.variables.Train3.{train3};
 
     ghost format = { train3 };
 

@@ -6,8 +6,8 @@ use Rattle.etcs_bits.specs.layout.Rows.{Variable}
 use Rattle.etcs_bits.specs.layout.Format.{Format, names}
 use Rattle.etcs_bits.specs.variables.Variables.{naming}
 use Rattle.etcs_bits.specs.variables.VariableLemmas.{AreNames, names_have_values}
-use Rattle.etcs_radio.specs.declared.train3.Train3.{Train3}
-use Rattle.etcs_radio.specs.declared.train3.Train3.TheVariants as sides
+use Rattle.etcs_bits.specs.declared.variables.train3.Train3.{Train3}
+use Rattle.etcs_bits.specs.declared.variables.train3.Train3.TheVariants as sides
 
 -- the number of each value
 abbrev pub train3_number : Train3 → ℕ
