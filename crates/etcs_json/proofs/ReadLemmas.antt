@@ -1,19 +1,14 @@
 -- What is known of a list that was read: how many items it has, and what holds of each.
-use Rattle.std.proofs.Common.{◌≡◌, ◌≤◌, ◌<◌, ◌+◌, ◌&&◌, ℕ, suc, Bool, true, false, List, [], ◌∷◌, length, Option, Some, None, Result, Ok, Err, IfOk, refl, ap, subst, arith}
+use Rattle.std.proofs.Common.{◌≡◌, ◌≤◌, ◌<◌, ◌+◌, ◌&&◌, ℕ, suc, Bool, true, false, List, [], ◌∷◌, length, Option, Some, None, Result, Ok, Err, IfOk, refl, ap, subst, le-leb, arith}
 use Rattle.std.specs.List.{AllByRecursion}
-use Rattle.std.specs.Prelude.{codes, nat_le, if◌then◌else◌}
+use Rattle.std.specs.Prelude.{nat_le, if◌then◌else◌}
 use Rattle.std.proofs.lemmas.Bool.{and_parts}
 use Rattle.std.proofs.lemmas.Bool.Decides.{nat_tests}
 use Rattle.serde_json.specs.Data.{Data, Items}
 use Rattle.serde_json.specs.Find.{as_array, get}
 use Rattle.etcs_schema.specs.Fault.{Fault, Range, Step, here, key, list_item, under}
-use Rattle.etcs_schema.specs.Reading.{◌>>=◌, at_key, bounded_list_or, data_list, items_at, key_or, list_of, object_with, with_first}
-use Rattle.etcs_json.specs.Profiles.{difference, speed_element}
-use Rattle.etcs_schema.specs.Shape.{Shape, both_of, first_and_others, first_and_rest, key as key_part, list, object}
-use Rattle.etcs_schema.specs.Variables.{flag, number}
-use Rattle.etcs_profile.specs.Speed.{d_static, v_static}
-use Rattle.etcs_profile.specs.declared.speed.Difference.{Difference}
-use Rattle.etcs_profile.specs.declared.speed.SpeedElement.{SpeedElement}
+use Rattle.etcs_schema.specs.Reading.{◌>>=◌, at_key, bounded_list_or, data_list, items_at, key_or, list_of, with_first}
+use Rattle.etcs_schema.specs.Shape.{Shape, both_of, first_and_others, first_and_rest}
 
 -- each item that can be read has the property
 abbrev EachRead : {A : Type 0} → (A → Type 0) → (Data → Result A Fault) → Type 0
@@ -49,6 +44,34 @@ counted_read : {A : Type 0} (P : A → Type 0) (read : Data → Result A Fault) 
     → IfOk (bounded_list_or read low high o) (λ xs. AllByRecursion P xs × (length xs ≤ high))
 counted_read P read has low high None = tt
 counted_read P read has low high (Some ds) = counted_at P read has low high (data_list ds) _ refl
+
+-- a list, unless it has too many items
+abbrev pub at_most : {A : Type 0} → ℕ → Result (List A) Fault → Result (List A) Fault
+at_most high (Ok xs) = if nat_le (length xs) high then Ok xs else Err (here Range)
+at_most high (Err f) = Err f
+
+kept : {A : Type 0} (high : ℕ) (r : Result (List A) Fault) → IfOk r (λ xs. AllByRecursion (λ _. Unit {0}) xs × (length xs ≤ high)) → r ≡ at_most high r
+kept high (Err f) h = refl
+kept high (Ok xs) h = rw (le-leb (length xs) high h.1) refl
+
+-- a list that was read has no more items than it may have
+pub few_listed : {X : Type 0} (read : Data → Result X Fault) (low high : ℕ) (d : Data) → list_of read low high d ≡ at_most high (list_of read low high d)
+unfolding list_of
+few_listed read low high d = kept high _ (counted_read (λ _. Unit {0}) read (λ _ _ _. tt) low high (as_array d))
+
+kept_under : {A : Type 0} (high : ℕ) (step : Step) (r : Result (List A) Fault) → r ≡ at_most high r → under step r ≡ at_most high (under step r)
+kept_under high step (Err f) is = refl
+kept_under high step (Ok xs) is = is
+
+kept_or : {A : Type 0} (high : ℕ) (read : Data → Result (List A) Fault) (name : List ℕ) (o : Option Data) → ((d : Data) → read d ≡ at_most high (read d))
+    → key_or read name o ≡ at_most high (key_or read name o)
+kept_or high read name None has = refl
+kept_or high read name (Some d) has = kept_under high (key name) (read d) (has d)
+
+-- the same of a list at a key
+pub few_at : {X : Type 0} (read : Data → Result X Fault) (low high : ℕ) (name : List ℕ) (d : Data) → at_key (list_of read low high) name d ≡ at_most high (at_key (list_of read low high) name d)
+unfolding at_key
+few_at read low high name d = kept_or high (list_of read low high) name (get name d) (few_listed read low high)
 
 first_read : {A : Type 0} (P : A → Type 0) (high : ℕ) (r : Result (List A) Fault) → IfOk r (λ xs. AllByRecursion P xs × (length xs ≤ high))
     → IfOk (r >>= first_and_rest) (λ p. (P p.0 × AllByRecursion P p.1) × (length p.1 < high))
@@ -95,53 +118,3 @@ pair_read {A = A} {B = B} (Ok x) (Ok y) p is = subst (λ (q : A × B). (ok_as x 
 -- of two parts that were read, each was
 pub both_read : {A B : Type 0} (a : Data → Result A Fault) (b : Data → Result B Fault) (d : Data) (p : A × B) → both_of a b d ≡ Ok p → (a d ≡ Ok p.0) × (b d ≡ Ok p.1)
 both_read a b d p is = pair_read (a d) (b d) p is
-
-after : {A B : Type 0} (P : B → Type 0) (r : Result A Fault) (f : A → Result B Fault) → ((x : A) → IfOk (f x) P) → IfOk (r >>= f) P
-after P (Err e) f h = tt
-after P (Ok x) f h = h x
-
-as_named : {A B : Type 0} (P : B → Type 0) (make : A → B) (r : Result A Fault) → IfOk r (λ x. P (make x)) → IfOk (r >>= λ x. Ok (make x)) P
-as_named P make (Err e) h = tt
-as_named P make (Ok x) h = h
-
-abbrev of_second : {A B : Type 0} → (B → Type 0) → A × B → Type 0
-of_second P p = P p.1
-
-second_at : {A B : Type 0} (P : B → Type 0) (x : A) (r : Result B Fault) → IfOk r P → IfOk {T = A × B} (r >>= λ y. Ok (x, y)) (of_second P)
-second_at P x (Err e) h = tt
-second_at P x (Ok y) h = h
-
-second : {A B : Type 0} (P : B → Type 0) (a : Data → Result A Fault) (b : Data → Result B Fault) (d : Data) → IfOk (b d) P → IfOk {T = A × B} (both_of a b d) (of_second P)
-second P a b d h = after (of_second P) (a d) (λ x. b d >>= λ y. Ok (x, y)) (λ x. second_at P x (b d) h)
-
-short : {A : Type 0} (high : ℕ) (r : Result (List A) Fault) → IfOk r (λ xs. AllByRecursion (λ _. Unit {0}) xs × (length xs ≤ high)) → IfOk r (λ xs. length xs ≤ high)
-short high (Err e) h = tt
-short high (Ok xs) h = h.1
-
-pub short_list : {X : Type 0} (s : Shape X) (low high : ℕ) (d : Data) → IfOk (list_of s.of low high d) (λ xs. length xs ≤ high)
-unfolding list_of
-short_list s low high d = short high _ (counted_read (λ _. Unit {0}) s.of (λ _ _ _. tt) low high (as_array d))
-
-short_at : {X : Type 0} (s : Shape X) (name : List ℕ) (low high : ℕ) (d : Data) → IfOk (at_key (list_of s.of low high) name d) (λ xs. length xs ≤ high)
-unfolding at_key
-short_at s name low high d = key_read (λ xs. length xs ≤ high) (list_of s.of low high) name (get name d) (short_list s low high)
-
-abbrev Few : List Difference → Type 0
-Few xs = length xs ≤ 31
-
--- an element of a speed profile has at most 31 differences
-pub few_differences : (d : Data) (e : SpeedElement) → (object speed_element).of d ≡ Ok e → length e.differences ≤ 31
-unfolding speed_element
-few_differences d e is =
-    let several = key_part (codes "differences") (list (object difference)) in
-    let last = short_at (object difference) (codes "differences") 0 31 d in
-    let third = second Few (at_key flag.of (codes "q_front")) several.of d last in
-    let two = second (of_second Few) (at_key (number v_static.fields).of (codes "v_static")) (both_of (at_key flag.of (codes "q_front")) several.of) d third in
-    let all = second (of_second (of_second Few)) (at_key (number d_static.fields).of (codes "d_static")) (both_of (at_key (number v_static.fields).of (codes "v_static")) (both_of (at_key flag.of (codes "q_front")) several.of)) d two in
-    found (λ (x : SpeedElement). length x.differences ≤ 31) _ e
-    (after (λ (x : SpeedElement). length x.differences ≤ 31) (object_with speed_element.part.keys d) (λ u. speed_element.part.of d) (λ u.
-    as_named (λ (x : SpeedElement). length x.differences ≤ 31) _ _ all)) is
-
--- how many items stand after the first
-pub few_further : {X : Type 0} (s : Shape X) (high : ℕ) (d : Data) (p : X × List X) → first_and_others s.of high d ≡ Ok p → length p.1 < high
-few_further s high d p is = (found (λ q. (Unit {0} × AllByRecursion (λ _. Unit {0}) q.1) × (length q.1 < high)) _ p (one_read (λ _. Unit {0}) s high (λ _ _ _. tt) d) is).1

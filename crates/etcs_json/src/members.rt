@@ -196,6 +196,7 @@ impl<T> Model for NonEmpty<T> {
 impl<T: Form> FromNode for NonEmpty<T> {
     ghost reads = { first_and_others T.shape.of 32 };
 
+    #[tactic(auto, using(crate::proofs::ReadLemmas::few_listed))]
     fn from_node<N: Node>(alloc: Global, node: &N) -> Result<NonEmpty<T>, FormError> {
         let (first, further) = read_first_and(alloc, node, 32)?;
         Ok(NonEmpty { first, further })

@@ -1,6 +1,7 @@
 //! Records whose forms are objects.
 
 ghost use Rattle.std.specs.Prelude.{◌≡◌, map, IsOk, OnOk};
+ghost use Rattle.std.specs.List.{flat_map};
 ghost use Rattle.etcs_bits.specs.layout.Rows.{AreAllowed};
 ghost use Rattle.etcs_schema.specs.Fault.{Gives, IfMemory};
 ghost use Rattle.etcs_schema.specs.Reading.{object_with};
@@ -10,7 +11,7 @@ ghost use Rattle.etcs_schema.specs.Sending.{sorted, sorted_keys};
 use crate::writing::Sink;
 use crate::writing::building::NewObject;
 use crate::{Form, InPieces};
-use etcs_bits::{Layout, Memory};
+use etcs_bits::{Layout, Memory, are_allowed};
 use etcs_schema::{FormError, Marks, Node, check_keys};
 use json::Token;
 use serde_json::Value;
@@ -65,6 +66,16 @@ pub(crate) fn prove_allowed<T: Layout>(value: &T)
     ensures { T.fit value.now → AreAllowed (T.format.rows value.now) }
 {
     let _allowed = value.is_allowed();
+}
+
+/// Does nothing when it runs; its contract is the proof that each number of these records is allowed, if
+/// their type always says so.
+#[tactic(auto, using(crate::proofs::FitLemmas::each_fits))]
+pub(crate) fn prove_all_allowed<T: Layout>(items: &[T])
+    requires { (x : T) → T.fit x }
+    ensures { AreAllowed (flat_map T.format.rows items.now) }
+{
+    let _allowed = are_allowed(items);
 }
 
 /// Refuses what is no object, and an object with a key that the record does not have. Neither refusal

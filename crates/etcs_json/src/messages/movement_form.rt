@@ -4,9 +4,9 @@ use crate::Record;
 use crate::members::{
     ListMember, Listed, Member, NumberMember, ReadMembers, check_members, pairs, send_members,
 };
-use crate::record::{InRange, Members, prove_allowed};
+use crate::record::{InRange, Members, prove_all_allowed, prove_allowed};
 use crate::writing::Sink;
-use etcs_bits::{Identity, Memory, are_allowed};
+use etcs_bits::{Identity, Memory};
 use etcs_radio::MovementMessage;
 use etcs_schema::reading::read_fixed;
 use etcs_schema::{FormError, Node};
@@ -21,11 +21,13 @@ impl Record for MovementMessage {
     ghost object = { whole (with_number (movement track_packet)) };
 }
 
+#[tactic(auto, unfolding(etcs_bits::specs::layout::Rows::alone))]
 impl InRange for MovementMessage {
     fn prove_in_range(&self) {
         prove_allowed(&self.time());
+        prove_allowed(&self.ack());
         prove_allowed(&self.lrbg());
-        let _allowed = are_allowed(self.packets());
+        prove_all_allowed(self.packets());
     }
 }
 

@@ -4,9 +4,9 @@ use crate::Record;
 use crate::members::{
     ListMember, Listed, Member, NumberMember, ReadMembers, check_members, pairs, send_members,
 };
-use crate::record::{InRange, Members, prove_allowed};
+use crate::record::{InRange, Members, prove_all_allowed, prove_allowed};
 use crate::writing::Sink;
-use etcs_bits::{Memory, are_allowed};
+use etcs_bits::Memory;
 use etcs_radio::PositionMessage;
 use etcs_schema::reading::read_fixed;
 use etcs_schema::{FormError, Node};
@@ -21,11 +21,12 @@ impl Record for PositionMessage {
     ghost object = { whole (with_number (position train_packet)) };
 }
 
+#[tactic(auto, unfolding(etcs_bits::specs::layout::Rows::alone))]
 impl InRange for PositionMessage {
     fn prove_in_range(&self) {
         prove_allowed(&self.time());
         prove_allowed(&self.engine());
-        let _allowed = are_allowed(self.packets());
+        prove_all_allowed(self.packets());
     }
 }
 

@@ -7,10 +7,10 @@ ghost use Rattle.etcs_json.specs.Telegrams.{header};
 use crate::members::{
     ListMember, Listed, Member, ReadMembers, check_members, pairs, read_record, send_members,
 };
-use crate::record::{InRange, Members, prove_allowed};
+use crate::record::{InRange, Members, prove_all_allowed, prove_allowed};
 use crate::writing::Sink;
 use crate::{Form, InPieces, Record};
-use etcs_bits::{Memory, are_allowed};
+use etcs_bits::Memory;
 use etcs_schema::{FormError, Marks, Node};
 use etcs_telegram::{Header, Size, Telegram};
 use serde_json::Value;
@@ -84,10 +84,11 @@ impl Record for Telegram {
     ghost object = { whole telegram };
 }
 
+#[tactic(auto, using(etcs_bits::proofs::PutLemmas::allowed_both))]
 impl InRange for Telegram {
     fn prove_in_range(&self) {
         prove_allowed(&self.header);
-        let _allowed = are_allowed(self.packets.as_slice());
+        prove_all_allowed(self.packets.as_slice());
     }
 }
 

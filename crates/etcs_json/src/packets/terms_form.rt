@@ -34,6 +34,7 @@ impl Model for Sections {
 impl FromNode for Sections {
     ghost reads = { list_of (object section).of 0 31 };
 
+    #[tactic(auto, using(crate::proofs::ReadLemmas::few_listed))]
     fn from_node<N: Node>(alloc: Global, node: &N) -> Result<Sections, FormError> {
         let value = read_list(alloc, node, 0, 31)?;
         Ok(Sections { value })
