@@ -183,6 +183,7 @@ def decoding(answer: str, radio: str = AUTHORITY) -> str:
     )
 
 
+@pytest.mark.uncovered
 @pytest.mark.parametrize("record", RECORDS, ids=begin_of)
 def test_a_record_that_is_none(record: str, answers: Answers) -> None:
     assert "no answer of " in answers("check {t} --json {out}", decoding(record))[0]
