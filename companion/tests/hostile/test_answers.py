@@ -8,7 +8,7 @@ import subprocess
 import time
 from dataclasses import replace
 from pathlib import Path
-from typing import Callable, List
+from typing import Callable, List, Optional
 
 import pytest
 from cases_of_program import TOP
@@ -354,6 +354,22 @@ def test_a_stopped_balisekit_does_not_count(tmp_path: Path) -> None:
     with open(path, "rb") as nothing, process.Run(str(path), ["check"], nothing, Limit(10)) as run:
         run._count(time.monotonic() - 3600)
         assert list(run.lines()) == [] and run.status == 0
+
+
+def test_an_interrupt_just_when_the_end_is_known(tmp_path: Path, monkeypatch: pytest.MonkeyPatch) -> None:
+    """It stays an interrupt, and the process is reaped."""
+
+    def interrupt(self: process.Run, status: Optional[int]) -> None:
+        if status is not None:
+            raise KeyboardInterrupt
+
+    monkeypatch.setattr(process.Run, "status", property(lambda self: None, interrupt), raising=False)
+    path = fake(tmp_path / "fake", "")
+    with pytest.raises(KeyboardInterrupt):
+        with open(path, "rb") as nothing, process.Run(str(path), ["check"], nothing, Limit(10)) as run:
+            list(run.lines())
+    with pytest.raises(ChildProcessError):
+        os.waitpid(run._pid, 0)
 
 
 def test_the_timeout_holds_for_the_handshake(tmp_path: Path, monkeypatch: pytest.MonkeyPatch) -> None:
