@@ -50,7 +50,7 @@ def pytest_collection_finish() -> None:
 
 @pytest.hookimpl(hookwrapper=True)  # type: ignore[misc]
 def pytest_runtest_protocol(item: pytest.Item) -> Iterator[None]:
-    """Slow tests and those of many cases run without coverage, which would slow them: the others have to reach it."""
+    """Slow tests and uncovered ones run without coverage, which would slow them: the others have to reach it."""
     is_covered = COVERAGE and not (item.get_closest_marker("uncovered") or item.get_closest_marker("slow"))
     if is_covered:
         COVERAGE.start()

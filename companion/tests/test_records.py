@@ -4,7 +4,7 @@ from __future__ import annotations
 import copy
 import json
 import re
-from typing import Any, Dict, Iterator, List, Tuple
+from typing import Any, Dict, Iterator, List, Set, Tuple
 
 import pytest
 from cases_of_program import CASES, EXAMPLES
@@ -107,7 +107,7 @@ def keys(form: Any, path: Tuple[Any, ...]) -> Tuple[Any, ...]:
 
 def first_and_other() -> Iterator[Any]:
     """The shortest lines, each with the places that are the first ones of their keys, and with the others, as slow."""
-    seen = set()
+    seen: Set[Tuple[Any, ...]] = set()
     for name, text in shortest():
         form = json.loads(text)
         all_places = list(places(form))
