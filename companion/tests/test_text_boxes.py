@@ -22,13 +22,12 @@ from balisekit.cli.outcome import links_of
 from balisekit.drawing.letters import advance
 from balisekit.drawing.sheet import Picture, Shape
 from balisekit.engine.program import Program
+from balisekit.present.pages import TEMPLATES
+from balisekit.present.pictures import track_page
 from balisekit.rules import checking
 from balisekit.rules.families import FAMILIES, apply
 
 pytest.importorskip("jinja2")
-from balisekit.present.pages import TEMPLATES  # noqa: E402
-from balisekit.present.pictures import track_page  # noqa: E402
-
 pytestmark = pytest.mark.uncovered
 Write = Callable[..., Path]
 SVG = "{http://www.w3.org/2000/svg}"
