@@ -189,6 +189,7 @@ def test_a_record_that_is_none(record: str, answers: Answers) -> None:
     assert "no answer of " in answers("check {t} --json {out}", decoding(record))[0]
 
 
+@pytest.mark.uncovered
 @pytest.mark.parametrize("command", COMMANDS)
 @pytest.mark.parametrize("record", ["garbage", "{}", line(nid_c=None), line(packets=[{}])])
 def test_a_record_that_is_none_in_each_command(command: str, record: str, answers: Answers) -> None:
@@ -270,6 +271,7 @@ FLOODS = [
 ]
 
 
+@pytest.mark.uncovered
 @pytest.mark.parametrize("command", ["check {t}", "show {t}", "check {t} --messages {m}"])
 @pytest.mark.parametrize("first, does", FLOODS)
 def test_a_flood(command: str, first: str, does: str, answers: Answers) -> None:

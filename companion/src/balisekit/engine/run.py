@@ -150,12 +150,12 @@ class Run:
         return [pipe for pipe, _ in events]
 
     def _wait(self) -> None:
-        """Waits for the end of a process that has closed its output. An interrupt may come here: __exit__ reaps it."""
+        """Waits for the end of a process that has closed its output. __exit__ reaps it, also after an interrupt."""
         begin, pause = time.monotonic(), 0.0002
         while True:
             ended = os.waitid(os.P_PID, self._pid, os.WEXITED | os.WNOHANG | os.WNOWAIT)
             if ended:
-                self.status = ended.si_status * (1 if ended.si_code == os.CLD_EXITED else -1)
+                self.status = ended.si_status if ended.si_code == os.CLD_EXITED else -ended.si_status
                 return
             time.sleep(pause)
             begin, pause = self._count(begin), min(2 * pause, 0.05)
