@@ -4,6 +4,7 @@ from __future__ import annotations
 import gc
 import os
 import sys
+import tempfile
 from importlib.util import find_spec
 from pathlib import Path
 from typing import Callable, Iterator, List, Tuple
@@ -41,12 +42,6 @@ def pytest_collection_modifyitems(items: List[pytest.Item]) -> None:
     items.sort(key=lambda item: item.get_closest_marker("slow") is not None)
 
 
-def pytest_configure(config: pytest.Config) -> None:
-    """Where other processes run the tests, this one has nothing to cover."""
-    if COVERAGE and config.getoption("dist", "no") != "no":
-        COVERAGE.stop()
-
-
 def pytest_collection_finish() -> None:
     """The objects of all tests stay: no collection of garbage looks at them again."""
     gc.collect()
@@ -55,20 +50,37 @@ def pytest_collection_finish() -> None:
 
 @pytest.hookimpl(hookwrapper=True)  # type: ignore[misc]
 def pytest_runtest_protocol(item: pytest.Item) -> Iterator[None]:
-    """Slow tests and those of many cases run without coverage, which would slow them: the others have to reach it."""
-    is_left_out = COVERAGE and (item.get_closest_marker("many") or item.get_closest_marker("slow"))
-    if is_left_out:
-        COVERAGE.stop()
-    yield
-    if is_left_out:
+    """Slow tests and uncovered ones run without coverage, which would slow them: the others have to reach it."""
+    is_covered = COVERAGE and not (item.get_closest_marker("uncovered") or item.get_closest_marker("slow"))
+    if is_covered:
         COVERAGE.start()
+    yield
+    if is_covered:
+        COVERAGE.stop()
 
 
 def pytest_sessionfinish(session: pytest.Session) -> None:
-    """What was covered is written."""
+    """What was covered is written, by the processes that run tests."""
     if COVERAGE and session.config.getoption("dist", "no") == "no":
-        COVERAGE.stop()
         COVERAGE.save()
+
+
+@pytest.fixture(scope="session", autouse=True)
+def known() -> Iterator[None]:
+    """The program under test stays the same: within this process it is summed up once, and greeted once."""
+    path, checksum, greet = find_program.find(None), find_program.checksum, Program._shake_hands
+    sha256 = checksum(path)
+    Program(path, sha256)._shake_hands()
+    with pytest.MonkeyPatch.context() as patch:
+        patch.setattr(find_program, "checksum", lambda other: sha256 if other == path else checksum(other))
+        patch.setattr(Program, "_shake_hands", lambda self: None if self.path == path else greet(self))
+        yield
+
+
+@pytest.fixture
+def tmp_path(tmp_path_factory: pytest.TempPathFactory) -> Path:
+    """A new folder. (To number it, pytest would read the names of all others.)"""
+    return Path(tempfile.mkdtemp(dir=tmp_path_factory.getbasetemp()))
 
 
 @pytest.fixture(scope="session")

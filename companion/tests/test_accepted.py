@@ -356,7 +356,7 @@ def test_csv_is_written_in_one_place() -> None:
     ] == ["csv_writing.py"]
 
 
-@pytest.mark.many
+@pytest.mark.uncovered
 def test_cells_come_back() -> None:
     hypothesis = pytest.importorskip("hypothesis")
 

@@ -2,6 +2,7 @@
 from __future__ import annotations
 
 import gc
+import hashlib
 import html
 import json
 import os
@@ -288,7 +289,7 @@ def test_names_are_safe_to_show(run: Run, table: Write, name: str, shown: str) -
         assert not {"\x1b", "\u202e", "\ufeff"} & set("".join([*out, *err]))
 
 
-def test_json_has_all_of_the_answer(run: Run, table: Write, tmp_path: Path) -> None:
+def test_json_has_all_of_the_answer(run: Run, program: Program, table: Write, tmp_path: Path) -> None:
     path = table(*SOUND, f"Signal C,C1,16,,{SPARE}", f"Signal D,,,,{OTHER}")
     run("check", path, "--messages", table(f"{MESSAGE};x", name="messages.txt"), "--json", tmp_path / "out.json")
     answer = json.loads((tmp_path / "out.json").read_text())
@@ -304,7 +305,8 @@ def test_json_has_all_of_the_answer(run: Run, table: Write, tmp_path: Path) -> N
         "F12 message 0 nominal: no speed profile",
     ]
     assert answer["findings"][0]["earlier_group"] == "Signal B" and answer["rest"] == "no: findings 3"
-    assert len(answer["table"]["sha256"]) == len(answer["program"]["sha256"]) == 64
+    assert answer["table"]["sha256"] == hashlib.sha256(path.read_bytes()).hexdigest()
+    assert answer["program"]["sha256"] == hashlib.sha256(Path(program.path).read_bytes()).hexdigest()
 
 
 def test_json_needs_each_telegram_decoded_once(

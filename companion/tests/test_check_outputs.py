@@ -93,7 +93,7 @@ def test_each_example_is_as_the_schemas_say(run: Run, tmp_path: Path, path: Path
     assert [rule["id"] for rule in rules] == ["refused", *names]
 
 
-@pytest.mark.many
+@pytest.mark.uncovered
 def test_documents_are_as_the_schemas_say(run: Run, table: Write, tmp_path: Path) -> None:
     """Each line of examples/check, with its messages, and with all of its findings accepted."""
     for name, lines, messages in documents():

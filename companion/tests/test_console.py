@@ -73,7 +73,7 @@ def test_a_pipe_beside_a_terminal_is_plain() -> None:
 def test_a_long_command_shows_its_seconds(more: Dict[str, str], shows: bool, program: Program, tmp_path: Path) -> None:
     """The line is gone before the answer, and nothing of it is in a pipe."""
     slow = tmp_path / "slow"
-    slow.write_text(f'#!/bin/sh\n[ "$*" = check ] && sleep 1.5\nexec {shlex.quote(program.path)} "$@"\n', "utf-8")
+    slow.write_text(f'#!/bin/sh\n[ "$*" = check ] && sleep 1\nexec {shlex.quote(program.path)} "$@"\n', "utf-8")
     slow.chmod(0o755)
     words = ["check", "examples/links/line.csv", "--program", str(slow)]
     extras: List[List[str]] = [[], ["--json", "-"]]

@@ -17,6 +17,8 @@ from balisekit.rules.decoded import Decoded, allowance
 from balisekit.rules.line import Line as LineOfTable
 from balisekit.tables import reader
 
+pytestmark = pytest.mark.uncovered
+
 
 def data_of(program: Program, path: Path) -> Decoded:
     """The data of a table."""

@@ -267,7 +267,7 @@ def test_cases_of_the_program_differ_from_others_alone() -> None:
         assert bool(differences(one, other)) == (one != other)
 
 
-@pytest.mark.many
+@pytest.mark.uncovered
 def test_alignment_keeps_both_lists() -> None:
     hypothesis = pytest.importorskip("hypothesis")
     st = hypothesis.strategies

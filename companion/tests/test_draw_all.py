@@ -104,6 +104,7 @@ def test_names_of_files_are_safe_and_unique(run: Run, table: Write, tmp_path: Pa
     assert sorted(path.name for path in tmp_path.iterdir()) == ["out", "table.csv"]
 
 
+@pytest.mark.uncovered
 def test_many_names_that_are_alike() -> None:
     names = FileNames()
     made = [names.svg("group", "?" * (1 + place % 7)) for place in range(20_000)]

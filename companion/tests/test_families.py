@@ -24,6 +24,7 @@ from balisekit.rules.accepted import COLUMNS, ON_CORRECT_DATA
 from balisekit.rules.links import RULES
 from balisekit.rules.rule import Rule, Urgency
 
+pytestmark = pytest.mark.uncovered
 Write = Callable[..., Path]
 Form = Any
 SIGNED = {"reason": "looked at", "who": "J. Doe", "date": "2026-01-02"}

@@ -12,6 +12,7 @@ from cases_of_program import TOP
 from balisekit.cli import main as cli
 from balisekit.tables.cells import COLUMNS
 
+pytestmark = pytest.mark.uncovered
 DOCS = TOP / "docs"
 PAGE = (DOCS / "commands.md").read_text("utf-8")
 GUIDE = (DOCS / "guide.md").read_text("utf-8")

@@ -18,6 +18,7 @@ from balisekit.etcs.geometry import NOMINAL, REVERSE, Kilometres
 from balisekit.etcs import holes
 from balisekit.etcs.holes import FIRST, MOST, Holes, Kept, Pattern, own_hole
 
+pytestmark = pytest.mark.uncovered
 SHIFTS = ("0", "0.0005", "7.25", "7.2505", "87.4", "987.65", "-12.55", "0.00005")
 """By how much the kilometres of further groups are greater: their texts have other lengths, or a sign."""
 PLACE = Kilometres(Decimal("9.5"), -1)
@@ -53,7 +54,6 @@ def _renumbered(form: Any, place: int, at: int) -> Any:
     return {**json.loads(text), "nid_c": 1 + 2 * place, **odd.get(at, {})}
 
 
-@pytest.mark.many
 @pytest.mark.parametrize("name", ["both directions", "falling", "level borders", "restrictions", "close"])
 def test_a_page_is_the_same(name: str, pages: Callable[[str], Iterator[str]]) -> None:
     """For groups that say the same at kilometres of several lengths, below 0 and of parts of a decimetre."""

@@ -100,7 +100,7 @@ OUTPUTS = {
 }
 
 
-@pytest.mark.many
+@pytest.mark.uncovered
 @pytest.mark.parametrize("output", OUTPUTS)
 @pytest.mark.parametrize("text", TEXTS.values(), ids=TEXTS)
 def test_a_text_does_no_harm(run: Run, tmp_path: Path, text: str, output: str) -> None:

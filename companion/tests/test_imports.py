@@ -9,7 +9,7 @@ from typing import Iterator, List, Tuple
 
 import pytest
 
-pytestmark = pytest.mark.many
+pytestmark = pytest.mark.uncovered
 PACKAGE = Path(__file__).resolve().parents[1] / "src" / "balisekit"
 BELOW = {
     "io": (),

@@ -18,7 +18,7 @@ def test_there_are_cases() -> None:
     assert len(REFUSED) > 2000 and len(ACCEPTED) > 1000
 
 
-@pytest.mark.many
+@pytest.mark.uncovered
 def test_a_refusal_points_at_a_field() -> None:
     """The place of each refusal is the beginning of a field, and its end that of the field where it decides alone."""
     for case in REFUSED:
@@ -38,7 +38,7 @@ def test_a_refusal_points_at_a_field() -> None:
             assert refusal.why == "short" and not field.whole, case
 
 
-@pytest.mark.many
+@pytest.mark.uncovered
 @pytest.mark.parametrize("radio", [False, True])
 def test_numbers_are_those_of_the_json(radio: bool) -> None:
     """Each number of the JSON is a field's, and each field that the JSON writes has its number."""

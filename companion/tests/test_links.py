@@ -526,7 +526,7 @@ def test_names_move_no_cursor(run: Run, table: Write) -> None:
     assert ": L2: " in out and not set(out) & {"\x1b", "\u202e"}
 
 
-@pytest.mark.many
+@pytest.mark.uncovered
 def test_any_correct_line_is_silent() -> None:
     hypothesis = pytest.importorskip("hypothesis")
     st = hypothesis.strategies

@@ -20,6 +20,7 @@ from balisekit.rules.line import Line as LineOfTable
 from balisekit.rules.rule import CORRECT_DATA, Options, Remark
 from balisekit.tables import reader
 
+pytestmark = pytest.mark.uncovered
 Change = Callable[[List[Row]], Any]
 HEADS = (
     "What it says",

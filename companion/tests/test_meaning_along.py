@@ -122,7 +122,7 @@ def row_on_track_2(row: Row) -> Row:
     return Row(name, f"{name} {row.balise}", row.place, row.aspect, row.balise, row.form, "2")
 
 
-@pytest.mark.many
+@pytest.mark.uncovered
 @pytest.mark.parametrize(
     "line, change_",
     [

@@ -306,6 +306,7 @@ PLACES: List[Tuple[int, str]] = [
 """Packets with one distance, and their bits behind Q_SCALE."""
 
 
+@pytest.mark.uncovered
 @pytest.mark.parametrize("number, bits", PLACES)
 @pytest.mark.parametrize("distance", (0, 100))
 def test_e5_of_the_place_of_the_group(program: Program, tmp_path: Path, number: int, bits: str, distance: int) -> None:

@@ -18,7 +18,7 @@ from balisekit.rules.line import Line
 from balisekit.rules.rule import ALL, Options
 from balisekit.tables import reader
 
-pytestmark = pytest.mark.many
+pytestmark = pytest.mark.uncovered
 ASKED = Options(asked=frozenset({ALL}))
 NOT_MODELLED = 9
 """The rule that names packets that the program keeps as bits."""

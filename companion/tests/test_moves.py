@@ -230,7 +230,7 @@ def test_a_telegram_of_every_aspect(differ: Differ) -> None:
     assert entries == [f"exchanged: {where}"] and "exchanged 2;" in answer["last_line"]
 
 
-@pytest.mark.many
+@pytest.mark.uncovered
 def test_each_telegram_is_in_one_entry(differ: Differ) -> None:
     """Telegrams in any order: each is exchanged, changed or unchanged, and as often as there are rows."""
     generator = random.Random(7)

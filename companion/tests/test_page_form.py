@@ -14,6 +14,7 @@ from balisekit.cli import main as cli
 
 html5lib = pytest.importorskip("html5lib")
 pytest.importorskip("jinja2")
+pytestmark = pytest.mark.uncovered
 LINE = TOP / "examples" / "table" / "line.csv"
 RADIO = TOP / "examples" / "radio-position-report.txt"
 REPORTS: List[List[object]] = [[], ["--full"], ["--only", "F"], ["--messages", RADIO]]

@@ -225,7 +225,7 @@ def test_colours_are_those_of_the_palette() -> None:
         assert not re.search(r"#[0-9a-f]{3}|rgb|url\(|pattern|(fill|stroke)=", sheet), name
 
 
-@pytest.mark.many
+@pytest.mark.uncovered
 def test_pictures_of_300_groups_are_small(program: Program, tmp_path: Path) -> None:
     """Less than 1.6 MB of a report, for signals of three aspects."""
     path, page = tmp_path / "t.csv", tmp_path / "r.html"

@@ -679,6 +679,7 @@ def test_bits(program: Program, run: Run, table: Write) -> None:
 
 if given is not None:
 
+    @pytest.mark.uncovered
     @given(  # type: ignore[misc]
         strategies.integers(1, 254),
         strategies.booleans(),

@@ -4,7 +4,7 @@ from __future__ import annotations
 import copy
 import json
 import re
-from typing import Any, Dict, Iterator, List, Tuple
+from typing import Any, Dict, Iterator, List, Set, Tuple
 
 import pytest
 from cases_of_program import CASES, EXAMPLES
@@ -16,7 +16,7 @@ pytest.importorskip("jsonschema")
 hypothesis = pytest.importorskip("hypothesis")
 from hypothesis import given, strategies as st  # noqa: E402
 
-pytestmark = pytest.mark.many
+pytestmark = pytest.mark.uncovered
 EXPRESSIONS = {"telegram": records.telegram_expression, "message": records.message_expression}
 LINES: List[Tuple[str, str]] = [
     *(("telegram", case.answer) for case in (*CASES, *EXAMPLES[False]) if case.answer.startswith("{")),
@@ -99,11 +99,30 @@ def shortest() -> List[Tuple[str, str]]:
     return sorted({(name, text) for (name, _), text in lines.items()})
 
 
-@pytest.mark.parametrize("name, text", shortest())
-def test_each_key_is_needed_and_each_value_has_its_range(name: str, text: str) -> None:
+def keys(form: Any, path: Tuple[Any, ...]) -> Tuple[Any, ...]:
+    """The keys of a path, after the number of its packet."""
+    number = form["packets"][path[1]]["nid_packet"] if len(path) > 1 and path[0] == "packets" else None
+    return (number, *(step for step in path if isinstance(step, str)))
+
+
+def first_and_other() -> Iterator[Any]:
+    """The shortest lines, each with the places that are the first ones of their keys, and with the others, as slow."""
+    seen: Set[Tuple[Any, ...]] = set()
+    for name, text in shortest():
+        form = json.loads(text)
+        all_places = list(places(form))
+        firsts = {keys(form, path): path for path in all_places if (name, keys(form, path)) not in seen}
+        seen.update((name, each) for each in firsts)
+        others = [path for path in all_places if path not in firsts.values()]
+        yield from [(name, text, list(firsts.values()))] if firsts else []
+        yield from [pytest.param(name, text, others, marks=pytest.mark.slow)] if others else []
+
+
+@pytest.mark.parametrize("name, text, paths", first_and_other())
+def test_each_key_is_needed_and_each_value_has_its_range(name: str, text: str, paths: List[Tuple[Any, ...]]) -> None:
     """Without any key, with another one beside it, and with each of some values in its place."""
     form = json.loads(text)
-    for path in places(form):
+    for path in paths:
         key = path[-1]
         for value in VALUES:
             agree(name, changed(form, path, key, value))

@@ -81,7 +81,7 @@ def _table(path: Path, *rows: Dict[str, str]) -> Path:
 LINKS = sorted((TOP / "examples" / "links").glob("*.csv"))
 
 
-@pytest.mark.many
+@pytest.mark.uncovered
 @pytest.mark.parametrize("table", [LINE, *LINKS], ids=lambda path: str(path.name))
 @pytest.mark.parametrize("words", [(), ("--only", "F"), ("--only", "L"), ("--only", "f,l", "--tolerance", "20")])
 def test_the_page_has_all_that_was_said(
@@ -612,6 +612,7 @@ def test_the_report_beside_the_example(tmp_path: Path, monkeypatch: pytest.Monke
     assert now == kept
 
 
+@pytest.mark.uncovered
 def test_any_name_makes_a_picture() -> None:
     """A picture with any characters as its names is well formed, and has no tag of theirs."""
     hypothesis = pytest.importorskip("hypothesis")

@@ -20,6 +20,7 @@ from telegrams import ALONE, FIRST, OTHER, SECOND
 from balisekit.engine.program import Program
 from balisekit.present import pages
 
+pytestmark = pytest.mark.uncovered
 LINE = TOP / "examples" / "table" / "line.csv"
 LINKED = TOP / "examples" / "links" / "distance-differs.csv"
 VOID = ("meta", "br", "input")

@@ -22,6 +22,7 @@ from balisekit.present.bit_table import bit_lines
 from balisekit.present.telegram_text import WIDTH, form_lines, text
 from balisekit.rules import checking
 
+pytestmark = pytest.mark.uncovered
 READ = [case for case in (*CASES, *EXAMPLES[False], *EXAMPLES[True]) if not case.answer.startswith("refused: ")]
 NAME = r"(?:user bits|body|other data|[A-Z]+_[A-Z0-9]+(?: of NID_PRVLRBG| \(2\))?)"
 SHOWN = re.compile(
@@ -38,7 +39,6 @@ def _values_in(said: str) -> "Counter[str]":
     return found
 
 
-@pytest.mark.many
 def test_every_number_is_shown() -> None:
     """The values of the JSON, and of bodies that are read, are those of the text, as often as they stand there."""
     assert len(READ) > 1000
@@ -48,7 +48,6 @@ def test_every_number_is_shown() -> None:
         assert _values_in(text(form, Here(Kilometres(Decimal("13.85"), 1)))) == wanted, case
 
 
-@pytest.mark.many
 def test_every_path_is_shown() -> None:
     """Each path of the JSON, and of bodies that are read, comes with its own value."""
     for case in READ:
@@ -78,7 +77,6 @@ def test_a_key_that_is_not_known_is_shown() -> None:
     assert set(shown) >= {77, 7, 8, 99}
 
 
-@pytest.mark.many
 def test_bits_name_each_field() -> None:
     """Places are without a gap from the first bit to the last, and each value of the JSON has its own.
 
@@ -108,7 +106,6 @@ def test_bits_of_another_form_are_no_answer() -> None:
         list(bit_lines(case.text, form))
 
 
-@pytest.mark.many
 def test_lines_are_not_too_long() -> None:
     """No line but one with a long value is wider than a page."""
     for case in READ:

@@ -9,7 +9,7 @@ from typing import List, Tuple
 import pytest
 from cases_of_program import TOP
 
-pytestmark = pytest.mark.many
+pytestmark = pytest.mark.uncovered
 SOURCES = sorted((TOP / "companion").rglob("*.py"))
 LONGEST = 40
 Named = List[Tuple[str, str]]

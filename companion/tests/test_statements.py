@@ -332,7 +332,7 @@ def same_lines(checked: Checked) -> bool:
     return sorted(quoted) == sorted(place.finding.line for place in checked.findings)
 
 
-@pytest.mark.many
+@pytest.mark.uncovered
 def test_random_lines(program: Program, tmp_path: Path) -> None:
     """Each rule comes up often, with aspects and in reverse direction, and no sentence is false."""
     seen: Counter[Tuple[int, str]] = Counter()
@@ -351,7 +351,7 @@ def test_random_lines(program: Program, tmp_path: Path) -> None:
         assert rule not in DIRECTED or seen[rule, "reverse"] and seen[rule, "nominal"], rule
 
 
-@pytest.mark.many
+@pytest.mark.uncovered
 def test_random_messages(program: Program, tmp_path: Path) -> None:
     """The same of messages 3: they name no row and no balise."""
     random = Random(1)
@@ -533,6 +533,7 @@ ROWS: Dict[Mistake, Tuple[int, ...]] = {
 }
 
 
+@pytest.mark.uncovered
 @pytest.mark.parametrize("mistake", MISTAKES)
 def test_a_single_mistake(program: Program, tmp_path: Path, mistake: Mistake) -> None:
     """In the line of the examples: the entry names the rows and the values that differ."""

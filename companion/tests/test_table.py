@@ -32,6 +32,7 @@ def shape(table: Table) -> List[Any]:
     ]
 
 
+@pytest.mark.uncovered
 @pytest.mark.parametrize("separator", [",", ";", "\t"])
 @pytest.mark.parametrize("encoding", ["utf-8", "utf-8-sig", "utf-16", "utf-16-le", "utf-16-be", "cp1252"])
 @pytest.mark.parametrize("end", ["\n", "\r\n", "\r"])
@@ -610,7 +611,7 @@ class TestWorkbooks:
         assert err[0].startswith("balisekit: reading .xlsx (CSV needs no package) needs openpyxl, which ")
 
 
-@pytest.mark.many
+@pytest.mark.uncovered
 def test_tables_that_are_made() -> None:
     hypothesis: Any = pytest.importorskip("hypothesis")
     strategies = hypothesis.strategies

@@ -13,6 +13,7 @@ from test_report_page import report
 
 from balisekit.engine.program import Program, Text
 
+pytestmark = pytest.mark.uncovered
 TELEGRAM = re.compile(r"<details id=r(\d+)[^>]*>(?:(?!</details>).)*?</pre><pre>(.*?)</pre></details>", re.DOTALL)
 EVERYTHING = re.compile(r"everything as in <a href=#r(\d+)>row \1</a>\n")
 HEADER = re.compile(r"header\tas in <a href=#r(\d+)>row \1</a>(?:, but (.*)|, M_MCOUNT \d+ too)\n")

@@ -17,13 +17,18 @@ from cases_of_program import TOP
 from conftest import Run
 from test_browser import CHROMIUM, browse
 
+from balisekit.cli import main as cli, options as shared, settings
+from balisekit.cli.outcome import links_of
 from balisekit.drawing.letters import advance
 from balisekit.drawing.sheet import Picture, Shape
 from balisekit.engine.program import Program
 from balisekit.present.pages import TEMPLATES
+from balisekit.present.pictures import track_page
+from balisekit.rules import checking
+from balisekit.rules.families import FAMILIES, apply
 
 pytest.importorskip("jinja2")
-pytestmark = pytest.mark.many
+pytestmark = pytest.mark.uncovered
 Write = Callable[..., Path]
 SVG = "{http://www.w3.org/2000/svg}"
 EXAMPLES = TOP / "examples"
@@ -107,15 +112,23 @@ def faults(path: Path) -> List[Tuple[str, object]]:
     return found
 
 
+def tracks(path: Path) -> Iterator[Tuple[str, Iterator[str]]]:
+    """Each aspect of a table, and the track in it, as `draw --track --aspect` writes it. All are checked only once."""
+    words = ["draw", str(path), "--track"]
+    options = cli.parser(words).parse_args(words)
+    of_line = settings.of_line(options)
+    outcome = apply(checking.check(*shared.inputs(options)), tuple(FAMILIES), of_line)
+    links, groups = links_of(outcome, of_line), outcome.checked.table.groups
+    for name in {aspect.name for group in groups for aspect in group.aspects if aspect.name}:
+        yield name, track_page(outcome, links, "", name)
+
+
 def drawn(run: Run, path: Path, folder: Path) -> Dict[str, List[Tuple[str, object]]]:
     """The faults of all pictures of a table: of each group, message and track, and of the track in each aspect."""
     assert run("draw", path, "--all", folder)[0] in (0, 2)
-    names = {
-        name for line in path.read_text("utf-8").splitlines() for name in ("red", "yellow", "green") if name in line
-    }
-    for name in names:
-        if (folder / "track.svg").exists():
-            run("draw", path, "--track", "--aspect", name, "--svg", folder / f"track of {name}.svg")
+    if (folder / "track.svg").exists():
+        for name, page in tracks(path):
+            (folder / f"track of {name.replace('/', '-')}.svg").write_text("".join(page), "utf-8")
     files = list(folder.glob("*.svg"))
     assert files
     found = {one.name: faults(one) for one in files}

@@ -126,6 +126,7 @@ def sound(program: Program, tmp_path: Path) -> Tuple[LineOfTable, List[Cells]]:
     return line, implied_rows(line)
 
 
+@pytest.mark.uncovered
 @pytest.mark.parametrize("name", SOUND)
 def test_round_trip(run: Run, program: Program, tmp_path: Path, name: str) -> None:
     """A plan that is written from a table agrees with it."""
@@ -137,7 +138,7 @@ def test_round_trip(run: Run, program: Program, tmp_path: Path, name: str) -> No
     assert status == 0 and out[-1].startswith("track plan: none found, ") and out[-1].endswith(" compared")
 
 
-@pytest.mark.many
+@pytest.mark.uncovered
 @pytest.mark.parametrize("seeds", [range(5), pytest.param(range(5, 100), marks=pytest.mark.slow)])
 def test_round_trip_of_random_lines(program: Program, tmp_path: Path, seeds: range) -> None:
     """So does that of lines of all kinds and scales."""
@@ -200,7 +201,7 @@ def assert_one(found: List[Remark], row: Cells, column: str, cell: str) -> None:
     assert values >= {f"{value.normalize():f}" for value in map(Decimal, expected)}, (row, column, cell, remark)
 
 
-@pytest.mark.many
+@pytest.mark.uncovered
 @pytest.mark.parametrize("signals", [7, pytest.param(15, marks=pytest.mark.slow)])
 @pytest.mark.parametrize("name", ["level-border", "falling", "both-directions"])
 def test_one_other_cell_gets_one_remark(program: Program, tmp_path: Path, name: str, signals: int) -> None:

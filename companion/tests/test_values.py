@@ -12,6 +12,7 @@ from balisekit.engine.records import FROM_TRACK
 from balisekit.etcs.packets import packet_name
 from balisekit.etcs.variables import LABELS, VARIABLES, Around, metres, value_texts, value_words, variable_name
 
+pytestmark = pytest.mark.uncovered
 SCHEMAS = [json.loads((TOP / "schemas" / f"{name}.json").read_text()) for name in ("telegram", "message")]
 #: Numbers that name something by themselves, and have no words.
 IDENTITIES = {"nid_c", "nid_bg", "prv_nid_c", "prv_nid_bg", "nid_engine", "nid_ntc", "nid_vbcmk", "m_mcount"}

@@ -45,6 +45,7 @@ def changed(sheet: Path, number: int, column: str, cell: str) -> Path:
     return path
 
 
+@pytest.mark.uncovered
 def test_all_numbers_are_there() -> None:
     """Each number of the JSON, and of bodies that are read, has a row with its raw value, and there is no other one."""
     for form in FORMS:

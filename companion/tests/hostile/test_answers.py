@@ -8,7 +8,7 @@ import subprocess
 import time
 from dataclasses import replace
 from pathlib import Path
-from typing import Callable, List
+from typing import Callable, List, Optional
 
 import pytest
 from cases_of_program import TOP
@@ -183,11 +183,13 @@ def decoding(answer: str, radio: str = AUTHORITY) -> str:
     )
 
 
+@pytest.mark.uncovered
 @pytest.mark.parametrize("record", RECORDS, ids=begin_of)
 def test_a_record_that_is_none(record: str, answers: Answers) -> None:
     assert "no answer of " in answers("check {t} --json {out}", decoding(record))[0]
 
 
+@pytest.mark.uncovered
 @pytest.mark.parametrize("command", COMMANDS)
 @pytest.mark.parametrize("record", ["garbage", "{}", line(nid_c=None), line(packets=[{}])])
 def test_a_record_that_is_none_in_each_command(command: str, record: str, answers: Answers) -> None:
@@ -269,6 +271,7 @@ FLOODS = [
 ]
 
 
+@pytest.mark.uncovered
 @pytest.mark.parametrize("command", ["check {t}", "show {t}", "check {t} --messages {m}"])
 @pytest.mark.parametrize("first, does", FLOODS)
 def test_a_flood(command: str, first: str, does: str, answers: Answers) -> None:
@@ -353,6 +356,22 @@ def test_a_stopped_balisekit_does_not_count(tmp_path: Path) -> None:
     with open(path, "rb") as nothing, process.Run(str(path), ["check"], nothing, Limit(10)) as run:
         run._count(time.monotonic() - 3600)
         assert list(run.lines()) == [] and run.status == 0
+
+
+def test_an_interrupt_just_when_the_end_is_known(tmp_path: Path, monkeypatch: pytest.MonkeyPatch) -> None:
+    """It stays an interrupt, and the process is reaped."""
+
+    def interrupt(self: process.Run, status: Optional[int]) -> None:
+        if status is not None:
+            raise KeyboardInterrupt
+
+    monkeypatch.setattr(process.Run, "status", property(lambda self: None, interrupt), raising=False)
+    path = fake(tmp_path / "fake", "")
+    with pytest.raises(KeyboardInterrupt):
+        with open(path, "rb") as nothing, process.Run(str(path), ["check"], nothing, Limit(10)) as run:
+            list(run.lines())
+    with pytest.raises(ChildProcessError):
+        os.waitpid(run._pid, 0)
 
 
 def test_the_timeout_holds_for_the_handshake(tmp_path: Path, monkeypatch: pytest.MonkeyPatch) -> None:

@@ -12,6 +12,7 @@ from cases_of_program import TOP
 from conftest import Run
 from telegrams import MESSAGE
 
+pytestmark = pytest.mark.uncovered
 LINE = str(TOP / "examples" / "table" / "line.csv")
 EMPTY = [
     ("check {empty}", "TABLE"),

@@ -120,7 +120,7 @@ def test_files(table: Write, content: bytes, wanted: str) -> None:
     assert faults(path) == [wanted]
 
 
-@pytest.mark.many
+@pytest.mark.uncovered
 def test_many_faults_are_counted(table: Write) -> None:
     """The first 20 are shown, and a plan of 20,000 rows with an overlap in each is refused in a second."""
     path = table(HEADING, *(f"speed,12,{13 + number % 7},{number % 100},,120," for number in range(20_000)))

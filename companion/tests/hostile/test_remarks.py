@@ -8,6 +8,7 @@ import pytest
 from conftest import Run
 from telegrams import ALONE, OTHER
 
+pytestmark = pytest.mark.uncovered
 Write = Callable[..., Path]
 
 

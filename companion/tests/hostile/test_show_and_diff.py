@@ -193,6 +193,7 @@ def test_documents_that_the_program_refuses(run: Run, table: Write, content: byt
         assert (status, out, len(err)) == (2, [], 1) and err[0].startswith(f"balisekit: {bad}: {why}"), err
 
 
+@pytest.mark.uncovered
 def test_equal_documents_are_those_of_the_program(run: Run, table: Write, program: Program) -> None:
     """No document that the program refuses is equal to itself."""
     hypothesis = pytest.importorskip("hypothesis")

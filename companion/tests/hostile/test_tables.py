@@ -56,7 +56,7 @@ QUADRATIC: Dict[str, Tuple[Callable[[int], Iterator[str]], int, str]] = {
 }
 
 
-@pytest.mark.many
+@pytest.mark.uncovered
 @pytest.mark.parametrize("name", QUADRATIC)
 def test_refusals_in_proportion_to_the_table(table: Write, name: str) -> None:
     """A refusal takes a few seconds at most, and its lines are short."""
@@ -84,7 +84,7 @@ def test_rows_that_are_many_are_counted(table: Write) -> None:
     assert last == f"rows {shown} and 2 more" and len(raised.value.lines()) == 21
 
 
-@pytest.mark.many
+@pytest.mark.uncovered
 def test_many_aspects(table: Write) -> None:
     """10,000 aspects of a group are read, and each row is described, in a few seconds."""
     count = 10_000
@@ -179,7 +179,7 @@ def test_order_of_positions() -> None:
     assert [row.number for row in ordered.rows()] == [3, 4, 2] and ordered.places == {3: 0, 4: 1, 2: 2}
 
 
-@pytest.mark.many
+@pytest.mark.uncovered
 @pytest.mark.parametrize("count", [4_000, pytest.param(20_000, marks=pytest.mark.slow)])
 def test_the_short_way_of_groups(count: int) -> None:
     """What is found at once of a group without a fault is what all the checks find of it."""

@@ -94,7 +94,7 @@ def refusal(path: Path) -> str:
     return lines[0].replace(f"{path}: ", "")
 
 
-@pytest.mark.many
+@pytest.mark.uncovered
 @pytest.mark.parametrize("name", LARGE)
 def test_workbooks_that_are_too_large(table: Write, name: str) -> None:
     """Each is refused before it takes time or memory."""

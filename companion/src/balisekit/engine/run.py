@@ -97,7 +97,7 @@ class Run:
                 os.killpg(self._pid, signal.SIGKILL)
             except OSError:
                 pass
-            os.waitpid(self._pid, 0)
+        os.waitpid(self._pid, 0)
 
     def no_answer(self, why: str) -> NoAnswer:
         """The error that names the program, its command and the reason."""
@@ -150,12 +150,12 @@ class Run:
         return [pipe for pipe, _ in events]
 
     def _wait(self) -> None:
-        """Waits for the end of a process that has closed its output."""
+        """Waits for the end of a process that has closed its output. __exit__ reaps it, also after an interrupt."""
         begin, pause = time.monotonic(), 0.0002
         while True:
-            pid, status = os.waitpid(self._pid, os.WNOHANG)
-            if pid:
-                self.status = os.waitstatus_to_exitcode(status)
+            ended = os.waitid(os.P_PID, self._pid, os.WEXITED | os.WNOHANG | os.WNOWAIT)
+            if ended:
+                self.status = ended.si_status if ended.si_code == os.CLD_EXITED else -ended.si_status
                 return
             time.sleep(pause)
             begin, pause = self._count(begin), min(2 * pause, 0.05)
