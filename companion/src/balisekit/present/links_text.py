@@ -1,6 +1,7 @@
 """The answer of `links` in words and as JSON."""
 from __future__ import annotations
 
+import re
 from collections import Counter
 from typing import Any, Dict, Iterator, List, Sequence
 
@@ -122,7 +123,12 @@ def not_compared(links: Links) -> Iterator[str]:
 
 
 def _things(rule: Rule, count: int) -> str:
-    return f"{count} {rule.looks_at[:-1] if count == 1 else rule.looks_at}"
+    return f"{count} {singular(rule.looks_at) if count == 1 else rule.looks_at}"
+
+
+def singular(things: str) -> str:
+    """One of what a rule looks at: its first plural is the noun that the others describe."""
+    return re.sub(r"(ie)?s\b", lambda end: "y" * bool(end[1]), things, 1)
 
 
 def as_json(checked: Checked, links: Links) -> Dict[str, Any]:
