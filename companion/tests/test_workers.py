@@ -13,14 +13,16 @@ from typing import Callable, Iterator, List
 
 import pytest
 from cases_of_program import TOP
-from telegrams import ALONE
+from telegrams import ALONE, MESSAGE
+from test_limits import table_of
 
+from balisekit.engine.program import Program
 from balisekit.errors import NoAnswer, TableError
 from balisekit.io import workers
-from balisekit.io.workers import processes, shared
+from balisekit.io.workers import copies, shared
 
 Write = Callable[..., Path]
-MANY = 2500
+MANY = 1500
 """Of so many groups the workers have some seconds of work."""
 
 
@@ -47,7 +49,7 @@ def _is_killed(part: int, count: int) -> Iterator[int]:
         os.kill(os.getpid(), signal.SIGKILL)
 
 
-@pytest.mark.parametrize("count", [1, 2, 3, 7])
+@pytest.mark.parametrize("count", [0, 1, 2, 3, 7])
 def test_in_the_order_of_one_process(count: int) -> None:
     """Each work as a whole, one after the other; the second one may be asked for first."""
     for both in ([0, 1], [1, 0]):
@@ -60,11 +62,11 @@ def test_in_the_order_of_one_process(count: int) -> None:
 
 def test_an_error_of_a_worker() -> None:
     """It is raised as it is in one process, and says where in the worker it comes from."""
-    for count in (1, 3):
+    for count in (0, 1, 3):
         with pytest.raises(TableError) as raised, shared([_refuses], count) as (made,):
             list(made)
         assert str(raised.value) == "row 7, column telegram: a bad row"
-        assert count == 1 or "_refuses" in str(raised.value.__cause__)
+        assert count == 0 or "_refuses" in str(raised.value.__cause__)
 
 
 def test_a_worker_that_is_killed() -> None:
@@ -88,12 +90,12 @@ def test_few_items_threads_and_one_processor(monkeypatch: pytest.MonkeyPatch) ->
     """Then one process does all."""
     monkeypatch.setattr(threading, "active_count", lambda: 1)
     monkeypatch.setattr(os, "sched_getaffinity", lambda _: set(range(64)))
-    assert (processes(workers.LEAST - 1), processes(workers.LEAST)) == (1, workers.MOST)
+    assert [copies(workers.LEAST + more, *most) for more, *most in ((-1,), (0,), (0, 1))] == [0, workers.MOST, 1]
     monkeypatch.setattr(threading, "active_count", lambda: 2)
-    assert processes(workers.LEAST) == 1
+    assert copies(workers.LEAST) == 0
     monkeypatch.setattr(threading, "active_count", lambda: 1)
     monkeypatch.setattr(os, "sched_getaffinity", lambda _: {5})
-    assert processes(workers.LEAST) == 1
+    assert copies(workers.LEAST) == copies(workers.LEAST, 1) == 0
 
 
 def test_no_process(monkeypatch: pytest.MonkeyPatch) -> None:
@@ -116,13 +118,12 @@ def _lines(tracks: int, groups: int = workers.LEAST + 40) -> List[str]:
     return rows
 
 
-def _report(table: Path, target: Path, processors: int, *words: str) -> "subprocess.Popen[bytes]":
-    """Begins a report that has so many processors: as many as there are, if these are fewer."""
+def _begin(processors: int, *words: object) -> "subprocess.Popen[bytes]":
+    """Begins a command that has so many processors: as many as there are, if these are fewer."""
     own = sorted(os.sched_getaffinity(0))[:processors]
-    command = [sys.executable, str(TOP / "companion" / "start.py"), "report", str(table), "--html", str(target), *words]
     return subprocess.Popen(
-        command,
-        stdout=subprocess.DEVNULL,
+        [sys.executable, str(TOP / "companion" / "start.py"), *map(str, words)],
+        stdout=subprocess.PIPE,
         stderr=subprocess.PIPE,
         env={**os.environ, "SOURCE_DATE_EPOCH": "1700000000"},
         preexec_fn=lambda: os.sched_setaffinity(0, own),
@@ -141,12 +142,26 @@ def test_the_same_page(tracks: int, table: Write, tmp_path: Path) -> None:
     path, pages = table(*_lines(tracks)), []
     for processors in (1, 2, 3):
         target = tmp_path / f"{processors}.html"
-        with _report(path, target, processors) as run:
-            assert processors == 1 or _workers_of(run)
+        with _begin(processors, "report", path, "--html", target) as run:
             _, said = run.communicate(timeout=300)
         assert run.returncode == 1, said
         pages.append(target.read_bytes())
     assert pages[0] == pages[1] == pages[2] and pages[0].count(b'<figure class="strip') > 3 * tracks
+
+
+@needs_two
+def test_the_same_remarks(program: Program, tmp_path: Path) -> None:
+    """Whether one process applies all rules or several, with all that is said of groups, rows and messages."""
+    path, said = table_of(tmp_path / "table.csv", program, workers.LEAST + 20), []
+    (tmp_path / "m.txt").write_text(f"{MESSAGE}\n")
+    for processors in (1, 2):
+        target = tmp_path / f"{processors}.json"
+        words = ["--messages", tmp_path / "m.txt", "--line-speed", 80, "--json", target]
+        with _begin(processors, "check", path, *words) as run:
+            out, errors = run.communicate(timeout=300)
+        assert run.returncode == 1 and not errors
+        said.append((out, target.read_bytes()))
+    assert said[0] == said[1] and said[0][0].count(b": E2: ") > 100
 
 
 def _children(pid: int) -> List[int]:
@@ -188,7 +203,7 @@ def test_a_signal(number: signal.Signals, status: int, said: bytes, table: Write
     pytest.importorskip("jinja2")
     path = table(*_lines(1, MANY))
     for send in (os.kill, os.killpg):
-        with _report(path, tmp_path / "report.html", 4) as run:
+        with _begin(4, "report", path, "--html", tmp_path / "report.html") as run:
             signal.pthread_sigmask(signal.SIG_UNBLOCK, [number])
             found = _workers_of(run)
             send(run.pid, number)
@@ -202,7 +217,7 @@ def test_a_signal(number: signal.Signals, status: int, said: bytes, table: Write
 def test_a_worker_of_a_report_is_killed(table: Write, tmp_path: Path) -> None:
     """One line, status 3, and no file."""
     pytest.importorskip("jinja2")
-    with _report(table(*_lines(1, MANY)), tmp_path / "report.html", 4) as run:
+    with _begin(4, "report", table(*_lines(1, MANY)), "--html", tmp_path / "report.html") as run:
         os.kill(_workers_of(run)[-1], signal.SIGKILL)
         _, errors = run.communicate(timeout=120)
     assert run.returncode == 3 and re.fullmatch(rb"balisekit: a process that shares the work .*SIGKILL.*\n", errors)

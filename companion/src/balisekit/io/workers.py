@@ -14,23 +14,29 @@ from typing import Any, Callable, Iterable, Iterator, List, Sequence
 from balisekit.errors import NoAnswer
 from balisekit.io.interrupts import held
 
-LEAST, MOST = 500, 3
+LEAST, MOST = 500, 4
 """So many items are shared at least, and by so many processes at most, each of which needs memory."""
 DONE = b"."
 Work = Callable[[int, int], Iterable[Any]]
 """It makes a part: the number of the part, and how many there are."""
 
 
-def processes(items: int) -> int:
-    """How many processes share so many items. A copy of a process lacks its other threads, but not their locks."""
-    is_shared = items >= LEAST and threading.active_count() == 1
-    return min(MOST, len(os.sched_getaffinity(0))) if is_shared else 1
+def copies(items: int, most: int = MOST) -> int:
+    """How many copies of this process share so many items; none of few items, and none if it is the only processor's.
+
+    A copy lacks other threads, but not their locks.
+    """
+    processors = len(os.sched_getaffinity(0))
+    return min(most, processors) if items >= LEAST and processors > 1 and threading.active_count() == 1 else 0
 
 
 @contextmanager
 def shared(works: Sequence[Work], count: int) -> Iterator[Sequence[Iterator[Any]]]:
-    """What each work makes, by so many processes. They begin at once, and end with the block."""
-    if count == 1:
+    """What each work makes, by so many copies of this process. They begin at once, and end with the block.
+
+    Without copies it is made here, when it is asked for.
+    """
+    if not count:
         yield [iter(work(0, 1)) for work in works]
         return
     workers: List[Worker] = []

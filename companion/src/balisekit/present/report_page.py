@@ -12,7 +12,7 @@ from balisekit.drawing.flags import Mark, marks_of
 from balisekit.drawing.svg import in_page
 from balisekit.drawing.track import track_pictures, tracks_of
 from balisekit.drawing.track_pages import shares
-from balisekit.io.workers import processes, shared
+from balisekit.io.workers import copies, shared
 from balisekit.present.cover import cover
 from balisekit.present.outcome_text import explained_rules
 from balisekit.present.pages import pieces, premises
@@ -46,7 +46,7 @@ def report_page(
     """
     parts, names = listed(outcome), tracks_of(links.line)
     works = partial(_groups, outcome, links.line, parts, full), partial(_tracks, links, outcome, aspect)
-    several = shared(works, processes(len(links.line.groups)))
+    several = shared(works, copies(len(links.line.groups)))
     with SpooledTemporaryFile(IN_MEMORY, "w+", encoding="utf-8") as groups, several as (made, drawn):
         about = cover(outcome, heading, command, now)  # (meanwhile others make the groups)
         noted = [each._replace(html="") for each in made if groups.write(each.html)]
