@@ -742,7 +742,8 @@ def test_a_direction_by_links_is_used_for_one_group(run: Run, table: Write, tmp_
 
 def test_one_of_what_a_rule_looks_at() -> None:
     """No rule speaks of 1 ends of authority, or of 1 authoritie."""
-    assert {rule.looks_at: singular(rule.looks_at) for rule in OWN.values() if rule.name in ("X3", "X4", "L5", "E10")} == {
+    some = [OWN[name].looks_at for name in ("X3", "X4", "L5", "E10")]
+    assert {words: singular(words) for words in some} == {
         "ends of authority": "end of authority",
         "authorities of aspects": "authority of aspects",
         "single balises": "single balise",

@@ -128,7 +128,7 @@ def _things(rule: Rule, count: int) -> str:
 
 def singular(things: str) -> str:
     """One of what a rule looks at: its first plural is the noun that the others describe."""
-    return re.sub(r"(ie)?s\b", lambda end: "y" * bool(end[1]), things, 1)
+    return re.sub(r"(ie)?s\b", lambda end: "y" * bool(end[1]), things, count=1)
 
 
 def as_json(checked: Checked, links: Links) -> Dict[str, Any]:
