@@ -58,19 +58,26 @@ def report_page(
             cover=about,
             found=parts,
             explained=list(explained_rules(outcome)),
-            rows=[each.row for each in noted],
-            plain=sum(each.is_plain for each in noted),
-            pictured={each.id for each in noted if each.has_picture},
+            **_overview(noted),
             parts=iter(partial(groups.read, PIECE), ""),
-            legend=LEGEND,
-            premises=premises(),
-            links_rule=DISTANCE,
             aspect=aspect,
             full=full,
             has_tracks=bool(names),
             has_names=any(names),
             tracks=((clean(name), map(itemgetter(1), some)) for name, some in groupby(drawn, itemgetter(0))),
+            legend=LEGEND,
+            premises=premises(),
+            links_rule=DISTANCE,
         )
+
+
+def _overview(noted: List[Made]) -> Dict[str, object]:
+    """What the list of all groups and messages has."""
+    return {
+        "rows": [each.row for each in noted],
+        "plain": sum(each.is_plain for each in noted),
+        "pictured": {each.id for each in noted if each.has_picture},
+    }
 
 
 class Made(NamedTuple):
