@@ -209,6 +209,10 @@ def test_explain(run: Run, program: Program, tmp_path: Path) -> None:
     assert "E7: aspects that say the same" in out and any("How sure. 93 %." in line for line in out)
 
 
+def test_explain_of_a_rule_in_small_letters(run: Run) -> None:
+    assert run("check", "e9", "--explain") == run("check", "E9", "--explain") and run("check", "e9", "--explain")[0] == 0
+
+
 def test_the_page_is_made_of_the_rules() -> None:
     for document, rules in rules_page.DOCUMENTS.items():
         text = document.read_text("utf-8")
