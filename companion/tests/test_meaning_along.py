@@ -160,7 +160,8 @@ def test_e12(found: Found, group: str, aspect: str, metres: int, differences: Li
 
 def test_e12_counts_equal_ends(found: Found) -> None:
     """One that is within the tolerance of the others is at another kilometre."""
-    line, apart = Line(signals=6, aspects=(RED, YELLOW, GREEN, "blue")), added("Signal 3", GREEN, "l_endsection", 12, 60)
+    line = Line(signals=6, aspects=(RED, YELLOW, GREEN, "blue"))
+    apart = added("Signal 3", GREEN, "l_endsection", 12, 60)
     (one,) = found("E12", line, apart)
     (other,) = found("E12", line, all_of(apart, added("Signal 4", YELLOW, "l_endsection", 12, 1)))
     assert "; 2 others that lead to " in one.sentence and "; 1 other that leads to " in other.sentence
@@ -529,7 +530,8 @@ def test_e17_of_a_balise_that_is_linked_from_outside(found: Found) -> None:
     """Its first link shows its direction."""
 
     def begins_with_it(rows: List[Row], with_links: bool = True) -> None:
-        links = [copy.deepcopy(each) for signal in (1, 4) for each in change(rows, f"Signal {signal}", FIXED, 5)["links"]]
+        both = (change(rows, f"Signal {signal}", FIXED, 5)["links"] for signal in (1, 4))
+        links = [copy.deepcopy(each) for some in both for each in some]
         rows[:] = [row for row in rows if row.group != "Signal 1" or row.aspect == FIXED]
         own = change(rows, "Signal 1", FIXED, 5)
         form_of(rows, "Signal 1", FIXED)["n_total"] = 0
