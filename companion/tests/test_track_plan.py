@@ -372,7 +372,7 @@ def test_x5_of_a_border_that_no_packet_names(sound: Tuple[LineOfTable, List[Cell
 
 
 def test_x5_of_a_border_whose_direction_is_not_known(program: Program, tmp_path: Path) -> None:
-    """Its packet may name the border: no remark says that none does. On another track one may say so."""
+    """Its packet may name the border: no remark says that none does."""
 
     def only_at_the_border(rows: List[Row]) -> None:
         for row in rows:
