@@ -19,6 +19,7 @@ from telegrams import SPARE
 from balisekit.engine.program import Program
 from balisekit.etcs.geometry import kilometres
 from balisekit.present.links_text import compared, singular
+from balisekit.rules.chainage import Jump
 from balisekit.rules.line import BY_LINKS, Line, with_directions
 from balisekit.rules.links import RULES, compare
 from balisekit.rules.own import RULES as OWN
@@ -152,7 +153,7 @@ OUT = "L1 does not name them, since the table may be a section of a longer line"
         (
             "EFGH",
             [
-                "note: 3 links lead beyond Signal D (km 16.900), the group with the greatest kilometre, to NID_BG 105, "
+                "note: 3 links lead beyond Signal D (km 16.900), the last group by the kilometres, to NID_BG 105, "
                 f"106: {OUT}"
             ],
             0,
@@ -160,7 +161,7 @@ OUT = "L1 does not name them, since the table may be a section of a longer line"
         (
             "FGH",
             [
-                "note: 3 links lead beyond Signal E (km 18.250), the group with the greatest kilometre, to NID_BG 106, "
+                "note: 3 links lead beyond Signal E (km 18.250), the last group by the kilometres, to NID_BG 106, "
                 f"107: {OUT}"
             ],
             0,
@@ -193,7 +194,7 @@ def test_links_that_lead_out_down_the_kilometres() -> None:
         assert len([rule for rule, _ in found(made) if rule == "L1"]) == (distances == (5,))
         return [note for note in compare(made).notes if " beyond " in note]
 
-    where = 'beyond A (km 5.000), the group with the least kilometre of track "2", to NID_BG 7'
+    where = 'beyond A (km 5.000), the first group of track "2" by the kilometres, to NID_BG 7'
     assert line_of_links(5) == line_of_links(500, 500, nid_bg=16_383) == []
     assert line_of_links(6) == [f"1 link leads {where}: {OUT}"]
     assert line_of_links(500, 500) == [f"2 links lead {where}: {OUT}"]
@@ -586,13 +587,14 @@ SAYING: Form = {"nid_packet": 44, "q_dir": 2, "l_packet": 23, "body": ""}
 
 @pytest.mark.parametrize(
     "number, direction, orientation, is_named",
-    [(44, 1, "rising", True), (44, 0, "rising", False), (44, 0, "falling", True), (44, 0, "", True)]
+    [(44, 1, "rising", True), (44, 0, "rising", False), (44, 0, "falling", True), (44, 0, "", False), (44, 2, "", True)]
     + [(number, 2, "rising", False) for number in (145, 254)],
 )
 def test_groups_that_say_nothing_in_that_direction_are_a_note(
     number: int, direction: int, orientation: str, is_named: bool
 ) -> None:
-    """Each is counted once, however many packets 5 pass it over. One whose direction is not known counts either way."""
+    """Each is counted once, however many packets 5 pass it over. So is one whose direction is not known, unless it
+    says something in both."""
     links = [link_tables.linking(1, link_tables.link(1000, 2, 1)), link_tables.linking(1, link_tables.link(1000, 2, 1))]
     between = {**SAYING, "nid_packet": number, "q_dir": direction}
     one = line_with(
@@ -601,11 +603,12 @@ def test_groups_that_say_nothing_in_that_direction_are_a_note(
         (group("X", "0.5", nominal=orientation), [header(3, between)]),
         (group("Y", "0.6", nominal="rising"), [header(4)]),
     )
-    words = ["1 group with Q_LINK 1 is not linked by packets 5 that pass it, and says nothing in that direction"]
+    words = "1 group with Q_LINK 1 is not linked by packets 5 that pass it, and says nothing in that direction"
     if not is_named:
-        words = ["2 groups with Q_LINK 1 are not linked by packets 5 that pass them, and say nothing in that direction"]
+        words = "2 groups with Q_LINK 1 are not linked by packets 5 that pass them, and say nothing in that direction"
     assert [rule for rule, _ in found(one)] == ["L9", "L9"] * is_named
-    assert [note for note in compare(one).notes if note.startswith("L9")] == [f"L9: {each}" for each in words]
+    notes = [note for note in compare(one).notes if note.startswith("L9")]
+    assert notes == [f"L9: {words}, as far as it is known"]
 
 
 def test_late_profiles_of_messages() -> None:
@@ -632,7 +635,7 @@ def test_several_that_are_passed_over_are_one_line() -> None:
     (said,) = (each.sentence for each in compare(one).remarks)
     assert said == (
         "X1 (km 0.100), X2 (km 0.200), X3 (km 0.300) and 2 more have Q_LINK 1 and stand between A "
-        "(km 0.000) and B (km 1.000), and are not linked: a train that uses linking passes them over"
+        "(km 0.000) and B (km 1.000), and this packet 5 does not name them: a train that uses linking passes them over"
     )
 
 
@@ -656,10 +659,31 @@ def test_groups_between_two_are_counted_as_they_are_named() -> None:
     over = [each.sentence for each in compare(one, Options(Decimal(9000))).remarks if each.rule == "L9"]
     assert over == [
         "K (km 5.000), L (km 6.000) have Q_LINK 1 and stand between A (km 0.000) and B (km 9.000), and "
-        "are not linked: a train that uses linking passes them over",
+        "this packet 5 does not name them: a train that uses linking passes them over",
         "K (km 5.000), L (km 6.000) have Q_LINK 1 and stand between B (km 9.000) and H (km 3.000), and "
-        "are not linked: a train that uses linking passes them over",
+        "this packet 5 does not name them: a train that uses linking passes them over",
     ]
+
+
+@pytest.mark.parametrize(
+    "jump, kms, distance, identity, wanted",
+    [
+        (("5", "3"), ("4.9", "3.1", "4"), 2000, 2, "L9"),
+        (("1", "3"), ("0", "3.1", "3.2"), 1500, 9, "L1"),
+    ],
+    ids=["back", "forward"],
+)
+def test_l1_and_l9_know_where_kilometres_jump(
+    jump: Tuple[str, str], kms: Sequence[str], distance: int, identity: int, wanted: str
+) -> None:
+    """What a jump back repeats has no order, and a jump forward leaves less of the track."""
+    own = [[SAYING, link_tables.linking(1, link_tables.link(distance, identity, 1))], [SAYING], [SAYING]]
+    for jumps, count in (((), 1), ((Jump(Decimal(jump[0]), Decimal(jump[1])),), 0)):
+        groups = [(group(name, km, nominal="rising"), []) for name, km in zip("ABC", kms)]
+        some = [(one, [header(place, *packets)]) for place, ((one, _), packets) in enumerate(zip(groups, own), 1)]
+        made = line_with(*some)
+        made.jumps = jumps
+        assert [rule for rule, _ in found(made)].count(wanted) == count
 
 
 def linked(*links: Form, **sender: str) -> List[Tuple[Group, List[Form]]]:

@@ -209,6 +209,11 @@ def test_explain(run: Run, program: Program, tmp_path: Path) -> None:
     assert "E7: aspects that say the same" in out and any("How sure. 93 %." in line for line in out)
 
 
+def test_explain_of_a_rule_in_small_letters(run: Run) -> None:
+    page = run("check", "e9", "--explain")
+    assert page[0] == 0 and page == run("check", "E9", "--explain")
+
+
 def test_the_page_is_made_of_the_rules() -> None:
     for document, rules in rules_page.DOCUMENTS.items():
         text = document.read_text("utf-8")

@@ -159,6 +159,15 @@ def test_e12(found: Found, group: str, aspect: str, metres: int, differences: Li
         assert each.location.row and (each.location.row.group, each.location.row.aspect) == (group, aspect)
 
 
+def test_e12_counts_equal_ends(found: Found) -> None:
+    """One that is within the tolerance of the others is at another kilometre."""
+    line = Line(signals=6, aspects=(RED, YELLOW, GREEN, "blue"))
+    apart = added("Signal 3", GREEN, "l_endsection", 12, 60)
+    (one,) = found("E12", line, apart)
+    (other,) = found("E12", line, all_of(apart, added("Signal 4", YELLOW, "l_endsection", 12, 1)))
+    assert "; 2 others that lead to " in one.sentence and "; 1 other that leads to " in other.sentence
+
+
 def without_links(rows: List[Row]) -> None:
     for row in rows:
         row.form["packets"] = [each for each in row.form["packets"] if each["nid_packet"] != 5]
@@ -502,6 +511,43 @@ def test_e17(found: Found) -> None:
     assert one.sentence == "no group or message has a packet 5 (linking), and 12 authorities have a V_MAIN above 0"
 
 
+def test_e17_without_links_that_count_from_their_group(found: Found) -> None:
+    """A packet 5 behind a packet 136 is none of them. One authority has the singular."""
+
+    def behind_infill(rows: List[Row]) -> None:
+        linking = copy.deepcopy(change(rows, "Signal 4", FIXED, 5))
+        without_links(rows)
+        for row in rows:
+            row.form["packets"] += [linking] if any(each["nid_packet"] == 136 for each in row.form["packets"]) else []
+
+    (one,) = found("E17", INFILL, behind_infill)
+    assert one.sentence.startswith("no group or message has a packet 5 (linking) before a packet 136, and ")
+    stops = only(lambda row: row.aspect in (FIXED, RED) or (row.group, row.aspect) == ("Signal 2", GREEN))
+    (one,) = found("E17", SHORT, all_of(without_links, stops))
+    assert one.sentence.endswith(" and 1 authority has a V_MAIN above 0")
+
+
+def test_e17_of_a_balise_that_is_linked_from_outside(found: Found) -> None:
+    """Its first link shows its direction."""
+
+    def begins_with_it(rows: List[Row], with_links: bool = True) -> None:
+        both = (change(rows, f"Signal {signal}", FIXED, 5)["links"] for signal in (1, 4))
+        links = [copy.deepcopy(each) for some in both for each in some]
+        rows[:] = [row for row in rows if row.group != "Signal 1" or row.aspect == FIXED]
+        own = change(rows, "Signal 1", FIXED, 5)
+        form_of(rows, "Signal 1", FIXED)["n_total"] = 0
+        own["links"] = links if with_links else own["links"][:1]
+        form_of(rows, "Signal 2", FIXED)["packets"] = [
+            each for each in form_of(rows, "Signal 2", FIXED)["packets"] if each["nid_packet"] != 5
+        ]
+
+    def of_signal_2(with_links: bool) -> int:
+        made = found("E17", SHORT, lambda rows: begins_with_it(rows, with_links))
+        return sum(bool(each.location.row and each.location.row.group == "Signal 2") for each in made)
+
+    assert not of_signal_2(True) and of_signal_2(False)
+
+
 @pytest.mark.parametrize("metres, is_remarked", [(1600, False), (3000, True)])
 def test_e17_of_a_linked_group_whose_kilometre_is_rounded_up(found: Found, metres: int, is_remarked: bool) -> None:
     def rounded(rows: List[Row]) -> None:
@@ -587,6 +633,23 @@ def test_e18_of_a_border_whose_direction_is_not_known(found: Found) -> None:
         assert len(made) == count and all(each.sentence.endswith(" in this direction") for each in made)
 
 
+def at_one_kilometre(group: str) -> Change:
+    """Both balises of a group have one kilometre, which shows no direction."""
+
+    def move(rows: List[Row]) -> None:
+        for row in rows:
+            row.place -= 3 * row.balise if row.group == group else 0
+
+    return move
+
+
+def test_e18_of_a_border_without_a_direction(found: Found) -> None:
+    """Its order may be for this direction: no remark says that there is none."""
+    assert not found("E18", BORDER, at_one_kilometre("Border"))
+    far = all_of(at_one_kilometre("Border"), added("Signal 4", FIXED, "d_leveltr", 41, -900))
+    assert [rows_named(each)[0] for each in found("E18", BORDER, far)] == [14]
+
+
 def test_e19_of_several_values(found: Found) -> None:
     """The values are those of the first stretch, and the other end is that of the last one."""
 
@@ -652,6 +715,8 @@ def test_e21(found: Found) -> None:
     assert not found("E21", LEVEL_2, with_packet("Signal 4", FIXED, session()))
     late = found("E21", LEVEL_2, with_packet("Signal 5", FIXED, session()))
     assert [rows_named(each) for each in late] == [(14,)]
+    unknown = all_of(with_packet("Signal 3", FIXED, session()), at_one_kilometre("Signal 3"))
+    assert not found("E21", LEVEL_2, unknown)
     (one,) = found("E21", LEVEL_2)
     assert rows_named(one) == (14, 18, 22) and one.sentence.startswith("it names level 2, and no group")
     assert len(found("E21", SHORT, with_packet("Signal 4", FIXED, raw(46, f"{3:03b}{0:05b}")))) == 1
@@ -708,6 +773,12 @@ def test_e23(found: Found) -> None:
     assert [
         len(found("E23", SHORT, other(*each))) for each in (("Signal 6",), ("Signal 1", "Signal 2"), ("Signal 3",))
     ] == [0, 0, 1]
+    versions = all_of(
+        only(lambda row: (row.group, row.balise) == ("Signal 1", 0) or (row.group, row.aspect) == ("Signal 1", RED)),
+        lambda rows: rows[1].form.update(m_version=32),
+    )
+    (one,) = found("E23", SHORT, versions)
+    assert one.sentence.endswith(" in 1 other telegram of the table")
 
 
 def test_a_finding_may_be_the_cause(run: Run, program: Program, tmp_path: Path) -> None:

@@ -1,6 +1,7 @@
 """The rules E8 to E10: aspects of one group beside each other, and beside those of the table."""
 from __future__ import annotations
 
+from dataclasses import replace
 from pathlib import Path
 from typing import Any, List, Sequence, Tuple
 
@@ -69,6 +70,20 @@ def test_e7_at_the_last_group(program: Program, tmp_path: Path) -> None:
     ):
         (one,) = found(program, tmp_path / "t.csv", "E7", change_)
         assert one.urgency == urgency
+
+
+def test_e7_before_a_signal_whose_direction_is_not_known(program: Program, tmp_path: Path) -> None:
+    """Yellow could end at it, so that the urgency is not the lowest one."""
+
+    def with_signal(rows: List[Row]) -> None:
+        telegram(rows, 5, GREEN)["packets"] = telegram(rows, 5, YELLOW)["packets"]
+        own = [row for row in rows if row.group == "Signal 4" and row.aspect in (FIXED, YELLOW)]
+        for row in own:
+            form = {**row.form, "nid_bg": 9000}
+            rows.append(replace(row, group="Other", name=f"Other {row.balise}", place=16_700, aspect="*", form=form))
+
+    (one,) = found(program, tmp_path / "t.csv", "E7", with_signal)
+    assert one.urgency is None
 
 
 def test_e8_of_the_other_direction(program: Program, tmp_path: Path) -> None:

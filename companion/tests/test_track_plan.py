@@ -371,6 +371,22 @@ def test_x5_of_a_border_that_no_packet_names(sound: Tuple[LineOfTable, List[Cell
         assert all(each.sentence.startswith("no packet 41 or 46 names the level border of row ") for each in found)
 
 
+def test_x5_of_a_border_whose_direction_is_not_known(program: Program, tmp_path: Path) -> None:
+    """Its packet may name the border: no remark says that none does."""
+
+    def only_at_the_border(rows: List[Row]) -> None:
+        for row in rows:
+            row.place -= 3 * row.balise if row.group == "Border" else 0
+            row.form["packets"] = [
+                each for each in row.form["packets"] if each["nid_packet"] != 41 or row.group == "Border"
+            ]
+
+    rows = [{**dict.fromkeys(plan.COLUMNS, ""), "kind": "level", "km": "16.700", "way": "rising", "value": "0"}]
+    line = read(program, written(program, tmp_path / "t.csv", SOUND["level-border"], only_at_the_border))
+    result = results(line, rows, tmp_path)["X5"]
+    assert not result.found and result.not_looked_at == {"no kilometre or direction": 1}
+
+
 def test_x5_of_packets_that_are_not_decoded(
     program: Program, tmp_path: Path, monkeypatch: pytest.MonkeyPatch, sound: Tuple[LineOfTable, List[Cells]]
 ) -> None:
@@ -531,7 +547,7 @@ def test_options(run: Run, program: Program, tmp_path: Path) -> None:
 
 
 def test_without_kilometres(run: Run, program: Program, tmp_path: Path) -> None:
-    """Only the route table can be compared."""
+    """Only the route table can be compared: other rows make the answer incomplete."""
     path, file = written(program, tmp_path / "t.csv"), tmp_path / "p.csv"
     assert run("plan", path, "--csv", file)[0] == 0
     head, *rows = csv.reader(io.StringIO(path.read_text("utf-8")))
@@ -539,7 +555,14 @@ def test_without_kilometres(run: Run, program: Program, tmp_path: Path) -> None:
     rows_without = [{**row, "way": ""} for row in rows_of(file.read_text("utf-8"))]
     file.write_text(text_of(rows_without), "utf-8")
     status, out, _ = run("check", path, "--plan", file)
-    assert status == 0 and "compared: 45 authorities of aspects (X4)" in out
+    assert status == 2 and any("45 authorities of aspects (X4)" in line for line in out)
+    assert all(f"X{rule} compared none of " in out[-1] for rule in (1, 2, 3)) and "X4 compared" not in out[-1]
+    file.write_text("kind,km,value\nlevel,12,1\nlevel,13,0\n", "utf-8")
+    status, out, _ = run("check", path, "--plan", file)
+    assert status == 2 and "X5 compared none of 2 borders (no kilometre or direction: 2)" in out[-1]
+    file.write_text("kind,value,name\naspect,end=1500,Signal 5/yellow\n", "utf-8")
+    status, out, _ = run("check", path, "--plan", file)
+    assert status == 0 and "track plan: none found, 1 compared" in out[-1]
 
 
 def test_refused_telegrams(run: Run) -> None:

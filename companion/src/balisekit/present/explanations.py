@@ -49,7 +49,7 @@ def pages(family: Family, heads: Sequence[str] = HEADS) -> Iterator[Tuple[str, P
 
 def page_of(name: str) -> Iterator[str]:
     """The whole page of the rule with this name, as lines of text. There are none if no rule has it."""
-    named = (one for family in FAMILIES.values() for one in pages(family, WHOLE) if one[0] == name)
+    named = (one for family in FAMILIES.values() for one in pages(family, WHOLE) if one[0] == name.upper())
     return page_lines(named, WHOLE)
 
 

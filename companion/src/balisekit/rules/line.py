@@ -19,7 +19,7 @@ from balisekit.etcs.variables import Form
 from balisekit.rules.chainage import Chainage, Jump
 from balisekit.rules.checking import Checked, Telegrams
 from balisekit.rules.decoded import Decoded, Telegram, contents_of_decoded, decode, telegrams_of
-from balisekit.rules.location import NOT_KNOWN, BaliseGroup, Identity
+from balisekit.rules.location import NO_KILOMETRE, NOT_KNOWN, BaliseGroup, Identity, incomparable
 from balisekit.rules.passages import Chain, Content, Passages, contents_of
 from balisekit.tables.model import Aspect, Group, Message, Row
 from balisekit.tables.names import clean
@@ -27,10 +27,12 @@ from balisekit.tables.names import clean
 AFTER_INFILL = "after packet 136"
 BY_LINKS = "its direction along the kilometres is taken from the links that name it"
 END = (None, None)
+Placed = Tuple[int, BaliseGroup]
+"""A group behind its place."""
 
 
 class LinkedGroups(NamedTuple):
-    """Groups of a track that say that they are linked, and by which identity, in the order of the kilometres."""
+    """Groups of a track that say that they are linked, and by which identity, in the order of their places."""
 
     groups: Sequence[BaliseGroup]
     places: Mapping[Identity, Sequence[int]]
@@ -39,16 +41,16 @@ class LinkedGroups(NamedTuple):
     """Of each group of the track, by its number: the first of these groups that is not below it, and above it."""
 
     @classmethod
-    def of(cls, along: Sequence[BaliseGroup], way: Optional[int], speaking: bool) -> LinkedGroups:
-        """Those of a track's groups that say anything to a train that goes this way, or those that say nothing."""
-        linked = (each for each in along if each.linked and each.identity and each.identity[1] != NOT_KNOWN)
-        groups = [each for each in linked if each.speaks_to(way) == speaking]
+    def of(cls, along: Sequence[Placed], way: Optional[int], speaking: bool) -> LinkedGroups:
+        """Those of a track's groups that say anything to a train that goes this way, or the others."""
+        linked = [own for own in along if own[1].linked and own[1].identity and own[1].identity[1] != NOT_KNOWN]
+        linked = [own for own in linked if own[1].speaks_to(way) == speaking]
+        known, groups = [place for place, _ in linked], [each for _, each in linked]
         places: Dict[Identity, List[int]] = {}
-        for place, group in enumerate(groups):
-            places.setdefault(group.identity or (0, 0), []).append(place)
-        known = [each.km or Decimal() for each in groups]
-        own = [(each.number, each.km or Decimal()) for each in along]
-        return cls(groups, places, {number: (bisect_left(known, km), bisect_right(known, km)) for number, km in own})
+        for index, group in enumerate(groups):
+            places.setdefault(group.identity or (0, 0), []).append(index)
+        bounds = {each.number: (bisect_left(known, place), bisect_right(known, place)) for place, each in along}
+        return cls(groups, places, bounds)
 
     def between(self, one: BaliseGroup, other: BaliseGroup, chain: Chain) -> Sequence[range]:
         """The places of the groups between two groups that a chain does not name.
@@ -210,17 +212,38 @@ class Line:
         return along
 
     def linked(self, track: str, way: Optional[int], speaking: bool) -> LinkedGroups:
-        """The groups with a kilometre that say that they are linked, by whether they say anything to such trains."""
+        """The groups with a place that say that they are linked, by whether they say anything to such trains."""
         key = track, way, speaking
         if key not in self._linked:
-            self._linked[key] = LinkedGroups.of(self.along[track], way, speaking)
+            self._linked[key] = LinkedGroups.of(self.placed[track], way, speaking)
         return self._linked[key]
 
     @cached_property
     def places(self) -> Sequence[Optional[int]]:
         """The place of each group along its track in decimetres, in the order of the table, by the jumps."""
-        chainages = {track: Chainage.of(self.jumps, track) for track in {group.track for group in self.groups}}
-        return [chainages[group.track].place(group.km) for group in self.groups]
+        return [self.chainages[group.track].place(group.km) for group in self.groups]
+
+    @cached_property
+    def chainages(self) -> Mapping[str, Chainage]:
+        """Of each track."""
+        return {track: Chainage.of(self.jumps, track) for track in {group.track for group in self.groups}}
+
+    @cached_property
+    def placed(self) -> Mapping[str, Sequence[Placed]]:
+        """Of each track: its groups that have a place, in the order of the places."""
+        placed: Dict[str, List[Placed]] = {}
+        for place, group in zip(self.places, self.groups):
+            if place is not None:
+                placed.setdefault(group.track, []).append((place, group))
+        for groups in placed.values():
+            groups.sort(key=lambda each: each[0])
+        return placed
+
+    def incomparable(self, one: Optional[BaliseGroup], other: Optional[BaliseGroup]) -> str:
+        """Why the places of two groups cannot be compared, or nothing."""
+        why = incomparable(one, other)
+        lost = one and other and None in (self.places[one.number], self.places[other.number])
+        return NO_KILOMETRE if lost and not why else why
 
     @cached_property
     def _linked(self) -> Dict[Tuple[str, Optional[int], bool], LinkedGroups]:
@@ -247,17 +270,15 @@ class Line:
         found = {name for name, some in self.findings.items() if any(finding.rule == 14 for finding in some)}
         return frozenset(group.identity for group in self.groups if group.group.name in found)
 
-    def nearest(self, track: str, km: Decimal) -> Optional[BaliseGroup]:
-        """The group of a track that is nearest to a kilometre."""
-        known, groups = self._known.get(track, ()), self.along.get(track, ())
-        at = bisect_left(known, km)
-        near = range(max(at - 1, 0), min(at + 1, len(groups)))
-        return groups[min(near, key=lambda place: abs(known[place] - km))] if near else None
+    def nearest(self, track: str, place: int) -> Placed:
+        """The group that is nearest to a place of a track on which one has a place."""
+        groups, at = self.placed[track], bisect_left(self._known[track], place)
+        return min(groups[max(at - 1, 0) : at + 1], key=lambda each: abs(each[0] - place))
 
     @cached_property
-    def _known(self) -> Mapping[str, Sequence[Decimal]]:
-        """The kilometres of the groups of each track, in their order."""
-        return {track: [each.km or Decimal() for each in groups] for track, groups in self.along.items()}
+    def _known(self) -> Mapping[str, Sequence[int]]:
+        """The places of the groups of each track, in their order."""
+        return {track: [place for place, _ in groups] for track, groups in self.placed.items()}
 
 
 class Records(Mapping[int, Form]):

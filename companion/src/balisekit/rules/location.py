@@ -12,7 +12,7 @@ from balisekit.tables.names import clean, describe_balise, describe_group, descr
 
 NOT_KNOWN = 16_383
 """The NID_BG that says that an identity is not known."""
-NOT_IN_TABLE, ANOTHER_TRACK = "not in the table", "another track"
+NOT_IN_TABLE, ANOTHER_TRACK, NO_KILOMETRE = "not in the table", "another track", "no kilometre"
 Identity = Tuple[int, int]
 """NID_C and NID_BG."""
 
@@ -45,10 +45,10 @@ class BaliseGroup:
     def speaks_to(self, way: Optional[int]) -> bool:
         """Whether it says anything to a train that passes it this way along the kilometres: 1 if they rise for it.
 
-        If the way is not known, either direction counts.
+        If that is not known, it has to say something in both directions.
         """
         if way is None or self.rising is None:
-            return any(self.says)
+            return all(self.says)
         return self.says[0 if self.rising == way else 1]
 
     def along(self, direction: str) -> Optional[int]:
@@ -110,5 +110,5 @@ def incomparable(one: Optional[BaliseGroup], other: Optional[BaliseGroup]) -> st
     if one is None or other is None:
         return NOT_IN_TABLE
     if one.km is None or other.km is None:
-        return "no kilometre"
+        return NO_KILOMETRE
     return ANOTHER_TRACK if one.track != other.track else ""

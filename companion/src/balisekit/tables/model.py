@@ -11,7 +11,7 @@ class Row(NamedTuple):
     """One telegram of the table."""
 
     number: int
-    """As a spreadsheet counts: the heading is row 1."""
+    """As a spreadsheet counts."""
     group: str
     """The group's name, with which lines about it begin."""
     telegram: str

@@ -69,7 +69,7 @@ class PlanRow(NamedTuple):
     """A row of the plan."""
 
     number: int
-    """As a spreadsheet counts: the heading is row 1."""
+    """As a spreadsheet counts."""
     kind: str
     km: Decimal
     km_to: Optional[Decimal] = None

@@ -19,8 +19,8 @@ How to correct it. Correct the link, or add the group to the table.
 
 Correct data that gets it. Any that break one of these assumptions; usual cases follow "not". The table lacks only
 groups beyond its ends: not those of a branch line that is linked from its middle. D_LINK shows that: not if the
-kilometres jump, or the sender has no kilometre or direction. Nor if the group is within Q_LOCACC and `--tolerance` of
-the end, or has the NID_BG of another one.
+kilometres jump unstated, or the sender has no kilometre or direction. Nor if the group is within Q_LOCACC and
+`--tolerance` of the end, or has the NID_BG of another one.
 
 Example. The reverse link of group B names group 5, and the table has no group 5.
 """
@@ -30,10 +30,10 @@ from decimal import Decimal
 from typing import Dict, Iterator, List, Mapping, Optional, Set, Tuple, Union
 
 from balisekit.rules.line import Line
-from balisekit.rules.location import BaliseGroup, Identity, incomparable
+from balisekit.rules.location import BaliseGroup, Identity
 from balisekit.rules.passages import Chain, Link
 from balisekit.rules.rule import Options, Remark, Result, Rule, Urgency
-from balisekit.tables.names import describe_identity, kilometre, listed, quoted
+from balisekit.tables.names import describe_identity, listed, quoted
 
 NAMED = 3
 End = Tuple[str, bool]
@@ -61,48 +61,49 @@ def find(line: Line, options: Options) -> Result:
 def _look_at(
     line: Line, chain: Chain, alike: Alike, leading: Set[Tuple[int, int]], tolerance: Decimal
 ) -> Iterator[Union[Remark, str, None]]:
-    """Distances are summed from the last group of the chain whose kilometre is known."""
+    """Distances are summed from the last group of the chain whose place is known."""
     base, summed = chain.sender, 0
     along = base.along(chain.direction) if base else None
     for link in chain.links:
         summed += link.distance
         if link.target is not None or not link.known or (id(chain), link.number) in leading:
             yield None if link.known else ""
-            known = link.target is not None and not incomparable(base, link.target)
+            known = link.target is not None and not line.incomparable(base, link.target)
             base, summed = (link.target, 0) if known else (base, summed)
             continue
         other = alike.get(link.identity[1])
         sentence = f"{describe_identity(link.identity)} is linked, and no group of the table has that identity"
         if other and other.identity:
             sentence += f"; {other} has that NID_BG in country or region {other.identity[0]}"
-        if base is not None and base.km is not None and along is not None:
-            km = base.km + along * Decimal(summed).scaleb(-4)
-            nearest = line.nearest(base.track, km)
-            sentence += "" if nearest is other else _there(line, nearest, km, link.accuracy + tolerance)
+        begin = line.places[base.number] if base else None
+        if base is not None and begin is not None and along is not None:
+            sentence += _there(line, base.track, begin + along * summed, link.accuracy + tolerance, other)
         yield Remark("L1", chain.at(link), sentence, named=[other] if other else [])
 
 
-def _there(line: Line, group: Optional[BaliseGroup], km: Decimal, within: Decimal) -> str:
+def _there(line: Line, track: str, place: int, within: Decimal, other: Optional[BaliseGroup]) -> str:
     """Which group of the table is where D_LINK says that the linked one is, if it is within so many metres."""
-    if group is None or group.identity is None or group.km is None or abs(group.km - km) * 1000 > within:
+    near, group = line.nearest(track, place)
+    if group is other or group.identity is None or abs(near - place) > within * 10:
         return ""
     twice = ", which F14 finds used twice" if line.has(14, group) else ""
-    own = describe_identity(group.identity)
-    return f"; by D_LINK it is at km {kilometre(km)}, where the table has {group} as {own}{twice}"
+    km, own = line.chainages[track].words(place), describe_identity(group.identity)
+    return f"; by D_LINK it is at km {km}, where the table has {group} as {own}{twice}"
 
 
 def _beyond(line: Line, chain: Chain, alike: Alike, tolerance: Decimal) -> Iterator[Tuple[End, Link]]:
     """The links of a chain to groups that are not in the table, and by D_LINK are beyond the end of the track."""
     sender = chain.sender
     along = sender.along(chain.direction) if sender else None
-    if sender is None or sender.km is None or along is None:
+    begin = line.places[sender.number] if sender else None
+    if sender is None or begin is None or along is None:
         return
-    groups, summed = line.along[sender.track], 0
-    least, greatest = groups[0].km or Decimal(), groups[-1].km or Decimal()
+    groups, summed = line.placed[sender.track], 0
+    least, greatest = groups[0][0], groups[-1][0]
     for link in chain.links:
         summed += link.distance
         if link.known and link.target is None and link.identity[1] not in alike:
-            at, allowed = sender.km + Decimal(along * summed).scaleb(-4), (link.accuracy + tolerance).scaleb(-3)
+            at, allowed = begin + along * summed, (link.accuracy + tolerance) * 10
             if not least - allowed <= at <= greatest + allowed:
                 yield (sender.track, at > greatest), link
 
@@ -110,12 +111,12 @@ def _beyond(line: Line, chain: Chain, alike: Alike, tolerance: Decimal) -> Itera
 def _notes(line: Line, ends: Mapping[End, List[Identity]]) -> Iterator[str]:
     """A note for each end of a track over which links lead."""
     for (track, is_high), links in ends.items():
-        last = line.along[track][-1 if is_high else 0]
+        last = line.placed[track][-1 if is_high else 0][1]
         where = f" of track {quoted(track)}" if track else ""
         numbers = [str(number) for _, number in dict.fromkeys(links)]
         words = "1 link leads" if len(links) == 1 else f"{len(links)} links lead"
         yield (
-            f"{words} beyond {last}, the group with the {'greatest' if is_high else 'least'} kilometre{where}, to "
+            f"{words} beyond {last}, the {'last' if is_high else 'first'} group{where} by the kilometres, to "
             f"NID_BG {listed(numbers, NAMED)}: L1 does not name them, since the table may be a section of a longer line"
         )
 

@@ -11,8 +11,8 @@ directions.
 
 What may happen. The train does not know in which direction it passes the balise, and uses nothing of the packet.
 
-How to correct it. Link the balise and set Q_LINK to 1, or add a second balise. Only a packet without any distance can
-hold in both directions: then set Q_DIR to 2.
+How to correct it. Link the balise and set Q_LINK to 1, or add a second balise. Only a packet whose distances fit both
+ways can hold in both: then set Q_DIR to 2.
 
 Correct data that gets it. None.
 

@@ -14,8 +14,8 @@ authority whose profiles do not end.
 
 How to correct it. End the profile with an end mark at the supervised location or beyond, or note why it is open.
 
-Correct data that gets it. None, if each profile needs an end mark, which was not looked up in a print. A project that
-omits end marks on purpose gets L7 for each such profile.
+Correct data that gets it. None, if each profile needs an end mark, which was not looked up in a print: else that of a
+project that omits them on purpose.
 
 Example. The gradient profile of balise A2 has no end mark.
 """

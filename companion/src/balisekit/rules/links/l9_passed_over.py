@@ -2,9 +2,9 @@
 
 What it says. A packet 5 does not name a group with Q_LINK 1 that by the kilometres is between two neighbours of it. The
 sender and the first group that it names are neighbours too. The group says something in the direction in which it is
-passed: packets 145, 254 and 255 do not count. A note counts the other groups that are passed over. Of several groups
-between the same two the line names up to three. Nothing is looked for beside a neighbour that is not in the table or is
-on another track (SUBSET-026, 3.4.4).
+passed, or in both if that is not known: packets 145, 254 and 255 do not count. A note counts the other groups that are
+passed over. Of several groups between the same two the line names up to three. Nothing is looked for beside a neighbour
+that is not in the table or is on another track (SUBSET-026, 3.4.4).
 
 How urgent. To be looked at: the group says nothing to a train that uses these links.
 
@@ -21,7 +21,7 @@ Correct data that gets it. Any that break one of these assumptions; usual cases 
 pass the groups between those that it names: not on another route. Such is a group with repositioning information
 (packet 16) to which NID_BG 16,383 leads. A group with Q_LINK 1 is for them: not one of level 2 or a national system
 (packet 44), if the packets 5 are for level 1. Groups are passed in the order of their kilometres: not if these jump
-back.
+back unstated.
 
 Example. Group A links only group C, and group B stands between them.
 """
@@ -32,7 +32,7 @@ from itertools import accumulate, chain as joined, islice
 from typing import Dict, Iterator, List, Optional, Sequence, Set, Tuple, Union
 
 from balisekit.rules.line import Line
-from balisekit.rules.location import BaliseGroup, incomparable
+from balisekit.rules.location import BaliseGroup
 from balisekit.rules.passages import Chain
 from balisekit.rules.rule import Options, Remark, Result, Rule, Urgency
 from balisekit.tables.names import listed
@@ -62,7 +62,7 @@ def _way(chain: Chain) -> Optional[int]:
 
 def _look_at(line: Line, chain: Chain) -> Iterator[Union[Remark, str, None]]:
     for before, after in _pairs(chain):
-        why = incomparable(before, after)
+        why = line.incomparable(before, after)
         if before is None or after is None or why:
             yield why
         else:
@@ -73,11 +73,11 @@ def _look_at(line: Line, chain: Chain) -> Iterator[Union[Remark, str, None]]:
 
 
 def _note(line: Line) -> Iterator[str]:
-    """How many groups are passed over that say nothing in that direction."""
+    """How many groups are passed over that are not known to say anything in that direction."""
     passed: Dict[Way, List[int]] = {}
     for chain in (chains[0] for chains in line.alike):
         for before, after in _pairs(chain):
-            if before is None or after is None or incomparable(before, after):
+            if before is None or after is None or line.incomparable(before, after):
                 continue
             silent = line.linked(before.track, _way(chain), False)
             steps = passed.setdefault((before.track, _way(chain)), [0] * (len(silent.groups) + 1))
@@ -92,14 +92,14 @@ def _note(line: Line) -> Iterator[str]:
         words = "1 group with Q_LINK 1 is not linked by packets 5 that pass it, and says"
         if len(silent_ones) > 1:
             words = f"{len(silent_ones)} groups with Q_LINK 1 are not linked by packets 5 that pass them, and say"
-        yield f"L9: {words} nothing in that direction"
+        yield f"L9: {words} nothing in that direction, as far as it is known"
 
 
 def _remark(chain: Chain, before: BaliseGroup, after: BaliseGroup, groups: Sequence[BaliseGroup], count: int) -> Remark:
-    words = ("has", "stands", "is", "it") if count == 1 else ("have", "stand", "are", "them")
+    words = ("has", "stands", "it") if count == 1 else ("have", "stand", "them")
     sentence = (
         f"{listed(list(map(str, groups)), len(groups), count)} {words[0]} Q_LINK 1 and {words[1]} between {before} and "
-        f"{after}, and {words[2]} not linked: a train that uses linking passes {words[3]} over"
+        f"{after}, and this packet 5 does not name {words[2]}: a train that uses linking passes {words[2]} over"
     )
     return Remark("L9", chain.location, sentence, groups[0], {"groups_passed_over": Decimal(count)}, groups)
 

@@ -117,13 +117,17 @@ def ends_the_line(decoded: Decoded, end: End) -> bool:
 
 
 def _lasts_and_signals(decoded: Decoded) -> Dict[Lane, Tuple[int, List[int]]]:
-    """Of each track and way, along it: the last group that says something, and all that give an authority."""
+    """Of each track and way, along it: the last group that says something, and all that give an authority.
+
+    Groups of which the direction is not known count for both ways.
+    """
     lasts: Dict[Lane, int] = {}
     signals: Dict[Lane, Set[int]] = {}
     for passage in decoded.passages:
-        place, lane = passage.place(0), lane_of(passage)
-        if passage.way is not None and place is not None and any(each.number < 254 for each in passage.said):
-            at = place * passage.way
+        place = passage.place(0)
+        speaks = place is not None and any(each.number < 254 for each in passage.said)
+        for way in ((passage.way,) if passage.way else (1, -1)) if speaks else ():
+            at, lane = (place or 0) * way, (passage.track, way)
             lasts[lane] = max(lasts.get(lane, at), at)
             signals.setdefault(lane, set()).update([at] if passage.authorities else [])
     return {lane: (last, sorted(signals[lane])) for lane, last in lasts.items()}

@@ -17,7 +17,7 @@ How to correct it. Correct the kilometre, the group of the row or the column `no
 
 Correct data that gets it. Any that break one of these assumptions; usual cases follow "not". The track keeps these
 distances: not with an exception, or if `--line-speed` is that of a faster track. Within a group kilometres follow the
-track: not if they jump, or if a balise has the kilometre of something else.
+track: not if they jump, are rounded coarsely, also some of them only, or are those of something else.
 
 Example. The second balise of group C is at km 12.033, 33 m from the first one at km 12.000.
 

@@ -5,8 +5,8 @@ ends at the kilometre of its group and the sum of L_SECTION and L_ENDSECTION of 
 packet 15. It leads to the group of its packets 5 that is nearest to its end, within 200 m. If none is so near, it is
 the last one before the end, if another one is beyond it. Without packets 5 ends at most 20 m from the next one are
 compared. A packet 12 is not at a group if the first balise of the nearest one is more than 50 m and at most 200 m away.
-Only ends between the first and the last signal of the track and way count. Places may differ by `--tolerance` (else 1
-m) and rounding (SUBSET-026, 3.8 and 7.4.2).
+Such an end is named only between the first and the last signal of its track and way. Places may differ by `--tolerance`
+(else 1 m) and rounding (SUBSET-026, 3.8 and 7.4.2).
 
 How urgent. At worst wrong information: a train may pass the signal at which it has to stop.
 
@@ -115,7 +115,7 @@ def _compare(
     at = target.place if target and target.place is not None else ends[0].place
     usual = max(ends, key=lambda each: (counts[each.place], -abs(each.place - at)))
     differing = [end for end in ends if end.differs(usual, decoded, options)]
-    same = len(ends) - len(differing)
+    same = counts[usual.place]
     where = f" that lead{'s' if same == 1 else ''} to {target.group}" if target else " nearby"
     for end in differing:
         sentence = (

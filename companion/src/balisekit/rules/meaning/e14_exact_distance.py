@@ -4,8 +4,7 @@ What it says. A distance by D_LINK differs from the kilometres by more than `--t
 not enough for L2. L2 allows Q_LOCACC, which describes how exactly a group is installed, not how exactly D_LINK is
 written. The distance counts from the sender, or from the linked group before. If all links over a stretch differ by one
 amount, one remark asks whether the kilometres jump there. If five links of a track or more differ, and more than a
-fifth of all, one note counts them: the kilometres then follow another axis than the track (SUBSET-026, 3.4.4 and
-7.5.1).
+fifth of all, one note counts them: the kilometres may follow another axis than the track (SUBSET-026, 3.4.4 and 7.5.1).
 
 How urgent. At worst a wrong position of the train.
 

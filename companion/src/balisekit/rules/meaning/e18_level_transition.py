@@ -5,7 +5,8 @@ orders it. Compared are packets of one track and way, each at most 500 m from th
 `--tolerance` (else 1 m) and rounding, and M_LEVELTR and NID_NTC must be the same in the same order. A place is that of
 D_LEVELTR, or of the group if that is 0 or 32,767 (now). Such a packet counts as right, or else the most frequent place.
 One that repeats it beyond the border agrees. Only a place between the first and the last group of the track needs one.
-A packet for both directions with a distance is E5 (SUBSET-026, 5.10 and 7.4.2).
+A group whose direction is unknown may have it. A packet for both directions with a distance is E5 (SUBSET-026, 5.10 and
+7.4.2).
 
 How urgent. At worst wrong information.
 
@@ -31,75 +32,27 @@ from __future__ import annotations
 
 from collections import Counter
 from decimal import Decimal
-from typing import Dict, Iterator, List, NamedTuple, Sequence, Tuple
+from typing import Iterator, List, Optional, Sequence, Tuple
 
-from balisekit.etcs.geometry import NOMINAL
-from balisekit.etcs.variables import Around, metres, value_words
-from balisekit.rules.decoded import LEVELS, Decoded, Packet, Passage
+from balisekit.etcs.variables import metres
+from balisekit.rules.decoded import Decoded
 from balisekit.rules.line import Line
-from balisekit.rules.meaning.along import Lane
+from balisekit.rules.meaning.orders import NEAR, Order, orders_of, without_direction
 from balisekit.rules.meaning.words import at_place, merged, source
 from balisekit.rules.rule import Options, Remark, Result, Rule, Urgency
-
-BOTH_DIRECTIONS, NOW, NEAR = 2, 32_767, 5000
-"""Q_DIR, D_LEVELTR for at once, and in decimetres how near two announcements of one transition are."""
-
-
-class Order(NamedTuple):
-    """A level transition order at its place."""
-
-    place: int
-    way: int
-    passage: Passage
-    packet: Packet
-
-    @property
-    def is_now(self) -> bool:
-        """Whether it is for the place of its group."""
-        return self.packet.form["d_leveltr"] in (0, NOW)
-
-    @property
-    def along(self) -> int:
-        """Its place, counted along the way."""
-        return self.place * self.way
-
-    @property
-    def levels(self) -> Sequence[Tuple[int, int]]:
-        """M_LEVELTR and NID_NTC in their order."""
-        return [(each["m_leveltr"], each.get("nid_ntc", -1)) for each in self.packet.form["transitions"]]
-
-    @property
-    def words(self) -> str:
-        """The levels in words."""
-        around = Around(self.packet.form)
-        return ", ".join(
-            value_words("m_leveltr", level, around) + (f" (NID_NTC {ntc})" if ntc >= 0 else "")
-            for level, ntc in self.levels
-        )
 
 
 def find(line: Line, options: Options) -> Result:
     """Compares the orders for one place."""
     decoded, found, looked_at = line.decoded, [], 0
-    for orders in _orders(decoded).values():
+    unknown = [*without_direction(decoded)]
+    for orders in orders_of(decoded).values():
         looked_at += len(orders)
         for part in _parts(orders):
-            found += list(_compare(decoded, options, part))
+            usual = _usual(part)
+            found += list(_compare(decoded, options, part, usual))
+            found += [] if usual.is_now else list(_unordered(decoded, usual, unknown))
     return Result(merged(found), looked_at)
-
-
-def _orders(decoded: Decoded) -> Dict[Lane, List[Order]]:
-    """All orders of each track and way: what several aspects have in common once."""
-    found: Dict[Lane, Dict[Tuple[int, str], Order]] = {}
-    for passage in decoded.passages:
-        for packet in passage.of(LEVELS):
-            sent, is_both = packet.form["d_leveltr"], packet.form["q_dir"] == BOTH_DIRECTIONS
-            way = passage.way or (is_both and (1 if passage.direction == NOMINAL else -1))
-            place = passage.place(0 if sent == NOW else sent * packet.unit)
-            if way and place is not None and (not is_both or sent in (0, NOW)):
-                own = found.setdefault((passage.track, way), {})
-                own[id(packet), passage.direction] = Order(place, way, passage, packet)
-    return {lane: sorted(own.values(), key=lambda each: each.place) for lane, own in found.items()}
 
 
 def _parts(orders: Sequence[Order]) -> Iterator[List[Order]]:
@@ -113,10 +66,14 @@ def _parts(orders: Sequence[Order]) -> Iterator[List[Order]]:
     yield part
 
 
-def _compare(decoded: Decoded, options: Options, orders: Sequence[Order]) -> Iterator[Remark]:
-    """The orders that differ from that at the border, or from the most frequent one."""
+def _usual(orders: Sequence[Order]) -> Order:
+    """That at the border, or the most frequent one."""
     counts = Counter(each.place for each in orders)
-    usual = max(orders, key=lambda each: (each.is_now, counts[each.place], -each.along))
+    return max(orders, key=lambda each: (each.is_now, counts[each.place], -each.along))
+
+
+def _compare(decoded: Decoded, options: Options, orders: Sequence[Order], usual: Order) -> Iterator[Remark]:
+    """The orders that differ from the usual one."""
     track = usual.passage.track
     for order in orders:
         tolerance = decoded.tolerance(options.tolerance_of_places, order.packet.unit, usual.packet.unit)
@@ -138,7 +95,14 @@ def _compare(decoded: Decoded, options: Options, orders: Sequence[Order]) -> Ite
             continue
         marks = [(order.packet.row, where.direction, abs(order.place - (order.passage.place(0) or 0)))]
         yield Remark("E18", where, sentence, None, values, others=others, marks=marks)
-    if not usual.is_now and decoded.is_inside(track, usual.place):
+
+
+def _unordered(decoded: Decoded, usual: Order, unknown: Sequence[Tuple[str, Optional[int]]]) -> Iterator[Remark]:
+    """A place within the table at which no group orders the level. One without direction may do it."""
+    track = usual.passage.track
+    places = [place for own, place in unknown if own == track]
+    is_near = any(place is None or abs(place - usual.place) <= NEAR for place in places)
+    if decoded.is_inside(track, usual.place) and not is_near:
         sentence = (
             f"it announces {usual.words} at {decoded.km(track, usual.place)}, and no group within {NEAR // 10} m of "
             "that place has a packet 41 with D_LEVELTR 0 or 32,767 in this direction"

@@ -12,7 +12,7 @@ Usual cause. Q_GDIR of one direction is wrong. It may be copied from the other d
 
 What may happen. The brake curve is wrong by twice the gradient.
 
-How to correct it. Compare both directions with the track plan, which has one gradient for each stretch.
+How to correct it. Compare both directions with the track plan.
 
 Correct data that gets it. Any that break one of these assumptions; usual cases follow "not". Each gradient is that of
 its place: not the steepest or mean value of a longer stretch. Safe gradients near a summit or a valley are so, and may

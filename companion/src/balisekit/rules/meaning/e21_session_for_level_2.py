@@ -1,8 +1,8 @@
 """E21: level 2 needs a session.
 
 What it says. A packet 41 or 46 names level 2 or 3, and no packet 42 with Q_RBC 1 comes with it or before it. Packets 42
-of its group and of those before it on that track and way count. The rule is off unless it is asked for. The layouts of
-packets 42 and 46 are balisekit's own (SUBSET-026, 3.5.3, 5.10 and 7.4.2).
+of its group and of those before it on that track count, unless they are known to be for the other way. The rule is off
+unless it is asked for. The layouts of packets 42 and 46 are balisekit's own (SUBSET-026, 3.5.3, 5.10 and 7.4.2).
 
 How urgent. At worst the train brakes without need.
 
@@ -52,14 +52,17 @@ def find(line: Line, options: Options) -> Result:
 
 
 def _sessions(decoded: Decoded) -> Dict[Lane, int]:
-    """Of each track and way: where the first group has a packet 42 with Q_RBC 1. Places count along the way."""
+    """Of each track and way: where the first group has a packet 42 with Q_RBC 1. Places count along the way.
+
+    Without a direction it may be for either way, and without a place it may be before all others.
+    """
     found: Dict[Lane, int] = {}
     for passage in decoded.passages:
-        place, way = passage.group.place if passage.group else None, passage.way
-        if place is None or way is None:
-            continue
-        if any(packet.number == SESSION and packet.form.get("q_rbc") == 1 for packet in passage.said):
-            found[lane_of(passage)] = min(found.get(lane_of(passage), place * way), place * way)
+        if passage.group and any(packet.form.get("q_rbc") == 1 for packet in passage.of(SESSION)):
+            place = passage.group.place
+            for way in (passage.way,) if passage.way else (1, -1):
+                at, lane = -(10**12) if place is None else place * way, (passage.track, way)
+                found[lane] = min(found.get(lane, at), at)
     return found
 
 

@@ -1,8 +1,9 @@
 """E23: one line, one header.
 
 What it says. A telegram has another M_VERSION than is most frequent in the table, or a group another NID_C than is most
-frequent on its track. Such a group has groups with the usual NID_C on both sides of it, in the order of the kilometres,
-or else of the table. The rule is off unless it is asked for (SUBSET-026, 7.5.1 and 8.4.2).
+frequent on its track. Of equally frequent ones the first counts. Such a group has groups with the usual NID_C on both
+sides of it, in the order of the kilometres, or else of the table. The rule is off unless it is asked for (SUBSET-026,
+7.5.1 and 8.4.2).
 
 How urgent. To be looked at. L1 finds links that name the group by another NID_C.
 
@@ -51,7 +52,8 @@ def _versions(groups: List[GroupData]) -> Iterator[Remark]:
         for telegram in data.telegrams.values():
             if telegram.m_version != usual:
                 words = [value_words("m_version", each, Around()) or str(each) for each in (telegram.m_version, usual)]
-                sentence = f"M_VERSION is {words[0]}, and {words[1]} in {counts[usual]} other telegrams of the table"
+                others = f"{counts[usual]} other telegram{'s' * (counts[usual] > 1)}"
+                sentence = f"M_VERSION is {words[0]}, and {words[1]} in {others} of the table"
                 values = {"m_version": Decimal(telegram.m_version), "other_m_version": Decimal(usual)}
                 yield Remark("E23", data.location(telegram.row), sentence, None, values)
 

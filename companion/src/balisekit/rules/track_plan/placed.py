@@ -139,6 +139,8 @@ class Placed:
         has_own = any(self.plan.of_kind(kind) for kind in kinds)
         has_others = any(self.plan.of_kind(kind) for kind in COMPARED)
         looked_at = counts.pop("", 0)
+        if not self.decoded.along and not counts and kinds != ["aspect"]:
+            counts[NO_PLACE] = sum(len(self.plan.of_kind(kind)) for kind in kinds)
         return Result(found, looked_at, counts, [*self._notes(kinds), *notes], has_others and not has_own)
 
     def _notes(self, kinds: Sequence[str]) -> Iterator[str]:

@@ -62,4 +62,4 @@ def _remark(placed: Placed, differences: Sequence[Difference]) -> Remark:
     return remark("X1", [each.saying for each in differences], sentence, values, urgency)
 
 
-RULE = Rule("X1", "speeds", __doc__ or "", find, Urgency.WRONG_INFORMATION, needs_kilometres=True)
+RULE = Rule("X1", "speeds", __doc__ or "", find, Urgency.WRONG_INFORMATION)

@@ -67,4 +67,4 @@ def _words(gradient: int) -> str:
     return f"{gradient:+} ‰" if gradient else "0 ‰"
 
 
-RULE = Rule("X2", "gradients", __doc__ or "", find, Urgency.WRONG_INFORMATION, needs_kilometres=True)
+RULE = Rule("X2", "gradients", __doc__ or "", find, Urgency.WRONG_INFORMATION)

@@ -102,4 +102,4 @@ def _remark(placed: Placed, ends: Sequence[End]) -> Remark:
     return remark("X3", [each.saying for each in ends], sentence, values)
 
 
-RULE = Rule("X3", "ends of authority", __doc__ or "", find, Urgency.WRONG_INFORMATION, needs_kilometres=True)
+RULE = Rule("X3", "ends of authority", __doc__ or "", find, Urgency.WRONG_INFORMATION)

@@ -6,8 +6,9 @@ beyond the last border in rear. A packet 42 that establishes a session is compar
 ahead and beyond the last one in rear. NID_RBC 16,383 (the last known RBC) is not compared. For places `--tolerance` (0
 without it), one unit of Q_SCALE and one unit of the last decimal of the kilometres are allowed. A track with a border
 in the plan for one way needs all borders of that kind. If it begins in the area of an RBC, it also needs a row `rbc` in
-rear of the first group. A border of the plan within the table that no packet names is named at the nearest group. What
-follows a packet 136 is not compared (SUBSET-026, 7.4.2 and 7.5.1).
+rear of the first group. A border of the plan within the table that no packet names is named at the nearest group,
+unless the track has a packet of its kind without a direction. What follows a packet 136 is not compared (SUBSET-026,
+7.4.2 and 7.5.1).
 
 How urgent. At worst wrong information.
 
@@ -58,6 +59,7 @@ def find(line: Line, options: Options) -> Result:
     placed, counts = Placed(line, options), Counter[str]()
     found: Dict[Tuple[int, Optional[int], str], List[Tuple[Border, int, Spot]]] = {}
     named: Set[int] = set()
+    unplaced: Set[Tuple[str, str]] = set()
     for saying in placed.sayings(*NUMBERS):
         border = border_of(saying)
         if border is None:
@@ -65,13 +67,15 @@ def find(line: Line, options: Options) -> Result:
         spots, place, why = _wanted(placed, border)
         named.update(spot.row.number for spot in spots)
         counts[why] += 1
+        unplaced.update([(border.kind, saying.passage.track)] if why == NO_PLACE else [])
         tolerance = line.decoded.tolerance(options.tolerance, allowance(saying.packet))
         if why or any(_is_there(border, place, spot, tolerance) and spot.row.value == border.text for spot in spots):
             continue
         elsewhere = None if _is_there(border, place, spots[0], tolerance) else place
         found.setdefault((spots[0].row.number, elsewhere, border.text), []).append((border, place, spots[0]))
     remarks = [_remark(placed, each) for each in found.values()]
-    left = [row for kind in BORDERS for row in placed.plan.of_kind(kind) if row.number not in named]
+    rows = [row for kind in BORDERS for row in placed.plan.of_kind(kind) if (kind, row.track) not in unplaced]
+    left = [row for row in rows if row.number not in named]
     remarks += [] if counts[NOT_DECODED] else [each for row in left for each in _unnamed(placed, row)]
     return placed.result(BORDERS, remarks, counts)
 
@@ -126,4 +130,4 @@ def _unnamed(placed: Placed, row: PlanRow) -> Iterator[Remark]:
         yield Remark("X5", group.location(), sentence, values={"plan_km": row.km})
 
 
-RULE = Rule("X5", "borders", __doc__ or "", find, Urgency.WRONG_INFORMATION, needs_kilometres=True)
+RULE = Rule("X5", "borders", __doc__ or "", find, Urgency.WRONG_INFORMATION)

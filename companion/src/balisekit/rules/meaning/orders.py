@@ -1,0 +1,68 @@
+"""The orders of level transitions, packets 41, at their places."""
+from __future__ import annotations
+
+from typing import Dict, Iterator, List, NamedTuple, Optional, Sequence, Tuple
+
+from balisekit.etcs.geometry import NOMINAL
+from balisekit.etcs.variables import Around, value_words
+from balisekit.rules.decoded import LEVELS, Decoded, Packet, Passage
+from balisekit.rules.meaning.along import Lane
+
+BOTH_DIRECTIONS, NOW, NEAR = 2, 32_767, 5000
+"""Q_DIR, D_LEVELTR for at once, and in decimetres how near two announcements of one transition are."""
+
+
+class Order(NamedTuple):
+    """A level transition order at its place."""
+
+    place: int
+    way: int
+    passage: Passage
+    packet: Packet
+
+    @property
+    def is_now(self) -> bool:
+        """Whether it is for the place of its group."""
+        return self.packet.form["d_leveltr"] in (0, NOW)
+
+    @property
+    def along(self) -> int:
+        """Its place, counted along the way."""
+        return self.place * self.way
+
+    @property
+    def levels(self) -> Sequence[Tuple[int, int]]:
+        """M_LEVELTR and NID_NTC in their order."""
+        return [(each["m_leveltr"], each.get("nid_ntc", -1)) for each in self.packet.form["transitions"]]
+
+    @property
+    def words(self) -> str:
+        """The levels in words."""
+        around = Around(self.packet.form)
+        return ", ".join(
+            value_words("m_leveltr", level, around) + (f" (NID_NTC {ntc})" if ntc >= 0 else "")
+            for level, ntc in self.levels
+        )
+
+
+def orders_of(decoded: Decoded) -> Dict[Lane, List[Order]]:
+    """All orders of each track and way: what several aspects have in common once."""
+    found: Dict[Lane, Dict[Tuple[int, str], Order]] = {}
+    for passage in decoded.passages:
+        for packet in passage.of(LEVELS):
+            sent, is_both = packet.form["d_leveltr"], packet.form["q_dir"] == BOTH_DIRECTIONS
+            way = passage.way or (is_both and (1 if passage.direction == NOMINAL else -1))
+            place = passage.place(0 if sent == NOW else sent * packet.unit)
+            if way and place is not None and (not is_both or sent in (0, NOW)):
+                own = found.setdefault((passage.track, way), {})
+                own[id(packet), passage.direction] = Order(place, way, passage, packet)
+    return {lane: sorted(own.values(), key=lambda each: each.place) for lane, own in found.items()}
+
+
+def without_direction(decoded: Decoded) -> Iterator[Tuple[str, Optional[int]]]:
+    """Tracks and places of groups that have an order at once, and a direction that the table does not show."""
+    for passage in decoded.passages:
+        group = passage.group.group if passage.group else None
+        if group and passage.way is None and (group.linked or group.balises > 1):
+            if any(packet.form["d_leveltr"] in (0, NOW) for packet in passage.of(LEVELS)):
+                yield passage.track, passage.place(0)

@@ -1,0 +1,81 @@
+"""How far packets 5 lead along a track."""
+from __future__ import annotations
+
+from bisect import bisect_left
+from typing import Dict, List, Optional, Sequence, Tuple
+
+from balisekit.rules.decoded import Decoded, GroupData
+from balisekit.rules.meaning.along import Lane, Name, names_of
+
+LESS = 500
+"""In decimetres."""
+
+
+class Reach:
+    """How far the links go, from each place of a track and way on, and where the groups are.
+
+    Places count along the way.
+    """
+
+    def __init__(self) -> None:
+        self.links: List[Tuple[int, int]] = []
+        self.groups: List[int] = []
+        self._begins: List[int] = []
+        self._farthest: List[int] = []
+
+    def sort(self) -> None:
+        """Makes it ready to be asked."""
+        self.groups.sort()
+        farthest = -(10**12)
+        for begin, end in sorted(self.links):
+            farthest = max(farthest, end)
+            self._begins.append(begin)
+            self._farthest.append(farthest)
+
+    def at(self, place: int) -> int:
+        """How far the links of all groups up to a place go, or that place."""
+        index = bisect_left(self._begins, place + 1)
+        return max(self._farthest[index - 1], place) if index else place
+
+    def group_between(self, low: int, high: int) -> bool:
+        """Whether a group is beyond the first place, and not beyond the second one."""
+        index = bisect_left(self.groups, low + 1)
+        return index < len(self.groups) and self.groups[index] <= high
+
+
+def lanes_of_links(decoded: Decoded) -> Dict[Lane, Reach]:
+    """The links and groups of each track and way."""
+    lanes: Dict[Lane, Reach] = {}
+    known = set()
+    last: Dict[Tuple[GroupData, int], Sequence[Name]] = {}  # (aspects share the packets 5 of fixed balises)
+    for passage in decoded.passages:
+        data, named = passage.group, names_of(decoded, passage)
+        way = passage.way or _shown_by(named, data)
+        if way is None or data is None or data.place is None:
+            continue
+        lane = lanes.setdefault((passage.track, way), Reach())
+        is_new = (data, way) not in known and not passage.message and passage.way is not None
+        if is_new and data.group.linked and any(each.number < 254 for each in passage.said):
+            known.add((data, way))
+            lane.groups.append(data.place * way)
+        if named and last.get((data, way)) is not named:
+            last[data, way] = named
+            begin = data.place * way
+            lane.links.append((begin, max(_linked(each, way, begin + distance) for distance, each in named)))
+    for lane in lanes.values():
+        lane.sort()
+    return lanes
+
+
+def _shown_by(named: Sequence[Name], data: Optional[GroupData]) -> Optional[int]:
+    """The way of a passage by the first group that its packets 5 name and whose place on the track is known."""
+    track, begin = (data.group.track, data.place) if data else ("", None)
+    places = (each.place for _, each in named if each and each.group.track == track)
+    place = next((each for each in places if each is not None), begin)
+    return None if begin is None or place is None else (place > begin) - (place < begin) or None
+
+
+def _linked(target: Optional[GroupData], way: int, place: int) -> int:
+    """Where a link leads: to the kilometre of its group too, which may be rounded to a place beyond that of D_LINK."""
+    by_kilometre = place if target is None or target.place is None else target.place * way
+    return by_kilometre if 0 < by_kilometre - place <= LESS else place
