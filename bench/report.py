@@ -7,8 +7,9 @@ KIT is the start script of a clone, and ./balisekit without one. The tables are 
 which little is to be remarked: a signal each 1,500 m with four telegrams, its fixed balise in every aspect and the
 other one in three aspects, 2,500 signals a track. Every fifteenth signal has a finding.
 
-For each number of groups a line has the command, seconds of the processor for balisekit and the program
-together, the peak of memory of the larger process, and the size of the page. With chromium (CHROMIUM names another
+For each number of groups a line has the command, seconds of the clock and of the processor for balisekit and the
+program together, the peak of memory of all processes together, in a run of its own, and the size of the page. Memory
+that processes share counts once (the sum of PSS, each tenth of a second). With chromium (CHROMIUM names another
 one) there are two more lines: of --print groups the pages, the size and the wall time of the PDF; of --open groups
 the wall time until the page can be scrolled, less the time for an empty page. Measure on an idle processor.
 """
@@ -85,12 +86,35 @@ def printed(room: Path, page: Path) -> str:
     return f"{pages} pages, {len(content) / 1e6:.1f} MB, {seconds:.1f} s"
 
 
+def proportional(pid: int) -> int:
+    """The kilobytes of a process and those that it has started. What several of them share is divided among them."""
+    try:
+        rollup = Path(f"/proc/{pid}/smaps_rollup").read_text()
+        started = Path(f"/proc/{pid}/task/{pid}/children").read_text().split()
+    except OSError:  # it has ended
+        return 0
+    own = re.search(r"^Pss: +([0-9]+) kB", rollup, re.MULTILINE)
+    return int(own[1] if own else 0) + sum(map(proportional, map(int, started)))
+
+
+def memory(command: Sequence[str], room: Path) -> float:
+    """The megabytes of all processes of a command at most."""
+    peak = 0
+    with subprocess.Popen(command, cwd=room, stdout=subprocess.DEVNULL) as run:
+        while run.poll() is None:
+            peak = max(peak, proportional(run.pid))
+            time.sleep(0.1)
+    return peak / 1024
+
+
 def measured(command: Sequence[str], room: Path, groups: int) -> None:
     """A line on one report."""
-    seconds, memory = kit.run(command, room)
+    begin = time.perf_counter()
+    seconds, _ = kit.run(command, room)
+    clock = time.perf_counter() - begin
     size = (room / "page.html").stat().st_size / 1e6
     only = " ".join(command[command.index("--only") :]) if "--only" in command else ""
-    figures = f"{seconds:7.2f} s {memory:6.0f} MB, page {size:.2f} MB"
+    figures = f"{clock:7.2f} s, processor {seconds:.2f} s, {memory(command, room):.0f} MB, page {size:.2f} MB"
     print(f"{groups:6} groups {only:11} {figures}   {command[0]}", flush=True)
 
 

@@ -45,7 +45,7 @@ def _run(command: List[str]) -> Tuple[int, List[str]]:
     return done.returncode, done.stdout.decode().splitlines()
 
 
-def _table(path: Path, program: Program, groups: int, other: bool = False) -> Path:
+def table_of(path: Path, program: Program, groups: int, other: bool = False) -> Path:
     """A table of groups of two balises and three aspects, each with an identity of its own.
 
     They stand on eleven kilometres, so that thousands lie between two of them. In the other one all authorities differ.
@@ -72,7 +72,7 @@ def _table(path: Path, program: Program, groups: int, other: bool = False) -> Pa
 @pytest.fixture(scope="module")
 def great(tmp_path_factory: pytest.TempPathFactory, program: Program) -> Path:
     """A table of 1,000 groups."""
-    return _table(tmp_path_factory.mktemp("great") / "great.csv", program, GROUPS)
+    return table_of(tmp_path_factory.mktemp("great") / "great.csv", program, GROUPS)
 
 
 @pytest.fixture(scope="module")
@@ -83,7 +83,7 @@ def releases(tmp_path_factory: pytest.TempPathFactory, program: Program) -> Call
     def of(groups: int) -> List[Path]:
         if groups not in made:
             made[groups] = [
-                _table(room / f"{groups}{word}.csv", program, groups, word == "new") for word in ("old", "new")
+                table_of(room / f"{groups}{word}.csv", program, groups, word == "new") for word in ("old", "new")
             ]
         return made[groups]
 

@@ -18,9 +18,10 @@ from telegrams import SPARE
 
 from balisekit.engine.program import Program
 from balisekit.etcs.geometry import kilometres
-from balisekit.present.links_text import compared
+from balisekit.present.links_text import compared, singular
 from balisekit.rules.line import BY_LINKS, Line, with_directions
 from balisekit.rules.links import RULES, compare
+from balisekit.rules.own import RULES as OWN
 from balisekit.rules.rule import CORRECT_DATA, Options
 from balisekit.tables.model import Aspect, Group, Message, Row
 
@@ -737,3 +738,16 @@ def test_a_direction_by_links_is_used_for_one_group(run: Run, table: Write, tmp_
         said[word] = "".join([*texts, block])
         assert all("15.050" in text or "km 15.300" in text for text in (*texts, said[word]))
     assert said[""] == said["rising"]
+
+
+def test_one_of_what_a_rule_looks_at() -> None:
+    """No rule speaks of 1 ends of authority, or of 1 authoritie."""
+    some = [OWN[name].looks_at for name in ("X3", "X4", "L5", "E10")]
+    assert {words: singular(words) for words in some} == {
+        "ends of authority": "end of authority",
+        "authorities of aspects": "authority of aspects",
+        "single balises": "single balise",
+        "groups with several aspects": "group with several aspects",
+    }
+    plural = {rule.looks_at for rule in OWN.values()} - {"infill"}
+    assert all(len(singular(words)) < len(words) for words in plural) and singular("infill") == "infill"

@@ -4,6 +4,7 @@ from __future__ import annotations
 import copy
 from dataclasses import replace
 from decimal import Decimal
+from functools import partial
 from pathlib import Path
 from typing import Any, Callable, Dict, List, Sequence, Tuple
 
@@ -570,7 +571,7 @@ def test_e18_levels(found: Found) -> None:
 def test_e18_of_a_border_whose_direction_is_not_known(found: Found) -> None:
     """A single balise that no packet 5 names orders the transition in both directions, or only in one of them."""
 
-    def single(rows: List[Row], q_dir: int = 2) -> None:
+    def single(q_dir: int, rows: List[Row]) -> None:
         rows[:] = [row for row in rows if row.group != "Border" or row.balise == 0]
         border = next(row for row in rows if row.group == "Border")
         border.form.update(n_total=0, q_link=0)
@@ -582,7 +583,7 @@ def test_e18_of_a_border_whose_direction_is_not_known(found: Found) -> None:
                     each["links"] = [one for one in each["links"] if one["nid_bg"] != border.form["nid_bg"]]
 
     for q_dir, count in ((2, 0), (1, 1)):
-        made = found("E18", BORDER, lambda rows, q_dir=q_dir: single(rows, q_dir))
+        made = found("E18", BORDER, partial(single, q_dir))
         assert len(made) == count and all(each.sentence.endswith(" in this direction") for each in made)
 
 

@@ -152,6 +152,21 @@ def test_texts_have_contrast(run: Run, line: Path) -> None:
                     assert contrast(mode[text], mode[ground]) >= 4.5, (text, ground, mode)
 
 
+def test_lengths_on_bars_have_contrast() -> None:
+    """The length of each section of an authority has the colour of the paper, on a bar that lets the paper through."""
+    palette, css = ((pages.TEMPLATES / name).read_text("utf-8") for name in ("palette.css", "picture.css"))
+    light, dark = map(colours, palette.split("@media"))
+    assert ".picture .light { fill: var(--paper); stroke: none; }" in css
+    for number, opacity in re.findall(r"\.section(.) \{ fill: var\(--green\);(?: fill-opacity: ([.0-9]+);)? \}", css):
+        for mode in (light, dark):
+            part, pairs = float(opacity or 1), [
+                (mode[name][at : at + 2] for name in ("green", "paper")) for at in (1, 3, 5)
+            ]
+            bar = [round(int(own, 16) * part + int(behind, 16) * (1 - part)) for own, behind in pairs]
+            assert contrast("#%02x%02x%02x" % tuple(bar), mode["paper"]) >= 4.5, (number, mode)
+    assert css.count(".section0 {") == css.count(".section1 {") == 1
+
+
 def test_the_policy_allows_one_style_and_one_script(run: Run, line: Path) -> None:
     """By their hashes, and nothing else: no attribute with a style or a handler, and no address."""
     text = report(run, line)

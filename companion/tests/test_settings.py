@@ -77,8 +77,12 @@ def test_links_finds_what_check_finds(run: Run, program: Program, tmp_path: Path
     file = tmp_path / "balisekit.toml"
     jumps, metres = ["--jumps", tmp_path / "j.csv"], ["--tolerance", "50"]
     stated: Sequence[Tuple[str, Sequence[object]]] = [
-        *(("", words) for words in ([], jumps, metres)),
-        *((text, []) for text in ("jumps = 'j.csv'", "plan = 'p.csv'", "tolerance = 50")),
+        ("", []),
+        ("", jumps),
+        ("", metres),
+        ("jumps = 'j.csv'", []),
+        ("plan = 'p.csv'", []),
+        ("tolerance = 50", []),
         ("jumps = 'j.csv'", ["--tolerance", "0"]),
     ]
     for text, words in stated:

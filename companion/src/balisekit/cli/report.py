@@ -34,7 +34,9 @@ def run(options: argparse.Namespace) -> int:
     outcome = outcome_of(options, of_line, now, keep=True)
     check_aspect(outcome.checked.table, options.aspect)
     command = clean(shlex.join(_command(options)))
-    page = report_page(outcome, links_of(outcome, of_line), heading, command, now, options.aspect, options.full)
+    links = links_of(outcome, of_line)
+    links.line.for_pictures()
+    page = report_page(outcome, links, heading, command, now, options.aspect, options.full)
     options.html.write(page)
     shared.say([f"written: {clean(str(options.html))}", *closing_lines(outcome)], options.html)
     return outcome.status

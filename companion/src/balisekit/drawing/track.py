@@ -12,7 +12,7 @@ from balisekit.drawing.flags import Flag, Mark, flags
 from balisekit.drawing.letters import shortened, width
 from balisekit.drawing.profiles import Sizes, WayDrawing, open_end, profile_number, speed_top
 from balisekit.drawing.sheet import EDGE, EDGES, RIGHT, WIDTH, Lane, Picture, Rows, Sheet, tenths
-from balisekit.drawing.track_pages import Arc, Band, Page, at_km, pages, place_of, shown_words
+from balisekit.drawing.track_pages import Arc, Band, Page, Within, at_km, pages, place_of, shown_words
 from balisekit.etcs.geometry import NOMINAL, kilometre_of
 from balisekit.etcs.variables import metres
 from balisekit.rules.line import Line
@@ -40,7 +40,7 @@ NAMED = 5
 
 def tracks_of(line: Line) -> List[str]:
     """The tracks that have a group with a kilometre, in the order of the table."""
-    return list(dict.fromkeys(station.track for station in line.groups if station.km is not None))
+    return list(line.along)
 
 
 def note(text: str) -> Picture:
@@ -51,14 +51,19 @@ def note(text: str) -> Picture:
 
 
 def track_pictures(
-    line: Line, links: Links, track: str, aspect: Optional[str], marks: Sequence[Mark] = ()
+    line: Line,
+    links: Links,
+    track: str,
+    aspect: Optional[str],
+    marks: Sequence[Mark] = (),
+    within: Within = (None, None),
 ) -> Iterator[Picture]:
     """The pictures of a track. If a page has too many bands below each other, the next picture goes on with them.
 
     Each group is in the aspect of this name, or in the one with the farthest end of authority. Marks are flags at their
     places: those of other tracks are passed over.
     """
-    for page in pages(line, links, track, aspect, flags(marks, track)):
+    for page in pages(line, links, track, aspect, flags(marks, track), within):
         scale = Sheet(page.begin, page.end)
         placed = [_placed(scale, band) for band in page.bands]
         parts, top_speed = _parts(_lanes(placed)), speed_top([band.way for band in page.bands])

@@ -9,7 +9,7 @@ from bisect import bisect_left
 from dataclasses import dataclass, field
 from decimal import Decimal
 from functools import cached_property, lru_cache
-from typing import Callable, Dict, Iterator, List, NamedTuple, Optional, Sequence, Set, Tuple
+from typing import Callable, Dict, Iterable, Iterator, List, NamedTuple, Optional, Sequence, Set, Tuple
 
 from balisekit.drawing.flags import Flag
 from balisekit.drawing.profiles import gap, gap_label, places, short_profiles
@@ -29,6 +29,8 @@ PAGE = 50_000
 """The length of a page."""
 FormOf = Callable[[int], Optional[Form]]
 """The telegram of a row, if the program has read it."""
+Within = Tuple[Optional[int], Optional[int]]
+"""From which place and up to which one pages are made. None is an end of the track."""
 KEPT = 64
 """So many telegrams are kept as objects, which takes time to make of their lines, and much memory to keep."""
 
@@ -64,6 +66,11 @@ class Band:
         """Where anything of it begins or ends, in order."""
         at, sign = self.at, self.sign
         return sorted({at, *(at + sign * place for place in places(self.way))})
+
+    @property
+    def pages(self) -> Iterable[int]:
+        """The numbers of the pages on which anything of it begins or ends: what ends at an edge is before it."""
+        return {*(place // PAGE for place in self.places[:-1]), (self.end - (self.end > self.begin)) // PAGE}
 
     @property
     def begin(self) -> int:
@@ -209,19 +216,74 @@ def undrawn(station: BaliseGroup, aspect: Optional[str]) -> str:
     return "" if any(one in read for one in named) else "refused"
 
 
-def pages(line: Line, links: Links, track: str, aspect: Optional[str], flags: Sequence[Flag] = ()) -> Sequence[Page]:
-    """The pages of a track on which anything begins or ends, and one between two of them that anything crosses."""
+def shares(line: Line, part: int, count: int) -> Iterator[Tuple[str, Within]]:
+    """The pages that one of so many equal parts of all groups with a kilometre has, by tracks."""
+    begin, end = (sum(map(len, line.along.values())) * number // count for number in (part, part + 1))
+    for track, stations in line.along.items():
+        inner = [place_of(stations[at]) // PAGE * PAGE if 0 < at < len(stations) else None for at in (begin, end)]
+        if begin < len(stations) and end > 0:
+            yield track, (inner[0], inner[1])
+        begin, end = begin - len(stations), end - len(stations)
+
+
+def pages(
+    line: Line,
+    links: Links,
+    track: str,
+    aspect: Optional[str],
+    flags: Sequence[Flag] = (),
+    within: Within = (None, None),
+) -> Sequence[Page]:
+    """The pages of a track on which anything begins or ends, and one between two of them that anything crosses.
+
+    Only those within these places are made.
+    """
     stations = line.along.get(track, ())
     form_of: FormOf = lru_cache(maxsize=KEPT)(line.forms.get)
     shown: Dict[int, Optional[Aspect]] = {}
+    numbers = {place // PAGE for place in (*map(place_of, stations), *(flag.place for flag in flags))}
+    spans: List[Tuple[int, int]] = []
     bands: List[Band] = []
     for station in stations:
         one = shown[station.number] = chosen(form_of, station, aspect)
         if one and not undrawn(station, aspect):
             found = line.findings.get(station.group.name, ())
-            bands += _bands(station, one, _forms(form_of, one), found)
-    arcs = list(_arcs(links, track, shown))
-    known = _pages({place_of(each) for each in stations} | {flag.place for flag in flags}, bands)
+            for band in _bands(station, one, _forms(form_of, one), found):
+                numbers.update(band.pages)
+                spans.append((band.begin, band.end))
+                bands += [band] * _is_within(band, within)
+    return _filled(_empty(numbers, spans, within), stations, flags, bands, _arcs(links, track, shown))
+
+
+def _is_within(band: Band, within: Within) -> bool:
+    """Whether a part of a band is between two places."""
+    begin, end = within
+    return (begin is None or band.end >= begin) and (end is None or band.begin < end)
+
+
+def _empty(numbers: Set[int], spans: Sequence[Tuple[int, int]], within: Within) -> Sequence[Page]:
+    """Empty pages of these numbers, and one between two of them if a band of these spans crosses it."""
+    gaps = sorted(number + 1 for number in numbers if number + 1 not in numbers and number + 2 in numbers)
+    for begin, end in spans if gaps else ():
+        numbers.update(gaps[bisect_left(gaps, begin // PAGE) : bisect_left(gaps, -(-end // PAGE))])
+    along = sorted(numbers)
+    ends = [number + 1 for number in along]
+    made = [
+        Page(number * PAGE, before * PAGE, number + 1 not in numbers and number != along[-1])
+        for number, before in zip(along, [along[0], *ends] if along else [])
+    ]
+    first, last = within
+    return [page for page in made if (first is None or page.begin >= first) and (last is None or page.begin < last)]
+
+
+def _filled(
+    known: Sequence[Page],
+    stations: Sequence[BaliseGroup],
+    flags: Sequence[Flag],
+    bands: Sequence[Band],
+    arcs: Iterable[Arc],
+) -> Sequence[Page]:
+    """The same pages with what is on them."""
     begins = [page.begin for page in known]
 
     def crossed(begin: int, end: int) -> Sequence[Page]:
@@ -229,10 +291,11 @@ def pages(line: Line, links: Links, track: str, aspect: Optional[str], flags: Se
         return known[bisect_left(begins, begin // PAGE * PAGE) : bisect_left(begins, max(end, begin + 1))]
 
     for station in stations:
-        at = place_of(station)
-        crossed(at, at)[0].stations.append(station)
+        for page in crossed(place_of(station), place_of(station)):
+            page.stations.append(station)
     for flag in flags:
-        crossed(flag.place, flag.place)[0].flags.append(flag)
+        for page in crossed(flag.place, flag.place):
+            page.flags.append(flag)
     for band in bands:
         for page in crossed(band.begin, band.end):
             page.bands.append(band)
@@ -240,23 +303,6 @@ def pages(line: Line, links: Links, track: str, aspect: Optional[str], flags: Se
         for page in crossed(*arc.edges):
             page.arcs.append(arc)
     return known
-
-
-def _pages(at: Set[int], bands: Sequence[Band]) -> Sequence[Page]:
-    """Empty pages for groups and flags at these places, and for bands. A band that ends at an edge is before it."""
-    numbers = {place // PAGE for place in at}
-    for band in bands:
-        numbers.update([place // PAGE for place in band.places[:-1]])
-        numbers.add((band.end - (band.end > band.begin)) // PAGE)
-    gaps = sorted(number + 1 for number in numbers if number + 1 not in numbers and number + 2 in numbers)
-    for band in bands if gaps else ():
-        numbers.update(gaps[bisect_left(gaps, band.begin // PAGE) : bisect_left(gaps, -(-band.end // PAGE))])
-    along = sorted(numbers)
-    ends = [number + 1 for number in along]
-    return [
-        Page(number * PAGE, before * PAGE, number + 1 not in numbers and number != along[-1])
-        for number, before in zip(along, [along[0], *ends] if along else [])
-    ]
 
 
 def _bands(station: BaliseGroup, shown: Aspect, forms: Sequence[Form], findings: Sequence[Finding]) -> Iterator[Band]:

@@ -80,6 +80,10 @@ class Kept(Generic[Made]):
         """The hashes of keys that were asked for: if two are equal by chance, one is kept too early."""
         self._known: Dict[Hashable, _Known[Made]] = {}
 
+    def forget(self) -> None:
+        """Lets go of all that is kept."""
+        self._known.clear()
+
     def of(
         self, key: Hashable, held: object, where: Kilometres, make: Callable[[Kilometres], Made]
     ) -> Tuple[Made, Sequence[str]]:

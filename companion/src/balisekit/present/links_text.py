@@ -123,8 +123,12 @@ def not_compared(links: Links) -> Iterator[str]:
 
 
 def _things(rule: Rule, count: int) -> str:
-    one = re.sub("(ie)?s\\b", lambda end: "y" if end[1] else "", rule.looks_at, count=1)
-    return f"{count} {one if count == 1 else rule.looks_at}"
+    return f"{count} {singular(rule.looks_at) if count == 1 else rule.looks_at}"
+
+
+def singular(things: str) -> str:
+    """One of what a rule looks at: its first plural is the noun that the others describe."""
+    return re.sub(r"(ie)?s\b", lambda end: "y" * bool(end[1]), things, count=1)
 
 
 def as_json(checked: Checked, links: Links) -> Dict[str, Any]:

@@ -9,7 +9,7 @@ from itertools import groupby
 from pathlib import Path
 from typing import Any, Callable, Iterator, List, Sequence, Tuple
 
-from balisekit.drawing.svg import in_page, svg
+from balisekit.drawing.svg import svg
 from balisekit.io.optional_packages import needed
 from balisekit.tables.names import clean
 
@@ -52,8 +52,7 @@ def _environment(jinja2: Any) -> Any:
         trim_blocks=True,
         lstrip_blocks=True,
     )
-    environment.filters.update(svg=lambda shapes: Markup(svg(shapes)), drawn=lambda picture: Markup(in_page(picture)))
-    environment.filters["clean"] = clean
+    environment.filters.update(svg=lambda shapes: Markup(svg(shapes)), clean=clean)
     return environment
 
 

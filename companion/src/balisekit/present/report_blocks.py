@@ -139,17 +139,23 @@ def picture_id(block: str) -> str:
     return f"p{block}"
 
 
-def blocks(checked: Checked, line: Line, found: Iterable[Listed], full: bool) -> Iterator[Block]:
-    """A block for each group, in the table's order, and for each message. A full one has nothing folded."""
+def blocks(checked: Checked, line: Line, found: Iterable[Listed], full: bool, part: int, count: int) -> Iterator[Block]:
+    """The blocks of one of so many equal parts of the groups, in the table's order. The last part has the messages.
+
+    A full one has nothing folded.
+    """
+    begin, end = (len(line.groups) * number // count for number in (part, part + 1))
     by_block: Dict[str, List[Listed]] = {}
     for each in found:
         by_block.setdefault(each.block, []).append(each)
     left_out = {left_out.group.name: clean(left_out.why) for left_out in checked.left_out}
     items = {item.id: item for item in refused(checked)}
-    for group, station in zip(line.directed, line.groups):
+    for group, station in zip(line.directed[begin:end], line.groups[begin:end]):
         refusals = {number: items[f"r{number}"] for number in group.places if f"r{number}" in items} if items else {}
         entries, why = by_block.get(f"g{station.number}", []), left_out.get(group.name, "")
         yield _block(station, group, checked.accepted, entries, refusals, full)._replace(left_out=why)
+    if part + 1 < count:
+        return
     if checked.accepted_messages:
         identities = Identities(line.directed, checked.accepted)
     for message in checked.accepted_messages:

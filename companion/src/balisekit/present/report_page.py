@@ -3,19 +3,24 @@ from __future__ import annotations
 
 from datetime import datetime
 from functools import partial
+from itertools import groupby
+from operator import itemgetter
 from tempfile import SpooledTemporaryFile
-from typing import IO, Dict, Iterable, Iterator, List, Optional, Tuple
+from typing import Dict, Iterator, List, NamedTuple, Optional, Sequence, Tuple
 
 from balisekit.drawing.flags import Mark, marks_of
-from balisekit.drawing.sheet import Picture
+from balisekit.drawing.svg import in_page
 from balisekit.drawing.track import track_pictures, tracks_of
+from balisekit.drawing.track_pages import shares
+from balisekit.io.workers import copies, shared
 from balisekit.present.cover import cover
 from balisekit.present.outcome_text import explained_rules
 from balisekit.present.pages import pieces, premises
-from balisekit.present.report import listed
-from balisekit.present.report_blocks import Block, block_html, blocks, overview_row
+from balisekit.present.report import ListedPart, listed
+from balisekit.present.report_blocks import KEPT, block_html, blocks, overview_row
 from balisekit.present.telegram_text import LEGEND
 from balisekit.rules.families import Outcome
+from balisekit.rules.line import Line
 from balisekit.rules.links import Links
 from balisekit.tables.names import clean
 from balisekit.tables.own_headings import ReportHeading
@@ -39,44 +44,70 @@ def report_page(
 
     `links` are those that pictures of tracks show. `command` begins the command that writes the document again.
     """
-    line, parts, names = links.line, listed(outcome), tracks_of(links.line)
-    made = blocks(outcome.checked, line, (each for part in parts for each in part.all), full)
-    with SpooledTemporaryFile(IN_MEMORY, "w+", encoding="utf-8") as groups:
-        noted = list(_written(made, groups, full))
+    parts, names = listed(outcome), tracks_of(links.line)
+    works = partial(_groups, outcome, links.line, parts, full), partial(_tracks, links, outcome, aspect)
+    several = shared(works, copies(len(links.line.groups)))
+    with SpooledTemporaryFile(IN_MEMORY, "w+", encoding="utf-8") as groups, several as (made, drawn):
+        about = cover(outcome, heading, command, now)  # (meanwhile others make the groups)
+        noted = [each._replace(html="") for each in made if groups.write(each.html)]
         groups.seek(0)
         yield from pieces(
             "report.html",
             STYLES,
             "report.js",
-            cover=cover(outcome, heading, command, now),
+            cover=about,
             found=parts,
             explained=list(explained_rules(outcome)),
-            rows=[overview_row(block, any(names)) for block in noted],
-            plain=sum(block.is_plain for block in noted),
-            pictured={block.id for block in noted if block.has_picture},
+            **_overview(noted),
             parts=iter(partial(groups.read, PIECE), ""),
-            legend=LEGEND,
-            premises=premises(),
-            links_rule=DISTANCE,
             aspect=aspect,
             full=full,
             has_tracks=bool(names),
             has_names=any(names),
-            tracks=_tracks(links, outcome, aspect),
+            tracks=((clean(name), map(itemgetter(1), some)) for name, some in groupby(drawn, itemgetter(0))),
+            legend=LEGEND,
+            premises=premises(),
+            links_rule=DISTANCE,
         )
 
 
-def _written(made: Iterable[Block], groups: IO[str], full: bool) -> Iterator[Block]:
-    """Writes the blocks. The answer is what the list of all groups has of each."""
-    for block in made:
-        groups.write(block_html(block, full))
-        yield block._replace(body="")
+def _overview(noted: List[Made]) -> Dict[str, object]:
+    """What the list of all groups and messages has."""
+    return {
+        "rows": [each.row for each in noted],
+        "plain": sum(each.is_plain for each in noted),
+        "pictured": {each.id for each in noted if each.has_picture},
+    }
 
 
-def _tracks(links: Links, outcome: Outcome, aspect: Optional[str]) -> Iterator[Tuple[str, Iterable[Picture]]]:
-    """The name and the pictures of each track."""
+class Made(NamedTuple):
+    """What the page has of a group or message."""
+
+    id: str
+    is_plain: bool
+    has_picture: bool
+    row: str
+    """That of the overview."""
+    html: str
+    """The block."""
+
+
+def _groups(
+    outcome: Outcome, line: Line, found: Sequence[ListedPart], full: bool, part: int, count: int
+) -> Iterator[Made]:
+    """A part of the groups and messages."""
+    listed_ones = (each for one in found for each in one.all)
+    for block in blocks(outcome.checked, line, listed_ones, full, part, count):
+        row = overview_row(block, any(line.along))
+        yield Made(block.id, block.is_plain, block.has_picture, row, block_html(block, full))
+    KEPT.forget()
+
+
+def _tracks(links: Links, outcome: Outcome, aspect: Optional[str], part: int, count: int) -> Iterator[Tuple[str, str]]:
+    """The name of the track and the picture, of each picture of a part of the tracks."""
     marks: Dict[str, List[Mark]] = {}
-    for mark in (mark for part in outcome.parts for mark in marks_of(part.open, part.accepted)):
+    for mark in (mark for each in outcome.parts for mark in marks_of(each.open, each.accepted)):
         marks.setdefault(mark.track, []).append(mark)
-    for name in tracks_of(links.line):
-        yield clean(name), track_pictures(links.line, links, name, aspect, marks.get(name, ()))
+    for name, within in shares(links.line, part, count):
+        for picture in track_pictures(links.line, links, name, aspect, marks.get(name, ()), within):
+            yield name, in_page(picture)

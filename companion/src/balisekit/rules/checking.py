@@ -2,9 +2,12 @@
 from __future__ import annotations
 
 import json
+import os
 import re
+from array import array
 from dataclasses import dataclass, replace
 from functools import cached_property, lru_cache, partial
+from tempfile import TemporaryFile
 from typing import Dict, Iterable, Iterator, List, Mapping, NamedTuple, Optional, Sequence, Set, Tuple, TypeVar
 
 from balisekit.engine.grammar import Finding, Refusal, Verdict
@@ -40,6 +43,23 @@ def note_raw(raw: Raw, number: int, record: Record) -> None:
             raw.setdefault((int(packet), from_track), []).append(number)
 
 
+class _Kept:
+    """Records in a temporary file, by the number of their rows. In memory each process that reads one would copy it."""
+
+    def __init__(self, decoded: Iterable[Tuple[Row, Record]], greatest: int) -> None:
+        self._file = TemporaryFile()
+        self._begins, self._ends = (array("Q", [0]) * (greatest + 1) for _ in range(2))
+        for row, record in decoded:
+            self._begins[row.number] = self._file.tell()
+            self._file.write(record.line.encode())
+            self._ends[row.number] = self._file.tell()
+        self._file.flush()
+
+    def __getitem__(self, number: int) -> Record:
+        begin = self._begins[number]
+        return Record(os.pread(self._file.fileno(), self._ends[number] - begin, begin).decode())
+
+
 class Telegrams(Mapping[int, Form]):
     """The records of the telegrams that the program can read, by the number of their rows.
 
@@ -54,12 +74,12 @@ class Telegrams(Mapping[int, Form]):
         """The packets that are kept as bits, once all telegrams have been decoded."""
 
     @cached_property
-    def _records(self) -> Mapping[int, Record]:
-        return {row.number: record for row, record in self.decoded()}
+    def _records(self) -> _Kept:
+        return _Kept(self.decoded(), max(self._rows, default=0))
 
     def keep(self) -> None:
         """Decodes all telegrams now, for those that ask for them several times."""
-        assert len(self._records) == len(self)
+        assert self._records
 
     def decoded(self, numbers: Optional[Iterable[int]] = None) -> Iterator[Tuple[Row, Record]]:
         """The records of these rows, or of all rows. Unless they are kept they are decoded now."""

@@ -131,6 +131,14 @@ class Line:
         """All data of the table as a train gets them. Rules that compare more than links and kilometres need them."""
         return decode(self.groups, self._telegrams, self.messages, self.jumps)
 
+    def for_pictures(self) -> None:
+        """Works out what pictures need, and lets go of `decoded`, which takes most of the memory."""
+        _ = self.along, self.sent, self.directed
+        self.__dict__.pop("_telegrams", None)
+        decoded: Optional[Decoded] = self.__dict__.pop("decoded", None)
+        for data in decoded.groups if decoded else ():
+            data.__dict__.pop("passages", None)  # (each of which has this object)
+
     @cached_property
     def _telegrams(self) -> Sequence[Telegram]:
         """The telegrams with all that they say, in the order of the table."""

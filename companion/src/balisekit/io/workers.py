@@ -1,0 +1,119 @@
+"""Work that several processes share. What they make comes in the order in which one process would make it."""
+from __future__ import annotations
+
+import os
+import pickle
+import signal
+import threading
+from contextlib import contextmanager
+from functools import partial
+from itertools import chain, repeat
+from tempfile import TemporaryFile
+from typing import Any, Callable, Iterable, Iterator, List, Sequence
+
+from balisekit.errors import NoAnswer
+from balisekit.io.interrupts import held
+
+LEAST, MOST = 500, 4
+"""So many items are shared at least, and by so many processes at most, each of which needs memory."""
+DONE = b"."
+Work = Callable[[int, int], Iterable[Any]]
+"""It makes a part: the number of the part, and how many there are."""
+
+
+def copies(items: int, most: int = MOST) -> int:
+    """How many copies of this process share so many items; none of few items, and none if it is the only processor's.
+
+    A copy lacks other threads, but not their locks.
+    """
+    processors = len(os.sched_getaffinity(0))
+    return min(most, processors) if items >= LEAST and processors > 1 and threading.active_count() == 1 else 0
+
+
+@contextmanager
+def shared(works: Sequence[Work], count: int) -> Iterator[Sequence[Iterator[Any]]]:
+    """What each work makes, by so many copies of this process. They begin at once, and end with the block.
+
+    Without copies it is made here, when it is asked for.
+    """
+    if not count:
+        yield [iter(work(0, 1)) for work in works]
+        return
+    workers: List[Worker] = []
+    try:
+        for part in range(count):
+            with held():
+                workers.append(Worker(works, part, count))
+        yield [chain.from_iterable(map(Worker.made, workers, repeat(number))) for number in range(len(works))]
+    finally:
+        for worker in workers:
+            worker.end()
+
+
+class Worker:
+    """A copy of this process that makes a part of each work. Interrupts do not reach it: who started it ends it.
+
+    What it makes of each work is in a file, so that it never waits for its reader.
+    """
+
+    def __init__(self, works: Sequence[Work], part: int, count: int) -> None:
+        self._files = [TemporaryFile() for _ in works]
+        self._done = 0
+        self._pipe, pipe = os.pipe()
+        try:
+            self._pid = os.fork()
+        except OSError as error:
+            raise NoAnswer(f"no process can be started: {error.strerror}") from error
+        if not self._pid:
+            self._make(works, part, count, pipe)
+        os.close(pipe)
+
+    def _make(self, works: Sequence[Work], part: int, count: int, pipe: int) -> None:
+        """All that the copy does. Nothing that it has of the other process is written or removed."""
+        status = 1
+        try:
+            os.close(self._pipe)
+            for work, file in zip(works, self._files):
+                for each in chain(work(part, count), (None,)):
+                    pickle.dump(each, file)
+                file.flush()
+                os.write(pipe, DONE)
+            status = 0
+        except BaseException as error:
+            from traceback import format_exc
+
+            os.write(pipe, pickle.dumps((error, format_exc())))
+        finally:
+            os._exit(status)
+
+    def made(self, number: int) -> Iterator[Any]:
+        """What it has made of the work of this number, once that is complete."""
+        while self._done <= number:
+            self._wait()
+            self._done += 1
+        with self._files[number] as file:
+            file.seek(0)
+            yield from iter(partial(pickle.load, file), None)
+
+    def _wait(self) -> None:
+        """Waits until the next work is complete. What has gone wrong in the copy is raised here."""
+        said = os.read(self._pipe, 1)
+        if said == DONE:
+            return
+        if said:
+            with open(self._pipe, "rb", closefd=False) as pipe:
+                error, where = pickle.loads(said + pipe.read())
+            raise error from RuntimeError(where)
+        status = os.waitstatus_to_exitcode(os.waitpid(self._pid, 0)[1])
+        self._pid = 0
+        how = signal.Signals(-status).name if status < 0 else f"status {status}"
+        raise NoAnswer(f"a process that shares the work has ended too early, by {how}: memory may have run out")
+
+    def end(self) -> None:
+        """Ends it, whatever it does."""
+        os.close(self._pipe)
+        if self._pid:
+            os.kill(self._pid, signal.SIGKILL)
+            os.waitpid(self._pid, 0)
+        for file in self._files:
+            file.close()
