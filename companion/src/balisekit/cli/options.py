@@ -20,7 +20,7 @@ from balisekit.tables.names import passed_over
 TABLE = "a CSV file or an .xlsx with the columns group and telegram"
 TIMEOUT = "how long to wait for each answer of the program; by default one minute, and longer for a large input"
 ASPECT = "the aspect of the groups that a track shows; by default the aspect with the farthest end of authority"
-TOLERANCE = "by how much places may differ beyond rounding, and for L2 beyond Q_LOCACC; by default 0"
+TOLERANCE = "by how much places may differ, for L1 and L2 beyond Q_LOCACC; by default 0"
 EXPLAIN = "show cause and remedy of each rule that has found something"
 EXACT = Decimal()
 """The tolerance without --tolerance."""
