@@ -22,9 +22,8 @@ LACKING = "note: the document lacks what was refused or left out: a yes for it i
 def add_options(parser: argparse.ArgumentParser) -> None:
     """The options of this command."""
     shared.add(parser, *shared.INPUTS)
-    shared.add(
-        parser, "--explain", help="show cause and remedy of each finding; with E9 as TABLE the page of that rule"
-    )
+    text = f"{shared.EXPLAIN}; with E9 as TABLE the page of that rule"
+    shared.add(parser, "--explain", help=text)
     shared.add(parser, "--all", "--accepted")
     add_only(parser)
     settings.add_options(parser)

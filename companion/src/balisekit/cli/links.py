@@ -17,7 +17,7 @@ def add_options(parser: argparse.ArgumentParser) -> None:
     """The options of this command."""
     shared.add(parser, *shared.INPUTS, "--tolerance")
     parser.add_argument("--jumps", **shared.input_file(settings.JUMPS))
-    shared.add(parser, "--explain", help="show cause and remedy of each rule that has found something")
+    shared.add(parser, "--explain")
     shared.add(parser, "--json", "--force")
 
 

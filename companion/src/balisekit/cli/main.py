@@ -38,10 +38,10 @@ exit status:
   1  `check`, `report`, `links`, `diff` or `table --expect` found something, or an accepted entry is at fault
   2  INCOMPLETE: a telegram or message was refused, or a rule compared none of what it had to compare; or refused: a
      table that cannot be read, wrong options, an output that would replace an input or, without --force, another file
-  3  no answer: no program, a file that cannot be written, an interrupt
+  3  no answer, such as no program, a file that cannot be written, an interrupt
   SIGTERM ends a command with status 143, SIGHUP with 129
 
-balisekit is not proved. It quotes the lines of balisecheck in full.
+balisekit is not proved. It quotes findings and refusals of balisecheck.
 """
 NO_SCRIPT = ("-h", "--help", "--program")
 """The start script of a clone is not run for a command with these options."""

@@ -20,7 +20,8 @@ from balisekit.tables.names import passed_over
 TABLE = "a CSV file or an .xlsx with the columns group and telegram"
 TIMEOUT = "how long to wait for each answer of the program; by default one minute, and longer for a large input"
 ASPECT = "the aspect of the groups that a track shows; by default the aspect with the farthest end of authority"
-TOLERANCE = "the error to allow for in the kilometres of the table, in addition to Q_LOCACC; by default 0"
+TOLERANCE = "by how much places may differ, for L1 and L2 beyond Q_LOCACC; by default 0"
+EXPLAIN = "show cause and remedy of each rule that has found something"
 EXACT = Decimal()
 """The tolerance without --tolerance."""
 
@@ -75,7 +76,7 @@ OPTIONS: Dict[str, Dict[str, Any]] = {
     "--fill-merged": flag("give all cells of a merged area of an .xlsx file the value of its first cell"),
     "--program": value("PATH", name, "the balisecheck to use"),
     "--timeout": value("SECONDS", _seconds, TIMEOUT),
-    "--explain": flag("show cause and remedy of each finding"),
+    "--explain": flag(EXPLAIN),
     "--all": flag(checking.ALL_HELP),
     "--accepted": input_file("a CSV file of accepted entries, each with who accepted it"),
     "--json": output_file("write the complete result as JSON"),

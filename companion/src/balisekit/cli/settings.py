@@ -58,9 +58,9 @@ FILES = ("jumps", "plan")
 
 def add_options(parser: argparse.ArgumentParser) -> None:
     """The options that state what the line is."""
-    shared.add(parser, "--tolerance", help=f"{shared.TOLERANCE}, and 1 for the rules E")
-    speed = f"the greatest speed of the line, for the rules E; {LINE_SPEED} by default"
-    release = f"the greatest release speed of the line, for the rules E; {RELEASE_SPEED} by default"
+    shared.add(parser, "--tolerance", help=f"{shared.TOLERANCE}, and 1 for E, X1 and X2")
+    speed = f"the greatest speed of the line, for E2 (else {LINE_SPEED}) and E11"
+    release = f"the greatest release speed of the line, for E2; {RELEASE_SPEED} by default"
     parser.add_argument("--line-speed", **shared.value("KM/H", _speed, speed))
     parser.add_argument("--release-speed", **shared.value("KM/H", _speed, release))
     parser.add_argument("--jumps", **shared.input_file(JUMPS))
