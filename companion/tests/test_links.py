@@ -667,10 +667,7 @@ def test_groups_between_two_are_counted_as_they_are_named() -> None:
 
 @pytest.mark.parametrize(
     "jump, kms, distance, identity, wanted",
-    [
-        (("5", "3"), ("4.9", "3.1", "4"), 2000, 2, "L9"),
-        (("1", "3"), ("0", "3.1", "3.2"), 1500, 9, "L1"),
-    ],
+    [(("5", "3"), ("4.9", "3.1", "4"), 2000, 2, "L9"), (("1", "3"), ("0", "3.1", "3.2"), 1500, 9, "L1")],
     ids=["back", "forward"],
 )
 def test_l1_and_l9_know_where_kilometres_jump(
@@ -679,7 +676,9 @@ def test_l1_and_l9_know_where_kilometres_jump(
     """What a jump back repeats has no order, and a jump forward leaves less of the track."""
     own = [[SAYING, link_tables.linking(1, link_tables.link(distance, identity, 1))], [SAYING], [SAYING]]
     for jumps, count in (((), 1), ((Jump(Decimal(jump[0]), Decimal(jump[1])),), 0)):
-        groups = [(group(name, km, nominal="rising"), []) for name, km in zip("ABC", kms)]
+        groups: List[Tuple[Group, List[Form]]] = [
+            (group(name, km, nominal="rising"), []) for name, km in zip("ABC", kms)
+        ]
         some = [(one, [header(place, *packets)]) for place, ((one, _), packets) in enumerate(zip(groups, own), 1)]
         made = line_with(*some)
         made.jumps = jumps

@@ -28,7 +28,7 @@ from balisekit.rules.rule import Options
 from balisekit.tables import messages as messages_file, reader
 
 Write = Callable[..., Path]
-MANY = 1500
+MANY = 3500
 """Of so many groups the workers have some seconds of work."""
 
 

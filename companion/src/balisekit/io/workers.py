@@ -14,7 +14,7 @@ from typing import Any, Callable, Iterable, Iterator, List, Sequence
 from balisekit.errors import NoAnswer
 from balisekit.io.interrupts import held
 
-LEAST, MOST = 500, 4
+LEAST, MOST = 2500, 4
 """So many items are shared at least, and by so many processes at most, each of which needs memory."""
 DONE = b"."
 Work = Callable[[int, int], Iterable[Any]]

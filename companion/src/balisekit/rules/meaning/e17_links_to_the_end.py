@@ -40,6 +40,7 @@ from balisekit.rules.meaning.reach import LESS, Reach, lanes_of_links
 from balisekit.rules.meaning.words import merged
 from balisekit.rules.rule import Options, Remark, Result, Rule, Urgency
 
+
 def find(line: Line, options: Options) -> Result:
     """Compares each end of authority with the links."""
     decoded = line.decoded
