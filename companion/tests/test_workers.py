@@ -164,12 +164,17 @@ def _lines(tracks: int, groups: int = workers.LEAST + 40) -> List[str]:
 def _begin(processors: int, *words: object) -> "subprocess.Popen[bytes]":
     """Begins a command that has so many processors: as many as there are, if these are fewer."""
     own = sorted(os.sched_getaffinity(0))[:processors]
+
+    def begin() -> None:
+        os.sched_setaffinity(0, own)
+        signal.signal(signal.SIGINT, signal.SIG_DFL)  # (a job in the background ignores it)
+
     return subprocess.Popen(
         [sys.executable, str(TOP / "companion" / "start.py"), *map(str, words)],
         stdout=subprocess.PIPE,
         stderr=subprocess.PIPE,
         env={**os.environ, "SOURCE_DATE_EPOCH": "1700000000"},
-        preexec_fn=lambda: os.sched_setaffinity(0, own),
+        preexec_fn=begin,
         start_new_session=True,
     )
 
