@@ -1,4 +1,4 @@
--- Bytes that are made of many digits at once.
+-- Blocks of 16 bytes, decoded from 32 digits at once.
 use Rattle.std.proofs.Common.{◌≡◌, ℕ, zero, suc, ◌+◌, ◌*◌, ◌^◌, ◌%◌, ◌<◌, ◌≤◌, ◌==◌, Bool, true, false, cond, ltb, List, [], ◌∷◌, ◌++◌, get_or, map, length, take, drop, Option, Some, None, Ok, bit_or, refl, sym, ap, ap₂, subst, ◌∙◌, arith}
 use Rattle.std.specs.Prelude.{IsTrue}
 use Rattle.std.specs.List.{range_with_len}
@@ -16,7 +16,7 @@ use Rattle.hex.proofs.Pairs.{cons_byte, decode_pairs-ok_pair, drop-pair, prepend
 
 -- ---- a pair of digits
 
--- what a digit is worth, and 255 where a byte is none
+-- the value of a digit, and 255 for a byte that is no digit
 abbrev pub worth_of : ℕ → ℕ
 worth_of c = unwrap_or (hex_digit_value c) 255
 
@@ -24,7 +24,7 @@ is_worth : (o : Option ℕ) → unwrap_or o 255 < 16 → o ≡ Some (unwrap_or o
 is_worth (Some v) small = refl
 is_worth None small = absurd (omega arith)
 
--- the byte of two digits, of what they are worth
+-- the byte of two digits, from their values
 abbrev pub byte_of : ℕ → ℕ → ℕ
 byte_of h l = bit_or (h * 16 % 256) l
 
@@ -40,7 +40,7 @@ pair_of a b place small =
     let whole : h * 16 % 256 ≡ h * 16 = omega arith in
     rw (va, vb, whole) (ap Ok (sym (or_shifted h 4 l low)))
 
--- ---- what all lanes pass
+-- ---- a test that all lanes pass
 
 all_set : (ms : List Bool) → mask_l ms + 1 ≡ 2 ^ length ms → (j : ℕ) → j < length ms → get_or ms j false ≡ true
 all_set [] full j lt = absurd (omega arith)
@@ -52,14 +52,14 @@ lane_set : (b : Bool) → top 7 (cond b 255 0) ≡ true → b ≡ true
 lane_set true set = refl
 lane_set false set = absurd cc
 
--- the test of the lane of a pair, of what the digits are worth
+-- the test of a pair's lane, from the values of the digits
 abbrev test_at : List ℕ → ℕ → ℕ
 test_at ws k = cond (ltb (bit_or (get_or ws (2 * k) 0) (get_or ws (2 * k + 1) 0)) 16) 255 0
 
 abbrev byte_at : List ℕ → ℕ → ℕ
 byte_at ws k = byte_of (get_or ws (2 * k) 0) (get_or ws (2 * k + 1) 0)
 
--- what digits of two vectors are worth
+-- the values of the digits in two vectors
 worth_at : (s a b : List ℕ) → 32 ≤ length s → a ≡ map worth_of (chunk 0 16 s) → b ≡ map worth_of (chunk 16 16 s)
     → (i : ℕ) → i < 32 → get_or (a ++ b) i 0 ≡ worth_of (get_or s i 0)
 worth_at s a b long front back i lt =

@@ -18,7 +18,7 @@ table u = map (λ c. entry u (hex_digit_value c)) (range_with_len 0 256)
 pub entry_at : (t : List ℕ) (u c : ℕ) → t ≡ table u → c < 256 → entry u (hex_digit_value c) ≡ slice_index t c
 entry_at t u c is byte = sym (ap (λ s. slice_index s c) is ∙ get_or-map-range_with_len (λ d. entry u (hex_digit_value d)) 0 256 c c 0 byte (omega arith))
 
--- an entry below 256 is that of a digit
+-- an entry below 256 is the entry of a digit
 is_digit : (u : ℕ) (o : Option ℕ) (e : ℕ) → entry u o ≡ e → e < 256 → (v : ℕ) × ((o ≡ Some v) × (v * u ≡ e))
 is_digit u (Some v) e is lt = (v, (refl, is))
 is_digit u None e is lt = absurd (omega arith)

@@ -11,14 +11,14 @@ without_comma true x =
     ap (λ n. take n (x ++ 44 ∷ [])) long ∙ take_at x (44 ∷ []) (length x) refl ∙ sym (append-nil x)
 without_comma false x = refl
 
--- what stands in front of a token: with the comma that it needs
+-- the text in front of a token, with the comma that the token needs
 front : (a b : Bool) (x : List ℕ) → cond b (x ++ comma_after a) (without a (x ++ comma_after a)) ≡ x ++ cond (a && b) (44 ∷ []) []
 front true true x = refl
 front false true x = refl
 front true false x = without_comma true x
 front false false x = without_comma false x
 
--- a line's text and the comma that may stand behind it
+-- a line's text and the comma that may follow it
 abbrev line : List ℕ → Bool → Line
 line x a = record { text = x ++ comma_after a; after_value = a }
 
@@ -32,19 +32,19 @@ printed x a [] = without_comma a x
 printed x a (t ∷ ts) =
     ap (λ l. without (puts l ts).after_value (puts l ts).text) (put_as x a t) ∙ printed (x ++ (separator a t ++ token_text t)) (ends t) ts ∙ simp append_assoc
 
--- a token that `json` printed alone
+-- a token that `json` printed by itself
 pub by_json : (l : Line) (t : Token) (text : List ℕ) (after_value : Bool) → begins t ≡ true → text ≡ l.text ++ (print (t ∷ []) ++ comma_after (ends t)) → after_value ≡ ends t
     → record { text = text; after_value = after_value } ≡ put l t
 unfolding print_from
 by_json l t text after_value begin is end = rw (is, end, begin, append-nil (token_text t)) refl
 
--- what stood in front of a text that was appended
+-- the text in front of an appended text is unchanged
 cut_back : (bytes old rest : List ℕ) (at len : ℕ) → take at bytes ≡ old ++ rest → length old ≡ len → take len bytes ≡ old
 cut_back bytes old rest at len is long =
     let within : len ≤ at = omega (arith, ap length is, length-append old rest, length-take at bytes) in
     sym (take-take len at bytes within) ∙ ap (take len) is ∙ take_at old rest len long
 
--- a line that is cut back to where it stood before a token, since no more had room
+-- a line that is cut back to its state before a token, because the rest did not fit
 pub restored : {E : Type 0} (r : Result (Unit {0}) E) (bytes before : List ℕ) (len at : ℕ) (after later : Bool) (t : Token) (old mid end wanted : Line)
     → record { text = take len before; after_value = after } ≡ old → len ≤ length before → mid ≡ put old t → begins t ≡ true
     → record { text = take at bytes; after_value = later } ≡ end → OnErr r (end ≡ mid) → is_err r ≡ true

@@ -1,4 +1,4 @@
--- Tokens that a line takes one after the other.
+-- Tokens that are appended to a line one after the other.
 use Rattle.std.proofs.Common.{◌≡◌, ◌∙◌, ◌++◌, List, ap, sym}
 use Rattle.std.proofs.lemmas.List.Sums.{fold-append}
 use Rattle.json.specs.Token.{Token}

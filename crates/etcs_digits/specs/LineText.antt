@@ -1,4 +1,4 @@
--- A line of JSON as it is written: each token's text, and behind a value the comma that may follow it.
+-- A line of JSON as it is written: the text of each token, and after a value the comma that may follow it.
 use Rattle.std.specs.Prelude.{◌≡◌, ◌-◌, ◌++◌, ℕ, Bool, false, cond, fold, List, [], ◌∷◌, length, refl, take, OnErr, OnOk, Result}
 use Rattle.std.specs.Coded.{Coded, code_by, coded×, coded_bool, coded_list, coded_ℕ}
 use Rattle.json.specs.Print.{begins, ends, token_text}
@@ -27,14 +27,14 @@ without there s = cond there (take (length s - 1) s) s
 abbrev pub comma_after : Bool → List ℕ
 comma_after after_value = cond after_value (44 ∷ []) []
 
--- a token more, where a closing mark takes the place of the comma
+-- one token more; a closing bracket overwrites the comma
 abbrev pub put : Line → Token → Line
 put l t = record { text = cond (begins t) l.text (without l.after_value l.text) ++ (token_text t ++ comma_after (ends t)); after_value = ends t }
 
 abbrev pub puts : Line → List Token → Line
 puts = fold put
 
--- the line became the wanted one, or stayed
+-- a call that returned Ok made the wanted line, a call that failed left the old one
 pub record Becomes {E : Type 0} (r : Result (Unit {0}) E) (old new wanted : Line) : Type 0 where
   pub ok : OnOk r (new ≡ wanted)
   pub err : OnErr r (new ≡ old)

@@ -1,5 +1,5 @@
-//! Numbers as decimal digits. Most have at most three, which are copied from a table, however many they are:
-//! a processor foresees badly how many digits the next number has.
+//! Numbers as decimal digits. Numbers below 1,000 are copied from a table without a branch on their number of
+//! digits, which a processor would often mispredict.
 
 ghost use Rattle.std.specs.Prelude.{◌≡◌, ◌+◌, ◌<◌, ◌≤◌, ◌∷◌, [], decimal, length, slice_index, take};
 ghost use Rattle.json.specs.Token.{number};
@@ -11,7 +11,7 @@ use itoa::Buffer;
 use json::Writer;
 use std::alloc::AllocError;
 
-// A row for each number: its digits, and then how many they are.
+// A row for each number: its digits, filled up to three bytes, and then how many they are.
 macro_rules! rows {
     ($($one:literal)*; $($two:literal)*; $($three:literal)*) => {
         [
@@ -72,7 +72,7 @@ static DIGITS: [[u8; 4]; 1000] = rows!(
     997 998 999
 );
 
-// Writes one digit at a place, and returns the place behind it.
+// Writes one digit at an index, and returns the next index.
 #[inline(always)]
 fn place_digit(buf: &mut [u8], at: usize, n: u64) -> usize
     requires below { n < 10 }
@@ -92,7 +92,7 @@ fn row_of(n: u64) -> [u8; 4]
     DIGITS[n as usize]
 }
 
-// Writes a number of at most three digits. What is copied behind them counts for nothing.
+// Writes a number of at most three digits. Bytes of `buf` after the digits may change.
 #[inline(always)]
 fn place_few(buf: &mut [u8], at: usize, n: u64) -> usize
     requires below { n < 1000 }
@@ -105,7 +105,7 @@ fn place_few(buf: &mut [u8], at: usize, n: u64) -> usize
     at + row[3] as usize
 }
 
-// Writes a number of any count of digits. Few numbers have seven or more.
+// Writes a number of any length. Out of line: few numbers have seven digits or more.
 #[cold]
 #[inline(never)]
 fn place_long(buf: &mut [u8], at: usize, n: u64) -> usize
@@ -131,7 +131,7 @@ fn place_many(buf: &mut [u8], at: usize, n: u64) -> usize
     place_digit(buf, at, n % 10)
 }
 
-// Writes a number in decimal digits at a place with room for 20, and returns the place behind them.
+// Writes a number in decimal digits, at most 20, at an index, and returns the index after them.
 #[inline(always)]
 pub(crate) fn place_decimal(buf: &mut [u8], at: usize, n: u64) -> usize
     requires { at + 20 ≤ length buf.old }
@@ -143,7 +143,7 @@ pub(crate) fn place_decimal(buf: &mut [u8], at: usize, n: u64) -> usize
     place_many(buf, at, n)
 }
 
-/// Sends a number in decimal digits. The contract is that of [`Writer::u64`], its error included.
+/// Writes a number in decimal digits. Contract and error are the same as for [`Writer::u64`].
 pub fn send_decimal(out: &mut Writer, n: u64) -> Result<(), AllocError>
     ensures { Writes result out.old out.new (number (decimal n)) }
 {

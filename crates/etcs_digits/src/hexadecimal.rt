@@ -1,5 +1,5 @@
-//! Hexadecimal digits become bytes 32 at once, and the last ones by tables. A text with anything else is left
-//! to `hex`.
+//! Decodes hexadecimal text: 32 digits at a time, and the last ones by two tables. Any other text goes to `hex`,
+//! which reports the error.
 
 ghost use Rattle.std.specs.Prelude.{ℕ, ◌≡◌, ◌+◌, ◌*◌, ◌<◌, ◌≤◌, true, false, length, get_or, map, ◌%◌, ◌⊎◌, IsTrue, IfOk, IfErr, Ok, MatchResult};
 ghost use Rattle.std.specs.Option.{unwrap_or};
@@ -10,7 +10,7 @@ use hex::FromHexError;
 use std::alloc::Global;
 use std::simd::prelude::*;
 
-// What each byte adds to that of its pair: its value as a hexadecimal digit, of this unit, or 256.
+// The value of each byte as a hexadecimal digit times `unit`, or 256 if it is no digit.
 macro_rules! table {
     ($unit:literal) => {
         [
@@ -41,10 +41,10 @@ static HIGH: [u16; 256] = table!(16);
 
 static LOW: [u16; 256] = table!(1);
 
-// How many bytes are made at once, of twice as many digits.
+// The number of bytes that are decoded at once, from twice as many digits.
 const BLOCK: usize = 16;
 
-// What each digit is worth, and 255 where a byte is none.
+// The value of each digit, and 255 for a byte that is no digit.
 #[inline(always)]
 fn worth(text: u8x16) -> u8x16
     ensures { result ≡ map (λ c. unwrap_or (hex_digit_value c) 255) text }
@@ -57,7 +57,7 @@ fn worth(text: u8x16) -> u8x16
     digit.simd_lt(u8x16::splat(10)).select(digit, of_letter)
 }
 
-// The bytes of the first 32 digits, and whether each of these is a digit. If not, the bytes say nothing.
+// The bytes of the first 32 digits, and whether all of these are digits. If not, the bytes are meaningless.
 #[inline(always)]
 fn block(text: &[u8]) -> (u8x16, bool)
     requires { 32 ≤ length text.now }
@@ -72,8 +72,8 @@ fn block(text: &[u8]) -> (u8x16, bool)
     ((high << u8x16::splat(4)) | low, are_digits)
 }
 
-// Writes the bytes that pairs of digits spell. An answer of false says nothing. Behind the blocks there is
-// one test for all digits, since what is no digit makes `seen` too great for all that follow.
+// Writes the bytes that pairs of digits spell. `false` is inconclusive. One test after the last block covers all
+// remaining digits: a byte that is no digit sets a high bit of `seen`.
 #[inline(always)]
 fn decode_quickly(text: &[u8], out: &mut [u8]) -> bool
     requires { length text.now ≡ 2 * length out.old }
@@ -99,7 +99,7 @@ fn decode_quickly(text: &[u8], out: &mut [u8]) -> bool
 }
 
 /// Writes the bytes that pairs of hexadecimal digits spell, in upper or lower case, the high four bits
-/// first. Returns whether the text has nothing but digits. If not, `out` says nothing.
+/// first. Returns whether the text has only digits. If not, the content of `out` is unspecified.
 #[inline]
 pub fn decode(text: &[u8], out: &mut [u8]) -> bool
     requires { length text.now ≡ 2 * length out.old }
@@ -115,8 +115,8 @@ pub fn decode(text: &[u8], out: &mut [u8]) -> bool
 
 /// The bytes that pairs of hexadecimal digits spell, in upper or lower case, the high four bits first.
 ///
-/// The errors are those of [`hex::decode`]. An empty text and one of an odd length take no memory. One with
-/// a byte that is no digit may take the memory of its bytes twice.
+/// The errors are the same as for [`hex::decode`]. An empty text and a text of odd length allocate nothing. A
+/// text with a byte that is no digit may allocate its bytes twice.
 pub fn decode_to_vec(alloc: Global, text: &[u8]) -> Result<Vec<u8>, FromHexError>
     ensures ok { IfOk result (λ bytes. decode_of text.now ≡ Ok bytes.items) }
     ensures err { IfErr result (λ e. (e ≡ OutOfMemory) ⊎ (decode_of text.now ≡ Err e)) }

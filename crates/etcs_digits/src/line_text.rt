@@ -1,5 +1,5 @@
-//! A line of JSON, token by token. The comma that may follow a value is written with the value, and a
-//! closing mark takes its place. So most tokens are appended as they are, a member with its number at once.
+//! A line of JSON, token by token. A value is written together with the comma that may follow it, and a closing
+//! bracket overwrites that comma. So most tokens are appended without a look at the next one.
 
 ghost use Rattle.std.specs.Prelude.{◌≡◌, ◌-◌, ◌++◌, ◌∷◌, [], IfOk, List, OnOk, cond, decimal, false, not, true};
 ghost use Rattle.json.specs.Print.{begins, ends, print, IsPrintable};
@@ -13,7 +13,7 @@ use json::{Token, Writer};
 use std::alloc::AllocError;
 use std::marker::Model;
 
-/// A line of JSON that is being written. Clauses see its text and whether a comma ends it.
+/// A line of JSON that is being written. Contracts see its text and whether that text ends with such a comma.
 #[derive(Drop)]
 pub struct LineText {
     bytes: Vec<u8>,
@@ -54,7 +54,7 @@ fn comma(after_value: bool) -> &'static [u8]
     if after_value { b"," } else { b"" }
 }
 
-// Where the text ends without the comma at its end, if one is there.
+// The length of the text without the comma at its end, if there is one.
 #[inline(always)]
 fn end_of(len: usize, comma: bool) -> usize
     ensures { result ≡ len - cond comma 1 0 }
@@ -63,7 +63,7 @@ fn end_of(len: usize, comma: bool) -> usize
 }
 
 impl LineText {
-    /// A line without a token, in the room of an earlier text. What stands there is lost.
+    /// A line without a token, in the buffer `room`. The content of the buffer is lost.
     pub fn new(room: Vec<u8>) -> LineText
         ensures { result ≡ empty_line }
     {
@@ -74,7 +74,7 @@ impl LineText {
         }
     }
 
-    /// The line of the tokens that were appended, with its `\n`. The only error is that memory runs out.
+    /// The line of the tokens that were appended, with its `\n`. Fails only if memory runs out.
     pub fn into_line(self) -> Result<Vec<u8>, AllocError>
         ensures { IfOk result (λ line.
             (ts : List JsonToken) → self ≡ puts empty_line ts → line.items ≡ print ts ++ 10 ∷ []) }
@@ -89,7 +89,7 @@ impl LineText {
         Ok(bytes)
     }
 
-    // Appends the mark that begins a list or an object.
+    // Appends the bracket that begins a list or an object.
     #[inline(always)]
     fn open(&mut self, mark: u8) -> Result<(), AllocError>
         ensures { Becomes result self.old self.new
@@ -101,7 +101,7 @@ impl LineText {
         Ok(())
     }
 
-    // Appends the mark that ends a list or an object, in the place of the comma behind its last value.
+    // Appends the bracket that ends a list or an object, over the comma after its last value.
     #[inline(always)]
     fn close(&mut self, mark: u8) -> Result<(), AllocError>
         ensures { Becomes result self.old self.new
@@ -129,7 +129,7 @@ impl LineText {
         Ok(())
     }
 
-    // Appends a token that begins a value or a member, as `json` writes it. No name of a record comes here.
+    // Appends a token that begins a value or a member, as `json` writes it. Not used for the names of records.
     #[cold]
     #[inline(never)]
     fn put_by_json(&mut self, token: Token<'_>) -> Result<(), AllocError>
@@ -177,7 +177,7 @@ impl LineText {
         Ok(())
     }
 
-    // Appends a key that needs an escape, and then a number. Without room for the number the key goes again.
+    // Appends a key that needs an escape, and then a number. If the number fails, the key is removed again.
     #[cold]
     #[inline(never)]
     fn member_by_json(&mut self, name: &str, n: u64) -> Result<(), AllocError>
@@ -193,7 +193,7 @@ impl LineText {
         added
     }
 
-    /// Appends a key and then a number, after one test of room.
+    /// Appends a key and then a number, after one capacity check.
     #[inline(always)]
     pub fn member(&mut self, name: &str, n: u64) -> Result<(), AllocError>
         ensures { Becomes result self.old self.new (puts self.old (key name.now ∷ number (decimal n) ∷ [])) }

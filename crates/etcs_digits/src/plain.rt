@@ -1,11 +1,11 @@
-//! Texts that a JSON string has as they are.
+//! Texts that need no escape in a JSON string.
 
 ghost use Rattle.std.specs.Prelude.{◌≡◌};
 ghost use Rattle.std.specs.Bool.{OnTrue};
 ghost use Rattle.json.specs.Print.{escape};
 
-// Whether a text needs no escape. An answer of false says nothing. The compiler answers for a text that it
-// knows, such as a key.
+// Whether a text needs no escape. `false` is inconclusive. The compiler evaluates the call for a constant text,
+// such as a key.
 #[inline(always)]
 pub(crate) fn is_plain(text: &[u8]) -> bool
     ensures { OnTrue result (escape text.now ≡ text.now) }

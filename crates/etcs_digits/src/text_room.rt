@@ -1,5 +1,4 @@
-//! Bytes at places of a buffer, and room for them. What lies behind a text is initialized ahead, so that a
-//! member is written after one test of room.
+//! A text buffer whose spare capacity is initialized ahead, so that a member needs only one capacity check.
 
 ghost use Rattle.std.specs.Prelude.{◌≡◌, ◌+◌, ◌<◌, ◌≤◌, ◌++◌, ◌∷◌, [], OnErr, OnOk, decimal, length, take, vec_capacity, vec_len};
 ghost use Rattle.json.specs.Filled.{Placed};
@@ -9,10 +8,10 @@ use crate::decimal::place_decimal;
 use std::alloc::AllocError;
 use std::simd::Simd;
 
-// Bytes that are made ready at once. Most lines have no more.
+// Zeros that are appended at once. Most lines are not longer.
 static ZEROS: [u8; 2048] = [0; 2048];
 
-// Appends zeros, as many as are wanted or more, a block at a time.
+// Appends at least `count` zeros, a block at a time.
 fn fill(bytes: &mut Vec<u8>, count: usize)
     requires { vec_len bytes.old + count ≤ vec_capacity bytes.old }
     ensures front { take (vec_len bytes.old) bytes.new.items ≡ bytes.old.items }
@@ -42,7 +41,7 @@ fn grow(bytes: &mut Vec<u8>, count: usize) -> Result<(), AllocError>
     Ok(())
 }
 
-// Makes some bytes ready behind a text of this length.
+// Makes `count` initialized bytes available after the first `len`.
 #[inline(always)]
 pub(crate) fn make_ready(bytes: &mut Vec<u8>, len: usize, count: usize) -> Result<(), AllocError>
     requires { len ≤ vec_len bytes.old }
@@ -58,7 +57,7 @@ pub(crate) fn make_ready(bytes: &mut Vec<u8>, len: usize, count: usize) -> Resul
     grow(bytes, count - ready)
 }
 
-// Writes one byte at a place, and returns the next place.
+// Writes one byte at an index, and returns the next index.
 #[inline(always)]
 pub(crate) fn place_byte(buf: &mut [u8], at: usize, byte: u8) -> usize
     requires { at < length buf.old }
@@ -81,7 +80,7 @@ fn place_ends<const N: usize>(buf: &mut [u8], at: usize, text: &[u8]) -> usize
     at + text.len()
 }
 
-// Writes a text at a place, and returns the place behind it. Most keys have 4 bytes to 16.
+// Writes a text at an index, and returns the index after it. Most keys have 4 to 16 bytes.
 #[inline(always)]
 pub(crate) fn place_text(buf: &mut [u8], at: usize, text: &[u8]) -> usize
     requires { at + length text.now ≤ length buf.old }
@@ -98,7 +97,7 @@ pub(crate) fn place_text(buf: &mut [u8], at: usize, text: &[u8]) -> usize
     at + len
 }
 
-// Writes a text in quotes and then a byte, and returns the place behind them.
+// Writes a text in quotes and then a byte, and returns the index after them.
 #[inline(always)]
 pub(crate) fn place_quoted(buf: &mut [u8], at: usize, text: &[u8], close: u8) -> usize
     requires { at + length text.now + 3 ≤ length buf.old }
@@ -110,7 +109,7 @@ pub(crate) fn place_quoted(buf: &mut [u8], at: usize, text: &[u8], close: u8) ->
     place_byte(buf, at, close)
 }
 
-// Writes a number and a comma at a place, and returns the place behind them.
+// Writes a number and a comma at an index, and returns the index after them.
 #[inline(always)]
 pub(crate) fn place_number(buf: &mut [u8], at: usize, n: u64) -> usize
     requires { at + 21 ≤ length buf.old }

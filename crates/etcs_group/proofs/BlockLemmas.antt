@@ -1,5 +1,5 @@
--- A group is made of blocks: balises without a mark, and pairs. Whichever balise of a pair speaks, a block
--- gives one list, so that each covered reading of a group says the same.
+-- A group is made of blocks: balises without a duplicate flag, and pairs. Whichever balises of a pair are
+-- read, a block gives one list, so each covered reading of a group has the same message.
 use Rattle.std.proofs.Common.{◌≡◌, ◌≢◌, ℕ, suc, ◌+◌, ◌<◌, Bool, true, false, not, cond, List, [], ◌∷◌, ◌++◌, length, refl, sym, ap, subst, ◌∙◌, arith, IsFalse, IsSomeAnd}
 use Rattle.std.proofs.lemmas.List.{append-nil}
 use Rattle.std.proofs.lemmas.Option.{slice_get_within}
@@ -23,7 +23,7 @@ use Rattle.etcs_group.proofs.SaidLemmas.{is_quiet, part, packets-passed, said-pa
 
 -- ---- a pair
 
--- is the first balise of a pair quiet, where b says whether the second is missed; and the second, where a says whether the first is
+-- whether a balise of a pair is quiet, given whether the other one is missed: first the first, then the second
 abbrev pub quiet_next : Run → Bool → Bool
 quiet_next runs.Nominal b = false
 quiet_next runs.Reverse b = not b
@@ -36,7 +36,7 @@ quiet_previous runs.Reverse a = false
 abbrev pub OneReads : (ℕ → Bool) → ℕ → Type 0
 OneReads missed i = missed i ≡ true → missed (suc i) ≡ false
 
--- the pieces of a pair, where a and b say whether its balises are missed
+-- the packets of a pair, if a and b are whether its balises are missed
 one_speaks : (run : Run) (h rest : List TrackPacket) (a b : Bool) → (a ≡ true → b ≡ false) → joined run (cond a [] (cond (quiet_next run b) [] h)) (joined run (cond b [] (cond (quiet_previous run a) [] h)) rest) ≡ joined run h rest
 one_speaks runs.Nominal h rest true true k = absurd (both_ways true (k refl) refl)
 one_speaks runs.Nominal h rest true false k = refl
@@ -58,7 +58,7 @@ quiet_previous-is runs.Reverse missed i = refl
 pub pair-says : (run : Run) (missed : ℕ → Bool) (i : ℕ) (t u : Telegram) (rest : List TrackPacket) → t.header.dup ≡ dups.Next → u.header.dup ≡ dups.Previous → held_by run t ≡ held_by run u → OneReads missed i → joined run (part run missed i t) (joined run (part run missed (suc i) u) rest) ≡ joined run (held_by run t) rest
 pair-says run missed i t u rest e f same one = rw (e, f, ← same, quiet_next-is run missed i, quiet_previous-is run missed i) (one_speaks run (held_by run t) rest (missed i) (missed (suc i)) one)
 
--- a balise with no mark is never quiet
+-- a balise without a duplicate flag is never quiet
 pub alone-says : (run : Run) (missed : ℕ → Bool) (i : ℕ) (t : Telegram) → t.header.dup ≡ dups.Single → missed i ≡ false → part run missed i t ≡ held_by run t
 alone-says run missed i t e m = rw (e, m) (go run)
   where
@@ -91,7 +91,7 @@ module _ (group : List Telegram) (run : Run) (missed : ℕ → Bool) (formed : I
   rest_tail : (i : ℕ) (u : Telegram) (us : List Telegram) → IsRest i (u ∷ us) → IsRest (suc i) us
   rest_tail i u us r = let e = r.0 in (omega arith, λ k t at. let z : i + suc k ≡ suc i + k = omega arith in subst (λ n. At group n t) z (r.1 (suc k) t at))
 
-  -- only a balise that is marked with the next stands before one that is marked with the previous
+  -- only a balise that names the next one is in front of a balise that names the previous one
   not_previous : (i : ℕ) (u : Telegram) (us : List Telegram) → u.header.dup ≢ dups.Next → IsRest i (u ∷ us) → (v : Telegram) → At us 0 v → v.header.dup ≢ dups.Previous
   not_previous i u us other rest v at e =
       let r = previous-at group formed (suc i) v (rest_first (rest_tail i u us rest)) e in

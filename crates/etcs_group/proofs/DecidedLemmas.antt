@@ -19,12 +19,12 @@ use Rattle.etcs_group.proofs.ReadingLemmas.{reading-at, at-reading, reading-orde
 use Rattle.etcs_group.proofs.MarkLemmas.{named-from_test, test_from-named, partner-says, partner-is}
 use Rattle.etcs_group.proofs.RefusalLemmas.{alike-both, disagrees-none, misplaced-none, miscounted-none, map-none, refusal-nothing, refusal-absent, positions-at, refusal-from_accepted, accepted_from-refusal}
 
--- the telegram has this position, or its mark names it
+-- the telegram has this position, or its duplicate flag names it
 abbrev stands_for : Telegram → ℕ → Bool
 stands_for t p = eqb t.header.position p || names t p
 
 module _ (run : Run) (group : List Telegram) (missed : ℕ → Bool) (formed : IsWellFormed group) where
-  -- ---- nothing but a position can be missing
+  -- ---- only a position can be missing
 
   like_first : (i : ℕ) (t first : Telegram) → At group 0 first → At (reading_of run missed group) i t → AreAlike t first × (t.header.total + 1 ≡ length group)
   like_first i t first at e =
@@ -76,7 +76,7 @@ module _ (run : Run) (group : List Telegram) (missed : ℕ → Bool) (formed : I
       let p = reading-at group missed run 0 first.0 first.1 in
       positions-at (reading_of run missed group) first.0 first.1 ∙ formed.counted p.0 first.0 p.1
 
-  -- ---- a position is absent exactly where its balise is lost
+  -- ---- a position is absent if and only if its balise is lost
 
   absent-lost : (b : ℕ) → b < length group → IsLost group missed b → is_absent (reading_of run missed group) b ≡ true
   absent-lost b lt h = not_from_false _ (list_any-none (λ u. stands_for u b) (reading_of run missed group) (λ i u e.
@@ -120,7 +120,7 @@ module _ (run : Run) (group : List Telegram) (missed : ℕ → Bool) (formed : I
       by_partner gone None e = inl (gone, rw e tt)
       by_partner gone (Some q) e = by_missed gone q e
 
--- ---- covered is that nothing is lost
+-- ---- a set is covered if and only if no place is lost
 
 covered_lost : (group : List Telegram) (missed : ℕ → Bool) (b : ℕ) → IsCovered group missed → IsLost group missed b → ⊥
 covered_lost group missed b h lost = go (partner_of group b) (h b lost.0) lost.1

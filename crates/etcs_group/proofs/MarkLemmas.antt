@@ -1,4 +1,4 @@
--- What marks name, and the partners of places.
+-- What duplicate flags name, and the partners of places.
 use Rattle.std.proofs.Common.{◌≡◌, ◌≢◌, ℕ, zero, suc, ◌+◌, ◌<◌, Bool, true, false, cond, eqb, ltb, List, length, slice_get, Option, Some, None, refl, sym, ap, subst, ◌∙◌, arith, option_and_then, IsSome}
 use Rattle.std.specs.Option.{option_map_or}
 use Rattle.std.proofs.lemmas.Option.{none-some, same_Some}
@@ -10,7 +10,7 @@ use Rattle.etcs_group.specs.Places.{At}
 use Rattle.etcs_group.specs.Group.{named_by, partner_of, IsWellFormed}
 use Rattle.etcs_group.proofs.PlaceLemmas.{one_at}
 
--- whether a mark at one number names another: the test of `names`
+-- whether a duplicate flag at one number names another: the test of `names`
 abbrev pub is_named : Dup → ℕ → ℕ → Bool
 is_named mark q p = option_map_or (λ r. eqb r p) (named_by mark q) false
 
@@ -35,7 +35,7 @@ below-some n p q h = go (ltb p n) refl h
     go true e g = let s = same_Some p q g in let lt = ltb-true p n e in (s, omega arith)
     go false e g = absurd (none-some q g)
 
--- the mark of the balise at place p names a place of the group or not
+-- what the duplicate flag of the balise at place p names
 abbrev named_at : List Telegram → ℕ → Option ℕ
 named_at group p = option_and_then (λ t. named_by t.header.dup p) (slice_get group p)
 
@@ -65,7 +65,7 @@ partner-is group p q t at e lt =
     ap (option_and_then (below (length group))) (named-at group p t at ∙ e)
     ∙ cond-true (ltb q (length group)) (Some q) None (lt-ltb q (length group) lt)
 
--- a balise without a mark has no partner
+-- a balise without a duplicate flag has no partner
 pub partner-single : (group : List Telegram) (p : ℕ) (t : Telegram) → At group p t → t.header.dup ≡ dups.Single → partner_of group p ≡ None
 partner-single group p t at e =
     ap (option_and_then (below (length group))) (named-at group p t at ∙ ap (λ mark. named_by mark p) e)
@@ -73,7 +73,7 @@ partner-single group p t at e =
 -- ---- in a well-formed group
 
 module _ (group : List Telegram) (formed : IsWellFormed group) where
-  -- a mark names a place of the group
+  -- a duplicate flag names a place of the group
   pub named_within : (b : ℕ) (t : Telegram) (c : ℕ) → At group b t → named_by t.header.dup b ≡ Some c → c < length group
   named_within b t c at n = from_partner (partner_of group b) refl (formed.inside b t at marked)
     where
@@ -87,7 +87,7 @@ module _ (group : List Telegram) (formed : IsWellFormed group) where
           let same : q ≡ c = same_Some q c (sym r.2 ∙ ap (λ (x : Telegram). named_by x.header.dup b) (one_at group b r.0 t r.1 at) ∙ n) in
           subst (λ k. k < length group) same r.3
 
-  -- the balise after one that is marked with the next is marked with the previous
+  -- the balise after one that names the next one names the previous one
   pub next-at : (b : ℕ) (t : Telegram) → At group b t → t.header.dup ≡ dups.Next → (partner_of group b ≡ Some (suc b)) × (u : Telegram) × At group (suc b) u × (u.header.dup ≡ dups.Previous)
   next-at b t at e =
       let one : b + 1 ≡ suc b = omega arith in
@@ -101,7 +101,7 @@ module _ (group : List Telegram) (formed : IsWellFormed group) where
       previous dups.Next n = let e = same_Some _ _ n in absurd (omega arith)
       previous dups.Previous n = refl
 
-  -- the balise before one that is marked with the previous is marked with the next
+  -- the balise before one that names the previous one names the next one
   pub previous-at : (b : ℕ) (u : Telegram) → At group b u → u.header.dup ≡ dups.Previous → (a : ℕ) × (b ≡ suc a) × (t : Telegram) × At group a t × (t.header.dup ≡ dups.Next)
   previous-at zero u at e = absurd (first (partner_of group 0) refl (formed.inside 0 u at marked))
     where

@@ -7,7 +7,7 @@ use Rattle.etcs_telegram.specs.Record.{Telegram}
 use Rattle.etcs_group.specs.Group.{partner_of}
 use Rattle.etcs_group.specs.Missed.{is_missed, IsCovered}
 
--- eight bits have no ninth
+-- a number of eight bits has no place above 7
 pub is_missed-above : (bits place : ℕ) → bits < 256 → 8 ≤ place → is_missed bits place ≡ false
 is_missed-above bits place small high = let small' : bits < 2 ^ 8 = small in ap (λ k. eqb k 1) (bit_at_above bits 8 place small' high)
 
@@ -15,7 +15,7 @@ is_missed-above bits place small high = let small' : bits < 2 ^ 8 = small in ap 
 abbrev pub IsServed : List Telegram → (ℕ → Bool) → ℕ → Type 0
 IsServed group missed b = IsTrue (missed b) → IsSomeAnd (partner_of group b) (λ p. IsFalse (missed p))
 
--- eight places are all that have to be served
+-- only the first eight places must be served
 pub covered-below : (group : List Telegram) (bits n : ℕ) → bits < 256 → 8 ≤ n → ((b : ℕ) → b < n → IsServed group (is_missed bits) b) → IsCovered group (is_missed bits)
 covered-below group bits n small high h b m = elim (cases_lt b n) [
   | inl lt ↦ h b lt m

@@ -1,4 +1,4 @@
--- A mixture is accepted exactly where it is covered and one aspect has all that it shows.
+-- A mixture is accepted if and only if it is covered and one aspect has all that it shows.
 use Rattle.std.proofs.Common.{◌≡◌, ◌≢◌, ℕ, zero, suc, ◌+◌, ◌-◌, ◌*◌, ◌^◌, ◌%◌, ◌<◌, ◌≤◌, eqb, bit_or, w8, Bool, true, false, not, cond, ◌&&◌, ltb, List, [], ◌∷◌, ◌++◌, length, reverse, get_or, slice_get, Option, Some, None, is_none, is_some, option_and_then, IsFalse, IsSomeAnd, refl, sym, ap, subst, ◌∙◌, arith, add-one}
 use Rattle.std.specs.List.{cons_option, filter_map, range_with_len}
 use Rattle.std.specs.Option.{option_map_or}
@@ -23,7 +23,7 @@ use Rattle.etcs_group.proofs.PlaceLemmas.{some_at, one_at, At-reverse, least-som
 use Rattle.etcs_group.proofs.ReadingLemmas.{kept_from, kept-is, at-reading}
 use Rattle.etcs_group.proofs.DecidedLemmas.{readings_are_decided}
 
--- ---- marks alone decide partners, and so what is covered
+-- ---- only duplicate flags decide partners, and so what is covered
 
 -- the place, if it is below n: the test of `partner_of`
 abbrev below : ℕ → ℕ → Option ℕ
@@ -113,7 +113,7 @@ module _ (aspects : List (List Telegram)) (shown : ℕ → Option ℕ) (is : IsC
           let same : s.0 ≡ t = same_Some s.0 t (sym s.2 ∙ h) in
           (a, e, subst (HasAt aspects a p) same s.1, s.3)
 
-  -- ---- where one aspect has all that is shown, the mixture is a reading of it
+  -- ---- if one aspect has all that is shown, the mixture is a reading of it
 
   module _ (group : List Telegram) (long : length group ≡ count_of aspects) (all : HasAllShown aspects shown group) where
     mixed_kept : (i : ℕ) (ts : List Telegram) → i + length ts ≡ count_of aspects → ((k : ℕ) (t : Telegram) → At ts k t → At group (i + k) t) → mixed_from aspects shown i (length ts) ≡ kept_from i (missed_in aspects shown) ts
@@ -182,7 +182,7 @@ module _ (aspects : List (List Telegram)) (shown : ℕ → Option ℕ) (is : IsC
           | inr ne ↦ absurd (one.distinct a b p q t u ne s s' low low' (accepted.one_counter.equal i.0 j.0 t u i.1 j.1 low low'))
         ]
 
-    -- a fixed place shows what stands there in every aspect
+    -- a fixed place shows the telegram that is there in every aspect
     fixed_at : (q b a : ℕ) (group : List Telegram) (u : Telegram) → At aspects a group → HasAt aspects b q u → q < count_of aspects → IsFixed aspects q → At group q u
     fixed_at q b a group u at s lt fixed =
         let long = is.counts a group at in
@@ -231,7 +231,7 @@ module _ (aspects : List (List Telegram)) (shown : ℕ → Option ℕ) (is : IsC
             low_at None h low = absurd (both_ways false refl low)
             low_at (Some t) h low = (t, h, ltb-true _ _ low)
 
-  -- ---- the law, where marks are the same in all aspects, and an accepted mixture shows one of them
+  -- ---- the law, if duplicate flags are the same in all aspects, and an accepted mixture shows one of them
 
   module _ (run : Run) (marks : (a b p : ℕ) (t u : Telegram) → HasAt aspects a p t → HasAt aspects b p u → t.header.dup ≡ u.header.dup) (some : IsAccepted run (mixed_of run aspects shown) → (a : ℕ) × (group : List Telegram) × At aspects a group × HasAllShown aspects shown group) (each : (a : ℕ) (group : List Telegram) → At aspects a group → MakesOneMessage group) where
     marks_of : (a b : ℕ) (g h : List Telegram) → At aspects a g → At aspects b h → (p : ℕ) (t u : Telegram) → At g p t → At h p u → t.header.dup ≡ u.header.dup
@@ -265,7 +265,7 @@ module _ (aspects : List (List Telegram)) (shown : ℕ → Option ℕ) (is : IsC
           ap (packets_of run) eq ∙ (each a group at).same run (missed_in aspects shown) (missed_set group long) covered;
     }
 
-  -- ---- one aspect alone
+  -- ---- only one aspect
 
   module _ (alone : length aspects ≤ 1) where
     -- it is the first
@@ -293,13 +293,13 @@ mixtures_are_decided run aspects shown is each one fit = elim (cases_lt 1 (lengt
 
 -- ---- the calls of a controlled group
 
--- what a place shows is what stands there in the list, and none past its end
+-- what a place shows is the element there in the list, and none past its end
 pub shown-is : (shown : List (Option ℕ)) (p : ℕ) → shown_in shown p ≡ get_or shown p None
 shown-is [] p = refl
 shown-is (o ∷ shown) zero = refl
 shown-is (o ∷ shown) (suc p) = shown-is shown p
 
--- eight places are all that there are
+-- there are only eight places
 pub shown-past : (shown : List (Option ℕ)) (p : ℕ) → length shown ≤ p → shown_in shown p ≡ None
 shown-past shown p le = ap (option_and_then (λ (a : Option ℕ). a)) (slice_get_past shown p le)
 
@@ -316,7 +316,7 @@ and-false : (b : Bool) → (b && false) ≡ false
 and-false true = refl
 and-false false = refl
 
--- another place is below i + 1 exactly where it is below i
+-- another place is below i + 1 if and only if it is below i
 same_below : (p i : ℕ) → p ≢ i → ltb p i ≡ ltb p (i + 1)
 same_below p i ne = elim (cases_lt p i) [
   | inl lt ↦ lt-ltb p i lt ∙ sym (lt-ltb p (i + 1) (omega arith))
@@ -330,7 +330,7 @@ same_below p i ne = elim (cases_lt p i) [
 abbrev pub AreMissed : (ℕ → Option ℕ) → ℕ → ℕ → Type 0
 AreMissed shown i bits = (p : ℕ) → is_missed bits p ≡ (ltb p i && is_none (shown p))
 
--- what a test of a place in the list says of what is shown there
+-- a test of a place in the list decides whether something is shown there
 pub none-from_test : (shown : List (Option ℕ)) (i : ℕ) (none : Bool) → is_some (get_or shown i None) ≡ not none → is_none (shown_in shown i) ≡ none
 none-from_test shown i none h = ap is_none (shown-is shown i) ∙ go (get_or shown i None) none h
   where
@@ -363,7 +363,7 @@ one_more_shown shown i bits some before p = elim (cases_eq p i) [
   | inr ne ↦ before p ∙ ap (λ b. b && is_none (shown p)) (same_below p i ne)
 ]
 
--- ---- what is read so far, and what the other places show
+-- ---- what is read so far, and what the remaining places show
 
 pub mixed-is : (run : Run) (aspects : List (List Telegram)) (shown : ℕ → Option ℕ) → mixed_of run aspects shown ≡ in_passing_order run (mixed_from aspects shown 0 (count_of aspects))
 mixed-is run aspects shown = ap (in_passing_order run) (mixed-from aspects shown 0 (count_of aspects))
@@ -387,7 +387,7 @@ module _ (aspects : List (List Telegram)) (shown : ℕ → Option ℕ) (i n : �
   no_more_read front whole is all =
       ap (λ l. front ++ l) (sym (mixed_step ∙ ap (λ o. cons_option o (mixed_from aspects shown (i + 1) (n - (i + 1)))) is)) ∙ all
 
--- where a place shows a telegram, something is read
+-- if a place shows a telegram, something is read
 pub mixed-some : (aspects : List (List Telegram)) (shown : ℕ → Option ℕ) → IsControlled aspects → Fits aspects shown → (run : Run) (p : ℕ) (t : Telegram) → shown_at aspects shown p ≡ Some t → mixed_of run aspects shown ≢ []
 mixed-some aspects shown is fit run p t h empty =
     let r = shown_read aspects shown is fit run p t h in

@@ -62,7 +62,7 @@ passed_kept run f missed i (t ∷ ts) = go (missed i) (passed_kept run f missed 
     go true ih = ih ∙ sym (joined-nil run _)
     go false ih = ap (joined run (f t)) ih
 
--- a function of places and elements that does not look at the place
+-- a function of places and elements that ignores the place
 pub flat_enumerated : {X A : Type 0} (f : ℕ → X → List A) (g : X → List A) (i : ℕ) (xs : List X) → ((k : ℕ) (x : X) → At xs k x → f (i + k) x ≡ g x) → flat_map (λ (e : ℕ × X). f e.0 e.1) (enumerate_from i xs) ≡ flat_map g xs
 flat_enumerated f g i [] h = refl
 flat_enumerated {X} f g i (x ∷ xs) h =

@@ -1,4 +1,4 @@
--- Places of a list, tests of what stands there, and the least number that passes.
+-- Places of a list, tests of the elements there, and the least number that passes.
 use Rattle.std.proofs.Common.{◌≡◌, ℕ, zero, suc, ◌+◌, ◌-◌, ◌<◌, ◌≤◌, Bool, true, false, cond, List, [], ◌∷◌, length, get_or, reverse, take, Option, Some, None, refl, sym, ap, ◌∙◌, arith, add-one}
 use Rattle.std.specs.List.{list_any, find, range_with_len}
 use Rattle.std.proofs.lemmas.Option.{slice_get_within, none-some, same_Some, slice_get-get_or, get_or_from_slice_get}
@@ -14,7 +14,7 @@ some_at [] i h = absurd (omega arith)
 some_at (x ∷ xs) zero h = (x, refl)
 some_at (x ∷ xs) (suc i) h = some_at xs i (omega arith)
 
--- one thing stands at a place
+-- there is one element at a place
 pub one_at : {X : Type 0} (xs : List X) (i : ℕ) (x y : X) → At xs i x → At xs i y → x ≡ y
 one_at xs i x y a b = same_Some x y (sym a ∙ b)
 
@@ -91,7 +91,7 @@ least_from-at from (suc n) k test a b met unmet = elim (cases_order from k) [
 pub least-at : (n k : ℕ) (test : ℕ → Bool) → k < n → test k ≡ true → ((j : ℕ) → j < k → test j ≡ false) → least n test ≡ Some k
 least-at n k test lt met unmet = find-least_from 0 n test ∙ least_from-at 0 n k test (omega arith) (omega arith) met (λ j a b. unmet j b)
 
--- what an answer says
+-- what a result shows
 least_from-some : (from n k : ℕ) (test : ℕ → Bool) → least_from from n test ≡ Some k → (from ≤ k) × (k < from + n) × (test k ≡ true) × ((j : ℕ) → from ≤ j → j < k → test j ≡ false)
 least_from-some from zero k test h = absurd (none-some k h)
 least_from-some from (suc n) k test h = go (λ g. least_from-some (suc from) n k test g) (test from) refl h

@@ -1,4 +1,4 @@
--- Lists of references, seen as what they refer to.
+-- Lists of references, as the values that they refer to.
 use Rattle.std.proofs.Common.{◌≡◌, ℕ, ◌<◌, ◌≤◌, Bool, true, false, ◌||◌, List, [], ◌∷◌, ◌++◌, map, reverse, length, take, get_or, Some, option_map, refl, sym, ap, ◌∙◌}
 use Rattle.std.specs.List.{list_any}
 use Rattle.std.proofs.lemmas.List.{reverse-append, map-append, length-map, take-map, take_all}

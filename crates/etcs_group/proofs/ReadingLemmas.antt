@@ -1,4 +1,4 @@
--- What a reading of a group holds.
+-- What a reading of a group contains.
 use Rattle.std.proofs.Common.{◌≡◌, ◌≢◌, ℕ, zero, suc, ◌+◌, ◌<◌, Bool, true, false, not, cond, List, [], ◌∷◌, length, map, reverse, filter, slice_get, refl, sym, ap, ◌∙◌, arith, add-one, IsTrue}
 use Rattle.std.specs.List.{enumerate_from}
 use Rattle.std.proofs.lemmas.Bool.{both_ways}
@@ -11,7 +11,7 @@ use Rattle.etcs_group.specs.Places.{At}
 use Rattle.etcs_group.specs.Reading.{reading_of}
 use Rattle.etcs_group.proofs.PlaceLemmas.{At-reverse}
 
--- the telegrams that are kept, where the first of the list stands at place i
+-- the telegrams that are kept; the first of the list is at place i
 abbrev pub kept_from : ℕ → (ℕ → Bool) → List Telegram → List Telegram
 kept_from i missed [] = []
 kept_from i missed (t ∷ ts) = cond (missed i) (kept_from (suc i) missed ts) (t ∷ kept_from (suc i) missed ts)
@@ -36,7 +36,7 @@ kept missed group = map (λ (e : ℕ × Telegram). e.1) (filter (λ (e : ℕ × 
 pub kept-is : (missed : ℕ → Bool) (group : List Telegram) → kept missed group ≡ kept_from 0 missed group
 kept-is missed group = filtered_from 0 missed group
 
--- a member of what is kept stands in the list at a place that is not missed
+-- a member of what is kept is in the list at a place that is not missed
 kept-at : (i : ℕ) (missed : ℕ → Bool) (ts : List Telegram) (a : ℕ) (t : Telegram) → At (kept_from i missed ts) a t → (b : ℕ) × At ts b t × (missed (i + b) ≡ false)
 kept-at i missed [] a t h = absurd (none-some t h)
 kept-at i missed (u ∷ ts) a t h = go (λ a h. let r = kept-at (suc i) missed ts a t h in
@@ -63,7 +63,7 @@ at-kept i missed (u ∷ ts) (suc b) t h m =
     go r true = r
     go r false = (suc r.0, r.1)
 
--- two members in order stand in order in the list
+-- two members in order are in order in the list
 kept-order : (i : ℕ) (missed : ℕ → Bool) (ts : List Telegram) (a c : ℕ) (t u : Telegram) → a < c → At (kept_from i missed ts) a t → At (kept_from i missed ts) c u → (b e : ℕ) × (b < e) × At ts b t × At ts e u
 kept-order i missed [] a c t u lt h k = absurd (none-some t h)
 kept-order i missed (x ∷ ts) a c t u lt h k = go (λ a c lt h k. let r = kept-order (suc i) missed ts a c t u lt h k in let less = r.2 in (suc r.0, suc r.1, omega arith, r.3, r.4)) (missed i) a c lt h k
@@ -123,7 +123,7 @@ module _ (group : List Telegram) (missed : ℕ → Bool) where
       let r = ordered q.0 p.0 u t (omega arith) q.1 p.1 in
       (r.1, r.0, r.2, r.4, r.3)
 
-  -- where all is missed, nothing is read
+  -- if all is missed, nothing is read
   pub all_missed : (run : Run) → ((b : ℕ) → b < length group → IsTrue (missed b)) → reading_of run missed group ≡ []
   all_missed run h = go (reading_of run missed group) refl
     where
@@ -134,7 +134,7 @@ module _ (group : List Telegram) (missed : ℕ → Bool) where
           let r = reading-at run 0 t at in
           absurd (both_ways (missed r.0) r.2 (h r.0 (slice_get_within group r.0 t r.1)))
 
-  -- where one is not missed, something is read
+  -- if one is not missed, something is read
   pub reading-some : (run : Run) (b : ℕ) (t : Telegram) → At group b t → missed b ≡ false → reading_of run missed group ≢ []
   reading-some run b t at kept none =
       let r = at-reading run b t at kept in

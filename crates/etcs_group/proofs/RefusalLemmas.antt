@@ -1,4 +1,4 @@
--- A list is accepted exactly where no refusal stands.
+-- A list is accepted if and only if there is no reason to refuse it.
 use Rattle.std.proofs.Common.{◌≡◌, ◌≢◌, ℕ, zero, suc, ◌+◌, ◌-◌, ◌<◌, ◌≤◌, Bool, true, false, not, ◌&&◌, ◌||◌, eqb, ltb, cond, List, [], ◌∷◌, length, take, slice_get, Option, Some, None, refl, sym, ap, subst, ◌∙◌, arith, option_map}
 use Rattle.std.specs.Cmp.{booleans_Decides}
 use Rattle.std.specs.Option.{option_map_or, option_or}
@@ -90,12 +90,12 @@ after-trans : (run : Run) (t u v : Telegram) → comes_after run t u ≡ true �
 after-trans runs.Nominal t u v h k = let a = ltb-true _ _ h in let b = ltb-true _ _ k in lt-ltb _ _ (omega arith)
 after-trans runs.Reverse t u v h k = let a = ltb-true _ _ h in let b = ltb-true _ _ k in lt-ltb _ _ (omega arith)
 
--- ---- what is true of each place leaves no refusal
+-- ---- if each place is as required, there is no refusal
 
 pub disagrees-none : (s : List Telegram) → ((i j : ℕ) (t u : Telegram) → At s i t → At s j u → AreAlike t u) → ((i j : ℕ) (t u : Telegram) → At s i t → At s j u → t.header.total ≡ u.header.total) → (i : ℕ) → disagrees_at s i ≡ false
 disagrees-none s h k i = pair-none s 0 i (λ first t. not (agree first.header t.header)) (λ t u a b. not_from_true _ (agree-true t u (h 0 i t u a b) (k 0 i t u a b)))
 
--- is a telegram that stands at place i misplaced
+-- whether a telegram at place i is misplaced
 abbrev pub misplaces : Run → List Telegram → ℕ → Telegram → Bool
 misplaces run s i u =
     ltb u.header.total u.header.position || (ltb 0 i && passes_at s (i - 1) (λ t. not (comes_after run t u)))
@@ -124,7 +124,7 @@ miscounts-none earlier t h k = or_from _ _ (ne_eqb _ _ h) (elim (cases_lt t.head
 pub miscounted-none : (s : List Telegram) → HasOneCounter s → (i : ℕ) → is_miscounted_at s i ≡ false
 miscounted-none s one i = passes-none s i (miscounts (take i s)) (λ t e. miscounts-none (take i s) t (one.agrees i t e) (λ j u f a b. one.equal j i u t (At-take i s j u f).1 e a b))
 
--- the first of the reasons but Nothing
+-- the first of the reasons other than Nothing
 abbrev pub reason_in : Run → List Telegram → Option Refused
 reason_in run s =
     option_or (option_map reasons.Disagree (least (length s) (disagrees_at s)))
@@ -132,7 +132,7 @@ reason_in run s =
     (option_or (option_map reasons.Absent (least (positions_of s) (is_absent s)))
     (option_map reasons.Counter (least (length s) (is_miscounted_at s)))))
 
--- the refusal of a list that is there
+-- the refusal of a list that is not empty
 pub refusal-some : (run : Run) (s : List Telegram) → 0 < length s → refusal_of run s ≡ reason_in run s
 refusal-some run s h =
     let some : length s ≢ 0 = omega arith in
@@ -176,7 +176,7 @@ pub map-none : (f : ℕ → Refused) (o : Option ℕ) → option_map f o ≡ Non
 map-none f None h = refl
 map-none f (Some x) h = absurd (none-some (f x) (sym h))
 
--- each place comes after the one before it, so each after all before it
+-- each place comes after the one before it, and so after all before it
 in_order-from_steps : (run : Run) (s : List Telegram) → ((i : ℕ) (t u : Telegram) → At s i t → At s (suc i) u → comes_after run t u ≡ true) → (i j : ℕ) (t u : Telegram) → i < j → At s i t → At s j u → comes_after run t u ≡ true
 in_order-from_steps run s h i zero t u lt e f = absurd (omega arith)
 in_order-from_steps run s h i (suc j) t u lt e f = elim (cases_order i j) [

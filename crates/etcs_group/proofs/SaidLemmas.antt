@@ -1,4 +1,4 @@
--- What a covered reading of a well-formed group says.
+-- The message of a covered reading of a well-formed group.
 use Rattle.std.proofs.Common.{◌≡◌, ℕ, zero, suc, ◌+◌, ◌<◌, Bool, true, false, not, cond, List, [], length, take, Some, refl, sym, ap, subst, ◌∙◌, arith}
 use Rattle.std.specs.List.{list_any, enumerate_from}
 use Rattle.std.proofs.lemmas.Option.{none-some, same_Some, slice_get_within}
@@ -21,13 +21,13 @@ use Rattle.etcs_group.proofs.MarkLemmas.{named-from_test, test_from-named, named
 use Rattle.etcs_group.proofs.ReadingLemmas.{kept, kept-is, reading-at, at-reading, reading-order, IsPassedBefore}
 use Rattle.etcs_group.proofs.PassingLemmas.{joined_by, joined_by-is, passed, passed-is, passed-agree, passed_kept, flat_enumerated}
 
--- is the balise at place b quiet: the one that its mark names is read before it
+-- whether the balise at place b is quiet: the one that its duplicate flag names is read before it
 abbrev pub is_quiet : Run → (ℕ → Bool) → Dup → ℕ → Bool
 is_quiet runs.Nominal missed dups.Previous (suc b) = not (missed b)
 is_quiet runs.Reverse missed dups.Next b = not (missed (suc b))
 is_quiet run missed mark b = false
 
--- what the balise at place b says
+-- what the balise at place b adds to the message
 abbrev pub part : Run → (ℕ → Bool) → ℕ → Telegram → List TrackPacket
 part run missed b t = cond (missed b) [] (cond (is_quiet run missed t.header.dup b) [] (held_by run t))
 
@@ -36,7 +36,7 @@ same_bool true b f g = sym (f refl)
 same_bool false true f g = g refl
 same_bool false false f g = refl
 
--- a mark at c that names b, where b is passed before c
+-- a duplicate flag at c that names b, if b is passed before c
 quiet-named : (run : Run) (missed : ℕ → Bool) (m : Dup) (b c : ℕ) → IsPassedBefore run b c → named_by m c ≡ Some b → missed b ≡ false → is_quiet run missed m c ≡ true
 quiet-named runs.Nominal missed dups.Single b c lt n k = absurd (none-some b n)
 quiet-named runs.Nominal missed dups.Next b c lt n k = let e = same_Some _ _ n in absurd (omega arith)
@@ -47,7 +47,7 @@ quiet-named runs.Reverse missed dups.Next b c lt n k = let e = same_Some _ _ n i
 quiet-named runs.Reverse missed dups.Previous b zero lt n k = absurd (none-some b n)
 quiet-named runs.Reverse missed dups.Previous b (suc c) lt n k = let e = same_Some _ _ n in absurd (omega arith)
 
--- a mark at c by which the balise is quiet names one that is passed before c
+-- a duplicate flag at c by which the balise is quiet names a balise that is passed before c
 named-quiet : (run : Run) (missed : ℕ → Bool) (m : Dup) (c : ℕ) → is_quiet run missed m c ≡ true → (b : ℕ) × IsPassedBefore run b c × (named_by m c ≡ Some b) × (missed b ≡ false)
 named-quiet runs.Nominal missed dups.Single c q = absurd (both_ways false refl q)
 named-quiet runs.Nominal missed dups.Next c q = absurd (both_ways false refl q)
@@ -67,7 +67,7 @@ passed_same runs.Nominal b h = omega arith
 passed_same runs.Reverse b h = omega arith
 
 module _ (group : List Telegram) (run : Run) (missed : ℕ → Bool) (formed : IsWellFormed group) where
-  -- a read telegram finds the one that its mark names before it exactly where that one is read and passed before
+  -- the telegram that a duplicate flag names is read earlier if and only if its balise is read and passed before
   quiet-read : (i : ℕ) (t : Telegram) → At (reading_of run missed group) i t → list_any (λ u. names t u.header.position) (take i (reading_of run missed group)) ≡ is_quiet run missed t.header.dup t.header.position
   quiet-read i t e = same_bool _ _ forth back
     where
@@ -133,10 +133,10 @@ module _ (group : List Telegram) (run : Run) (missed : ℕ → Bool) (formed : I
           let z : 0 + k ≡ k = omega arith in
           ap (λ n. given_at run (reading_of run missed group) n t) z ∙ ap (λ b. cond b [] (held_by run t)) (quiet-read k t e)
 
--- ---- what a group says, by its places
+-- ---- the message of a group, by its places
 
 module _ (group : List Telegram) (formed : IsWellFormed group) where
-  -- where nothing is missed, a balise is quiet exactly where it is silent
+  -- with nothing missed, a balise is quiet if and only if it is silent
   silent-quiet : (run : Run) (b : ℕ) (t : Telegram) → At group b t → is_silent run t.header.dup (length group) b ≡ is_quiet run none_missed t.header.dup b
   silent-quiet run b t at = go run t.header.dup refl b at
     where
@@ -161,6 +161,6 @@ module _ (group : List Telegram) (formed : IsWellFormed group) where
       let z : 0 + k ≡ k = omega arith in
       ap (λ s. cond s [] (held_by run t)) (silent-quiet run (0 + k) t (subst (λ n. At group n t) (sym z) e)))
 
-  -- with nothing missed the packets are what the group says
+  -- with nothing missed the packets are the message of the group
   pub said-packets : (run : Run) → said_by run group ≡ packets_of run (reading_of run none_missed group)
   said-packets run = said-passed run ∙ sym (packets-passed group run none_missed formed)

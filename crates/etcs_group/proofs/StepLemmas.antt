@@ -33,7 +33,7 @@ module _ (run : Run) (s : List Telegram) (long : 0 < length s) (same : None ≡ 
   pub refusal-not : None ≡ least (length s) (is_misplaced_at run s) → None ≡ least (positions_of s) (is_absent s) → None ≡ least (length s) (is_miscounted_at s) → None ≡ refusal_of run s
   refusal-not b c e = sym (refusal-some run s long ∙ rw (← same, ← b, ← c, ← e) refl)
 
--- a telegram whose position is not above its total is misplaced exactly where it does not come after
+-- a telegram whose position is not above its total is misplaced if and only if it does not come after
 -- the one before
 pub misplaced-is : (run : Run) (s : List Telegram) (i : ℕ) (t u : Telegram) → 0 < i → At s (i - 1) t → At s i u → ltb u.header.total u.header.position ≡ false → not (comes_after run t u) ≡ is_misplaced_at run s i
 misplaced-is run s i t u there a b inside = sym (
@@ -52,7 +52,7 @@ miscounted-is s i t counter answer at same small h =
 
 -- ---- packets
 
--- the packets of ts, which stand in s from place i on
+-- the packets of ts, which are the part of s from place i on
 abbrev pub packets_from : Run → List Telegram → ℕ → List Telegram → List TrackPacket
 packets_from run s i ts = flat_map (λ (e : ℕ × Telegram). given_at run s e.0 e.1) (enumerate_from i ts)
 
@@ -62,7 +62,7 @@ packets_step run s i t at =
     let e = get_or_from_slice_get s i t t at in
     ap (packets_from run s i) (drop_more s i t lt ∙ ap (λ x. x ∷ drop (i + 1) s) e)
 
--- one more telegram that speaks, and one that is silent
+-- one more telegram that adds its packets, and one that is silent
 pub packets_more : (run : Run) (s : List Telegram) (i : ℕ) (t : Telegram) (xs ys all : List TrackPacket) → At s i t → xs ++ packets_from run s i (drop i s) ≡ all → list_any (λ u. names t u.header.position) (take i s) ≡ false → ys ≡ xs ++ held_by run t → ys ++ packets_from run s (i + 1) (drop (i + 1) s) ≡ all
 packets_more run s i t xs ys all at h quiet e =
     let rest = packets_from run s (i + 1) (drop (i + 1) s) in
@@ -75,7 +75,7 @@ packets_same run s i t xs all at h silent =
     let step : packets_from run s i (drop i s) ≡ rest = packets_step run s i t at ∙ ap (λ b. cond b [] (held_by run t) ++ rest) silent in
     ap (λ l. xs ++ l) (sym step) ∙ h
 
--- ---- where there is something to give, so that memory may be asked for
+-- ---- if there is something to return, the call may allocate
 
 pub filter-some : {X : Type 0} (test : X → Bool) (xs : List X) (i : ℕ) (x : X) → At xs i x → test x ≡ true → filter test xs ≢ []
 filter-some test [] i x at e = absurd (none-some x at)
@@ -96,7 +96,7 @@ nil_right : {X : Type 0} (xs ys : List X) → xs ++ ys ≡ [] → ys ≡ []
 nil_right [] ys e = e
 nil_right (x ∷ xs) ys e = absurd cc
 
--- a telegram that speaks and has packets
+-- a telegram that is not silent and has packets
 pub packets_some : (run : Run) (s : List Telegram) (i : ℕ) (t : Telegram) (xs all : List TrackPacket) → At s i t → xs ++ packets_from run s i (drop i s) ≡ all → list_any (λ u. names t u.header.position) (take i s) ≡ false → held_by run t ≢ [] → all ≢ []
 packets_some run s i t xs all at h quiet some none =
     let rest = packets_from run s (i + 1) (drop (i + 1) s) in

@@ -1,6 +1,6 @@
 -- Which lists of telegrams make one message (this project's rule, after SUBSET-026, 3.16.2), and why
--- others are refused. The telegrams stand in the order in which they were passed. A position is an
--- N_PIG, a place an index in the list of what was read, not in the group.
+-- others are refused. The telegrams are in passing order. A position is an N_PIG. A place is an index in the
+-- list of what was read, not in the group.
 use Rattle.std.specs.Prelude.{◌≡◌, ℕ, ◌+◌, ◌-◌, ◌<◌, ◌≤◌, ◌==◌, nat_lt, Bool, false, not, ◌&&◌, ◌||◌, if◌then◌else◌, length, take, slice_get, Option, Some, IsTrue, IsFalse, option_map}
 use Rattle.std.specs.Bool.{beq}
 use Rattle.std.specs.List.{list_any}
@@ -22,11 +22,11 @@ abbrev pub comes_after : Run → Telegram → Telegram → Bool
 comes_after runs.Nominal t u = nat_lt t.header.position u.header.position
 comes_after runs.Reverse t u = nat_lt u.header.position t.header.position
 
--- the mark of the telegram names this position
+-- the duplicate flag of the telegram names this position
 abbrev pub names : Telegram → ℕ → Bool
 names t p = option_map_or (λ q. q == p) (named_by t.header.dup t.header.position) false
 
--- no telegram has this position, and no mark names it
+-- no telegram has this position, and no duplicate flag names it
 abbrev pub is_absent : Telegrams → ℕ → Bool
 is_absent s p = not (list_any (λ t. (t.header.position == p) || names t p) s)
 
@@ -44,7 +44,7 @@ pub record IsAccepted (run : Run) (s : Telegrams) : Type 0 where
 
 -- ---- refused
 
--- the telegram at place i passes the test; where none stands, nothing does
+-- the telegram at place i passes the test; past the end of the list none does
 abbrev pub passes_at : Telegrams → ℕ → (Telegram → Bool) → Bool
 passes_at s i test = option_map_or test (slice_get s i) false
 
@@ -65,7 +65,7 @@ is_misplaced_at run s i =
     passes_at s i (λ u. nat_lt u.header.total u.header.position
     || (nat_lt 0 i && passes_at s (i - 1) (λ t. not (comes_after run t u))))
 
--- how many positions there are, by the total of place 0
+-- the number of positions, by the total of place 0
 abbrev pub positions_of : Telegrams → ℕ
 positions_of s = option_map_or (λ t. t.header.total + 1) (slice_get s 0) 0
 

@@ -1,17 +1,17 @@
--- Controlled groups. The balise group of a signal shows one of several contents, its aspects, each of
--- which is a group. A lineside unit chooses among them, and may switch while a train passes. What makes
--- aspects one group is this project's rule, after SUBSET-026, 3.16.2.
+-- Controlled groups. A controlled group shows one of several contents, its aspects, each of which is a group.
+-- A lineside unit selects the aspect, and may switch while a train passes. Which aspects are contents of one
+-- group is this project's rule, after SUBSET-026, 3.16.2.
 use Rattle.std.specs.Prelude.{◌≡◌, ◌≢◌, ℕ, ◌<◌, [], ◌∷◌, length, ◌⊎◌}
 use Rattle.etcs_telegram.specs.Record.{Telegram}
 use Rattle.etcs_group.specs.Places.{At}
 use Rattle.etcs_group.specs.Group.{AreAlike, Telegrams, Aspects}
 
--- how many balises the group has: as many as its first aspect
+-- the number of balises: as many as the first aspect has
 abbrev pub count_of : Aspects → ℕ
 count_of [] = 0
 count_of (first ∷ _) = length first
 
--- A controlled group has one or more aspects, all of one count, which is not 0.
+-- A controlled group has one or more aspects, all with the same number of balises, which is not 0.
 pub record IsControlled (aspects : Aspects) : Type 0 where
   pub some : 0 < length aspects
   pub balises : 0 < count_of aspects
@@ -31,7 +31,8 @@ abbrev pub IsSwitched : Aspects → ℕ → Type 0
 IsSwitched aspects p = (a : ℕ) (t : Telegram) → HasAt aspects a p t → t.header.counter < 254
 
 -- Aspects are contents of one group, and distinguished by their counters. All their telegrams are alike.
--- Each place has one mark in all of them, and is fixed or switched. Counters below 254 of two aspects differ.
+-- Each place has the same duplicate flag in all of them, and is fixed or switched. Counters below 254 of two
+-- aspects differ.
 pub record AreOneGroup (aspects : Aspects) : Type 0 where
   pub alike : (a b p q : ℕ) (t u : Telegram) → HasAt aspects a p t → HasAt aspects b q u → AreAlike t u
   pub marks : (a b p : ℕ) (t u : Telegram) → HasAt aspects a p t → HasAt aspects b p u

@@ -1,5 +1,5 @@
--- Balise groups and their marks (SUBSET-026, 3.16.2). A group is the telegrams of its balises, in the
--- order given; a place is an index in it. By its mark, M_DUP, a balise declares that a
+-- Balise groups and their duplicate flags (SUBSET-026, 3.16.2). A group is the telegrams of its balises, in the
+-- order given; a place is an index in it. By its duplicate flag, M_DUP, a balise declares that a
 -- neighbour carries the same information, so that a train may miss either of the two. Which groups are
 -- well formed is this project's rule.
 use Rattle.std.specs.Prelude.{◌≡◌, ◌≢◌, ℕ, zero, suc, ◌+◌, ◌<◌, Bool, not, ◌||◌, ◌==◌, nat_lt, if◌then◌else◌, List, length, slice_get, Option, Some, None, IsSome, option_and_then}
@@ -11,7 +11,7 @@ use Rattle.etcs_packet.specs.Track.{track_number}
 use Rattle.etcs_telegram.specs.Record.{Telegram}
 use Rattle.etcs_group.specs.Places.{At}
 
--- telegrams in order: of the balises of a group, by place, or as a train read them
+-- telegrams in order: those of a group's balises, by place, or those that a train read
 abbrev pub Telegrams : Type 0
 Telegrams = List Telegram
 
@@ -19,7 +19,7 @@ Telegrams = List Telegram
 abbrev pub Aspects : Type 0
 Aspects = List Telegrams
 
--- what a mark at number p names: the number after it, the one before it, or none
+-- what a duplicate flag at number p names: the number after it, the one before it, or none
 abbrev pub named_by : Dup → ℕ → Option ℕ
 named_by dups.Single p = None
 named_by dups.Next p = Some (p + 1)
@@ -44,8 +44,8 @@ abbrev pub is_modelled : TrackPacket → Bool
 is_modelled p = not ((track_number p == 0) || ((track_number p == 136) || (track_number p == 254)))
 
 -- A well-formed group. Each position (N_PIG) is the place, N_TOTAL + 1 is the number of balises, all
--- balises are alike, each mark that names a balise has a partner, whose partner is the balise itself, and
--- every packet is modelled.
+-- balises are alike, each duplicate flag that names a balise gives it a partner, whose partner is the balise
+-- itself, and every packet is modelled.
 pub record IsWellFormed (group : Telegrams) : Type 0 where
   pub placed : (b : ℕ) (t : Telegram) → At group b t → t.header.position ≡ b
   pub counted : (b : ℕ) (t : Telegram) → At group b t → t.header.total + 1 ≡ length group

@@ -11,33 +11,33 @@ use Rattle.etcs_group.specs.Packets.{packets_of, said_by, HasEqualPairs}
 use Rattle.etcs_group.specs.Controlled.{IsControlled, AreOneGroup}
 use Rattle.etcs_group.specs.Mixture.{Fits, Covers, mixed_of, HasAllShown}
 
--- A list is accepted exactly where no refusal stands.
+-- A list is accepted if and only if there is no reason to refuse it.
 abbrev pub AcceptedOrRefused : Type 0
 AcceptedOrRefused = (run : Run) (s : Telegrams) → IsAccepted run s ↔ (refusal_of run s ≡ None)
 
--- A reading s is accepted exactly where what is missed is covered. If all is missed, it is refused as
--- Nothing; if not, as Absent at the least place that is lost.
+-- A reading s is accepted if and only if all missed places are covered. If all are missed, it is refused as
+-- Nothing; if not, as Absent at the least lost place.
 pub record IsDecided (run : Run) (group : Telegrams) (missed : ℕ → Bool) (s : Telegrams) : Type 0 where
   pub accepted : IsAccepted run s ↔ IsCovered group missed
   pub nothing : ((b : ℕ) → b < length group → IsTrue (missed b)) → refusal_of run s ≡ Some reasons.Nothing
   pub absent : (b : ℕ) → b < length group → IsFalse (missed b) → (IsCovered group missed → ⊥)
       → (p : ℕ) × IsLeast (IsLost group missed) p × (refusal_of run s ≡ Some (reasons.Absent p))
 
--- Each reading of a well-formed group whose counters agree is decided by the set of places that it misses.
+-- The set of missed places decides each reading of a well-formed group whose counters agree.
 abbrev pub ReadingsAreDecided : Type 0
 ReadingsAreDecided = (run : Run) (group : Telegrams) (missed : ℕ → Bool)
     → IsWellFormed group → HasOneCounter group → 0 < length group → IsSetOf group missed
     → IsDecided run group missed (reading_of run missed group)
 
--- What a group says is the message of its reading with nothing missed. If each balise and its partner
+-- The message of a group is the message of its reading with nothing missed. If each balise and its partner
 -- have equal packets, it is the message of each covered reading too.
 pub record SaysTheSame (run : Run) (group : Telegrams) : Type 0 where
   pub full : said_by run group ≡ packets_of run (reading_of run none_missed group)
   pub covered : HasEqualPairs run group → (missed : ℕ → Bool) → IsCovered group missed
       → packets_of run (reading_of run missed group) ≡ said_by run group
 
--- Each well-formed group says the message of its reading with nothing missed, and of each covered reading
--- if each balise and its partner have equal packets.
+-- Each well-formed group has the message of its reading with nothing missed, and the message of each covered
+-- reading if each balise and its partner have equal packets.
 abbrev pub ReadingsSayTheSame : Type 0
 ReadingsSayTheSame = (run : Run) (group : Telegrams) → IsWellFormed group → SaysTheSame run group
 
@@ -52,7 +52,7 @@ pub record MakesOneMessage (group : Telegrams) : Type 0 where
   pub same : (run : Run) (missed : ℕ → Bool) → IsSetOf group missed → IsCovered group missed
       → packets_of run (reading_of run missed group) ≡ packets_of run (reading_of run none_missed group)
 
--- A mixture is accepted exactly where it is covered and one aspect has all that it shows. Its message is
+-- A mixture is accepted if and only if it is covered and one aspect has all that it shows. Its message is
 -- then the message of this aspect with nothing missed.
 pub record IsMixtureDecided (run : Run) (aspects : Aspects) (shown : ℕ → Option ℕ) : Type 0 where
   pub accepted : IsAccepted run (mixed_of run aspects shown) ↔ (Covers aspects shown
@@ -61,7 +61,7 @@ pub record IsMixtureDecided (run : Run) (aspects : Aspects) (shown : ℕ → Opt
       → IsAccepted run (mixed_of run aspects shown)
       → packets_of run (mixed_of run aspects shown) ≡ packets_of run (reading_of run none_missed group)
 
--- Each mixture is decided in a controlled group whose aspects make one message each, and, if there are two
+-- The law about mixtures, for a controlled group whose aspects make one message each and, if there are two
 -- or more, are contents of one group and distinguished by their counters.
 abbrev pub MixturesAreDecided : Type 0
 MixturesAreDecided = (run : Run) (aspects : Aspects) (shown : ℕ → Option ℕ)

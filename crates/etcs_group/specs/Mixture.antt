@@ -1,6 +1,6 @@
--- Mixtures of aspects. Where a controlled group is switched while a train passes, the train reads some
+-- Mixtures of aspects. If a controlled group is switched while a train passes, the train reads some
 -- balises with one aspect and others with another, and may miss some. What each place shows is a
--- function of places: an aspect, or none where the balise is missed.
+-- function of places: an aspect, or none if the balise is missed.
 use Rattle.std.specs.Prelude.{◌≡◌, ℕ, ◌<◌, nat_lt, Bool, ◌&&◌, List, length, slice_get, Option, Some, is_none, option_and_then, filter_map}
 use Rattle.std.specs.List.{range_with_len}
 use Rattle.etcs_packet.specs.declared.run.Run.{Run}
@@ -11,7 +11,7 @@ use Rattle.etcs_group.specs.Reading.{in_passing_order}
 use Rattle.etcs_group.specs.Controlled.{count_of}
 use Rattle.etcs_group.specs.Group.{Telegrams, Aspects}
 
--- what a list of aspects by place stands for; a place past its end shows nothing
+-- the function that a list of aspects by place represents; a place past its end shows nothing
 abbrev pub shown_in : List (Option ℕ) → ℕ → Option ℕ
 shown_in shown p = option_and_then (λ aspect. aspect) (slice_get shown p)
 

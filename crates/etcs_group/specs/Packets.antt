@@ -1,6 +1,6 @@
--- The message of an accepted list, and what a group says with nothing missed (this project's rule,
--- after SUBSET-026, 3.16.2). Of two duplicates that are both read, the one that is passed first
--- speaks.
+-- The message of an accepted list, and the message of a group with nothing missed (this project's rule,
+-- after SUBSET-026, 3.16.2). Of two duplicates that are both read, only the first one that is passed gives
+-- its packets.
 use Rattle.std.specs.Prelude.{◌≡◌, ℕ, ◌+◌, nat_lt, Bool, false, if◌then◌else◌, List, [], length, Some, take, filter, flat_map}
 use Rattle.std.specs.List.{enumerate_from, list_any}
 use Rattle.etcs_bits.specs.declared.variables.duplicate.Dup.{Dup}
@@ -29,7 +29,7 @@ given_at run read i t =
 abbrev pub packets_of : Run → Telegrams → List TrackPacket
 packets_of run read = flat_map (λ e. given_at run read e.0 e.1) (enumerate_from 0 read)
 
--- ---- what is taken of a well-formed group with nothing missed, by the places of the group alone
+-- ---- the message of a well-formed group with nothing missed, by its places only
 
 -- whether the balise at place b of n is silent: it is passed after the one in the group that its mark names
 abbrev pub is_silent : Run → Dup → ℕ → ℕ → Bool
@@ -37,11 +37,11 @@ is_silent runs.Nominal dups.Previous n b = nat_lt 0 b
 is_silent runs.Reverse dups.Next n b = nat_lt (b + 1) n
 is_silent run mark n b = false
 
--- the packets of the balise at place b of n that are said
+-- the packets that the balise at place b of n adds to the message
 abbrev pub said_at : Run → ℕ → ℕ → Telegram → List TrackPacket
 said_at run n b t = if is_silent run t.header.dup n b then [] else held_by run t
 
--- what a group says: the packets of the balises that are not silent, in passing order
+-- the message of a group: the packets of the balises that are not silent, in passing order
 abbrev pub said_by : Run → Telegrams → List TrackPacket
 said_by run group =
     flat_map (λ e. said_at run (length group) e.0 e.1) (in_passing_order run (enumerate_from 0 group))

@@ -1,9 +1,9 @@
--- Places of a list, which are counted from 0, and what stands there.
+-- Places of a list, counted from 0, and the elements there.
 use Rattle.std.specs.Prelude.{◌≡◌, ℕ, ◌<◌, Bool, List, map, find, slice_get, Option, Some}
 use Rattle.std.specs.List.{range_with_len}
 use Rattle.std.specs.Borrow.{Bor}
 
--- x stands at place i
+-- x is at place i
 abbrev pub At : {X : Type 0} → List X → ℕ → X → Type 0
 At xs i x = slice_get xs i ≡ Some x
 
@@ -15,6 +15,6 @@ least n test = find test (range_with_len 0 n)
 abbrev pub IsLeast : (ℕ → Type 0) → ℕ → Type 0
 IsLeast P k = P k × ((j : ℕ) → j < k → P j → ⊥)
 
--- what the references of a list refer to
+-- the values that the references of a list refer to
 abbrev pub pointed : {X : Type 0} → List (Bor X) → List X
 pointed xs = map (λ x. x.now) xs

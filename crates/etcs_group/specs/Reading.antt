@@ -6,7 +6,7 @@ use Rattle.etcs_packet.specs.declared.run.Run.{Run}
 use Rattle.etcs_packet.specs.declared.run.Run.TheVariants as runs
 use Rattle.etcs_group.specs.Group.{Telegrams}
 
--- a list by rising place, put into the order in which the places are passed
+-- a list by rising place, in the order in which the places are passed
 abbrev pub in_passing_order : {X : Type 0} → Run → List X → List X
 in_passing_order runs.Nominal xs = xs
 in_passing_order runs.Reverse xs = reverse xs

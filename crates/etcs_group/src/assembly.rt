@@ -1,4 +1,4 @@
-//! The message of telegrams that were read.
+//! The message that a train makes of the telegrams that it read.
 
 ghost use Rattle.std.specs.Prelude.{◌≡◌, ◌≢◌, ◌++◌, [], Err, Some, IfErr, IfOk, OnErr, OnOk};
 ghost use Rattle.std.specs.List.{list_any};
@@ -15,7 +15,7 @@ use etcs_packet::{Run, TrackPacket};
 use etcs_telegram::Telegram;
 use std::alloc::Global;
 
-// Whether the telegram's mark names the position of a telegram that was read earlier.
+// Whether the telegram's duplicate flag names the position of a telegram that was read earlier.
 fn is_named_before(earlier: &[&Telegram], telegram: &Telegram) -> bool
     ensures { result ≡ list_any (λ u. names telegram.now u.header.position) (pointed earlier.now) }
 {
@@ -62,13 +62,12 @@ fn packets<'a>(
     Ok(packets)
 }
 
-/// The message that a train makes of telegrams, which stand in the order in which it passed their
-/// balises: their packets that hold in the running direction, in that order. A telegram whose mark names
-/// the position of one that stands before it gives none, since that one gave them. The packets are not
-/// copied. (This project's rule, after SUBSET-026, 3.16.2.)
+/// The message that a train makes of the telegrams that it read, given in passing order: their packets that
+/// hold in the running direction, in that order. A telegram adds no packets if its duplicate flag names the
+/// position of an earlier one. The packets are not copied. (This project's rule, after SUBSET-026, 3.16.2.)
 ///
 /// Telegrams that make no message are refused for the first reason of [`Refused`] that holds, even if no
-/// memory is left. Memory is asked for only if there are packets to give. After an error no list is
+/// memory is left. The call allocates only if there are packets to return. After an error no list is
 /// returned.
 pub fn assemble<'a>(
     alloc: Global,
@@ -81,7 +80,7 @@ pub fn assemble<'a>(
     // Found before memory is asked for.
     ensures refused { (why : Refused) → refusal_of run (pointed read.now) ≡ Some why → result ≡ Err why }
 
-    // The only error of an accepted list is want of memory, and only where it has packets.
+    // The only error of an accepted list is lack of memory, and only if the list has packets.
     ensures memory { IsAccepted run (pointed read.now)
         → IfErr result (λ why. (why ≡ Refused.Memory) × (packets_of run (pointed read.now) ≢ [])) }
 {

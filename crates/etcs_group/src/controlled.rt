@@ -6,9 +6,9 @@ ghost use Rattle.etcs_group.specs.Controlled.{IsControlled};
 use crate::group::Group;
 use std::marker::Model;
 
-/// The balise group of a signal: it shows one of several contents, its aspects. Each of them is a group,
-/// and all have the same count of balises. In all else they need not agree. (This project's rule, after
-/// SUBSET-026, 3.16.2.)
+/// A controlled balise group, such as one at a signal: it shows one of several contents, its aspects. Each
+/// aspect is a group, and all have the same number of balises. Nothing else about them is required. (This
+/// project's rule, after SUBSET-026, 3.16.2.)
 ///
 /// Contracts see it as the list of its aspects.
 #[derive(Debug, Drop)]
@@ -28,7 +28,7 @@ impl Model for Controlled {
     ghost invariant = { λ c. IsControlled c.aspects.items };
 }
 
-// Whether there are aspects, all with one count of balises.
+// Whether there are aspects, all with the same number of balises.
 fn is_controlled(aspects: &[Group]) -> bool
     ensures { IsTrue result ↔ IsControlled aspects.now }
 {
@@ -46,7 +46,7 @@ fn is_controlled(aspects: &[Group]) -> bool
 
 impl Controlled {
     /// The controlled group of these aspects. The error gives the list back: it is empty, or two of its
-    /// groups differ in their count of balises.
+    /// groups differ in their number of balises.
     pub fn new(aspects: Vec<Group>) -> Result<Controlled, Vec<Group>>
         ensures ok { IfOk result (λ c. c ≡ aspects.items) }
         ensures made { IsOk result ↔ IsControlled aspects.items }
@@ -58,7 +58,7 @@ impl Controlled {
         Ok(Controlled { aspects })
     }
 
-    /// The aspects, in the order given: one or more, all with one count of balises.
+    /// The aspects, in the order given: one or more, all with the same number of balises.
     pub fn aspects(&self) -> &[Group]
         ensures value { result.now ≡ self.now }
         ensures controlled { IsControlled result.now }

@@ -6,7 +6,7 @@ use etcs_telegram::Telegram;
 use std::marker::Model;
 
 /// A balise group: the telegrams of one to eight balises, in the order given, which a train
-/// reads as one message (SUBSET-026, 3.4.1 and 3.16.2). They need not fit together.
+/// reads as one message (SUBSET-026, 3.4.1 and 3.16.2). They are not checked against each other.
 ///
 /// Contracts see it as the list of its telegrams.
 #[derive(Debug, Drop)]

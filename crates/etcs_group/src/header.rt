@@ -1,4 +1,4 @@
-//! What the header of a telegram says of its place in a message.
+//! The header fields that place a telegram in a message.
 
 ghost use Rattle.std.specs.Prelude.{◌≡◌, ◌<◌, ◌==◌, ◌||◌};
 ghost use Rattle.etcs_group.specs.Assembly.{comes_after, names};
@@ -47,7 +47,7 @@ pub(crate) fn comes_after(run: Run, before: &Telegram, telegram: &Telegram) -> b
     }
 }
 
-// Whether the telegram's mark names this position.
+// Whether the telegram's duplicate flag names this position.
 pub(crate) fn names(telegram: &Telegram, named: u32) -> bool
     requires { named < 8 }
     ensures { result ≡ names telegram.now named }
@@ -59,7 +59,7 @@ pub(crate) fn names(telegram: &Telegram, named: u32) -> bool
     }
 }
 
-// Whether the telegram has this position, or its mark names it.
+// Whether the telegram has this position, or its duplicate flag names it.
 pub(crate) fn stands_for(telegram: &Telegram, wanted: u32) -> bool
     requires { wanted < 8 }
     ensures { result ≡ ((telegram.now.header.position == wanted) || names telegram.now wanted) }

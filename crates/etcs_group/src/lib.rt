@@ -1,11 +1,11 @@
 //! Balise groups: what a train reads of them, and the message that it makes of it (SUBSET-026, 3.16.2).
 //!
 //! A [`Group`] is one to eight telegrams. A train may miss some of its balises: [`Missed`]. It may
-//! miss a balise whose partner it reads ([`is_covered`]). What it reads is [`Group::reading`], and
+//! miss a balise if it reads the partner ([`is_covered`]). What it reads is [`Group::reading`], and
 //! [`assemble`] makes one message of that, or refuses it ([`Refused`]). Read `assembly.rt` first,
 //! with `specs/Assembly.antt` and `specs/Packets.antt`, then `missed.rt` with `specs/Missed.antt`. The
-//! laws in [`laws`] state when the message does not depend on what was missed. The crate leaves out
-//! how a train learns its direction, and how it reacts to a refusal.
+//! laws in [`laws`] state when the message does not depend on what was missed. Not modelled: how a
+//! train learns its direction, and how it reacts to a refusal.
 #![tactic(auto)]
 
 mod assembly;

@@ -8,12 +8,12 @@ use crate::group::Group;
 use etcs_bits::Dup;
 use etcs_telegram::Telegram;
 
-/// A set of missed balises: bit b says that the balise at index b of the group is missed.
+/// A set of missed balises: bit b is set if the balise at index b of the group is missed.
 #[derive(Clone, Copy, Debug, PartialEq, Eq)]
 pub struct Missed(pub u8);
 
 impl Missed {
-    // Whether the balise at this place is missed.
+    // Whether the balise at this index is missed.
     pub(crate) fn has(self, place: usize) -> bool
         ensures { result ≡ is_missed self.0 place }
     {
@@ -21,7 +21,7 @@ impl Missed {
     }
 }
 
-// The partner of the balise at this place.
+// The partner of the balise at this index.
 fn partner(telegrams: &[Telegram], place: usize) -> Option<usize>
     requires { length telegrams.now ≤ 8 }
     ensures { result ≡ partner_of telegrams.now place }
@@ -37,7 +37,7 @@ fn partner(telegrams: &[Telegram], place: usize) -> Option<usize>
     }
 }
 
-// Whether the balise at this place is read, or its partner is.
+// Whether the balise at this index is read, or its partner is.
 fn is_served(telegrams: &[Telegram], missed: Missed, place: usize) -> bool
     requires { length telegrams.now ≤ 8 }
     ensures { IsTrue result ↔ (IsTrue (is_missed missed.0 place)
@@ -53,8 +53,8 @@ fn is_served(telegrams: &[Telegram], missed: Missed, place: usize) -> bool
 }
 
 /// Whether each missed balise has a partner that is read. The partner of a balise is the neighbour that
-/// its mark names, by index, if it lies in the group. A bit past the group's end is never covered. (This
-/// project's rule, after SUBSET-026, 3.16.2.)
+/// its duplicate flag names, by index, if it is in the group. A bit past the group's end is never covered.
+/// (This project's rule, after SUBSET-026, 3.16.2.)
 pub fn is_covered(group: &Group, missed: Missed) -> bool
     ensures { IsTrue result ↔ IsCovered group.now (is_missed missed.0) }
 {

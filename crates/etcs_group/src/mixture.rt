@@ -19,12 +19,12 @@ use std::alloc::Global;
 pub struct Mixture {
     /// The running direction.
     pub run: Run,
-    /// For the balise at each place the index of the aspect that it shows, None if it is missed.
+    /// For the balise at each index the aspect that it shows, by index; `None` if the balise is missed.
     pub shown: [Option<usize>; 8],
 }
 
 impl Controlled {
-    // How many balises each aspect has.
+    // The number of balises of each aspect.
     fn count(&self) -> usize
         ensures value { result ≡ count_of self.now }
         ensures few { result ≤ 8 }
@@ -33,7 +33,7 @@ impl Controlled {
         self.aspects()[0].telegrams().len()
     }
 
-    // Whether the place may show this: nothing, or an aspect that exists if the place does.
+    // Whether the index may show this: nothing, or an existing aspect if the index is in the group.
     fn may_show(&self, place: usize, shown: Option<usize>) -> bool
         ensures { IsTrue result ↔ ((a : ℕ) → shown ≡ Some a → (place < count_of self.now) × (a < length self.now)) }
     {
@@ -43,8 +43,8 @@ impl Controlled {
         }
     }
 
-    /// Whether the mixture is one of this group: each place shows nothing or an aspect that exists, and
-    /// places past the count of balises show nothing.
+    /// Whether the mixture fits this group: each index shows nothing or an existing aspect, and indexes past
+    /// the number of balises show nothing.
     pub fn fits(&self, mixture: &Mixture) -> bool
         ensures { IsTrue result ↔ Fits self.now (shown_in mixture.now.shown) }
     {
@@ -56,7 +56,7 @@ impl Controlled {
         true
     }
 
-    // The places of the group that show nothing.
+    // The indexes of the group that show nothing.
     fn missed(&self, mixture: &Mixture) -> Missed
         ensures { (p : ℕ) → is_missed result.0 p ≡ missed_in self.now (shown_in mixture.now.shown) p }
     {
@@ -69,8 +69,8 @@ impl Controlled {
         Missed(bits)
     }
 
-    /// Whether each missed balise has a partner that is read, in whatever aspect. The marks of the first
-    /// aspect say who is whose partner. The mixture has to fit.
+    /// Whether each missed balise has a partner that is read, in any aspect. The duplicate flags of the first
+    /// aspect decide the partners. The mixture must fit.
     pub fn covers(&self, mixture: &Mixture) -> bool
         requires { Fits self.now (shown_in mixture.now.shown) }
         ensures { IsTrue result ↔ Covers self.now (shown_in mixture.now.shown) }
@@ -78,7 +78,7 @@ impl Controlled {
         is_covered(&self.aspects()[0], self.missed(mixture))
     }
 
-    // The telegram that a place shows.
+    // The telegram that an index shows.
     fn shown_at(&self, mixture: &Mixture, place: usize) -> Option<&Telegram>
         requires { place < 8 }
         ensures { MatchOption result (shown_at self.now (shown_in mixture.now.shown) place ≡ None)
@@ -90,10 +90,10 @@ impl Controlled {
     }
 
     /// The telegrams that the mixture shows, in the order in which the train passes their balises: by
-    /// rising index in nominal running, by falling index in reverse (SUBSET-026, 3.4.2). The mixture has to
+    /// rising index in nominal running, by falling index in reverse (SUBSET-026, 3.4.2). The mixture must
     /// fit.
     ///
-    /// Memory is asked for only if something is shown. The only error is that it runs out; then no list is
+    /// Allocates only if something is shown. The only error is that memory runs out; then no list is
     /// returned.
     pub fn mixed(&self, alloc: Global, mixture: &Mixture) -> Result<Vec<&Telegram>, Memory>
         requires { Fits self.now (shown_in mixture.now.shown) }

@@ -15,9 +15,9 @@ use std::alloc::Global;
 impl Group {
     /// The telegrams that a train reads, in the order in which it passes their balises: by rising index
     /// in nominal running, by falling index in reverse (SUBSET-026, 3.4.2). Bits of `missed` past the
-    /// group's end count for nothing.
+    /// group's end are ignored.
     ///
-    /// Memory is asked for only if something is read. The only error is that it runs out; then no list is
+    /// Allocates only if something is read. The only error is that memory runs out; then no list is
     /// returned.
     pub fn reading(&self, alloc: Global, run: Run, missed: Missed) -> Result<Vec<&Telegram>, Memory>
         ensures ok { IfOk result (λ read. pointed read.items ≡ reading_of run (is_missed missed.0) self.now) }

@@ -1,4 +1,4 @@
-//! The first reason to refuse telegrams. Each is looked for without memory.
+//! The first reason to refuse telegrams, found without allocating.
 
 ghost use Rattle.std.specs.Prelude.{◌≡◌, ◌<◌, length};
 ghost use Rattle.etcs_group.specs.Places.{least, pointed};
@@ -26,7 +26,7 @@ fn disagrees_at(read: &[&Telegram], place: usize) -> bool
     !agree(header(read[0]), header(read[place]))
 }
 
-// The least place that disagrees with place 0.
+// The least index whose header disagrees with the header at index 0.
 fn first_disagreement(read: &[&Telegram]) -> Option<usize>
     ensures { result ≡ least (length (pointed read.now)) (disagrees_at (pointed read.now)) }
 {
@@ -49,7 +49,7 @@ fn is_misplaced_at(run: Run, read: &[&Telegram], place: usize) -> bool
     place > 0 && !comes_after(run, read[place - 1], telegram)
 }
 
-// The least place that is out of order.
+// The least index that is out of order.
 fn first_misplaced(run: Run, read: &[&Telegram]) -> Option<usize>
     ensures { result ≡ least (length (pointed read.now)) (is_misplaced_at run (pointed read.now)) }
 {
@@ -73,7 +73,7 @@ fn is_absent(read: &[&Telegram], wanted: u32) -> bool
     true
 }
 
-// The least position, up to the total of place 0, for which no telegram stands.
+// The least position, up to the total at index 0, that no telegram has or names.
 fn first_absent(read: &[&Telegram]) -> Option<usize>
     requires { 0 < length read.now }
     ensures { result ≡ least (positions_of (pointed read.now)) (is_absent (pointed read.now)) }
@@ -104,7 +104,7 @@ fn is_miscounted_at(read: &[&Telegram], place: usize) -> bool
     false
 }
 
-// The least place whose counter does not fit.
+// The least index whose counter does not fit.
 fn first_miscounted(read: &[&Telegram]) -> Option<usize>
     ensures { result ≡ least (length (pointed read.now)) (is_miscounted_at (pointed read.now)) }
 {
@@ -117,7 +117,7 @@ fn first_miscounted(read: &[&Telegram]) -> Option<usize>
 }
 
 // The first reason to refuse the telegrams, if there is one. The order of the reasons keeps this linear:
-// where none disagrees and none is out of order, there are eight telegrams at most.
+// if none disagrees and none is out of order, there are at most eight telegrams.
 pub(crate) fn first_refusal(run: Run, read: &[&Telegram]) -> Option<Refused>
     ensures { result ≡ refusal_of run (pointed read.now) }
 {

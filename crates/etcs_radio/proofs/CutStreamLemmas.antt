@@ -12,7 +12,7 @@ use Rattle.etcs_radio.proofs.StreamLemmas.{message_length-append, cut_once}
 use Rattle.etcs_radio.proofs.StateLemmas.{state-ready, state-failed, ready-whole, failed-broken, ready_is_not_more, failed_is_not_more}
 use Rattle.etcs_radio.proofs.CuttingLemmas.{state_is, nothing_waits, cut-none, cut-more, cut-ready, cut-failed, one_more}
 
--- a splitter that waits holds less than L_MESSAGE says
+-- a splitter that waits holds fewer bytes than L_MESSAGE counts
 below : (held : List ℕ) → MayBeHeld held → state_of held ≡ More → 3 ≤ length held → length held < message_length held
 below held may more three =
     ⊎_elim
@@ -137,7 +137,7 @@ module _ (messages : List (List ℕ)) (rest bytes : List ℕ) (stream : AreMessa
   all_is_held : state_of held ≢ Failed → held ≡ rest
   all_is_held other = sym (append-nil held) ∙ sym (ap (λ xs. held ++ xs) (is.none_left other)) ∙ one_way.1
 
-  -- bytes that a splitter failed at stand in front of the rest
+  -- the bytes at which a splitter failed are at the front of the rest
   failed_small : state_of held ≡ Failed → (3 ≤ length rest) × (message_length rest < 3)
   failed_small failed =
       let broken = failed-broken held failed in

@@ -33,7 +33,7 @@ use Rattle.etcs_radio.proofs.NoMessageLemmas.{fault_none}
 
 -- ---- more bytes than L_MESSAGE can count
 
--- the next w bits, where there are as many
+-- the next w bits, if there are as many
 taken_there : (w : ℕ) (p : Place) → p.at + w ≤ length p.bits
     → taken w p ≡ Ok (num_of_bits (take w (drop p.at p.bits)), forward p w)
 taken_there w p fits = rw (le-ltb (length p.bits) (p.at + w) fits) refl
@@ -170,7 +170,7 @@ none_of (Ok m) bytes means = tt
 none_of (Err errors.Memory) bytes means = tt
 none_of (Err (errors.Fault f)) bytes means = fault_none bytes f (meant_fault bytes f means)
 
--- behind a head that was read the packets alone take memory
+-- after a head that was read only the packets allocate
 pub if_followed : (r : Result Message DecodeError) (bytes : List ℕ) (p q : Place) (h : Head) → AreSeen bytes p
     → rows_at (head (length bytes)).fields p ≡ Ok ((head (length bytes)).rows h, q)
     → IfMemory r (ends stops.Message q ≡ false)
@@ -184,7 +184,7 @@ if_followed (Err errors.Memory) bytes p q h s read goes =
 
 -- ---- the first bytes of a message
 
--- what more bytes than L_MESSAGE can count have for a head
+-- the head of more bytes than L_MESSAGE can count
 long_first : (bytes : List ℕ) → 1024 ≤ length bytes
     → rows_at (head (length bytes)).fields (beginning bytes) ≡ Err (long_fault (nid_message.allows (num_of_bits (take 8 (bits_of_bytes bytes)))))
 long_first bytes many =
@@ -233,7 +233,7 @@ front_fault all front f (is_long many more same) fault =
     ∙ sym (long_first all many) ∙ given in
     read_is_fault (head (length front)).fields (beginning front) f (omega arith) reads
 
--- a packet that is due behind a head in such a front is due in all bytes
+-- a packet that is due after a head in such a front is due in all bytes
 pub front_followed : (all front : List ℕ) → FrontOf all front
     → IsFollowed stops.Message (head (length front)).rows (beginning front)
     → IsFollowed stops.Message (head (length all)).rows (beginning all)

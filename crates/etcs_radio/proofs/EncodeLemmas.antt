@@ -50,7 +50,7 @@ message_width n m = length-join (message_rows n m) ∙ rows_width n m
 
 -- ---- what is spelled out is a message
 
--- a head and packets, and then bits where packets end
+-- a head and packets, and then bits at which packets end
 written : {X : Type 0} (x : Format X) (h : Head) (xs : List X) (bytes : List ℕ) (rest : List Bool)
     → IsHeaded x.fields → HasNoMark x.fields
     → AreAllowed ((head (length bytes)).rows h ++ flat_map x.rows xs)
@@ -85,7 +85,7 @@ rest_over : (rest : List Bool) → ((stops.Message ≡ stops.Message) × (length
 rest_over rest (inl few) = inl few.1
 rest_over rest (inr mark) = inr mark
 
--- the parts of a head and packets that stand
+-- the parts of a head and packets
 record ArePartsOf {X : Type 0} (x : Format X) (h : Head) (xs : List X) (bytes : List ℕ) : Type 0 where
   pub rest : List Bool
   pub allowed : AreAllowed ((head (length bytes)).rows h ++ flat_map x.rows xs)

@@ -88,7 +88,7 @@ message_meant m bytes x =
 
 -- ---- what is read is a message
 
--- packets that were read, as those of the message
+-- packets that were read are the packets of the message
 record ArePacketsOf (h : Head) (p : Place) (m : Message) : Type 0 where
   pub is_head : h ≡ head_of m
   pub end : Place

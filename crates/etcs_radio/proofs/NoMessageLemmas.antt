@@ -1,4 +1,4 @@
--- Where bytes have a fault, no bytes of the same number with the same front are a message.
+-- If bytes have a fault, no bytes of the same number with the same front are a message.
 use Rattle.std.proofs.Common.{◌≡◌, ℕ, ◌≤◌, Bool, List, length, take, Result, Err, sym, ap, subst, ◌∙◌, inl, inr, arith}
 use Rattle.std.proofs.lemmas.List.{take_all}
 use Rattle.etcs_bits.specs.declared.layout.fault.Fault.{Fault}
@@ -93,7 +93,7 @@ later_stays (inr h) bytes others middle f len same first (inl t) fails =
 later_stays (inr h) bytes others middle f len same first (inr t) fails =
     same_meaning bytes others len (all_same (inr h) bytes others middle f.end len (incomplete_end _ _ _ middle f t) same first) ∙ fails
 
--- the fault is that of each such bytes
+-- all such bytes have the fault
 stays : (bytes others : List ℕ) (f : Fault) → length others ≡ length bytes
     → take f.end (bits_of_bytes others) ≡ take f.end (bits_of_bytes bytes)
     → IsMessageFault bytes f → message_of others ≡ Err f

@@ -18,7 +18,7 @@ use Rattle.etcs_radio.specs.Head.{MovementHead, PositionHead}
 use Rattle.etcs_radio.specs.Record.{Movement, Position}
 use Rattle.etcs_radio.specs.Meaning.{packets_by, movement_with, position_with}
 
--- where reading the packets fails, so does the message
+-- if reading the packets fails, reading the message fails
 pub by_fails : {X : Type 0} (x : Format X) (has : List X → Bool) (why : FaultKind) (make : List X → Message)
     (e : DecodeError) (p : Place) → Fails e (items_at stops.Message x.fields x.of p)
     → Fails e (packets_by x has why make p)
@@ -40,7 +40,7 @@ pub by_err : {X : Type 0} (x : Format X) (has : List X → Bool) (why : FaultKin
 unfolding packets_by
 by_err x has why make xs p q read none = rw (read, none) refl
 
--- what a constructor says of the required packet
+-- the result of a constructor shows whether the required packet is there
 pub there : {A E : Type 0} (r : Result A E) (a : A) (b : Bool) → IsOk r ↔ (b ≡ true) → r ≡ Ok a → b ≡ true
 there r a b made is = made.0 (rw is refl)
 
@@ -48,7 +48,7 @@ pub not_there : {A E : Type 0} (r : Result A E) (e : E) (b : Bool) → IsOk r �
 not_there r e true made is = let ok = rw is at (made.1 refl) in absurd cc
 not_there r e false made is = refl
 
--- the message that a constructor made is that of the head and the packets
+-- the message that a constructor made is the message of the head and the packets
 pub movement_made : (h : MovementHead) (packets : List TrackPacket) (lrbg : Identity) (m : Movement) → lrbg ≡ h.1.1
     → m ≡ record { time = h.0; ack = h.1.0; lrbg = lrbg; packets = packets }
     → movement_with h packets ≡ messages.Movement m

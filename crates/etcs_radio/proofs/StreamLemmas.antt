@@ -8,7 +8,7 @@ use Rattle.etcs_radio.specs.Stream.{message_length, AreOneMessageLong, AreRest, 
 
 -- ---- L_MESSAGE
 
--- it stands in the first three bytes
+-- it is in the first three bytes
 pub message_length-append : (bytes more : List ℕ) → 3 ≤ length bytes → message_length (bytes ++ more) ≡ message_length bytes
 unfolding num bits_of_bytes
 message_length-append [] more h = absurd (omega arith)

@@ -134,16 +134,16 @@ head_digits text f x =
     let digits = decode_of-ok text x.bytes x.decoded in
     record { even = digits.0; digits = digits.1 }
 
--- it is that of the bytes of the text
+-- it is the fault of the text's bytes
 pub fault_of_head : (text bytes : List ℕ) (f : Fault) → decode_of text ≡ Ok bytes → HasHeadFault text f
     → IsFault (head (length bytes)).fields (beginning bytes) f
 fault_of_head text bytes f decoded x =
     subst (λ (xs : List ℕ). IsFault (head (length xs)).fields (beginning xs) f) (decode_of-same text x.bytes bytes x.decoded decoded) x.fault
 
--- the fault that is reported is that of the head
+-- the fault that is reported is the fault of the head
 pub reported : (found f : Fault) → decode_errors.Fault found ≡ decode_errors.Fault f → errors.Fault found ≡ errors.Fault f
 reported found f is = cc
 
--- lack of memory is not
+-- lack of memory is no fault of the head
 pub no_memory : {C : Type 0} (f : Fault) → decode_errors.Memory ≡ decode_errors.Fault f → C
 no_memory f is = absurd cc

@@ -1,6 +1,6 @@
 -- A stream that is fed to a splitter. Whenever the splitter is ready, its message is taken out, and
--- it is cleared. It does not matter in which pieces the stream comes. What comes out are the messages
--- that the bytes are by `AreMessages` (Stream), the only list of them.
+-- it is cleared. The result does not depend on the pieces: it is the only division of the bytes into
+-- messages and a rest (`AreMessages`, Stream).
 use Rattle.std.specs.Prelude.{◌≡◌, ◌≢◌, ℕ, List, [], ◌∷◌, ◌++◌}
 use Rattle.etcs_radio.specs.declared.splitter.State.{State}
 use Rattle.etcs_radio.specs.declared.splitter.State.TheVariants.{More, Ready, Failed}
@@ -8,7 +8,7 @@ use Rattle.etcs_radio.specs.Stream.{AreMessages}
 use Rattle.etcs_radio.specs.Splitter.{state_of, MayBeHeld}
 
 -- What comes out of a splitter: the messages that were taken out of it, and the bytes that it holds
--- in the end.
+-- at the end.
 pub record Cut : Type 0 where
   pub messages : List (List ℕ)
   pub held : List ℕ
@@ -21,12 +21,12 @@ none_with held = record { messages = []; held = held }
 abbrev pub after_message : List ℕ → Cut → Cut
 after_message message cut = record { messages = message ∷ cut.messages; held = cut.held }
 
--- what comes out of a splitter first, and then of one that goes on with what that one holds
+-- two results, one after the other: the messages of both, and the bytes that are held after the second
 abbrev pub one_then : Cut → Cut → Cut
 one_then first then = record { messages = first.messages ++ then.messages; held = then.held }
 
--- A splitter that waits goes on with what it holds. One that is ready gives its message, and goes on
--- with nothing. One that has failed does not go on.
+-- A waiting splitter continues with what it holds. A ready splitter gives its message and continues
+-- empty. A failed splitter does not continue.
 abbrev pub go_on : State → List ℕ → (List ℕ → Cut) → Cut
 go_on More held then = then held
 go_on Ready held then = after_message held (then [])
@@ -49,8 +49,8 @@ cut_pieces held (piece ∷ pieces) = one_then (cut_from held piece) (cut_pieces 
 
 -- ---- a stream
 
--- Bytes are the messages that came out and the bytes that are held, which are no whole message. If
--- the splitter has failed, more bytes may come after them: they are left.
+-- Bytes are the messages that came out and the bytes that are held, which are no complete message. If
+-- the splitter has failed, more bytes may follow, which it has not taken.
 pub record IsCut (cut : Cut) (bytes : List ℕ) : Type 0 where
   pub left : List ℕ
   pub stream : AreMessages cut.messages (cut.held ++ left) bytes

@@ -1,5 +1,5 @@
--- Whether a train is whole, and how long it is (SUBSET-026, 7.5.1): Q_LENGTH, and L_TRAININT after
--- two of its numbers.
+-- The integrity and the length of a train (SUBSET-026, 7.5.1): Q_LENGTH, and L_TRAININT after two of its
+-- numbers.
 use Rattle.std.specs.Prelude.{◌≡◌, ℕ, ◌⊎◌, false, refl}
 use Rattle.std.proofs.Common.{inl, inr}
 use Rattle.etcs_bits.specs.declared.layout.fault.FaultKind.TheVariants.{Spare}

@@ -6,8 +6,8 @@ use Rattle.etcs_radio.specs.declared.message.Message.{Message}
 use Rattle.etcs_radio.specs.Message.{message_rows, is_complete}
 
 -- The bytes are the message's head, with L_MESSAGE as their count, its packets and a rest. The rest
--- has fewer than eight bits or begins with eight ones. None of the message's numbers is spare, and it
--- holds the packet that it has to hold.
+-- has fewer than eight bits or begins with eight ones. None of the message's numbers is spare, and the
+-- message contains its required packet.
 pub record AreSpelledOut (m : Message) (bytes : List ℕ) : Type 0 where
   pub rest : List Bool
   pub allowed : AreAllowed (message_rows (length bytes) m)

@@ -1,5 +1,5 @@
 -- Radio messages (SUBSET-026, 8.4.4, 8.6 and 8.7): a head whose L_MESSAGE counts the bytes, packets,
--- and a rest that carries no information. The packets end where fewer than eight bits are left, or at
+-- and a rest that carries no information. The packets end when fewer than eight bits are left, or at
 -- eight ones.
 use Rattle.std.specs.Prelude.{◌≡◌, ℕ, ◌+◌, ◌-◌, ◌*◌, ◌<◌, ◌⊎◌, Bool, true, false, List, ◌++◌, length, take, replicate}
 use Rattle.std.proofs.Common.{inl, inr}
@@ -26,7 +26,7 @@ abbrev pub head_of : Message → Head
 head_of (messages.Movement m) = inl (m.time, (m.ack, m.lrbg))
 head_of (messages.Position m) = inr (m.time, m.engine)
 
--- The packets of a message stand between two places, and end at the second.
+-- The packets of a message are between two positions, and end at the second one.
 abbrev pub PacketsStand : Message → Place → Place → Type 0
 PacketsStand (messages.Movement m) p q = Stand stops.Message track_packet.rows m.packets p q
 PacketsStand (messages.Position m) p q = Stand stops.Message train_packet.rows m.packets p q
@@ -36,7 +36,7 @@ abbrev pub is_complete : Message → Bool
 is_complete (messages.Movement m) = has_authority m.packets
 is_complete (messages.Position m) = has_report m.packets
 
--- the place at which bytes begin
+-- the position at which bytes begin
 abbrev pub beginning : List ℕ → Place
 beginning bytes = start (bits_of_bytes bytes)
 
@@ -51,8 +51,8 @@ pub record IsMessage (m : Message) (bytes : List ℕ) : Type 0 where
 
 -- ---- bytes that are no message
 
--- Packets stand here, and the required one is not among them. The fault is at their end, and the
--- input's length decides it.
+-- Packets are here, and the required one is not among them. The fault is at their end, and depends on the
+-- length of the input.
 pub record IsIncomplete {X : Type 0} (rows : X → List Row) (has : List X → Bool) (why : FaultKind)
     (from : Place) (fault : Fault) : Type 0 where
   pub packets : List X
@@ -110,7 +110,7 @@ abbrev pub IsTooBig : Message → Type 0
 IsTooBig m = 8184 < used_bits m
 
 -- The bytes are the message's canonical spelling: its head, its packets, and fewer than eight zeros
--- (this project's rule). None of its numbers is spare, and it holds the packet that it has to hold.
+-- (this project's rule). None of its numbers is spare, and it contains its required packet.
 pub record IsEncoding (m : Message) (bytes : List ℕ) : Type 0 where
   pub in_range : IsBytes bytes
   pub allowed : AreAllowed (message_rows (length bytes) m)

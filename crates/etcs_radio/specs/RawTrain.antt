@@ -36,7 +36,7 @@ other_of n bits kept = (and_parts (is_kept_number n) (is_countable 8 bits) kept)
 
 -- ---- the packet
 
--- every number that is neither a position report's nor the end mark's, and L_PACKET and the body behind it
+-- every number but those of position reports and the end mark, with L_PACKET and the body after it
 abbrev pub others : Choice RawTrainPacket
 others =
     of_others is_kept_number (kept_bits 8) (λ r. r.number) (λ r. r.body) raw_with

@@ -1,5 +1,5 @@
--- Which packets a message has to hold (SUBSET-026, 8.6 and 8.7; this project's rule): a movement
--- authority packet 15, a position report packet 0 or 1, each in any place.
+-- Which packets a message must contain (SUBSET-026, 8.6 and 8.7; this project's rule): a movement
+-- authority packet 15, a position report packet 0 or 1, at any index.
 use Rattle.std.specs.Prelude.{◌==◌, Bool, List}
 use Rattle.std.specs.List.{list_any}
 use Rattle.etcs_packet.specs.declared.track.TrackPacket.{TrackPacket}

@@ -24,7 +24,7 @@ pub record IsTaken (held piece : List ℕ) (used : ℕ) : Type 0 where
   pub waits_before : (n : ℕ) → n < used → state_of (held ++ take n piece) ≡ More
   pub waits_no_more : used < length piece → state_of (held ++ take used piece) ≢ More
 
--- A splitter may hold these bytes: none comes after a whole message, or after three bytes that no
--- message begins with.
+-- A splitter may hold these bytes: no byte follows a complete message, or three bytes that no message
+-- begins with.
 abbrev pub MayBeHeld : List ℕ → Type 0
 MayBeHeld bytes = length bytes ≤ max 3 (message_length bytes)

@@ -1,6 +1,5 @@
 -- A stream of radio messages. Each message begins with NID_MESSAGE, eight bits, and L_MESSAGE, ten
--- bits: the number of its bytes (SUBSET-026, 8.4.4). Where a message ends depends on L_MESSAGE
--- alone.
+-- bits: the number of its bytes (SUBSET-026, 8.4.4). The end of a message depends only on L_MESSAGE.
 use Rattle.std.specs.Prelude.{◌≡◌, ℕ, ◌<◌, ◌≤◌, ◌⊎◌, List, ◌++◌, length, take, drop, All}
 use Rattle.std.specs.List.{concat}
 use Rattle.etcs_bits.specs.bits.Number.{num_of_bits, bits_of_bytes}
@@ -9,7 +8,7 @@ use Rattle.etcs_bits.specs.bits.Number.{num_of_bits, bits_of_bytes}
 abbrev pub message_length : List ℕ → ℕ
 message_length bytes = num_of_bits (take 10 (drop 8 (bits_of_bytes bytes)))
 
--- The bytes are as many as one message has: at least three, and as many as L_MESSAGE says.
+-- The bytes are as many as one message has: at least three, and as many as L_MESSAGE counts.
 pub record AreOneMessageLong (bytes : List ℕ) : Type 0 where
   pub three : 3 ≤ length bytes
   pub count : length bytes ≡ message_length bytes
@@ -19,8 +18,8 @@ pub record AreBroken (bytes : List ℕ) : Type 0 where
   pub three : length bytes ≡ 3
   pub small : message_length bytes < 3
 
--- No message is whole at the front of the bytes: they are fewer than three, or fewer than
--- L_MESSAGE says, or L_MESSAGE is below 3.
+-- The bytes begin with no complete message: they are fewer than three, or fewer than
+-- L_MESSAGE counts, or L_MESSAGE is below 3.
 abbrev pub AreRest : List ℕ → Type 0
 AreRest bytes = 3 ≤ length bytes → (length bytes < message_length bytes) ⊎ (message_length bytes < 3)
 

@@ -43,7 +43,7 @@ pub record HasHeadFault (text : List ℕ) (f : Fault) : Type 0 where
   pub decoded : decode_of text ≡ Ok bytes
   pub fault : IsFault (head (length bytes)).fields (beginning bytes) f
 
--- The text is hexadecimal. Its bytes begin with a head, and a packet is due behind it.
+-- The text is hexadecimal. Its bytes begin with a head, and a packet is due after it.
 pub record HasPackets (text : List ℕ) : Type 0 where
   pub bytes : List ℕ
   pub decoded : decode_of text ≡ Ok bytes

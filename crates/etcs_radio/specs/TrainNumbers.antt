@@ -11,7 +11,7 @@ abbrev pub is_kept_number : ℕ → Bool
 is_kept_number n = not (report_numbered.allows n || (n == 255))
 
 -- Whether a packet of number `n` is kept as bits, and a body of `bits` bits is short enough for
--- L_PACKET, which NID_PACKET stands before.
+-- L_PACKET, which also counts the bits of NID_PACKET.
 abbrev pub is_kept : ℕ → ℕ → Bool
 is_kept n bits = is_kept_number n && is_countable 8 bits
 

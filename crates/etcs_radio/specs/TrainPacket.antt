@@ -70,7 +70,7 @@ all_but_the_end n = allowed_by (n == 0) (n == 1) (n == 255) (report_is_no_end n)
 abbrev pub train_packet : Format TrainPacket
 train_packet = named (chosen nid_train train_numbered all_but_the_end) train_of parts_of back again
 
--- the rows of a packet by itself, which have the bits that it has in a list
+-- the rows of a packet by itself; they have the same bits as in a list
 abbrev pub own_rows : TrainPacket → List Row
 own_rows (packets.Report r) = report.rows r
 own_rows (packets.Raw p) = raw_train_packet.rows p

@@ -84,11 +84,11 @@ fn message(alloc: Global, fields: Fields, cur: &mut Cursor<'_>) -> Result<Messag
     }
 }
 
-/// Reads the message that bytes are. What comes after the packets' end is ignored (SUBSET-026, 8.6
+/// Reads a message from its bytes. What comes after the packets' end is ignored (SUBSET-026, 8.6
 /// and 8.7). No copy of the bits is made, except of bodies that are kept as bits.
 ///
 /// A fault that is returned is the first one in the bytes. Then no bytes of the same number with the
-/// same first `end` bits are a message. If memory runs out, a fault may go unseen. After an error
+/// same first `end` bits are a message. If memory runs out, a fault might be unreported. After an error
 /// nothing is returned of what was read.
 pub fn decode(alloc: Global, bytes: &[u8]) -> Result<Message, DecodeError>
     ensures ok { IfOk result (λ m. IsMessage m bytes.now) }
@@ -99,16 +99,16 @@ pub fn decode(alloc: Global, bytes: &[u8]) -> Result<Message, DecodeError>
     // The result, as a function of the bytes.
     ensures exact { Means (λ m. m) result (message_of bytes.now) }
 
-    // The head's fault is always answered: reading the head needs no memory.
+    // The head's fault is always reported: reading the head needs no memory.
     ensures head { (f : Fault) → IsFault (head (length bytes.now)).fields (beginning bytes.now) f
         → result ≡ Err (DecodeError.Fault f) }
 
-    // Memory is asked for only where a packet is due behind the head. So `NoAuthority` and `NoReport`
-    // are always answered of a head alone.
+    // Allocates only if a packet is due after the head. So `NoAuthority` and `NoReport` are always reported
+    // for a message without packets.
     ensures memory { IfMemory result
         (IsFollowed Stop.Message (head (length bytes.now)).rows (beginning bytes.now)) }
 {
-    // L_MESSAGE counts 1,023 bytes at most. Of more bytes it is the head that has a fault.
+    // L_MESSAGE counts 1,023 bytes at most. The head of a longer input has a fault.
     let few = bytes.len().min(1024);
     let mut cur = Cursor::over(BitSlice::of_bytes(bytes, 8 * few));
     let fields = scan_head(alloc, bytes.len(), &mut cur)?;

@@ -17,7 +17,7 @@ use etcs_bits::{Bits, Layout, Memory, are_allowed, width_of};
 use etcs_packet::{write_items, write_packets};
 use std::alloc::Global;
 
-// The most bits that a message may have: 1,023 bytes.
+// The greatest number of bits of a message: 1,023 bytes.
 const MOST_BITS: u64 = 8184;
 
 // The number of bits of the head and the packets; `u64::MAX` if they have more.
@@ -30,7 +30,7 @@ fn used_width(message: &Message) -> u64
     }
 }
 
-// Appends message 3, which has `count` bytes in all, without the zeros at its end.
+// Appends message 3 of `count` bytes, without the zeros at its end.
 fn put_movement(message: &MovementMessage, count: usize, out: &mut Bits) -> Result<(), Memory>
     requires { count < 1024 }
     ensures bits { OnOk result (out.new
@@ -39,7 +39,7 @@ fn put_movement(message: &MovementMessage, count: usize, out: &mut Bits) -> Resu
     ensures complete { OnOk result (has_authority message.now.packets ≡ true) }
 {
     let fields: MovementFields = (message.time(), (message.ack(), Lrbg::new(message.lrbg())));
-    // For the proof alone: the types keep the fields allowed.
+    // Only for the proof: the types keep the fields allowed.
     let _allowed = fields.is_allowed();
     out.push_num(8, 3)?;
     out.push_num(10, count as u64)?;
@@ -47,7 +47,7 @@ fn put_movement(message: &MovementMessage, count: usize, out: &mut Bits) -> Resu
     write_packets(message.packets(), out)
 }
 
-// Appends message 136, which has `count` bytes in all, without the zeros at its end.
+// Appends message 136 of `count` bytes, without the zeros at its end.
 fn put_position(message: &PositionMessage, count: usize, out: &mut Bits) -> Result<(), Memory>
     requires { count < 1024 }
     ensures bits { OnOk result (out.new
@@ -56,7 +56,7 @@ fn put_position(message: &PositionMessage, count: usize, out: &mut Bits) -> Resu
     ensures complete { OnOk result (has_report message.now.packets ≡ true) }
 {
     let fields: PositionFields = (message.time(), message.engine());
-    // For the proof alone: the types keep the fields and the packets allowed.
+    // Only for the proof: the types keep the fields and the packets allowed.
     let _allowed = fields.is_allowed();
     let _packets = are_allowed(message.packets());
     out.push_num(8, 136)?;
@@ -65,7 +65,7 @@ fn put_position(message: &PositionMessage, count: usize, out: &mut Bits) -> Resu
     write_items(message.packets(), out)
 }
 
-// Appends a message that has `count` bytes in all, without the zeros at its end.
+// Appends a message of `count` bytes, without the zeros at its end.
 fn put(message: &Message, count: usize, out: &mut Bits) -> Result<(), Memory>
     requires { count < 1024 }
     ensures bits { OnOk result (out.new ≡ out.old ++ join (message_rows count message.now)) }
@@ -78,14 +78,14 @@ fn put(message: &Message, count: usize, out: &mut Bits) -> Result<(), Memory>
     }
 }
 
-// For the proof alone: the type of a byte keeps it below 256.
+// Only for the proof: the type of a byte keeps it below 256.
 fn keep_range(bytes: &[u8])
     ensures { IsBytes bytes.now }
 {
     let _bytes = bytes;
 }
 
-// Writes a message that `count` bytes hold, and no fewer.
+// Writes a message; `count` is the least number of bytes that it needs.
 fn write(alloc: Global, message: &Message, count: usize) -> Result<Vec<u8>, Memory>
     requires most { count < 1024 }
     requires few { 8 * count < used_bits message.now + 8 }
@@ -95,7 +95,7 @@ fn write(alloc: Global, message: &Message, count: usize) -> Result<Vec<u8>, Memo
     let mut bits = Bits::new(alloc);
     put(message, count, &mut bits)?;
     let bytes = bits.to_bytes(alloc)?;
-    // For the proof alone.
+    // Only for the proof.
     keep_range(bytes.as_slice());
     Ok(bytes)
 }

@@ -20,13 +20,13 @@ pub enum EncodeError {
 /// Why a text is not read as a message. `NotHex` is checked first, without memory.
 #[derive(Clone, Copy, Debug, PartialEq, Eq, Error)]
 pub enum RadioTextError {
-    /// Memory ran out. A fault may then go unseen.
+    /// Memory ran out. A fault might then be unreported.
     #[error("out of memory")]
     Memory,
     /// The text is not an even number of hexadecimal digits, of either case.
     #[error("not hexadecimal")]
     NotHex,
-    /// The bytes are no message. This is their first fault.
+    /// The bytes are not a message. This is their first fault.
     #[error("{0}")]
     Fault(Fault),
 }

@@ -24,7 +24,7 @@ pub(crate) enum Fields {
     OfPosition(PositionFields),
 }
 
-// Reads L_MESSAGE, which has to be `count`.
+// Reads L_MESSAGE, which must be `count`.
 #[tactic(auto, unfolding(etcs_bits::specs::layout::Rows::alone))]
 fn scan_length(cur: &mut Cursor<'_>, count: usize) -> Result<(), DecodeError>
     ensures gives { Gives (λ _. (l_message count).rows tt) result
@@ -40,8 +40,8 @@ fn scan_length(cur: &mut Cursor<'_>, count: usize) -> Result<(), DecodeError>
     }
 }
 
-// Reads what follows NID_MESSAGE in a message of `count` bytes. After an error the cursor may stand
-// anywhere.
+// Reads what follows NID_MESSAGE in a message of `count` bytes. After an error the cursor is at an unspecified
+// position.
 fn scan_rest(
     alloc: Global,
     number: u64,
@@ -62,7 +62,7 @@ fn scan_rest(
     }
 }
 
-// Reads the head of a message of `count` bytes. After an error the cursor may stand anywhere.
+// Reads the head of a message of `count` bytes. After an error the cursor is at an unspecified position.
 #[tactic(auto, unfolding(etcs_bits::specs::layout::Rows::alone))]
 pub(crate) fn scan_head(
     alloc: Global,
@@ -74,7 +74,7 @@ pub(crate) fn scan_head(
     ensures small { OnOk result (count < 1024) }
     ensures same { OnOk result (cur.new.bits ≡ cur.old.bits) }
 
-    // A head holds no list.
+    // A head contains no list.
     ensures memory { IfMemory result ⊥ }
 {
     let at = cur.at();

@@ -1,9 +1,9 @@
-//! Whether a train is whole, and how long it is.
+//! The integrity and the length of a train.
 
 use etcs_bits::{Bits, Cursor, DecodeError, Distance, Layout, Memory, Same};
 use std::alloc::Global;
 
-/// Q_LENGTH, 2 bits: what a train knows of its integrity. L_TRAININT, 15 bits, the length of the
+/// Q_LENGTH, 2 bits: what a train knows about its integrity. L_TRAININT, 15 bits, the length of the
 /// train, follows 1 and 2. No number is spare (SUBSET-026, 7.5.1).
 #[derive(Clone, Copy, Debug, PartialEq, Eq)]
 pub enum Integrity {

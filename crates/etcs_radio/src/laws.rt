@@ -68,7 +68,7 @@ pub fn a_train_packet_of_a_list_is_spelled_as_by_itself()
 
 // ---- messages
 
-/// Bytes are a message exactly if they mean that message. They are one message at most.
+/// Bytes are a message if and only if they mean that message. They are one message at most.
 pub fn messages_are_decoded()
     ensures meant { (m : Message) (bytes : List ℕ)
         → IsMessage m bytes ↔ (message_of bytes ≡ Ok m) }
@@ -76,7 +76,7 @@ pub fn messages_are_decoded()
         → IsMessage m bytes → IsMessage k bytes → m ≡ k }
 {}
 
-/// Bytes have a fault exactly if they mean that fault. So they have one at most. Then they are no
+/// Bytes have a fault if and only if they mean that fault. So they have one at most. Then they are not a
 /// message, and no bytes of the same number with the same first `end` bits are one.
 pub fn faults_are_meant()
     ensures fault { (bytes : List ℕ) (f : Fault)
@@ -84,7 +84,7 @@ pub fn faults_are_meant()
     ensures none { (bytes : List ℕ) (f : Fault) → IsMessageFault bytes f → IsNoMessage bytes f }
 {}
 
-/// Bytes are a message exactly if they are its head, with L_MESSAGE as their count, its packets, and
+/// Bytes are a message if and only if they are its head, with L_MESSAGE as their count, its packets, and
 /// a rest that has fewer than eight bits or begins with eight ones.
 pub fn messages_are_spelled_out()
     ensures { (m : Message) (bytes : List ℕ) → IsMessage m bytes ↔ AreSpelledOut m bytes }
@@ -100,7 +100,7 @@ pub fn what_is_encoded_is_decoded()
     ensures { (m : Message) (bytes : List ℕ) → IsEncoding m bytes → message_of bytes ≡ Ok m }
 {}
 
-/// Two messages have equal encodings exactly if they are equal.
+/// Two messages have equal encodings if and only if they are equal.
 pub fn encodings_are_one_to_one()
     ensures messages { (m k : Message) (bytes : List ℕ)
         → IsEncoding m bytes → IsEncoding k bytes → m ≡ k }
@@ -110,13 +110,13 @@ pub fn encodings_are_one_to_one()
 
 // ---- texts
 
-/// A text is a message exactly if it means that message. So it is one message at most.
+/// A text is a message if and only if it means that message. So it is one message at most.
 pub fn texts_are_read()
     ensures { (m : Message) (text : List ℕ)
         → IsMessageText m text ↔ (message_of_text text ≡ Ok m) }
 {}
 
-/// A text is refused for a reason, other than lack of memory, exactly if it means that reason. So it
+/// A text is refused for a reason, other than lack of memory, if and only if it means that reason. So it
 /// has one reason at most.
 pub fn reasons_are_read()
     ensures { (e : RadioTextError) (text : List ℕ) → e ≢ RadioTextError.Memory
@@ -129,7 +129,7 @@ pub fn what_is_written_is_read()
         → IsCanonicalText m text → message_of_text text ≡ Ok m }
 {}
 
-/// Two messages have equal canonical texts exactly if they are equal.
+/// Two messages have equal canonical texts if and only if they are equal.
 pub fn texts_are_one_to_one()
     ensures messages { (m k : Message) (text : List ℕ)
         → IsCanonicalText m text → IsCanonicalText k text → m ≡ k }
@@ -139,21 +139,20 @@ pub fn texts_are_one_to_one()
 
 // ---- streams
 
-/// A splitter is ready exactly if it holds as many bytes as one message has. It has failed exactly
+/// A splitter is ready if and only if it holds as many bytes as one message has. It has failed if and only
 /// if no message begins with the bytes that it holds.
 pub fn states_are_meant()
     ensures ready { (bytes : List ℕ) → state_of bytes ≡ Ready ↔ AreOneMessageLong bytes }
     ensures failed { (bytes : List ℕ) → state_of bytes ≡ Failed ↔ AreBroken bytes }
 {}
 
-/// How many bytes of a piece are taken depends on the bytes held and on the piece alone.
+/// How many bytes of a piece are taken depends only on the bytes held and on the piece.
 pub fn one_number_is_taken()
     ensures { (held piece : List ℕ) (m n : ℕ)
         → IsTaken held piece m → IsTaken held piece n → m ≡ n }
 {}
 
-/// A piece fed in two parts is taken as the whole piece is: as many bytes in all, and the same
-/// ones.
+/// Feeding a piece in two parts has the same effect as feeding it at once: the splitter takes the same bytes.
 pub fn a_piece_may_be_cut()
     ensures used { (held one other : List ℕ) (m n : ℕ)
         → IsTaken held one m → IsTaken (held ++ take m one) other n
@@ -163,7 +162,7 @@ pub fn a_piece_may_be_cut()
         → held ++ take (m + n) (one ++ other) ≡ (held ++ take m one) ++ take n other }
 {}
 
-/// Bytes are messages and a rest in one way only.
+/// Bytes can be divided into messages and a rest in only one way.
 pub fn a_stream_is_cut_in_one_way()
     ensures messages { (messages others : List (List ℕ)) (rest other bytes : List ℕ)
         → AreMessages messages rest bytes → AreMessages others other bytes → messages ≡ others }
@@ -171,8 +170,8 @@ pub fn a_stream_is_cut_in_one_way()
         → AreMessages messages rest bytes → AreMessages others other bytes → rest ≡ other }
 {}
 
-/// A splitter that holds nothing takes the first message of a stream, and no byte after it. No
-/// front of a rest makes it ready.
+/// A splitter that holds nothing takes the first message of a stream, and no byte after it. It does not
+/// become ready by a front of a rest.
 pub fn the_first_message_is_taken()
     ensures message { (message more : List ℕ)
         → AreOneMessageLong message → IsTaken [] (message ++ more) (length message) }
@@ -180,9 +179,9 @@ pub fn the_first_message_is_taken()
         → AreRest rest → n ≤ length rest → state_of (take n rest) ≢ Ready }
 {}
 
-/// What comes out of a splitter that is fed a piece, by what one call of `feed` takes. If it is ready
-/// then, its message comes out, and the rest of the piece is fed to it, cleared. Else nothing comes
-/// out, and it holds what was taken.
+/// What comes out of a splitter that is fed a piece, in terms of one call of `feed`. If the splitter is then
+/// ready, its message comes out, and the rest of the piece is fed to the cleared splitter. Otherwise nothing
+/// comes out, and it holds the bytes that it took.
 pub fn a_stream_is_fed_call_by_call()
     ensures ready { (held piece : List ℕ) (n : ℕ)
         → IsTaken held piece n → state_of (held ++ take n piece) ≡ Ready
@@ -201,8 +200,8 @@ pub fn a_stream_may_come_in_pieces()
         → cut_pieces held pieces ≡ cut_from held (concat pieces) }
 {}
 
-/// The messages of a stream come out of a splitter that held nothing. It then holds the rest. If
-/// L_MESSAGE is below 3 there, it has failed, and holds the first three bytes of the rest.
+/// The messages of a stream come out of a splitter that held nothing. It then holds the rest. If L_MESSAGE of
+/// the rest is below 3, it has failed, and holds the first three bytes of the rest.
 pub fn streams_are_cut()
     ensures cut { (bytes : List ℕ) → IsCut (cut_from [] bytes) bytes }
     ensures messages { (messages : List (List ℕ)) (rest bytes : List ℕ)

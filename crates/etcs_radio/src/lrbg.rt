@@ -5,7 +5,7 @@ use std::alloc::Global;
 use std::marker::Model;
 
 /// NID_LRBG and NID_PRVLRBG, 24 bits: the identity of a balise group as one variable. NID_C is in its
-/// first ten bits, NID_BG in the other fourteen. If the bits do not suffice, the Short fault is at the
+/// first ten bits, NID_BG in the other fourteen. If there are too few bits, the fault Short is at the
 /// first of them (SUBSET-026, 7.5.1). Contracts see the identity.
 #[derive(Clone, Copy, Debug, PartialEq, Eq)]
 pub struct Lrbg {
@@ -48,7 +48,7 @@ impl Layout for Lrbg {
     ghost format = { nid_lrbg };
 
     fn is_allowed(&self) -> bool {
-        // For the proof alone: the types keep both numbers in range.
+        // Only for the proof: the types keep both numbers in range.
         let _country = self.identity.country.number();
         let _group = self.identity.group.number();
         true

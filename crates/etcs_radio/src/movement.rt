@@ -83,7 +83,7 @@ impl MovementMessage {
         self.time
     }
 
-    /// M_ACK, 1 bit: whether the train has to acknowledge the message.
+    /// M_ACK, 1 bit: whether the train must acknowledge the message.
     pub fn ack(&self) -> bool
         ensures { result ≡ self.now.ack }
     {

@@ -13,7 +13,7 @@ use etcs_bits::{
 };
 use std::alloc::Global;
 
-// How many bits stand before L_PACKET: NID_PACKET.
+// The number of bits in front of L_PACKET: NID_PACKET.
 const BEFORE: u32 = 8;
 
 // Reads L_PACKET, and copies the bits after it.
@@ -21,14 +21,14 @@ fn scan_body(alloc: Global, cur: &mut Cursor<'_>) -> Result<Bits, DecodeError>
     ensures gives { Gives (kept_bits 8).rows result (rows_at (kept_bits 8).fields cur.old) cur.new }
     ensures few { IfOk result (λ body. is_countable 8 (length body) ≡ true) }
 
-    // Memory is asked for only where there are bits, and as many as L_PACKET says.
+    // Allocates only if as many bits follow as L_PACKET counts, and at least one.
     ensures memory { IfMemory result (IsOk (rows_at (kept_bits 8).fields cur.old) × (cur.old.at + 13 < cur.new.at)) }
 {
     Ok(scan_kept(BEFORE, cur)?.to_bits(alloc)?)
 }
 
-/// A train packet whose layout is not known here: NID_PACKET, L_PACKET and a body that is kept as it
-/// is. Its number is none of 0, 1 and 255. Its body has at most 8,170 bits (SUBSET-026, 7.4.1).
+/// A train packet whose layout is not known here: NID_PACKET, L_PACKET and a body that is kept as bits.
+/// Its number is none of 0, 1 and 255. Its body has at most 8,170 bits (SUBSET-026, 7.4.1).
 #[derive(Debug, Drop)]
 pub struct RawTrainPacket {
     number: u8,
@@ -37,8 +37,8 @@ pub struct RawTrainPacket {
 }
 
 impl RawTrainPacket {
-    /// Whether packets of this number are kept as bits: it is neither that of a position report nor
-    /// that of the end mark, and it has eight bits.
+    /// Whether packets of this number are kept as bits: it has eight bits, and is not the number of a position
+    /// report or of the end mark.
     pub fn has_number(number: u64) -> bool
         ensures value { number < 256 → result ≡ is_kept_number number }
         ensures small { IsTrue result → number < 256 }
@@ -48,8 +48,8 @@ impl RawTrainPacket {
 
     /// The packet of these parts.
     ///
-    /// The error gives the body back. Either the number is that of a position report or of the end
-    /// mark, or the body has more than 8,170 bits.
+    /// The error gives the body back: the number is the number of a position report or of the end mark, or the
+    /// body has more than 8,170 bits.
     pub fn new(number: u8, body: Bits) -> Result<Self, Bits>
         ensures ok { IfOk result (λ r. (r.number ≡ number) × (r.body ≡ body)) }
         ensures made { IsOk result ↔ (is_kept number (length body) ≡ true) }
@@ -82,7 +82,7 @@ impl RawTrainPacket {
     ghost use Rattle.etcs_bits.specs.layout.Choice.{chosen_at, numbered_rows};
     ghost use Rattle.etcs_radio.specs.RawTrain.{others};
 
-    // Reads what follows a number that is kept as bits. After an error the cursor may stand anywhere.
+    // Reads what follows a number that is kept as bits. After an error the cursor is at an unspecified position.
     pub(crate) fn scan_rest(
         alloc: Global,
         number: u64,
@@ -108,7 +108,7 @@ impl Layout for RawTrainPacket {
     ghost grows = { Unit {0} };
 
     fn is_allowed(&self) -> bool {
-        // For the proof alone: the type keeps the number in range.
+        // Only for the proof: the type keeps the number in range.
         let _number = self.number();
         true
     }

@@ -18,11 +18,11 @@ pub struct Report {
     pub scale: Scale,
     /// NID_LRBG, 24 bits: the group that the position report refers to, the last relevant one.
     pub lrbg: Identity,
-    /// NID_PRVLRBG, 24 bits: the group before that one. It is there exactly in packet 1.
+    /// NID_PRVLRBG, 24 bits: the group before that one. Packet 1 has it, packet 0 does not.
     pub previous: Option<Identity>,
     /// D_LRBG, 15 bits: from the group to the train's estimated front.
     pub distance: Distance,
-    /// Q_DIRLRBG, 2 bits: how the train stands, as seen from the group.
+    /// Q_DIRLRBG, 2 bits: the orientation of the train, as seen from the group.
     pub orientation: Train3,
     /// Q_DLRBG, 2 bits: on which side of the group the train's front is.
     pub side: Train3,
@@ -30,10 +30,10 @@ pub struct Report {
     pub doubt_over: Distance,
     /// L_DOUBTUNDER, 15 bits: how much further from the group the front may be.
     pub doubt_under: Distance,
-    /// Q_LENGTH, 2 bits, and L_TRAININT, 15 bits: whether the train is whole, and its length.
+    /// Q_LENGTH, 2 bits, and L_TRAININT, 15 bits: the train's integrity and length.
     pub length: Integrity,
-    /// V_TRAIN, 7 bits: the train's speed, in steps of 5 km/h. All 128 numbers are accepted, also the
-    /// numbers above 120, which stand for no speed up to 600 km/h.
+    /// V_TRAIN, 7 bits: the train's speed, in steps of 5 km/h. All 128 numbers are accepted, including the
+    /// numbers above 120, which represent no speed up to 600 km/h.
     pub speed: Plain<7>,
     /// Q_DIRTRAIN, 2 bits: in which direction the train runs, as seen from the group.
     pub running: Train3,
@@ -137,8 +137,8 @@ impl Report {
     ghost use Rattle.etcs_bits.specs.layout.Results.{Gives, IfMemory};
     ghost use Rattle.etcs_radio.specs.Report.{report_numbered, numbered_of};
 
-    // Reads what follows NID_PACKET, whose number is 0 or 1. After an error the cursor may stand
-    // anywhere.
+    // Reads what follows NID_PACKET, whose number is 0 or 1. After an error the cursor is at an unspecified
+    // position.
     pub(crate) fn scan_rest(
         alloc: Global,
         number: u64,
@@ -148,7 +148,7 @@ impl Report {
         ensures gives { Gives (λ r. numbered_rows report_numbered (numbered_of r)) result
             (chosen_at report_numbered number cur.old) cur.new }
 
-        // A position report holds no list and no bits of its own.
+        // A position report contains no list and no raw bits.
         ensures memory { IfMemory result ⊥ }
     {
         if number == 0 {

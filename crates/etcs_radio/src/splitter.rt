@@ -1,4 +1,4 @@
-//! A stream of bytes, cut into whole messages.
+//! A stream of bytes, cut into messages.
 
 ghost use Rattle.std.specs.Prelude.{◌≡◌, ◌≢◌, ◌+◌, ◌-◌, ◌<◌, ◌≤◌, ◌^◌, ◌++◌, [], length, take, max, min};
 ghost use Rattle.etcs_radio.specs.Splitter.{IsTaken, state_of};
@@ -14,10 +14,10 @@ use std::marker::Model;
 pub enum State {
     /// It waits for more bytes of a message.
     More,
-    /// It holds one whole message.
+    /// It holds one complete message.
     Ready,
-    /// It holds three bytes whose L_MESSAGE is below 3. No message begins with them, so it is not
-    /// known where the next one begins. It stays in this state.
+    /// It holds three bytes whose L_MESSAGE is below 3. No message begins with them, so the beginning of the
+    /// next message is unknown. It stays in this state.
     Failed,
 }
 
@@ -30,11 +30,11 @@ pub struct Fed {
     pub state: State,
 }
 
-/// Cuts a stream of radio messages, in pieces of any length, into whole messages (SUBSET-026,
-/// 8.4.4). It looks at L_MESSAGE alone, so a message that it cuts out may still be refused.
+/// Cuts a stream of radio messages, in pieces of any length, into messages (SUBSET-026, 8.4.4). It reads only
+/// L_MESSAGE, so a message that it cuts out may still be refused.
 ///
-/// Contracts see it as the bytes that it holds, at most 1,023. Its state depends on them alone. No
-/// call takes memory.
+/// Contracts see it as the bytes that it holds, at most 1,023. Its state depends only on them. No call
+/// allocates.
 #[derive(Debug, Drop)]
 pub struct Splitter {
     bytes: ArrayVec<u8, 1023>,
@@ -70,7 +70,7 @@ impl Splitter {
         ensures held { self.new ≡ self.old ++ take result.used piece.now }
         ensures state { result.state ≡ state_of self.new }
 
-        // What is ready or has failed stays so.
+        // Once ready or failed, it stays so.
         ensures unused { state_of self.old ≢ State.More → result.used ≡ 0 }
         ensures unchanged { state_of self.old ≢ State.More → self.new ≡ self.old }
     {
@@ -83,7 +83,7 @@ impl Splitter {
         }
     }
 
-    /// The message. The splitter is ready.
+    /// The message. The splitter must be ready.
     pub fn message(&self) -> &[u8]
         requires { state_of self.now ≡ State.Ready }
         ensures bytes { result.now ≡ self.now }
@@ -100,7 +100,7 @@ impl Splitter {
         self.bytes.len()
     }
 
-    /// Lets the message go, so that the splitter is as new. Changes nothing if it is not ready.
+    /// Drops the message, so that the splitter holds nothing. Does nothing if the splitter is not ready.
     pub fn clear(&mut self)
         ensures ready { state_of self.old ≡ State.Ready → self.new ≡ [] }
         ensures others { state_of self.old ≢ State.Ready → self.new ≡ self.old }
@@ -120,7 +120,7 @@ fn length_in(bytes: &[u8]) -> usize
     BitSlice::of_bytes(bytes, 24).num(8, 10) as usize
 }
 
-// How many bytes may be held: three, which contain L_MESSAGE, and then as many as it says.
+// The number of bytes to hold: three, which contain L_MESSAGE, and then as many as L_MESSAGE counts.
 fn wanted(held: &[u8]) -> usize
     ensures few { length held.now < 3 → result ≡ 3 }
     ensures whole { 3 ≤ length held.now → result ≡ max 3 (message_length held.now) }
@@ -150,7 +150,7 @@ fn state_with(held: &[u8]) -> State
     }
 }
 
-// Takes bytes from the front of the piece until `count` are held. Answers how many it took.
+// Takes bytes from the front of the piece until `count` are held. Returns how many it took.
 fn fill(bytes: &mut ArrayVec<u8, 1023>, count: usize, piece: &[u8]) -> usize
     requires { count ≤ 1023 }
     ensures value { result ≡ min (count - array_vec_len bytes.old) (length piece.now) }

@@ -29,7 +29,7 @@ fn is_hexadecimal(text: &[u8]) -> bool
 }
 
 // Writes the first bytes that the digits of a text spell: 1,024, or all if there are fewer. Returns
-// whether the text is an even number of digits. Digits that are all read are looked at once.
+// whether the text is an even number of digits. A text that spells at most 1,024 bytes is read in one pass.
 fn read_front(text: &[u8], front: &mut [u8]) -> bool
     requires { length front.old ≡ min (length text.now / 2) 1024 }
     ensures digits { IsTrue result ↔ IsHexadecimal text.now }
@@ -48,8 +48,8 @@ fn read_front(text: &[u8], front: &mut [u8]) -> bool
 
 /// Reads a message from its text, which is an even number of hexadecimal digits of either case.
 ///
-/// `NotHex` and the first fault of the bytes are checked in this order. Only packets take memory. If it
-/// runs out, a fault after the head may go unseen. After an error nothing is returned of what was read.
+/// `NotHex` and the first fault of the bytes are checked in this order. Only packets allocate. If memory runs
+/// out, a fault after the head might be unreported. After an error nothing is returned of what was read.
 pub fn from_hex(alloc: Global, text: &[u8]) -> Result<Message, RadioTextError>
     ensures ok { IfOk result (λ m. IsMessageText m text.now) }
     ensures reason { IfErr result (λ e. IsReason e text.now) }
@@ -57,15 +57,15 @@ pub fn from_hex(alloc: Global, text: &[u8]) -> Result<Message, RadioTextError>
     // The result, as a function of the text.
     ensures exact { IsTextMeaning result (message_of_text text.now) }
 
-    // These are always answered: they need no memory.
+    // These are always reported: they need no memory.
     ensures not_hex { IsErrOf result RadioTextError.NotHex ↔ (IsHexadecimal text.now → ⊥) }
     ensures head { (f : Fault) → HasHeadFault text.now f
         → result ≡ Err (RadioTextError.Fault f) }
 
-    // Memory is asked for only where a packet is due behind the head.
+    // Allocates only if a packet is due after the head.
     ensures packets { IsErrOf result RadioTextError.Memory → HasPackets text.now }
 {
-    // L_MESSAGE counts 1,023 bytes at most. Of more bytes the first ones show the fault.
+    // L_MESSAGE counts 1,023 bytes at most. The first 1,024 bytes of a longer text show its fault.
     let count = (text.len() / 2).min(1024);
     let mut room = [0; 1024];
     let bytes = &mut room[..count];

@@ -67,7 +67,7 @@ impl TrainPacket {
     fn put_own(&self, out: &mut Bits) -> Result<(), Memory>
         ensures { Puts (join (own_rows self.now)) result out.old out.new }
     {
-        // For the proof alone: the packet is allowed.
+        // Only for the proof: the packet is allowed.
         let _sound = self.is_sound();
         match self {
             TrainPacket::Report(report) => report.put(out),
@@ -97,7 +97,7 @@ impl Layout for TrainPacket {
 
     fn scan(alloc: Global, cur: &mut Cursor<'_>) -> Result<Self, DecodeError> {
         let number = scan_number(cur)?;
-        // For the proof alone, a test in place of a match: a failed one shows what the number is not.
+        // Only for the proof, a test instead of a match: a failed test shows what the number is not.
         if number == 0 || number == 1 {
             let report = Report::scan_rest(alloc, number, cur)?;
             return Ok(TrainPacket::Report(report));

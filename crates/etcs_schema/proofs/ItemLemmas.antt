@@ -18,7 +18,7 @@ use Rattle.etcs_schema.specs.Reading.{data_list}
 use Rattle.etcs_schema.specs.node.Tape.{data_of, is_sound, items_data, list_or}
 use Rattle.etcs_schema.proofs.TapeLemmas.{each_kind, some_mapped, sound_from, sound_has}
 
--- ---- what stands inside a list, and the list
+-- ---- the items inside a list, and the list
 
 items_spelled : (js : json.Items) (ts : List Token) → InItems ts js → (o : Option (List Token)) → after_end_array ts ≡ o → (r : List Token) × (ts ≡ items_tokens js ++ r)
 items_spelled json.no_items ts h (Some r) e = (r, closed_array ts r e)
@@ -53,9 +53,9 @@ opened_array ts j h =
     let a = is_array j ts h.1 (value-json_tokens_back h.0 (begin_array ∷ ts) h.1 j h.2) in
     (a.0, a.1, opened (begin_array ∷ ts) (json.array a.0) (subst (BeginsWith (begin_array ∷ ts)) a.1 h))
 
--- ---- the items that are left
+-- ---- the remaining items
 
--- these tokens begin with items, and this is what they stand for
+-- these tokens begin with items that represent these values
 pub record SoundItems (ts : List Token) : Type 0 where
   pub text : json.Items
   pub read : Items

@@ -1,4 +1,4 @@
--- The keys of an object on a tape: they are known where each key is, also one that comes twice.
+-- The keys of an object on a tape. All are known if each key is, including keys that come twice.
 use Rattle.std.proofs.Common.{◌≡◌, ◌∙◌, ◌&&◌, ℕ, Bool, true, false, List, Option, Some, None, Ordering, Less, Equal, Greater, nat_cmp, option_map, option_and_then, is_eq, ap, sym, refl, arith}
 use Rattle.std.proofs.Math.Bool.{and-true, and_self_left}
 use Rattle.std.proofs.lemmas.Bool.Decides.{nat_tests}
@@ -65,7 +65,7 @@ no_object keys ts sound h =
     let s = sound_has ts sound in
     ap (option_map (are_known keys)) (sym (ap as_object s.same ∙ object_none s.text s.read s.is (h s.text s.stands)))
 
--- the members that are left say whether all keys are known
+-- the remaining members decide whether all keys are known
 pub record Tells (keys : List (List ℕ)) (ts us : List Token) : Type 0 where
   pub left : json.Members
   pub stands : InMembers us left

@@ -1,4 +1,4 @@
--- The members of an object on a tape: the last one of a name counts.
+-- The members of an object on a tape. The last member with a name counts.
 use Rattle.std.proofs.Common.{◌≡◌, ◌∙◌, ℕ, Bool, true, false, cond, List, Option, Some, None, option_and_then, bytes_eq, ap, sym, refl}
 use Rattle.std.proofs.lemmas.Slice.Eq.{bytes_eq-Decides}
 use Rattle.json.specs.Token.{Token}
@@ -13,7 +13,7 @@ use Rattle.serde_json.proofs.Views.{get_member-put, get_member-put_other}
 use Rattle.etcs_schema.specs.node.Tape.{data_of, is_sound}
 use Rattle.etcs_schema.proofs.TapeLemmas.{each_kind, sound_from, sound_has}
 
--- what the last member of a name is read as, or what was there before
+-- the value of the last member with a name, or the value found before
 abbrev InData : Option json.Json → Option Data → Option Data → Type 0
 InData None now before = now ≡ before
 InData (Some j) now before = (d : Data) × (of_json j ≡ Some d) × (now ≡ Some d)
@@ -49,7 +49,7 @@ member_none : (o : Option json.Json) (now : Option Data) → o ≡ None → InDa
 member_none None now e h = sym h
 member_none (Some j) now e h = absurd (cc)
 
--- no member of that name
+-- no member with that name
 pub no_member : (ts : List Token) (name : List ℕ) → is_sound ts ≡ true → ((j : json.Json) → BeginsWith ts j → Finds None (find.get name j)) → None ≡ get name (data_of ts)
 no_member ts name sound h =
     let s = sound_has ts sound in
@@ -61,7 +61,7 @@ member_some us j (Some i) now h e m =
     let f = sound_from us j m.0 h (ap of_json (sym (Some_inj i j e)) ∙ m.1) in
     (f.0, ap Some f.1 ∙ sym m.2)
 
--- the member of that name
+-- the member with that name
 pub a_member : (ts us : List Token) (name : List ℕ) → is_sound ts ≡ true → ((j : json.Json) → BeginsWith ts j → Finds (Some us) (find.get name j))
     → (is_sound us ≡ true) × (Some (data_of us) ≡ get name (data_of ts))
 a_member ts us name sound h =

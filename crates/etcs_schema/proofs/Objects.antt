@@ -30,7 +30,7 @@ under_at step inner None r s deep fails is = tt
 under_at step None (Some f) r s deep fails is = absurd deep
 under_at step (Some g) (Some f) r s deep fails is = is ∙ ap (under step) fails ∙ ap (λ x. Err x) (sym deep)
 
--- a fault as the value around has it
+-- a fault as the enclosing value reports it
 pub fails_under : {Y : Type 0} → (step : Step) (inner outer : FormError) (r s : Result Y Fault) → IsDeeper step inner outer → Fails inner r → s ≡ under step r → Fails outer s
 fails_under step inner outer r s deep fails is = under_at step (fault_of inner) (fault_of outer) r s deep fails is
 
@@ -58,7 +58,7 @@ pub some_object : (keys : List (List ℕ)) (d : Data) (known : Bool) → Some kn
 unfolding any_object
 some_object keys d known e = ap object_or (some_mapped (are_known keys) known (as_object d) (sym e)).1
 
--- an empty object that has taken the members is the one of the form
+-- an empty object with the members inserted is the object of the form
 pub made_object : {X : Type 0} (o : Object X) (x : X) (old new : Members) (d : Data) → old ≡ no_members → new ≡ members_onto old (sorted (o.part.to x)) → d ≡ object new
     → d ≡ object_of (o.part.to x)
 made_object o x old new d none made is =
@@ -114,7 +114,7 @@ found_at : {A : Type 0} (read : Data → Result A Fault) (name : List ℕ) (o : 
 found_at read name None d e = absurd (cc)
 found_at read name (Some c) d e = ap (λ x. under (key name) (read x)) (ap (data_or d) e)
 
--- what has to be there is missing
+-- a required member is missing
 pub member_missing : {X Y : Type 0} (view : X → Y) (result : Result X FormError) (e : FormError) (read : Data → Result Y Fault) (name : List ℕ) (d : Data)
     → IsErrAnd result (λ y. y ≡ e) → Fails e (member_at name d) → Gives view result (at_key read name d)
 unfolding at_key
@@ -131,7 +131,7 @@ pub member_read : {X Y : Type 0} (view : X → Y) (inner outer : Result X FormEr
 unfolding at_key
 member_read view inner outer read name d found is gives around = under_is view (key name) inner outer (read found) (at_key read name d) gives around (found_at read name (get name d) found is)
 
--- a member that is looked at alone
+-- a member that is only checked
 pub gives_unit : {Y : Type 0} (view : Unit {0} → Y) (result : Result (Unit {0}) FormError) (r : Result Y Fault) → Gives view result r → Gives (λ u. u) result (r >>= λ _. Ok tt)
 gives_unit view (Ok u) r gives = ap (λ s. s >>= λ _. Ok tt) gives
 gives_unit view (Err e) r fails = fails_same e r (r >>= λ _. Ok tt) fails (λ f is. ap (λ s. s >>= λ _. Ok tt) is)

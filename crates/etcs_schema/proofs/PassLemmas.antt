@@ -1,4 +1,4 @@
--- The pass over a value's tokens says whether serde_json reads the value.
+-- The pass over a value's tokens decides whether serde_json reads the value.
 use Rattle.std.proofs.Common.{◌≡◌, ◌∙◌, ◌&&◌, ◌+◌, ◌-◌, ◌≤◌, ℕ, suc, Bool, true, false, List, [], ◌++◌, max, Option, Some, None, option_map, option_and_then, ap, sym, refl, arith, append_assoc, append-nil}
 use Rattle.std.specs.Prelude.{is_some, nat_le, nat_lt, if◌then◌else◌}
 use Rattle.std.proofs.Math.Bool.{and-true}
@@ -33,7 +33,7 @@ found_at : (f g : Data → Option Members) (o : Option Data) → ((d : Data) →
 found_at f g None e = refl
 found_at f g (Some d) e = e d
 
--- what was found before plays no part
+-- what was found before does not matter
 found_any : (ms : json.Members) (a b : Members) → is_some (of_members ms a) ≡ is_some (of_members ms b)
 found_any json.no_members a b = refl
 found_any (json.member k j ms) a b = found_at (λ d. of_members ms (put k d a)) (λ d. of_members ms (put k d b)) (of_json j) (λ d. found_any ms (put k d a) (put k d b))

@@ -1,4 +1,4 @@
--- How the pieces of an object or array make its form.
+-- The tokens of an object's or array's parts make its form.
 use Rattle.std.proofs.Common.{◌≡◌, ◌++◌, ◌+◌, ◌<◌, ℕ, List, [], ◌∷◌, length, take, Option, Some, None, refl, ap, sym, subst, ◌∙◌, append_assoc, append-nil, get_or}
 use Rattle.std.proofs.lemmas.List.{take_more}
 use Rattle.json.specs.Token.{Token, begin_array, begin_object, end_array, end_object, key}
@@ -31,7 +31,7 @@ object_tokens : (es : List Entry) → members_tokens (members_outline (members_o
 object_tokens [] = refl
 object_tokens (e ∷ es) = member_tokens e.0 e.1 es (object_tokens es)
 
--- ---- tokens that were taken one after the other
+-- ---- tokens that were appended one after the other
 
 module _ {M : Type 0} (adds : List Token → M → M → Type 0) (then : (ts us : List Token) (old mid new : M) → adds ts old mid → adds us mid new → adds (ts ++ us) old new) where
   -- one item more
@@ -60,7 +60,7 @@ module _ {M : Type 0} (adds : List Token → M → M → Type 0) (then : (ts us 
       subst (λ e. adds (tokens_of e) old new) is
       (rw (object_tokens es) (then (begin_object ∷ []) _ old begun new one (then (entries_tokens es) (end_object ∷ []) begun sent new two three)))
 
-  -- the members between the two marks of an object
+  -- the members between the two braces of an object
   pub object_sent : {X : Type 0} (o : Object X) (x : X) (old begun sent new : M)
       → adds (begin_object ∷ []) old begun → adds (entries_tokens (sorted (o.part.to x))) begun sent → adds (end_object ∷ []) sent new → adds (tokens_of (object_of (o.part.to x))) old new
   object_sent o x old begun sent new = sent_as (sorted (o.part.to x)) _ old begun sent new (ap object (sym (made_members (o.part.to x) (ap are_apart (o.part.has_keys x) ∙ o.apart))))

@@ -155,7 +155,7 @@ onto_members done (e ∷ es) up apart new =
     rw (put_insert e.0 e.1 done up new.0)
     (onto_members (insert e done) es (ascending_insert e done up new.0) both.1 (still_new e es done (not-true _ both.0) new.1))
 
--- members that are put in one after the other make one object, whatever their order
+-- members that are inserted one after the other make one object, in any order
 pub made_members : (es : List Entry) → are_apart (keys_of es) ≡ true → members_onto no_members es ≡ members_of (sorted es)
 unfolding IsAscending
 made_members es apart = onto_members [] es tt apart (new_at_first es)

@@ -1,4 +1,4 @@
--- What an element of a tape stands for: the value that its tokens begin with.
+-- What an element of a tape represents: the value at the front of its tokens.
 use Rattle.std.proofs.Common.{◌≡◌, ◌∙◌, ◌≤◌, ℕ, Bool, true, List, ◌++◌, length, Option, Some, None, option_map, option_and_then, ap, sym, refl, subst, arith}
 use Rattle.std.specs.Prelude.{is_some}
 use Rattle.std.proofs.lemmas.List.{length-append}
@@ -53,7 +53,7 @@ begins ts j h =
 
 -- ---- what is known of a sound element
 
--- these tokens begin with a value, and this is what it stands for
+-- these tokens begin with a value, and represent this one
 pub record Sound (ts : List Token) : Type 0 where
   pub text : json.Json
   pub read : Data
@@ -98,7 +98,7 @@ number_in =
     each_kind (λ j d. option_and_then (λ s. option_and_then as_u64 (number_of s)) (find.as_number j) ≡ option_and_then as_u64 (as_number d))
     refl (λ b. refl) (λ s n e. ap (option_and_then as_u64) e) (λ s. refl) (λ js ds e. refl) (λ ms ns e. refl)
 
--- the number that an element is
+-- the number of an element
 pub number_is : (ts : List Token) (r : Option (List ℕ)) → is_sound ts ≡ true → ((j : json.Json) → BeginsWith ts j → r ≡ find.as_number j)
     → option_and_then (λ s. option_and_then as_u64 (number_of s)) r ≡ option_and_then as_u64 (as_number (data_of ts))
 number_is ts r sound h =
@@ -108,6 +108,6 @@ number_is ts r sound h =
 text_in : (j : json.Json) (d : Data) → of_json j ≡ Some d → find.as_str j ≡ as_str d
 text_in = each_kind (λ j d. find.as_str j ≡ as_str d) refl (λ b. refl) (λ s n e. refl) (λ s. refl) (λ js ds e. refl) (λ ms ns e. refl)
 
--- the text that an element is
+-- the text of an element
 pub text_is : (ts : List Token) (r : Option (List ℕ)) → is_sound ts ≡ true → ((j : json.Json) → BeginsWith ts j → r ≡ find.as_str j) → r ≡ as_str (data_of ts)
 text_is ts r sound h = let s = sound_has ts sound in h s.text s.stands ∙ text_in s.text s.read s.is ∙ ap as_str (sym s.same)

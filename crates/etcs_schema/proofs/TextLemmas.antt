@@ -1,4 +1,4 @@
--- A text that a tape reads, and the pass over its tokens, as serde_json reads the text.
+-- Parsing a text to a tape, with the pass over its tokens, reads what serde_json reads.
 use Rattle.std.proofs.Common.{◌≡◌, ◌∙◌, ◌&&◌, ◌≤◌, ℕ, true, false, List, [], ◌∷◌, ◌++◌, Option, Some, None, option_and_then, ap, sym, refl, subst, arith, append-nil}
 use Rattle.std.specs.Prelude.{is_some, nat_le}
 use Rattle.std.proofs.lemmas.Bool.{and_parts}
@@ -38,7 +38,7 @@ last_is (Some (i, t ∷ ts)) j e = absurd (cc)
 same_at : (ts : List Token) (o : Option json.Json) (j : json.Json) → last (value 127 ts) ≡ o → o ≡ Some j → last (value 128 ts) ≡ Some j
 same_at ts o j e is = ap last (deeper ts [] j (last_is (value 127 ts) j (e ∙ is)))
 
--- ---- a text that is no JSON
+-- ---- a text that is not JSON
 
 none_read : (text : List ℕ) (o : Option json.Json) → last (value 127 (tokens text)) ≡ o → document text ≡ None → read text ≡ None
 none_read text None e none = ap (option_and_then of_json) e

@@ -1,4 +1,4 @@
--- The text of a body is read as that body again.
+-- Reading the text of a body gives the body again.
 use Rattle.std.specs.Prelude.{◌≡◌, ℕ, zero, suc, ◌-◌, ◌*◌, ◌^◌, ◌<◌, ◌≤◌, ◌==◌, Bool, true, false, List, ◌++◌, length, take, drop, replicate, Ok, refl}
 use Rattle.etcs_schema.specs.Prelude.{◌∙◌, sym, ap, ap₂, subst, arith, eq-eqb, string}
 use Rattle.std.proofs.lemmas.List.{drop_at, length-append, length-drop, length-replicate, length-take, length-take-le, nil_from_length, take_at, take-append-drop}
@@ -31,7 +31,7 @@ are_bytes zero bits i = omega arith
 are_bytes (suc n) bits zero = byte_small bits
 are_bytes (suc n) bits (suc i) = are_bytes n (drop 8 bits) i
 
--- whole bytes of bits, and their bits again
+-- bits of whole bytes: converting to bytes and back gives the same bits
 pub bits_again : (n : ℕ) (bits : List Bool) → length bits ≡ 8 * n → bits_of_bytes (bytes_in n bits) ≡ bits
 unfolding bytes_in bits_of_bytes
 bits_again zero bits none = sym (nil_from_length bits none)

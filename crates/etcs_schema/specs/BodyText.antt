@@ -7,7 +7,7 @@ use Rattle.hex.specs.declared.error.FromHexError.{FromHexError}
 use Rattle.etcs_bits.specs.bits.Number.{bits_of_bytes, num_of_bits}
 use Rattle.etcs_schema.specs.Fault.{Fault, Kind, Range, here}
 
--- how many bytes hold this number of bits
+-- the number of bytes for this number of bits
 abbrev pub bytes_for : ℕ → ℕ
 bytes_for bits = (bits + 7) / 8
 
@@ -15,7 +15,7 @@ bytes_for bits = (bits + 7) / 8
 abbrev pub filled_up : List Bool → List Bool
 filled_up bits = bits ++ replicate (8 * bytes_for (length bits) - length bits) false
 
--- the first n bytes that the bits make, eight bits for each
+-- the first n bytes, each made of eight bits
 unfoldable pub bytes_in : ℕ → List Bool → List ℕ
 bytes_in zero bits = []
 bytes_in (suc n) bits = num_of_bits (take 8 bits) ∷ bytes_in n (drop 8 bits)
@@ -32,7 +32,7 @@ body_text body = encode_lower (body_bytes body)
 abbrev pub are_padded : ℕ → List ℕ → Bool
 are_padded count bytes = num_of_bits (drop count (bits_of_bytes bytes)) == 0
 
--- the first bits of bytes that are as many as hold them, where no other bit is set
+-- the first `count` bits of exactly as many bytes as these bits need; no other bit may be set
 abbrev pub first_bits : ℕ → List ℕ → Result (List Bool) Fault
 first_bits count bytes =
     if (length bytes == bytes_for count) && are_padded count bytes

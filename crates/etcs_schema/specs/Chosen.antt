@@ -1,4 +1,4 @@
--- Values that a number distinguishes, such as packets by NID_PACKET. The number is looked at before any
+-- Values that are distinguished by a number, such as packets by NID_PACKET. The number is read before any
 -- other key of the object, and decides the form of the whole object.
 use Rattle.std.specs.Prelude.{◌≡◌, ℕ, ◌++◌, ◌==◌, ◌⊎◌, Bool, true, false, List, ◌∷◌, Option, Some, None, Result, Ok, Err, if◌then◌else◌, refl}
 use Rattle.etcs_schema.specs.Prelude.{is_itself, ap, inl, inr, subst, sym, ◌∙◌, ne_eqb, true≢false, Data, Members, as_object, get, AreAllowed, IsAllowed, Row, Variable, alone, row}
@@ -9,23 +9,23 @@ use Rattle.etcs_schema.specs.Fault.{Fault, Kind, Range, at_once, here, key as ke
 use Rattle.etcs_schema.specs.Reading.{◌>>=◌, as_kind, allowed_number, at_key}
 use Rattle.etcs_schema.specs.Shape.{ObjectOf, Part, Shape, allowed_behind, fixed, key_again, named, number_again, number_data, object, ◌then◌}
 
--- ---- what is looked at first
+-- ---- what is read first
 
 abbrev pub object_or : Option Members → Result (Unit {0}) Fault
 object_or None = Err (here Kind)
 object_or (Some ms) = Ok tt
 
--- an object, of whatever keys
+-- an object with any keys
 unfoldable pub any_object : Data → Result (Unit {0}) Fault
 any_object d = object_or (as_object d)
 
--- what has to be there, whatever other keys there are
+-- a required member; other keys are not checked
 abbrev pub first_at : {A : Type 0} → (Data → Result A Fault) → List ℕ → Data → Result A Fault
 first_at read name d = any_object d >>= λ u. at_key read name d
 
 -- ---- an object with a number
 
--- the members of an object behind its number k, which stands at the key `name`
+-- the members of an object after its number k, which is at the key `name`
 pub record BehindNumber (name : List ℕ) (k : ℕ) {X : Type 0} (rows : X → List Row) : Type 0 where
   pub part : Part rows
   pub apart : are_apart (name ∷ part.keys) ≡ true
@@ -33,7 +33,7 @@ pub record BehindNumber (name : List ℕ) (k : ℕ) {X : Type 0} (rows : X → L
 abbrev pub behind : {name : List ℕ} {k : ℕ} {X : Type 0} {rows : X → List Row} (part : Part rows) → are_apart (name ∷ part.keys) ≡ true → BehindNumber name k rows
 behind part apart = record { part = part; apart = apart }
 
--- the number, which has to be k, and the members behind it
+-- the number, which must be k, and the members after it
 abbrev pub with_number : {name : List ℕ} {k : ℕ} {X : Type 0} {rows : X → List Row} → BehindNumber name k rows → ObjectOf rows
 with_number {name = name} {k = k} o = record {
   part = named (λ p. p.1) (λ x. (tt, x)) (λ _. refl) (fixed name k then o.part);
@@ -54,8 +54,8 @@ begins_with name n o x rest begins =
 
 -- ---- what the number decides
 
--- the numbers that have a form; the number of a value, which is that of the variable x in the bits, and the rows
--- behind it; its form, which has that number at the key; and what is read of an object with a number
+-- the numbers that have a form; the number of a value, which is the number of the variable x in the bits, and
+-- the rows after it; the value's form, with that number at the key; and what an object with a number is read as
 pub record Choice (name : List ℕ) (x : Variable) (X : Type 0) : Type 0 where
   pub allows : ℕ → Bool
   pub number : X → ℕ
@@ -66,7 +66,7 @@ pub record Choice (name : List ℕ) (x : Variable) (X : Type 0) : Type 0 where
   pub has_number : (v : X) → HasNumber name (number v) (to v)
   pub again : (v : X) → AreAllowed (alone x (number v) ++ rows v) → of (number v) (to v) ≡ Ok v
 
--- the number k and no other
+-- only the number k
 abbrev pub last : {name : List ℕ} {x : Variable} {k : ℕ} {A : Type 0} {rows : A → List Row} → BehindNumber name k rows → Choice name x A
 last {name = name} {x = x} {k = k} {rows = rows} o = record {
   allows = λ n. n == k;
@@ -79,7 +79,7 @@ last {name = name} {x = x} {k = k} {rows = rows} o = record {
   again = λ v allowed. rw (is_itself k) ((object (with_number o)).again v (allowed_behind x k (rows v) allowed));
 }
 
--- a function of either kind
+-- one of two functions, by the kind of the value
 abbrev pub by_kind : {A B C : Type 0} → (A → C) → (B → C) → A ⊎ B → C
 by_kind f g (inl x) = f x
 by_kind f g (inr y) = g y
@@ -124,7 +124,7 @@ pub as_other : (x y : Variable) (n : ℕ) (rows : List Row) → x.width ≡ y.wi
 unfolding alone
 as_other x y n rows same is allowed = ((rw same at allowed.0.0, is), allowed.1)
 
--- every number that the variable y allows, which the object has by itself; the value keeps its number, and its object has it
+-- every number that the variable y allows; the number is a member of the object itself and a part of the value
 abbrev pub others : {name : List ℕ} {x : Variable} {X : Type 0} (y : Variable) (number : X → ℕ) (rows : X → List Row) (o : ObjectOf (λ v. alone y (number v) ++ rows v))
     → x.width ≡ y.width → ((v : X) → y.allows (number v) ≡ true) → ((v : X) → HasNumber name (number v) ((object o).to v)) → Choice name x X
 others {x = x} y number rows o same is_number has_number = record {
@@ -147,7 +147,7 @@ chosen_again name test c passes v allowed =
     let number = c.has_number v in
     rw (number.0, key_again number_data (allowed_number test) name (c.number v) (c.to v) (number_again test (c.number v) (passes v allowed.0)) (number.1, tt)) (c.again v allowed)
 
--- an object whose number passes the test, as it does where it is allowed in the bits
+-- an object whose number passes the test, as every number that is allowed in the bits does
 abbrev pub chosen : {X : Type 0} {x : Variable} (name : List ℕ) (test : ℕ → Bool) (c : Choice name x X) → ((v : X) → IsAllowed (row x (c.number v)) → test (c.number v) ≡ true) → Shape X
 chosen {x = x} name test c passes = record {
   rows = λ v. alone x (c.number v) ++ c.rows v;

@@ -3,7 +3,7 @@ use Rattle.std.specs.Prelude.{◌≡◌, ◌&&◌, ℕ, Bool, true, not, List, [
 use Rattle.etcs_schema.specs.Prelude.{list_any, Data, Members, member, no_members, object, put, get}
 use Rattle.std.specs.Str.{bytes_eq}
 
--- a key, and its value; None where the key is left out
+-- a key, and its value; None for an omitted key
 abbrev pub Entry : Type 0
 Entry = List ℕ × Option Data
 
@@ -14,7 +14,7 @@ keys_of (e ∷ es) = e.0 ∷ keys_of es
 abbrev pub is_among : List ℕ → List (List ℕ) → Bool
 is_among k ls = list_any (λ l. bytes_eq k l) ls
 
--- no key stands twice
+-- no key occurs twice
 abbrev pub are_apart : List (List ℕ) → Bool
 are_apart [] = true
 are_apart (k ∷ ks) = not (is_among k ks) && are_apart ks
@@ -24,12 +24,12 @@ abbrev pub are_known : List (List ℕ) → Members → Bool
 are_known keys no_members = true
 are_known keys (member k d ms) = is_among k keys && are_known keys ms
 
--- at each of these keys the object has this value, or none
+-- the object has each of these values at its key, and nothing at an omitted key
 abbrev pub Holds : List Entry → Data → Type 0
 Holds [] d = Unit {0}
 Holds (e ∷ es) d = (get e.0 d ≡ e.1) × Holds es d
 
--- ---- one member after the other put into an object
+-- ---- inserting members into an object one after the other
 
 abbrev pub put_or : List ℕ → Option Data → Members → Members
 put_or k None ms = ms

@@ -107,6 +107,6 @@ unfolding AreAmong
 onto_known keys ms [] known h = known
 onto_known keys ms (e ∷ es) known h = onto_known keys (put_or e.0 e.1 ms) es (put_or_known keys e.0 e.1 ms h.0 known) h.1
 
--- an object has no keys but the keys of its entries
+-- an object has only the keys of its entries
 pub object_known : (es : List Entry) → are_known (keys_of es) (members_onto no_members es) ≡ true
 object_known es = onto_known (keys_of es) no_members es refl (among_own es)

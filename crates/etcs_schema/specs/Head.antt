@@ -1,4 +1,4 @@
--- What packets have in common: their number, and those from track to train mostly Q_DIR, and Q_SCALE before
+-- What packets have in common: their number, Q_DIR (most packets from track to train), and Q_SCALE before
 -- distances (SUBSET-026, 7.4).
 use Rattle.std.specs.Prelude.{◌≡◌, ◌++◌, ◌<◌, ◌≤◌, ◌==◌, not, ℕ, true, List, codes, refl}
 use Rattle.etcs_schema.specs.Prelude.{◌∙◌, ap, sym, arith, and_from, le-leb, lt-ltb, true≢false, body_rows, pair_rows, Row, alone, q_dir, q_scale, only, ranged}
@@ -7,11 +7,11 @@ use Rattle.etcs_schema.specs.Chosen.{BehindNumber, with_number}
 use Rattle.etcs_schema.specs.Shape.{Object, Part, closed, key, sized, unstated, whole, ◌then◌}
 use Rattle.etcs_schema.specs.Variables.{direction, is_allowed, scale}
 
--- packet k; its bits have these rows behind NID_PACKET
+-- packet k; its bits have these rows after NID_PACKET
 abbrev pub Packet : ℕ → {X : Type 0} → (X → List Row) → Type 0
 Packet k rows = BehindNumber (codes "nid_packet") k rows
 
--- Q_DIR, and then the packet's other members; the bits have L_PACKET between
+-- Q_DIR, and then the packet's other members; the bits have L_PACKET in between
 abbrev pub headed : {X : Type 0} {rows : X → List Row} → Part rows → Part (pair_rows q_dir.rows (body_rows 10 rows))
 headed rest = key (codes "q_dir") direction then sized 10 rest
 
@@ -19,7 +19,7 @@ headed rest = key (codes "q_dir") direction then sized 10 rest
 abbrev pub scaled : {X : Type 0} {rows : X → List Row} → Part rows → Part (pair_rows q_scale.rows rows)
 scaled rest = key (codes "q_scale") scale then rest
 
--- the number, and what stands behind it
+-- the number, and what follows it
 abbrev pub numbered : {k : ℕ} {X : Type 0} {rows : X → List Row} → Packet k rows → Part (λ x. alone (only 8 k Spare) k ++ rows x)
 numbered {k = k} p = unstated (only 8 k Spare) k (with_number p).part
 

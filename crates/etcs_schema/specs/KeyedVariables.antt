@@ -1,5 +1,5 @@
--- The variables of a layout as members of an object, each at a key of its own. Keys that are left where the
--- layout ends must not be there: NID_NTC stands in the object exactly where it stands in the bits.
+-- The variables of a layout as members of an object, each at its own key. Keys without a variable must be
+-- absent: NID_NTC is in the object if and only if it is in the bits.
 use Rattle.std.specs.Prelude.{◌≡◌, ℕ, Bool, true, false, List, [], ◌∷◌, Option, Result, Ok, Err, if◌then◌else◌, drop, option_map, refl}
 use Rattle.etcs_schema.specs.Prelude.{slice_get, ap, sym, ◌∙◌, Data, AreRowsOf, Fields, nothing, field, ◌▹◌, sized, Format, AreAllowed, Row, row}
 use Rattle.etcs_schema.specs.Entries.{Entry, Holds, keys_of}
@@ -8,16 +8,16 @@ use Rattle.etcs_schema.specs.Reading.{◌>>=◌, allowed_number, at_key, no_key,
 use Rattle.etcs_schema.specs.Shape.{Part, key_again, number_again, number_data, optional}
 use Rattle.etcs_schema.specs.Variables.{is_allowed, number_allowed}
 
--- the number of the row at this place, if there is one
+-- the number of the row at this index, if there is one
 abbrev pub number_in : ℕ → List Row → Option ℕ
 number_in i rows = option_map (λ r. r.number) (slice_get rows i)
 
--- each number at its key, and nothing at the keys that are left
+-- each number at its key, and nothing at the remaining keys
 abbrev pub members_at : List (List ℕ) → List Row → List Entry
 members_at [] rows = []
 members_at (k ∷ ks) rows = (k, optional number_data (number_in 0 rows)) ∷ members_at ks (drop 1 rows)
 
--- the rows whose numbers stand at the keys
+-- the rows whose numbers are at the keys
 abbrev pub rows_read : Fields → List (List ℕ) → Data → Result (List Row) Fault
 rows_read nothing [] d = Ok []
 rows_read nothing (k ∷ ks) d = no_key k d >>= λ u. rows_read nothing ks d
@@ -30,7 +30,7 @@ HasKeys nothing ks = Unit {0}
 HasKeys (field x next) (k ∷ ks) = (n : ℕ) → HasKeys (next n) ks
 HasKeys other ks = ⊥
 
--- what follows each of two numbers has keys
+-- the fields after a number have keys if the fields of both branches have keys
 pub keys_by : (a b : Fields) (ks : List (List ℕ)) (is : Bool) → HasKeys a ks → HasKeys b ks → HasKeys (if is then a else b) ks
 keys_by a b ks true one other = one
 keys_by a b ks false one other = other

@@ -1,4 +1,4 @@
--- Lists of any number of items, and records that may still be refused once they are read.
+-- Lists of any length, and records with a condition that is checked after they are read.
 use Rattle.std.specs.Prelude.{◌≡◌, ◌++◌, Bool, true, false, List, Option, Some, None, Result, Ok, Err}
 use Rattle.etcs_schema.specs.Prelude.{flat_map, Data, Items, array, as_array, AreAllowed, Row, alone}
 use Rattle.etcs_bits.specs.declared.layout.fault.FaultKind.TheVariants.{Spare}
@@ -20,7 +20,7 @@ pub listed_again : {X : Type 0} (s : Shape X) (xs : List X) → AreAllowed (flat
 unfolding all_of
 listed_again s xs allowed = items_again s 0 xs allowed
 
--- a list of any number of items
+-- a list of any length
 abbrev pub listed : {X : Type 0} → Shape X → Shape (List X)
 listed s = record {
   rows = flat_map s.rows;
@@ -29,9 +29,9 @@ listed s = record {
   again = listed_again s;
 }
 
--- ---- records that are refused after all
+-- ---- records with a condition
 
--- a row of no bits, which is allowed where a test holds, and the other rows of a record
+-- a row of no bits, allowed if the condition holds, and then the other rows of a record
 abbrev pub rows_holding : {X : Type 0} → (X → Bool) → (X → List Row) → X → List Row
 rows_holding holds rows x = alone (record { width = 0; allows = λ _. holds x; refusal = Spare; closes = false }) 0 ++ rows x
 
@@ -39,7 +39,7 @@ pub held : {X : Type 0} (holds : X → Bool) (rows : X → List Row) (x : X) →
 unfolding alone
 held holds rows x allowed = (allowed.0.1, allowed.1)
 
--- the members of records that have to have a property; one without it has the fault
+-- the members of records that must meet a condition; a record that does not meet it has the fault
 abbrev pub holding : {X : Type 0} {rows : X → List Row} → Fault → (holds : X → Bool) → Part rows → Part (rows_holding holds rows)
 holding {rows = rows} fault holds a =
     within fault holds (λ x allowed. (held holds rows x allowed).0) (with_bits (rows_holding holds rows) (λ x allowed. (held holds rows x allowed).1) a)

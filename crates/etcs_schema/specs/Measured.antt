@@ -1,5 +1,5 @@
--- L_PACKET and the body that it counts (SUBSET-026, 7.4.1): members of the form of a packet whose
--- layout is not known.
+-- L_PACKET and the body that it counts (SUBSET-026, 7.4.1), in the form of a packet whose layout is not
+-- known.
 use Rattle.std.specs.Prelude.{◌≡◌, ◌+◌, ◌-◌, ◌^◌, ◌&&◌, ℕ, Bool, List, [], ◌∷◌, Some, Result, Ok, codes, length, ltb, nat_le, refl}
 use Rattle.etcs_schema.specs.Prelude.{arith, Data, string, l_kept, kept_bits, AreAllowed}
 use Rattle.etcs_schema.specs.BodyText.{body_of, body_text}
@@ -14,11 +14,11 @@ use Rattle.etcs_schema.specs.Variables.{number_allowed}
 abbrev pub is_length : ℕ → ℕ → Bool
 is_length head l = ltb l (2 ^ 13) && nat_le head l
 
--- L_PACKET, and then the body that it counts behind the head
+-- L_PACKET, and then the body that it counts after the head
 abbrev pub measured_of : ℕ → Data → Result (List Bool) Fault
 measured_of head d = at_key (allowed_number (is_length head)) (codes "l_packet") d >>= λ l. at_key (body_of (l - head)) (codes "body") d
 
--- ---- what is written is read again
+-- ---- reading what was written
 
 pub measured_again : (before : ℕ) (body : List Bool) (d : Data) → AreAllowed ((kept_bits before).rows body)
     → Holds ((codes "l_packet", Some (number_data (before + 13 + length body))) ∷ (codes "body", Some (string (body_text body))) ∷ []) d → measured_of (before + 13) d ≡ Ok body
@@ -28,7 +28,7 @@ measured_again before body d allowed holds =
     let fits = number_again (is_length (before + 13)) l (number_allowed (l_kept before) l allowed.0) in
     rw (key_again number_data (allowed_number (is_length (before + 13))) (codes "l_packet") l d fits (holds.0, tt), rest) (key_again (λ b. string (body_text b)) (body_of (length body)) (codes "body") body d (body_again body) (holds.1.0, tt))
 
--- L_PACKET, which counts the `before` bits ahead of it, its own and the bits of the body, and the body
+-- L_PACKET and the body; L_PACKET counts the `before` bits in front of it, its own bits and the body's
 abbrev pub measured : (before : ℕ) → Part (kept_bits before).rows
 measured before = record {
   keys = codes "l_packet" ∷ codes "body" ∷ [];

@@ -1,4 +1,4 @@
--- The words of lower libraries that most files of this folder use.
+-- The names of lower libraries that most files of this folder use.
 pub use Rattle.std.proofs.Common.{inl, inr, ◌∙◌, sym, ap, ap₂, subst, arith, Ordering, Less, Equal, Greater, nat_cmp, bytes_eq, append_assoc, append-nil}
 pub use Rattle.std.specs.List.{list_any, slice_get, flat_map}
 pub use Rattle.std.proofs.lemmas.Bool.{eq-eqb, ne_eqb, true≢false, and_parts, and_from, or_parts, or_left, or_right, le-leb, lt-ltb}

@@ -1,4 +1,4 @@
--- How a value is read as a record: one part after the other, up to the first fault.
+-- Reading a value as a record: one part after the other, up to the first fault.
 use Rattle.std.specs.Prelude.{◌&&◌, ◌+◌, ℕ, Bool, List, [], ◌∷◌, length, Option, Some, None, Result, Ok, Err, if◌then◌else◌, nat_le, option_and_then}
 use Rattle.etcs_schema.specs.Prelude.{Data, Items, item, no_items, Members, get, as_object, as_array, as_number, as_u64}
 use Rattle.etcs_schema.specs.Entries.{are_known}
@@ -27,7 +27,7 @@ abbrev pub with_first : {A : Type 0} → A → Result (List A) Fault → Result 
 with_first x (Ok xs) = Ok (x ∷ xs)
 with_first x (Err f) = Err f
 
--- the items, of which the first has this place
+-- the items; the first one has this index
 abbrev pub items_at : {A : Type 0} → (Data → Result A Fault) → ℕ → List Data → Result (List A) Fault
 items_at read i [] = Ok []
 items_at read i (d ∷ ds) = under (list_item i) (read d) >>= λ x. with_first x (items_at read (i + 1) ds)
@@ -36,7 +36,7 @@ abbrev pub data_list : Items → List Data
 data_list no_items = []
 data_list (item d ds) = d ∷ data_list ds
 
--- from `low` to `high` items
+-- `low` to `high` items
 abbrev pub counts_between : ℕ → ℕ → List Data → Bool
 counts_between low high ds = nat_le low (length ds) && nat_le (length ds) high
 
@@ -45,7 +45,7 @@ bounded_list_or read low high None = Err (here Kind)
 bounded_list_or read low high (Some ds) =
     if counts_between low high (data_list ds) then items_at read 0 (data_list ds) else Err (here Range)
 
--- a list of from `low` to `high` items
+-- a list of `low` to `high` items
 unfoldable pub list_of : {A : Type 0} → (Data → Result A Fault) → ℕ → ℕ → Data → Result (List A) Fault
 list_of read low high d = bounded_list_or read low high (as_array d)
 
@@ -55,7 +55,7 @@ abbrev pub known_or : List (List ℕ) → Option Members → Result (Unit {0}) F
 known_or keys None = Err (here Kind)
 known_or keys (Some ms) = if are_known keys ms then Ok tt else Err (here Unknown)
 
--- an object that has no other keys
+-- an object with only these keys
 unfoldable pub object_with : List (List ℕ) → Data → Result (Unit {0}) Fault
 object_with keys d = known_or keys (as_object d)
 
@@ -63,11 +63,11 @@ abbrev pub key_or : {A : Type 0} → (Data → Result A Fault) → List ℕ → 
 key_or read name None = Err (at_once Missing (key name))
 key_or read name (Some d) = under (key name) (read d)
 
--- what has to be there
+-- a required member
 unfoldable pub at_key : {A : Type 0} → (Data → Result A Fault) → List ℕ → Data → Result A Fault
 at_key read name d = key_or read name (get name d)
 
--- the member that has to be there
+-- a required member of any kind
 abbrev pub member_at : List ℕ → Data → Result Data Fault
 member_at name d = at_key (λ e. Ok e) name d
 
@@ -75,7 +75,7 @@ abbrev pub option_or : {A : Type 0} → (Data → Result A Fault) → List ℕ �
 option_or read name None = Ok None
 option_or read name (Some d) = as_kind (λ x. Some x) (under (key name) (read d))
 
--- what may be left out
+-- an optional member
 unfoldable pub at_key_if : {A : Type 0} → (Data → Result A Fault) → List ℕ → Data → Result (Option A) Fault
 at_key_if read name d = option_or read name (get name d)
 
@@ -83,6 +83,6 @@ abbrev pub unwanted_or : List ℕ → Option Data → Result (Unit {0}) Fault
 unwanted_or name None = Ok tt
 unwanted_or name (Some d) = Err (at_once Range (key name))
 
--- what must not be there
+-- a key that must be absent
 unfoldable pub no_key : List ℕ → Data → Result (Unit {0}) Fault
 no_key name d = unwanted_or name (get name d)

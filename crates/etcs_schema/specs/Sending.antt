@@ -1,5 +1,5 @@
--- What is written of a value: the tokens of its text, behind the tokens that stand there. An object's
--- members are written in the byte order of their keys.
+-- Writing a value: the tokens of its text are appended. An object's members are written in the byte order of
+-- their keys.
 use Rattle.std.specs.Prelude.{◌≡◌, ◌++◌, ℕ, List, [], ◌∷◌, map, Option, Some, None}
 use Rattle.etcs_schema.specs.Prelude.{Data}
 use Rattle.std.specs.Cmp.Lexicographic.{slice_cmp}
@@ -10,12 +10,12 @@ use Rattle.json.specs.Written.{Written}
 use Rattle.serde_json.specs.Written.{outline}
 use Rattle.etcs_schema.specs.Entries.{Entry, keys_of}
 
--- in the byte order of the keys
+-- an entry inserted in the byte order of the keys
 abbrev pub insert : Entry → List Entry → List Entry
 insert e [] = e ∷ []
 insert e (f ∷ fs) = match_ordering (slice_cmp nat_cmp e.0 f.0) (e ∷ f ∷ fs) (e ∷ f ∷ fs) (f ∷ insert e fs)
 
--- entries in their order, and further ones put in one after the other
+-- sorted entries, and more entries inserted one after the other
 abbrev pub onto : List Entry → List Entry → List Entry
 onto done [] = done
 onto done (e ∷ es) = onto (insert e done) es
@@ -30,7 +30,7 @@ sorted_keys ks = keys_of (sorted (map (λ k. (k, None)) ks))
 abbrev pub tokens_of : Data → List Token
 tokens_of d = json_tokens (outline d)
 
--- a key and then its value, or nothing where the key is left out
+-- a key and then its value, or nothing for an omitted key
 abbrev pub entry_tokens : List ℕ → Option Data → List Token
 entry_tokens k None = []
 entry_tokens k (Some d) = key k ∷ tokens_of d
@@ -39,16 +39,16 @@ abbrev pub entries_tokens : List Entry → List Token
 entries_tokens [] = []
 entries_tokens (e ∷ es) = entry_tokens e.0 e.1 ++ entries_tokens es
 
--- these tokens were added behind the tokens that stood there
+-- these tokens were appended
 pub record Adds (tokens : List Token) (old new : Written) : Type 0 where
   pub before : new.before ≡ old.before
   pub added : new.tokens ≡ old.tokens ++ tokens
 
--- this value was sent
+-- this value was written
 abbrev pub SendsValue : Data → Written → Written → Type 0
 SendsValue d = Adds (tokens_of d)
 
--- each item's tokens, without the marks of a list
+-- each item's tokens, without the brackets of the list
 abbrev pub each_tokens : {X : Type 0} → (X → Data) → List X → List Token
 each_tokens to [] = []
 each_tokens to (x ∷ xs) = tokens_of (to x) ++ each_tokens to xs

@@ -1,5 +1,5 @@
--- The JSON form of a value in one value: what it is written as, what is read, and that what was written is read
--- as the value that it was, if the rows of its bits are allowed.
+-- The JSON form of a type: what a value is written as, what is read, and that reading what was written gives the
+-- same value, if the rows of its bits are allowed.
 use Rattle.std.specs.Prelude.{◌≡◌, ◌≤◌, ◌+◌, ◌++◌, ◌==◌, ℕ, Bool, true, List, [], ◌∷◌, length, Option, Some, None, Result, Ok, Err, if◌then◌else◌, refl}
 use Rattle.etcs_schema.specs.Prelude.{is_itself, flat_map, ap, ◌∙◌, arith, and_from, le-leb, Data, Items, item, no_items, array, number, unsigned, body_rows, counted_rows, option_rows, pair_rows, l_packet, AreAllowed, Row, Variable, alone, width}
 use Rattle.etcs_bits.specs.layout.RowLemmas.{allowed_first, allowed_second}
@@ -9,14 +9,14 @@ use Rattle.etcs_schema.specs.EntryLemmas.{object_holds, object_known, holds_part
 use Rattle.etcs_schema.specs.Fault.{Fault, Range, key as key_step, under, here}
 use Rattle.etcs_schema.specs.Reading.{◌>>=◌, allowed_number, items_at, data_list, list_of, object_with, at_key, key_or, at_key_if, option_or, as_kind}
 
--- a value, whose bits have these rows
+-- the form of a value whose bits have these rows
 pub record Shape (X : Type 0) : Type 0 where
   pub rows : X → List Row
   pub to : X → Data
   pub of : Data → Result X Fault
   pub again : (x : X) → AreAllowed (rows x) → of (to x) ≡ Ok x
 
--- some members of an object, in the order in which they are looked for
+-- some members of an object, in the order in which they are read
 pub record Part {X : Type 0} (rows : X → List Row) : Type 0 where
   pub keys : List (List ℕ)
   pub to : X → List Entry
@@ -33,7 +33,7 @@ pub number_again : (allowed : ℕ → Bool) (n : ℕ) → allowed n ≡ true →
 unfolding allowed_number
 number_again allowed n is = rw is refl
 
--- the form of a struct, which is the form of its parts; `make` and `parts` go between the two
+-- the form of a struct is the form of its parts; `make` and `parts` convert between the two
 abbrev pub renamed : {X Y : Type 0} (make : X → Y) (parts : Y → X) → ((y : Y) → make (parts y) ≡ y) → Shape X → Shape Y
 renamed make parts same s = record {
   rows = λ y. s.rows (parts y);
@@ -42,7 +42,7 @@ renamed make parts same s = record {
   again = λ y allowed. ap (as_kind make) (s.again (parts y) allowed) ∙ ap Ok (same y);
 }
 
--- the items, each in its form
+-- the forms of the items
 abbrev pub items_of : {X : Type 0} → (X → Data) → List X → Items
 items_of to [] = no_items
 items_of to (x ∷ xs) = item (to x) (items_of to xs)
@@ -74,7 +74,7 @@ abbrev pub first_and_rest : {X : Type 0} → List X → Result (X × List X) Fau
 first_and_rest [] = Err (here Range)
 first_and_rest (x ∷ xs) = Ok (x, xs)
 
--- a list of from 1 to `high` items, as its first and the others
+-- a list of 1 to `high` items, as the first and the others
 abbrev pub first_and_others : {X : Type 0} → (Data → Result X Fault) → ℕ → Data → Result (X × List X) Fault
 first_and_others read high d = list_of read 1 high d >>= first_and_rest
 
@@ -91,7 +91,7 @@ first_again s p h =
     let whole = allowed_append (s.rows p.0) (flat_map s.rows p.1) first further.1 in
     ap (λ r. r >>= first_and_rest) (list_again s 1 32 (p.0 ∷ p.1) (omega arith) (omega (arith, further.0.0)) whole)
 
--- from 1 to 32 items: the first, and the others after their count
+-- 1 to 32 items: the first, and the others after their count
 abbrev pub list_from_one : {X : Type 0} → Shape X → Shape (X × List X)
 list_from_one s = record {
   rows = pair_rows s.rows (counted_rows s.rows);
@@ -106,7 +106,7 @@ pub key_again : {X : Type 0} (to : X → Data) (read : Data → Result X Fault) 
 unfolding at_key
 key_again to read name x d again holds = ap (key_or read name) holds.0 ∙ ap (under (key_step name)) again
 
--- a key that is always there
+-- a required key
 abbrev pub key : {X : Type 0} → List ℕ → (s : Shape X) → Part s.rows
 key name s = record {
   keys = name ∷ [];
@@ -125,7 +125,7 @@ unfolding at_key_if alone
 option_again s name None d allowed holds = ap (option_or s.of name) holds.0
 option_again s name (Some x) d allowed holds = rw (holds.0, s.again x allowed.1) refl
 
--- a key that is there exactly where the option is
+-- a key that is present if and only if the option is `Some`
 abbrev pub key_if : {X : Type 0} → List ℕ → (s : Shape X) → Part (option_rows s.rows)
 key_if name s = record {
   keys = name ∷ [];
@@ -144,7 +144,7 @@ then_again {rows_a = rows_a} {rows_b = rows_b} a b p d allowed holds =
     let parts = holds_parts (a.to p.0) (b.to p.1) d holds in
     rw (a.again p.0 d (allowed_first (rows_a p.0) (rows_b p.1) allowed) parts.0, b.again p.1 d (allowed_second (rows_a p.0) (rows_b p.1) allowed) parts.1) refl
 
--- members, and then others
+-- members, and then more members
 infixr 5 ◌then◌
 abbrev pub ◌then◌ : {A B : Type 0} {rows_a : A → List Row} {rows_b : B → List Row} → Part rows_a → Part rows_b → Part (pair_rows rows_a rows_b)
 a then b = record {
@@ -155,7 +155,7 @@ a then b = record {
   again = then_again a b;
 }
 
--- the members of a struct, which are the members of its parts
+-- the members of a struct are the members of its parts
 abbrev pub named : {X Y : Type 0} {rows : X → List Row} (with_parts : X → Y) (parts_of : Y → X) → ((y : Y) → with_parts (parts_of y) ≡ y) → Part rows → Part (λ y. rows (parts_of y))
 named with_parts parts_of same a = record {
   keys = a.keys;
@@ -169,7 +169,7 @@ named with_parts parts_of same a = record {
 abbrev pub struct : {P S : Type 0} {rows : P → List Row} (s : Struct P S) → Part rows → Part (λ x. rows (s.parts x))
 struct s a = named s.make s.parts s.again a
 
--- members whose bits have these rows; where they are allowed, so are those of the parts
+-- members whose bits have these rows; if these are allowed, so are the rows of the parts
 abbrev pub with_bits : {X : Type 0} {other : X → List Row} (rows : X → List Row) → ((x : X) → AreAllowed (rows x) → AreAllowed (other x)) → Part other → Part rows
 with_bits rows keeps a = record {
   keys = a.keys;
@@ -179,20 +179,20 @@ with_bits rows keeps a = record {
   again = λ x d allowed. a.again x d (keeps x allowed);
 }
 
--- what stands behind one row
+-- the rows after one row are allowed
 pub allowed_behind : (x : Variable) (n : ℕ) (rows : List Row) → AreAllowed (alone x n ++ rows) → AreAllowed rows
 unfolding alone
 allowed_behind x n rows allowed = allowed.1
 
--- members behind a number of the bits that is no member
+-- members after a number that is in the bits, but not a member
 abbrev pub unstated : {X : Type 0} {rows : X → List Row} (x : Variable) (n : ℕ) → Part rows → Part (λ v. alone x n ++ rows v)
 unstated {rows = rows} x n a = with_bits (λ v. alone x n ++ rows v) (λ v. allowed_behind x n (rows v)) a
 
--- members whose bits stand behind L_PACKET
+-- members whose bits follow L_PACKET
 abbrev pub sized : {X : Type 0} {rows : X → List Row} (before : ℕ) → Part rows → Part (body_rows before rows)
 sized {rows = rows} before a = with_bits (body_rows before rows) (λ x. allowed_behind l_packet (before + (13 + width (rows x))) (rows x)) a
 
--- a key that has this number and no other; the bits of the number are not asked for
+-- a key with a fixed number, whose bits are not among the rows
 abbrev pub fixed : List ℕ → ℕ → Part {X = Unit {0}} (λ _. [])
 fixed name k = record {
   keys = name ∷ [];
@@ -205,7 +205,7 @@ fixed name k = record {
 abbrev pub only : {X : Type 0} → Fault → (X → Bool) → X → Result X Fault
 only fault holds x = if holds x then Ok x else Err fault
 
--- members of records that pass a test, as they do if their rows are allowed; a record that fails it has the fault
+-- members of records that pass a test; allowed rows pass it, and a record that fails it has the fault
 abbrev pub within : {X : Type 0} {rows : X → List Row} → Fault → (test : X → Bool) → ((x : X) → AreAllowed (rows x) → test x ≡ true) → Part rows → Part rows
 within fault test passes a = record {
   keys = a.keys;
@@ -217,12 +217,12 @@ within fault test passes a = record {
 
 -- ---- objects
 
--- the members of an object, no key of which stands twice
+-- the members of an object; no key occurs twice
 pub record ObjectOf {X : Type 0} (rows : X → List Row) : Type 0 where
   pub part : Part rows
   pub apart : are_apart part.keys ≡ true
 
--- these members, and no others
+-- only these members
 abbrev pub closed : {X : Type 0} {rows : X → List Row} (part : Part rows) → are_apart part.keys ≡ true → ObjectOf rows
 closed part apart = record { part = part; apart = apart }
 
@@ -233,7 +233,7 @@ object_again o x allowed =
     let holds = object_holds (o.part.to x) (ap are_apart (o.part.has_keys x) ∙ o.apart) in
     rw known (o.part.again x (object_of (o.part.to x)) allowed holds)
 
--- an object of these members and no others
+-- an object with only these members
 abbrev pub object : {X : Type 0} {rows : X → List Row} → ObjectOf rows → Shape X
 object {rows = rows} o = record {
   rows = rows;

@@ -1,4 +1,4 @@
--- Members that are taken one after the other: by a writer of JSON, and by an object in memory.
+-- Members that are appended one after the other, to a writer of JSON and to an object in memory.
 use Rattle.std.specs.Prelude.{◌≡◌, ◌++◌, List, [], ◌∷◌, refl}
 use Rattle.etcs_schema.specs.Prelude.{◌∙◌, ap, sym, append_assoc, append-nil, Members}
 use Rattle.json.specs.Token.{Token}
@@ -6,12 +6,12 @@ use Rattle.json.specs.Written.{Written}
 use Rattle.etcs_schema.specs.Entries.{Entry, members_onto, put_or}
 use Rattle.etcs_schema.specs.Sending.{Adds, entries_tokens, entry_tokens}
 
--- ---- what takes tokens
+-- ---- receivers of tokens
 
 pub adds_none : (out : Written) → Adds [] out out
 adds_none out = record { before = refl; added = sym (append-nil out.tokens) }
 
--- tokens, and then others
+-- tokens, and then more tokens
 pub adds_more : (a b : List Token) (old mid new : Written) → Adds a old mid → Adds b mid new → Adds (a ++ b) old new
 adds_more a b old mid new one two = record {
   before = two.before ∙ one.before;

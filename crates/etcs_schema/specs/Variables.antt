@@ -23,11 +23,11 @@ pub variable_again : (x : Variable) (n : ℕ) → AreAllowed (alone x n) → all
 unfolding alone
 variable_again x n allowed = number_again (is_allowed x) n (number_allowed x n allowed.0)
 
--- a variable, seen as its number
+-- a variable as its number
 abbrev pub variable : Variable → Shape ℕ
 variable x = record { rows = alone x; to = number_data; of = allowed_number (is_allowed x); again = variable_again x }
 
--- the variable that fields of bits begin with; where they begin with none, no number is allowed
+-- the first variable of some fields; without fields, a variable that allows no number
 abbrev pub variable_of : Fields → Variable
 variable_of (field x next) = x
 variable_of other = record { width = 0; allows = λ _. false; refusal = Spare; closes = false }
@@ -35,7 +35,7 @@ variable_of other = record { width = 0; allows = λ _. false; refusal = Spare; c
 abbrev pub number : Fields → Shape ℕ
 number f = variable (variable_of f)
 
--- a variable whose numbers have names
+-- a variable whose numbers have names in an enum
 abbrev pub named_numbers : {X : Type 0} (x : Variable) (tag : X → ℕ) (of : ℕ → X) → AreNames x tag of → Shape X
 named_numbers x tag of are = renamed of tag (λ v. (are v).0) (variable x)
 

@@ -1,3 +1,3 @@
--- JSON values that are only looked at: what is asked of them, and what the tokens of a tape stand for.
+-- Read-only JSON values: what can be asked about them, and the values that the tokens of a tape represent.
 pub mod Tape
 pub mod Texts

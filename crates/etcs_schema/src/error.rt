@@ -1,4 +1,4 @@
-//! Why a JSON value is the form of no record, and where in the value.
+//! Why a JSON value is not the form of a record, and at which path.
 
 ghost use Rattle.std.specs.Prelude.{◌≡◌, ◌∷◌, Some, IfOk, map};
 ghost use Rattle.etcs_schema.specs.Fault.{IsDeeper, IsFault, Kind, Missing, OfMemory, Range, Unknown, at_once, here, key, step_of};
@@ -8,20 +8,20 @@ use std::alloc::Global;
 use std::fmt;
 use thiserror::Error;
 
-/// One step of the way from a JSON value to a value inside it.
+/// One step of the path from a JSON value to a value inside it.
 #[derive(Clone, Copy, Debug, PartialEq, Eq)]
 pub enum Step {
     /// To the value at this key of an object.
     Key(&'static str),
-    /// To the value at this place of a list, counted from 0.
+    /// To the item at this index of a list, counted from 0.
     Place(usize),
 }
 
-/// Why a JSON value is not the form of a record: its first fault. Each fault has the way to it, from
-/// the whole value inwards. The way of `Missing` ends with the key that is missing.
+/// Why a JSON value is not the form of a record: its first fault, with its path from the whole value inwards.
+/// The path of `Missing` ends with the missing key.
 #[derive(Debug, Drop, Error)]
 pub enum FormError {
-    /// Memory ran out. A fault may then go unseen.
+    /// Memory ran out. A fault might then be unreported.
     #[error("out of memory")]
     Memory,
     /// The object lacks a key.
@@ -30,13 +30,12 @@ pub enum FormError {
     /// The object has a key that its form does not have.
     #[error("form unknown key at {path}", path = Path(.0.as_slice()))]
     Unknown(Vec<Step>),
-    /// The value is of another kind than the one that is wanted, such as a text for a number. A
-    /// number with a sign, a point or an exponent, and a number above 2^64 - 1, is of another kind
-    /// than a variable.
+    /// The value is of the wrong kind, such as a text for a number. A number with a sign, a point or an
+    /// exponent, and a number above 2^64 - 1, are of the wrong kind for a variable.
     #[error("form kind at {path}", path = Path(.0.as_slice()))]
     Kind(Vec<Step>),
-    /// The value is of the right kind, but it is not allowed. It may be a number that its variable
-    /// does not have, or a list with too many items.
+    /// The value is of the right kind, but not allowed: a number that its variable does not have, or a list
+    /// with too many items.
     #[error("form range at {path}", path = Path(.0.as_slice()))]
     Range(Vec<Step>),
 }
@@ -54,7 +53,7 @@ impl fmt::Display for Step {
     }
 }
 
-/// The way to a value, printed as `/packets/0`. A slash alone is the whole value.
+/// The path to a value, printed as `/packets/0`. A single slash is the whole value.
 #[derive(Clone, Copy)]
 pub struct Path<'a>(pub &'a [Step]);
 
@@ -84,7 +83,7 @@ impl From<Memory> for FormError {
     }
 }
 
-// The way with one step more in front of it.
+// The path with one more step in front.
 fn longer(path: Vec<Step>, step: Step) -> Result<Vec<Step>, Memory>
     ensures { IfOk result (λ p. p.items ≡ step ∷ path.items) }
 {
@@ -125,7 +124,7 @@ impl FormError {
         FormError::Missing(Vec::new(alloc)).under(Step::Key(name))
     }
 
-    /// What stands at this key is not allowed.
+    /// The value at this key is not allowed.
     pub fn range_at(alloc: Global, name: &'static str) -> FormError
         ensures { IsFault result (at_once Range (key name.now)) }
     {
@@ -133,7 +132,7 @@ impl FormError {
         here.under(Step::Key(name))
     }
 
-    // The same fault, seen from the enclosing value: its path gets this step in front.
+    // The same fault with this step in front of its path, as the enclosing value reports it.
     fn moved(self, step: Step) -> Result<FormError, Memory>
         ensures { IfOk result (λ e. IsDeeper (step_of step) self e) }
     {
@@ -146,7 +145,7 @@ impl FormError {
         }
     }
 
-    /// The same fault, seen from the enclosing value: its path gets this step in front.
+    /// The same fault with this step in front of its path, as the enclosing value reports it.
     pub fn under(self, step: Step) -> FormError
         ensures { IsDeeper (step_of step) self result }
     {

@@ -1,9 +1,9 @@
-//! What the JSON forms of records are made of, whatever the records are.
+//! What all JSON forms of records have in common, independent of the records.
 //!
-//! A form is stated once, as a `Shape`: what is written, what is read, and that the one undoes the other
-//! (`specs/Shape.antt`). What a form is read of is a [`Node`], whatever holds the JSON value: a
-//! `serde_json::Value`, or the tape of tokens that [`JsonText::read`] makes of a text in less time. What
-//! it is written to is [`Marks`]. A value that is no form has a [`FormError`], the first fault with the way to it.
+//! A form is described once, as a `Shape`: what is written, what is read, and that reading what was written
+//! gives the same value (`specs/Shape.antt`). A form is read from a [`Node`]: a value of `serde_json`, or the
+//! tape of tokens that [`JsonText::read`] makes from a text in less time. It is written to [`Marks`]. A value
+//! that is not a form has a [`FormError`], the first fault with its path.
 #![tactic(auto)]
 
 mod error;

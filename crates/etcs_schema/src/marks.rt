@@ -1,4 +1,4 @@
-//! What takes the text of a JSON value piece by piece: a writer of JSON, and a line of text.
+//! Receivers of the tokens of a JSON value: a writer of JSON, and a line of text.
 
 ghost use Rattle.std.specs.Prelude.{◌≡◌, ◌++◌, ◌∷◌, [], List, OnOk, decimal};
 ghost use Rattle.json.specs.Print.{IsPrintable};
@@ -9,28 +9,28 @@ use etcs_bits::Memory;
 use etcs_digits::{LineText, send_decimal};
 use json::{Token, Writer};
 
-/// What takes tokens, one after the other, and places the commas. The only error is that memory runs out.
+/// A receiver of JSON tokens, in order, that places the commas. Its methods fail only if memory runs out.
 pub trait Marks {
-    /// These tokens were taken, in this order, by what was the first and became the second.
+    /// Appending these tokens, in this order, turns the first receiver into the second.
     ghost adds: { List JsonToken → Self → Self → Type 0 };
 
-    /// Takes a token.
+    /// Appends a token.
     fn token(&mut self, token: Token<'_>) -> Result<(), Memory>
         requires { IsPrintable (token_of token) }
         ensures { OnOk result (adds (token_of token.entry ∷ []) self.old self.new) };
 
-    /// Takes a number.
+    /// Appends a number.
     fn number(&mut self, n: u64) -> Result<(), Memory>
         ensures { OnOk result (adds (number (decimal n) ∷ []) self.old self.new) };
 
-    /// Takes a key and then a number.
+    /// Appends a key and then a number.
     fn member(&mut self, name: &str, n: u64) -> Result<(), Memory>
         ensures { OnOk result (adds (key name.now ∷ number (decimal n) ∷ []) self.old self.new) };
 
-    /// Where no token comes, nothing changes.
+    /// No tokens change nothing.
     ghost none: { (out : Self) → adds [] out out };
 
-    /// Some tokens, and then others.
+    /// Appending tokens and then more tokens appends all of them.
     ghost then: { (ts us : List JsonToken) (old mid new : Self)
         → adds ts old mid → adds us mid new → adds (ts ++ us) old new };
 }

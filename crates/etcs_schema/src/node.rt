@@ -1,6 +1,6 @@
-//! JSON values that are only looked at, whatever holds them. A reader of forms is generic over
-//! [`Node`], so that one reader serves values of `serde_json` and places in a tape of tokens, which
-//! takes less time to make. What all these readers share is in `reading` and `keys`.
+//! Read-only JSON values. Readers of forms are generic over [`Node`], so that one reader serves values of
+//! `serde_json` and positions on a tape of tokens, which is made in less time. `reading` and `keys` contain
+//! what all these readers share.
 
 ghost use Rattle.std.specs.Prelude.{◌≡◌, ◌∷◌, [], List, map, option_map, option_and_then, MatchOption};
 ghost use Rattle.serde_json.specs.Data.{Data};
@@ -15,46 +15,46 @@ pub(crate) mod tape_node;
 mod tape_range;
 mod value_node;
 
-/// A JSON value that is only looked at.
+/// A read-only JSON value.
 pub trait Node: Drop {
-    /// The items of a list that are not taken yet.
+    /// The remaining items of a list.
     type Items: Drop;
 
     /// The value, as `serde_json` has it.
     ghost shows: { Self → Data };
 
-    /// The items that are not taken yet.
+    /// The remaining items.
     ghost rest: { Self.Items → List Data };
 
-    /// The number. None where the value is no number, and where the number has a sign, a point or
-    /// an exponent or takes more than 64 bits.
+    /// The number. `None` if the value is not a number, and for a number that has a sign, a point or an
+    /// exponent or exceeds 64 bits.
     fn number(&self) -> Option<u64>
         ensures { result ≡ option_and_then as_u64 (as_number (shows self.now)) };
 
-    /// The text of a string. None where the value is no string.
+    /// The text of a string. `None` if the value is not a string.
     fn text(&self) -> Option<&str>
         ensures { option_map (λ s. s.now) result ≡ as_str (shows self.now) };
 
-    /// The member of an object at a key, the last one where the key comes twice. None where there
-    /// is no such member, and where the value is no object.
+    /// The member of an object at a key, the last one if the key comes twice. `None` if there is no such
+    /// member, and if the value is not an object.
     fn member(&self, name: &str) -> Option<Self>
         ensures { option_map shows result ≡ get name.now (shows self.now) };
 
-    /// Whether each key of an object is one of these. None where the value is no object.
+    /// Whether each key of an object is one of these. `None` if the value is not an object.
     fn has_only(&self, keys: &[&str]) -> Option<bool>
         ensures { result ≡ option_map (are_known (map (λ l. l.now) keys.now))
             (as_object (shows self.now)) };
 
-    /// The items of a list, from the first one on. None where the value is no list.
+    /// The items of a list, from the first one on. `None` if the value is not a list.
     fn items(&self) -> Option<Self::Items>
         ensures { option_map rest result ≡ option_map data_list (as_array (shows self.now)) };
 
-    /// Takes the next item. None where all are taken.
+    /// Takes the next item. `None` after the last one.
     fn next_item(items: &mut Self::Items) -> Option<Self>
         ensures { MatchOption result ((rest items.old ≡ []) × (rest items.new ≡ []))
             (λ n. rest items.old ≡ shows n ∷ rest items.new) };
 
-    /// Whether a list has from `low` to `high` items. None where the value is no list.
+    /// Whether a list has `low` to `high` items. `None` if the value is not a list.
     fn has_between(&self, low: usize, high: usize) -> Option<bool>
         ensures { result ≡ option_map (λ ds. counts_between low high (data_list ds))
             (as_array (shows self.now)) }

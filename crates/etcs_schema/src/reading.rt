@@ -1,4 +1,4 @@
-//! How members of an object are found and read.
+//! Finding and reading members of an object.
 
 ghost use Rattle.std.specs.Prelude.{◌≡◌, ◌==◌};
 ghost use Rattle.etcs_schema.specs.Chosen.{any_object};
@@ -10,7 +10,7 @@ use crate::error::{FormError, Step};
 use crate::node::Node;
 use std::alloc::Global;
 
-/// The member at a key that has to be there.
+/// The member at a required key.
 #[tactic(auto, using(crate::proofs::Objects::fails_as), unfolding(crate::specs::Reading::at_key))]
 pub fn member<N: Node>(alloc: Global, node: &N, name: &'static str) -> Result<N, FormError>
     ensures { Gives N.shows result (member_at name.now (N.shows node.now)) }
@@ -21,7 +21,7 @@ pub fn member<N: Node>(alloc: Global, node: &N, name: &'static str) -> Result<N,
     }
 }
 
-/// What was read of the member at a key. A fault gets the step to that member.
+/// The result of reading the member at a key. A fault gets the step to that member.
 pub fn under<X>(name: &'static str, read: Result<X, FormError>) -> Result<X, FormError>
     ensures { IsUnder (key name.now) read result }
 {
@@ -31,7 +31,7 @@ pub fn under<X>(name: &'static str, read: Result<X, FormError>) -> Result<X, For
     }
 }
 
-/// Refuses a value that is no object.
+/// Refuses a value that is not an object.
 #[tactic(auto, using(crate::proofs::Objects::fails_as, crate::proofs::Objects::some_object), unfolding(crate::specs::Chosen::any_object))]
 pub fn check_object<N: Node>(alloc: Global, node: &N) -> Result<(), FormError>
     ensures object { Gives (λ u. u) result (any_object (N.shows node.now)) }
@@ -43,7 +43,7 @@ pub fn check_object<N: Node>(alloc: Global, node: &N) -> Result<(), FormError>
     }
 }
 
-// Refuses a value that is not this number.
+// Refuses any value but this number.
 #[tactic(auto, unfolding(crate::specs::Reading::allowed_number))]
 fn check_number<N: Node>(alloc: Global, node: &N, number: u64) -> Result<(), FormError>
     ensures { Gives (λ _. number) result (allowed_number (λ n. n == number) (N.shows node.now)) }
@@ -55,7 +55,7 @@ fn check_number<N: Node>(alloc: Global, node: &N, number: u64) -> Result<(), For
     }
 }
 
-/// Reads the member at a key that has to be there, and to have this number.
+/// Reads a required member that must have this number.
 pub fn read_fixed<N: Node>(
     alloc: Global,
     node: &N,
@@ -68,7 +68,7 @@ pub fn read_fixed<N: Node>(
     under(name, check_number(alloc, &found, number))
 }
 
-/// Refuses a key that must not be there.
+/// Refuses an object that has this key.
 #[tactic(auto, using(crate::proofs::Objects::fails_as), unfolding(crate::specs::Reading::no_key))]
 pub fn check_absent<N: Node>(alloc: Global, node: &N, name: &'static str) -> Result<(), FormError>
     ensures { Gives (λ u. u) result (no_key name.now (N.shows node.now)) }

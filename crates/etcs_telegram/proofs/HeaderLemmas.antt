@@ -27,7 +27,7 @@ one_size : (bytes : List ℕ) (size other : Size) → size_in (length bytes) ≡
 one_size bytes size other sized count =
     some_size other size (sym (size_in_back other) ∙ ap size_in (sym count) ∙ sized)
 
--- where a pad bit is set, the header is not looked at
+-- if a pad bit is set, the header is not read
 pub no_padded_header : (size : Size) (bytes : List ℕ) (f : Fault) → size_in (length bytes) ≡ Some size
     → get_or bytes (byte_count size - 1) 0 < 256 → pads_with_zeros size bytes ≡ false → HaveHeaderFault bytes f → ⊥
 no_padded_header size bytes f sized small set x =
@@ -47,11 +47,11 @@ fault_in size bytes bits f sized are x =
     let first = subst (λ (s : Size). IsFault header.fields (start (user_bits_in s bytes)) f) same x.first in
     subst (λ (b : List Bool). IsFault header.fields (start b) f) (sym are) first
 
--- the fault that is reported is that of the header
+-- the fault that is reported is the fault of the header
 pub reported : (found f : Fault) → decode_errors.Fault found ≡ decode_errors.Fault f → errors.Fault found ≡ errors.Fault f
 reported found f is = cc
 
--- lack of memory is not
+-- lack of memory is no fault of the header
 pub no_memory : {C : Type 0} (f : Fault) → decode_errors.Memory ≡ decode_errors.Fault f → C
 no_memory f is = absurd cc
 

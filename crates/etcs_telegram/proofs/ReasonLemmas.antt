@@ -96,7 +96,7 @@ read_sized e bytes None in_range sized is =
 read_sized e bytes (Some size) in_range sized is =
     read_in e size bytes (pads_with_zeros size bytes) refl in_range (size_counts (length bytes) size sized) is
 
--- the reason of bytes is that of the text that spells them
+-- the reason of bytes is the reason of the text that spells them
 of_text : (e : TextError) (text bytes : List ℕ) → decode_of text ≡ Ok bytes → IsReasonIn e bytes → IsReason e text
 of_text errors.Memory text bytes decoded x = tt
 of_text errors.NotHex text bytes decoded x = absurd x
@@ -161,7 +161,7 @@ is_reported (Err errors.WrongSize) meaning e early exact memory is = sym exact �
 is_reported (Err errors.PadBits) meaning e early exact memory is = sym exact ∙ is
 is_reported (Err (errors.Fault f)) meaning e early exact memory is = sym exact ∙ is
 
--- Each of these reasons is returned exactly if it holds.
+-- Each of these reasons is returned if and only if it holds.
 reported_early : (r : Result Telegram TextError) (text : List ℕ) (e : TextError) → IsEarly e
     → IsTextMeaning r (telegram_of_text text)
     → (r ≡ Err errors.Memory → (read : Result Telegram Fault) × (telegram_of_text text ≡ of_bits read))
@@ -176,7 +176,7 @@ pub decoded_means : (text bytes : List ℕ) → decode_of text ≡ Ok bytes → 
 unfolding telegram_of_text
 decoded_means text bytes decoded = rw decoded refl
 
--- an early reason, where the text is decoded and its bytes give the result
+-- an early reason, if the text is decoded and its bytes give the result
 pub reported_in : (r : Result Telegram TextError) (e : TextError) (text bytes : List ℕ) → IsEarly e
     → decode_of text ≡ Ok bytes → IsTextMeaning r (of_bytes bytes)
     → (r ≡ Err errors.Memory → (bits : List Bool) × (of_bytes bytes ≡ of_bits (telegram_of bits)))

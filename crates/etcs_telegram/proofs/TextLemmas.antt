@@ -154,7 +154,7 @@ not_decoded text e fails h =
 
 -- ---- the canonical text
 
--- where bytes hold the bits of a telegram, the remaining bits are zeros, the pad bits
+-- if bytes contain the bits of a telegram, the remaining bits are zeros, the pad bits
 pub zeros_left : (t : Telegram) (bits : List Bool) (bytes : List ℕ) → IsEncoding t bits
     → bits_of_bytes bytes ≡ bits ++ replicate (8 * length bytes - length bits) false
     → 8 * length bytes < length bits + 8 → bits_of_bytes bytes ≡ bits ++ no_pads t.size

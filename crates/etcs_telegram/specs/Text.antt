@@ -74,7 +74,7 @@ pub record HaveHeaderFault (bytes : List ℕ) (f : Fault) : Type 0 where
   pub padded : ArePadded size bytes
   pub first : IsFault header.fields (start (user_bits_in size bytes)) f
 
--- the bytes are a telegram's as far as its header, and a packet is due behind the header
+-- the bytes are a telegram's up to its header, and a packet is due after the header
 pub record HavePackets (bytes : List ℕ) : Type 0 where
   pub size : Size
   pub padded : ArePadded size bytes
@@ -100,7 +100,7 @@ pub record HasHeaderFault (text : List ℕ) (f : Fault) : Type 0 where
   pub decoded : decode_of text ≡ Ok bytes
   pub fault : HaveHeaderFault bytes f
 
--- the text is a telegram's as far as its header, and a packet is due behind the header
+-- the text is a telegram's up to its header, and a packet is due after the header
 pub record HasPackets (text : List ℕ) : Type 0 where
   pub bytes : List ℕ
   pub decoded : decode_of text ≡ Ok bytes

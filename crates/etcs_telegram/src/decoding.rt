@@ -26,11 +26,11 @@ pub(crate) fn decode_slice(alloc: Global, bits: BitSlice<'_>) -> Result<Telegram
     // The result, as a function of the bits.
     ensures exact { Means (λ t. t) result (telegram_of bits.entry) }
 
-    // The header's fault is always answered: reading the header needs no memory.
+    // The header's fault is always reported: reading the header needs no memory.
     ensures header { (f : Fault) → IsFault header.fields (start bits.entry) f
         → result ≡ Err (DecodeError.Fault f) }
 
-    // Memory is asked for only where a packet is due behind the header.
+    // Allocates only if a packet is due after the header.
     ensures memory { IfMemory result (IsFollowed Stop.Telegram header.rows (start bits.entry)) }
 {
     let size = Size::of_len(bits.len()).unwrap();
@@ -47,8 +47,8 @@ pub(crate) fn decode_slice(alloc: Global, bits: BitSlice<'_>) -> Result<Telegram
 /// are ignored.
 ///
 /// A fault that is returned is the first one in the bits. Then no input of the same length with the
-/// same first `end` bits spells a telegram. Only packets take memory. If it runs out, a fault after
-/// the header may go unseen. After an error nothing is returned of what was read.
+/// same first `end` bits spells a telegram. Only packets allocate. If memory runs out, a fault after
+/// the header might be unreported. After an error nothing is returned of what was read.
 pub fn decode(alloc: Global, bits: &Bits) -> Result<Telegram, DecodeError>
     requires { AreUserBits bits.now }
     ensures ok { IfOk result (λ t. IsTelegram t bits.now) }
@@ -59,11 +59,11 @@ pub fn decode(alloc: Global, bits: &Bits) -> Result<Telegram, DecodeError>
     // The result, as a function of the bits.
     ensures exact { Means (λ t. t) result (telegram_of bits.now) }
 
-    // The header's fault is always answered: reading the header needs no memory.
+    // The header's fault is always reported: reading the header needs no memory.
     ensures header { (f : Fault) → IsFault header.fields (start bits.now) f
         → result ≡ Err (DecodeError.Fault f) }
 
-    // Memory is asked for only where a packet is due behind the header. So a telegram without
+    // Allocates only if a packet is due after the header. So a telegram without
     // packets is always read.
     ensures memory { IfMemory result (IsFollowed Stop.Telegram header.rows (start bits.now)) }
 {

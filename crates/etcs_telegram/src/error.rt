@@ -20,7 +20,7 @@ pub enum EncodeError {
 /// Why a text is not read as a telegram. All reasons but `Memory` are in the order of the checks.
 #[derive(Clone, Copy, Debug, PartialEq, Eq, Error)]
 pub enum TextError {
-    /// Memory ran out. A later reason may then go unseen.
+    /// Memory ran out. A later reason might then be unreported.
     #[error("out of memory")]
     Memory,
     /// The text is not an even number of hexadecimal digits, of either case.
@@ -32,7 +32,7 @@ pub enum TextError {
     /// A pad bit is set: one of the six after 210 user bits, or of the two after 830.
     #[error("pad bits set")]
     PadBits,
-    /// The user bits are no telegram. This is their first fault.
+    /// The user bits are not a telegram. This is their first fault.
     #[error("{0}")]
     Fault(Fault),
 }

@@ -31,8 +31,8 @@ pub struct Header {
     pub linked: bool,
 }
 
-// The header at the cursor, where it has no fault and all its fields are far from the end. None says
-// nothing, and the cursor may then stand anywhere.
+// The header at the cursor, if it has no fault and all its fields are far from the end. `None` is
+// inconclusive, and leaves the cursor at an unspecified position.
 #[inline(always)]
 fn scan_far(cur: &mut Cursor<'_>) -> Option<Header>
     ensures { IfSome result (λ h. rows_at header.fields cur.old ≡ Ok (header.rows h, cur.new)) }

@@ -12,22 +12,22 @@ ghost use Rattle.etcs_telegram.specs.TextMeaning.{telegram_of_text};
 
 use crate::error::TextError;
 
-/// Bits are a telegram exactly if they mean that telegram and there are as many of them as some
+/// Bits are a telegram if and only if they mean that telegram and there are as many of them as some
 /// telegram has. So they are one telegram at most.
 pub fn telegrams_are_decoded()
     ensures { (t : Telegram) (bits : List Bool)
         → IsTelegram t bits ↔ (AreUserBits bits × (telegram_of bits ≡ Ok t)) }
 {}
 
-/// Bits have a fault exactly if they mean that fault. So they have one at most. Then they are no
-/// telegram, and no bits of the same number with the same first `end` bits are one.
+/// Bits have a fault if and only if they mean that fault. So they have one at most. Then they are not
+/// a telegram, and no bits of the same number with the same first `end` bits are one.
 pub fn faults_are_meant()
     ensures fault { (bits : List Bool) (f : Fault)
         → IsTelegramFault bits f ↔ (telegram_of bits ≡ Err f) }
     ensures none { (bits : List Bool) (f : Fault) → IsTelegramFault bits f → IsNoTelegram bits f }
 {}
 
-/// Bits are a telegram exactly if they are its header, its packets, the end mark and a fill, there
+/// Bits are a telegram if and only if they are its header, its packets, the end mark and a fill, there
 /// are as many of them as its size has, and none of its numbers is spare.
 pub fn telegrams_are_spelled_out()
     ensures { (t : Telegram) (bits : List Bool) → IsTelegram t bits ↔ AreSpelledOut t bits }
@@ -49,7 +49,7 @@ pub fn what_is_encoded_is_decoded()
     ensures { (t : Telegram) (bits : List Bool) → IsEncoding t bits → telegram_of bits ≡ Ok t }
 {}
 
-/// Two telegrams have equal encodings exactly if they are equal.
+/// Two telegrams have equal encodings if and only if they are equal.
 pub fn encodings_are_one_to_one()
     ensures telegrams { (t u : Telegram) (bits : List Bool)
         → IsEncoding t bits → IsEncoding u bits → t ≡ u }
@@ -57,13 +57,13 @@ pub fn encodings_are_one_to_one()
         → IsEncoding t a → IsEncoding t b → a ≡ b }
 {}
 
-/// A text is a telegram exactly if it means that telegram. So it is one telegram at most.
+/// A text is a telegram if and only if it means that telegram. So it is one telegram at most.
 pub fn texts_are_read()
     ensures { (t : Telegram) (text : List ℕ)
         → IsTelegramText t text ↔ (telegram_of_text text ≡ Ok t) }
 {}
 
-/// A text is refused for a reason, other than lack of memory, exactly if it means that reason. So
+/// A text is refused for a reason, other than lack of memory, if and only if it means that reason. So
 /// it has one reason at most.
 pub fn reasons_are_read()
     ensures { (e : TextError) (text : List ℕ) → e ≢ TextError.Memory
@@ -76,7 +76,7 @@ pub fn what_is_written_is_read()
         → IsCanonicalText t text → telegram_of_text text ≡ Ok t }
 {}
 
-/// Two telegrams have equal canonical texts exactly if they are equal.
+/// Two telegrams have equal canonical texts if and only if they are equal.
 pub fn texts_are_one_to_one()
     ensures telegrams { (t u : Telegram) (text : List ℕ)
         → IsCanonicalText t text → IsCanonicalText u text → t ≡ u }

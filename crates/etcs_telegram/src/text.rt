@@ -64,7 +64,7 @@ fn telegram_in(alloc: Global, bytes: &[u8]) -> Result<Telegram, TextError>
     ensures header { (f : Fault) → HaveHeaderFault bytes.now f
         → result ≡ Err (TextError.Fault f) }
 
-    // Memory is asked for only where a packet is due.
+    // Allocates only if a packet is due.
     ensures packets { IsErrOf result TextError.Memory → HavePackets bytes.now }
 {
     let Some(size) = Size::in_bytes(bytes.len()) else {
@@ -106,8 +106,8 @@ fn telegram_of_digits<const N: usize>(alloc: Global, text: &[u8]) -> Result<Tele
 /// bits are zeros (pad bits).
 ///
 /// `NotHex`, `WrongSize`, `PadBits` and the first fault of the user bits are checked in this order.
-/// The call returns the first of them that holds. Only packets take memory. If it runs out, a fault
-/// after the header may go unseen. After an error nothing is returned of what was read.
+/// The call returns the first of them that holds. Only packets allocate. If memory runs out, a fault
+/// after the header might be unreported. After an error nothing is returned of what was read.
 pub fn from_hex(alloc: Global, text: &[u8]) -> Result<Telegram, TextError>
     ensures ok { IfOk result (λ t. IsTelegramText t text.now) }
     ensures reason { IfErr result (λ e. IsReason e text.now) }
@@ -115,7 +115,7 @@ pub fn from_hex(alloc: Global, text: &[u8]) -> Result<Telegram, TextError>
     // The result, as a function of the text.
     ensures exact { IsTextMeaning result (telegram_of_text text.now) }
 
-    // Each of these is always answered: it needs no memory.
+    // Each of these is always reported: it needs no memory.
     ensures not_hex { IsErrOf result TextError.NotHex ↔ (IsHexadecimal text.now → ⊥) }
     ensures wrong_size { IsErrOf result TextError.WrongSize
         ↔ IsReasonDecoded TextError.WrongSize text.now }
@@ -124,8 +124,8 @@ pub fn from_hex(alloc: Global, text: &[u8]) -> Result<Telegram, TextError>
     ensures header { (f : Fault) → HasHeaderFault text.now f
         → result ≡ Err (TextError.Fault f) }
 
-    // Memory is asked for only where a packet is due behind the header. So a telegram without
-    // packets is always read.
+    // Allocates only if a packet is due after the header. So a telegram without packets is always
+    // read.
     ensures packets { IsErrOf result TextError.Memory → HasPackets text.now }
 {
     match text.len() {

@@ -1,4 +1,4 @@
--- What the tokens of a tape stand for.
+-- The values that the tokens of a tape represent.
 use Rattle.std.specs.Prelude.{◌+◌, ◌-◌, ℕ, Bool, true, false, List, [], ◌∷◌, length, Option, Some, None, nat_lt, option_map, option_and_then, is_some, if◌then◌else◌}
 use Rattle.etcs_schema.specs.Prelude.{Data, Items, null, as_array}
 use Rattle.json.specs.Token.{Token, begin_object, end_object, begin_array, end_array, key, string, number, boolean, bad}
@@ -7,8 +7,8 @@ use Rattle.json.specs.Json.{value}
 use Rattle.serde_json.specs.Read.{max_depth, number_of, of_json}
 use Rattle.etcs_schema.specs.Reading.{data_list}
 
--- The value that the tokens begin with, as serde_json has it. None where they begin with none, or a
--- number is out of range. Each level of nesting takes a token, so their count is depth enough.
+-- The value at the front of the tokens, as serde_json has it. None if there is none, or if a number is out of
+-- range. Each level of nesting takes a token, so the number of tokens is a sufficient depth.
 abbrev pub first_data : List Token → Option Data
 first_data ts = option_and_then of_json (option_map (λ p. p.0) (value (length ts) ts))
 
@@ -28,13 +28,13 @@ abbrev pub list_or : Option Items → List Data
 list_or None = []
 list_or (Some ds) = data_list ds
 
--- the items that the tokens begin with, up to the end of a list
+-- the items at the front of the tokens, up to the end of a list
 abbrev pub items_data : List Token → List Data
 items_data ts = list_or (as_array (data_of (begin_array ∷ ts)))
 
 -- ---- one pass over all tokens: no number is out of range, and nothing nests too deep
 
--- how many lists and objects are begun and not ended after a token; None where it is out of range
+-- the number of open lists and objects after a token; None if the token is out of range
 abbrev pub nested_after : ℕ → Token → Option ℕ
 nested_after n begin_object = if nat_lt n max_depth then Some (n + 1) else None
 nested_after n end_object = Some (n - 1)

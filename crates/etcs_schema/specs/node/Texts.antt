@@ -1,4 +1,4 @@
--- What a text that was read is.
+-- The value of a text that was read.
 use Rattle.serde_json.specs.Data.{Data}
 use Rattle.etcs_schema.specs.node.Tape.{data_of}
 use Rattle.etcs_schema.specs.declared.node.json_text.JsonText.{JsonText}

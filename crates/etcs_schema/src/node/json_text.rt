@@ -1,4 +1,4 @@
-//! Texts that are JSON, held as tapes.
+//! JSON texts as tapes.
 
 ghost use Rattle.std.specs.Prelude.{◌≡◌, ◌<◌, ◌+◌, ◌⊎◌, ◌↔◌, length, vec_capacity, Some, None, Err, IfOk, true};
 ghost use Rattle.json.specs.Lex.{tokens};
@@ -10,7 +10,7 @@ use crate::node::tape_range::are_in_range;
 use crate::{Node, TapeNode};
 use json::{Scratch, Tape};
 
-// The most bytes of a text that has a tape.
+// The greatest length in bytes of a text with a tape.
 const LONGEST: usize = 4_294_967_040;
 
 /// Why a text was not read.
@@ -18,13 +18,13 @@ const LONGEST: usize = 4_294_967_040;
 pub enum JsonError {
     /// Memory ran out.
     Memory,
-    /// The text has more than 4,294,967,040 bytes. It is not looked at.
+    /// The text has more than 4,294,967,040 bytes. It was not parsed.
     TooLong,
-    /// The text is no JSON, a number is out of range, or lists and objects nest deeper than 127.
+    /// The text is not JSON, a number is out of range, or lists and objects nest deeper than 127.
     NotJson,
 }
 
-/// A text that is JSON, all of whose numbers are in range, and that nests at most 127 deep.
+/// A JSON text with all numbers in range and at most 127 levels of nesting.
 #[derive(Drop)]
 pub struct JsonText<'a> {
     tape: Tape<'a>,
@@ -34,8 +34,8 @@ pub struct JsonText<'a> {
 impl<'a> JsonText<'a> {
     ghost use Rattle.etcs_schema.specs.node.Texts.{text_data};
 
-    /// Reads a text as `serde_json` does. The tokens go into `room`, which is emptied first and
-    /// grows where it is too small, and strings with escapes into the scratch.
+    /// Reads a text as `serde_json` does. The tokens go into `room`, which is emptied first and grows if it is
+    /// too small. Strings with escapes go into the scratch.
     pub fn read(
         text: &'a str,
         scratch: &'a mut Scratch,
@@ -44,7 +44,7 @@ impl<'a> JsonText<'a> {
         ensures ok { IfOk result (λ t. read text.now ≡ Some (text_data t)) }
         ensures not_json { result ≡ Err JsonError.NotJson → read text.now ≡ None }
 
-        // Not where room and scratch are large enough, whatever the text is.
+        // Never if `room` and the scratch are large enough, whatever the text is.
         ensures memory { result ≡ Err JsonError.Memory
             → (vec_capacity room.entry < length (tokens text.now))
             ⊎ (tape_room scratch.old < length text.now + 64) }
@@ -66,7 +66,7 @@ impl<'a> JsonText<'a> {
         }
     }
 
-    /// The value that the text is.
+    /// The value of the text.
     pub fn root(&self) -> TapeNode<'_>
         ensures { ⟦<TapeNode<'a> as Node>⟧.shows result ≡ text_data self.now }
     {

@@ -26,8 +26,8 @@ pub(crate) fn is_key(name: &str, keys: &[&str]) -> bool
     is_one_of(name, keys)
 }
 
-/// The place after a key in a list: it is looked for from a place on, and then anywhere. None where
-/// the list does not have it. Keys that come in the order of the list are found at once.
+/// The index after a key that is in the list at `from` or later, 0 for any other key of the list, and `None` if
+/// the key is not in the list. So keys that come in the order of the list are found at once.
 #[inline]
 pub(crate) fn place_after(name: &str, keys: &[&str], from: usize) -> Option<usize>
     ensures { is_some result ≡ is_among name.now (map (λ l. l.now) keys.now) }
@@ -54,8 +54,8 @@ pub(crate) fn all_among(members: &Map<String, Value>, keys: &[&str]) -> bool
     true
 }
 
-/// Refuses a value that is no object, and an object with a key that is none of these. Neither refusal takes
-/// memory.
+/// Refuses a value that is not an object, and an object with a key that is none of these. Refusing allocates
+/// nothing.
 pub fn check_keys<N: Node>(alloc: Global, node: &N, keys: &[&str]) -> Result<(), FormError>
     ensures keys { Gives (λ u. u) result (object_with (map (λ l. l.now) keys.now) (N.shows node.now)) }
     ensures memory { IfMemory result ⊥ }

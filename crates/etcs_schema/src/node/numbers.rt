@@ -18,7 +18,7 @@ fn has_minus(text: &[u8]) -> bool
 // The most digits that always fit in 64 bits.
 const FEW: usize = 19;
 
-// The number that a few plain digits are. None says nothing.
+// The number written by a few plain digits. `None` is inconclusive.
 fn plain_number(text: &[u8]) -> Option<u64>
     ensures { IfSome result
         (λ n. IsNumeral 10 text.now × (digits_value 10 text.now ≡ n) × (n < 2 ^ 64)) }
@@ -37,8 +37,8 @@ fn plain_number(text: &[u8]) -> Option<u64>
     Some(number)
 }
 
-// The whole number without a sign that any text is. Few texts come here, so it stands apart: its
-// numeral takes room that plain digits shall not clear.
+// The whole number without a sign in any text. Cold path, out of line: its large stack frame would be zeroed in
+// the fast path too.
 #[cold]
 #[inline(never)]
 fn whole_number_of(text: &[u8]) -> Option<u64>
@@ -51,7 +51,7 @@ fn whole_number_of(text: &[u8]) -> Option<u64>
     }
 }
 
-/// The number that a text is, where it is a whole one of at most 64 bits and has no sign.
+/// The number that a text writes, if it is whole, has no sign and fits in 64 bits.
 pub(crate) fn whole_number(text: &str) -> Option<u64>
     ensures { result ≡ option_and_then as_u64 (number_of text.now) }
 {
@@ -90,7 +90,7 @@ fn is_in_range_below(numeral: &Numeral<'_>) -> bool
     is_finite(true, numeral)
 }
 
-// Whether any text is a number in range. It stands apart as `whole_number_of` does.
+// Whether any text is a number in range. Out of line for the reason given at `whole_number_of`.
 #[cold]
 #[inline(never)]
 fn is_number_in_range(text: &[u8]) -> bool
@@ -103,7 +103,7 @@ fn is_number_in_range(text: &[u8]) -> bool
     }
 }
 
-/// Whether a number is in the range of 64-bit floats, as `serde_json` wants it.
+/// Whether a number is in the range of 64-bit floats, as `serde_json` requires.
 pub(crate) fn is_in_range(text: &str) -> bool
     ensures { result ≡ is_some (number_of text.now) }
 {

@@ -1,4 +1,4 @@
-//! Values of a tape that are looked at.
+//! Read-only JSON values on a tape.
 
 ghost use Rattle.std.specs.Prelude.{◌≡◌, ◌∷◌, true};
 ghost use Rattle.json.specs.Token.{begin_array};
@@ -9,14 +9,14 @@ use crate::node::keys::place_after;
 use crate::node::numbers::whole_number;
 use json::{Element, Items};
 
-/// A value of a tape, all of whose numbers are in range.
+/// A value on a tape with all its numbers in range.
 #[derive(Drop)]
 pub struct TapeNode<'t> {
     element: Element<'t, 't>,
     ghost sound: { is_sound element ≡ true },
 }
 
-/// The items of a list that are left.
+/// The remaining items of a list.
 #[derive(Drop)]
 pub struct TapeItems<'t> {
     items: Items<'t, 't>,

@@ -1,4 +1,4 @@
-//! One pass over a tape: whether `serde_json` reads what it holds.
+//! One pass over a tape: whether `serde_json` would read the text.
 
 ghost use Rattle.std.specs.Prelude.{◌≡◌, map, Some};
 ghost use Rattle.json.specs.Tape.{node_token};
@@ -10,8 +10,8 @@ use json::Node;
 // How deep lists and objects may nest, as in `serde_json`.
 const MAX_DEPTH: usize = 127;
 
-// How many lists and objects are begun and not ended after a node. None where a number is out of
-// range, and where one list or object more is too many.
+// The number of open lists and objects after a node. `None` if a number is out of range, or if the node opens
+// one level too many.
 fn nested_after(nested: usize, node: &Node<'_>) -> Option<usize>
     ensures { result ≡ nested_after nested (node_token node.now) }
 {

@@ -1,4 +1,4 @@
-//! JSON values of `serde_json` that are looked at.
+//! Read-only JSON values of `serde_json`.
 
 use crate::node::Node;
 use crate::node::keys::all_among;

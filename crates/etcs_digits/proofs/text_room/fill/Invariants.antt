@@ -1,7 +1,7 @@
 use Rattle.std.proofs.Common.{◌≡◌, ◌-◌, ◌≤◌, take, vec_capacity, vec_len}
 use Rattle.etcs_digits.proofs.text_room.fill.Given as goal
 
--- the bytes that stood there stay, and there is room
+-- the first bytes are unchanged, and the capacity suffices
 abbrev pub invariant-filling : goal.invariant-filling
 invariant-filling l =
     (take (vec_len l.fn.bytes) l.bytes.items ≡ l.fn.bytes.items) × (vec_len l.fn.bytes ≤ vec_len l.bytes)

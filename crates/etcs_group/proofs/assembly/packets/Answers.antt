@@ -6,7 +6,7 @@ use Rattle.etcs_group.proofs.StepLemmas.{on_err, packets_more, packets_same, pac
 use Rattle.etcs_group.proofs.assembly.packets.Goals as goal
 use Rattle.etcs_group.proofs.assembly.packets.Goals.{then-not-is_named_before+in_ok-push_held, else-not-is_named_before}
 
--- The telegram gives its packets, or none where an earlier one gave them.
+-- The telegram adds its packets, or none if an earlier one added them.
 pub telegrams-preserved : goal.telegrams-preserved
 telegrams-preserved c =
     let at = at-pointed c.args.read.now c.telegrams.place c.index-read-place.result c.telegrams-test.true c.index-read-place.is in
@@ -15,7 +15,7 @@ telegrams-preserved c =
       | else-not-is_named_before w ↦ rw w.packets-is (packets_same c.args.run (pointed c.args.read.now) c.telegrams.place c.index-read-place.result.now (pointed c.telegrams.packets.items) _ at c.telegrams.invariant (ap (list_any _) (take-pointed c.telegrams.place c.args.read.now) ∙ sym w.if-not-is_named_before.ensures))
     ]
 
--- The telegram speaks, and has packets.
+-- The telegram is not silent, and has packets.
 pub returns-in_err-push_held-clause-memory : goal.returns-in_err-push_held-clause-memory
 returns-in_err-push_held-clause-memory c =
     let at = at-pointed c.args.read.now c.telegrams.place c.index-read-place.result c.telegrams-test.true c.index-read-place.is in

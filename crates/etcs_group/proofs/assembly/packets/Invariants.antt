@@ -4,6 +4,6 @@ use Rattle.etcs_group.specs.Places.{pointed}
 use Rattle.etcs_group.proofs.StepLemmas.{packets_from}
 use Rattle.etcs_group.proofs.assembly.packets.Given as goal
 
--- the packets so far and those of what is left are all
+-- the packets so far and those of the remaining telegrams are all packets
 abbrev pub invariant-telegrams : goal.invariant-telegrams
 invariant-telegrams l = pointed l.packets.items ++ packets_from l.run (pointed l.read) l.place (drop l.place (pointed l.read)) ≡ packets_of l.run (pointed l.read)

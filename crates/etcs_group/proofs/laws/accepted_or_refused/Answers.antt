@@ -1,6 +1,6 @@
 use Rattle.etcs_group.proofs.RefusalLemmas.{accepted_or_refused}
 use Rattle.etcs_group.proofs.laws.accepted_or_refused.Goals as goal
 
--- What is true of each place leaves no refusal, and where none stands, each place is as it has to be.
+-- If each place is as required, there is no refusal, and without a refusal each place is as required.
 pub returns : goal.returns
 returns c = accepted_or_refused

@@ -5,7 +5,7 @@ use Rattle.etcs_packet.proofs.ListLemmas.{of_memory}
 use Rattle.etcs_radio.proofs.DecodeLemmas.{AreSeen, head_fails, if_followed, message_means, head_reported, no_head_fault, ok_of, fault_of, none_of}
 use Rattle.etcs_radio.proofs.decoding.decode.Goals as goal
 
--- the fault of the head is that of the bytes
+-- the fault of the head is the fault of the bytes
 pub returns-in_err-fields-clause-exact : goal.returns-in_err-fields-clause-exact
 returns-in_err-fields-clause-exact c =
     let failed = err_from_is_err_and c.from_residual.result c.from_residual.ensures.1 in

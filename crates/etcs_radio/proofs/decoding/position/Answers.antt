@@ -8,7 +8,7 @@ use Rattle.etcs_radio.proofs.MessageLemmas.{stand_bits}
 use Rattle.etcs_radio.proofs.PacketsLemmas.{by_fails, by_ok, by_err, not_there, position_made}
 use Rattle.etcs_radio.proofs.decoding.position.Goals as goal
 
--- the fault of the packets is that of the message
+-- the fault of the packets is the fault of the message
 pub returns-in_err-packets-clause-means : goal.returns-in_err-packets-clause-means
 returns-in_err-packets-clause-means c =
     let failed = err_from_is_err_and c.from_residual.result c.from_residual.ensures.1 in

@@ -1,4 +1,4 @@
--- The second part adds bytes only where the first was taken to its end.
+-- The second part adds bytes only if the first was taken to its end.
 use Rattle.etcs_radio.proofs.PieceLemmas.{parts_taken, parts_join}
 use Rattle.etcs_radio.proofs.laws.a_piece_may_be_cut.Goals as goal
 

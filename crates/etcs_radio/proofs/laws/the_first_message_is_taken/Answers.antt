@@ -1,4 +1,4 @@
--- L_MESSAGE of a message is that of each front of it that has three bytes.
+-- Each front of a message with three bytes or more has the message's L_MESSAGE.
 use Rattle.etcs_radio.proofs.PieceLemmas.{message_taken, rest_never_ready}
 use Rattle.etcs_radio.proofs.laws.the_first_message_is_taken.Goals as goal
 

@@ -23,7 +23,7 @@ returns-in-Ok-clause-exact c =
 pub returns-in-Ok-clause-ok : goal.returns-in-Ok-clause-ok
 returns-in-Ok-clause-ok c = means_text c.in-Ok.message c.args.text.now (returns-in-Ok-clause-exact c)
 
--- the fault of a head is that of the bytes that were read
+-- the fault of the head is the fault of the bytes that were read
 pub returns-in-Ok-clause-head : goal.returns-in-Ok-clause-head
 returns-in-Ok-clause-head c = λ f x.
     let s = seen c.args.text.now c.read_front.new.front (c.read_front.ensures.digits.0 c.if-not-read_front.false) c.read_front.ensures.front in

@@ -31,7 +31,7 @@ returns-in-Ok-clause-ok c =
     let padded = padded_when size bytes count (omega (arith, c.type_inv.bytes (byte_count size - 1))) (sym c.is_padded.ensures ∙ c.if-not-is_padded.false) in
     of_its_size c.in-Ok.telegram size c.of_bytes.result bytes padded (rw c.user_bits.ensures at c.of_bytes.ensures.bits) (c.of_bytes.ensures.len ∙ c.user_bits.ensures) c.in-Ok.ensures.ok
 
--- the fault is that of the user bits
+-- the fault is the fault of the user bits
 pub returns-in-Err-Fault-clause-reason : goal.returns-in-Err-Fault-clause-reason
 returns-in-Err-Fault-clause-reason c =
     let size = c.in-Some.size in

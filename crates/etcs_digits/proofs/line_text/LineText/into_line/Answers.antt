@@ -7,7 +7,7 @@ cut : (a : Bool) (len : ℕ) (s : List ℕ) → len ≤ length s → take (len -
 cut true len s within = rw (length-take-le len s within) (sym (take-take (len - 1) len s (omega arith)))
 cut false len s within = let same : len - 0 ≡ len = omega arith in ap (λ n. take n s) same
 
--- what is left without the comma ahead is printed
+-- the text without the comma at its end is printed
 pub returns : goal.returns
 returns c = λ ts is.
     c.in_ok-push.ensures.items

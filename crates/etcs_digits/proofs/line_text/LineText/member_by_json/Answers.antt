@@ -3,7 +3,7 @@ use Rattle.json.specs.Token.{key}
 use Rattle.etcs_digits.proofs.LineTextLemmas.{restored}
 use Rattle.etcs_digits.proofs.line_text.LineText.member_by_json.Goals as goal
 
--- the key goes again
+-- the key is removed again
 pub returns-then-is_err : goal.returns-then-is_err
 returns-then-is_err c =
     restored _ _ c.self.inside.bytes.items _ c.self-2.inside.len _ _ (key c.args.name.now) _ _ _ _

@@ -4,7 +4,7 @@ use Rattle.etcs_digits.specs.LineText.{put}
 use Rattle.etcs_digits.proofs.LineTextLemmas.{by_json}
 use Rattle.etcs_digits.proofs.line_text.LineText.put_by_json.Goals as goal
 
--- the token's text and its comma stand behind the line's
+-- the token's text and its comma follow the line's text
 pub returns : goal.returns
 returns c = record {
   ok = by_json _ _ _ _ c.requires.begins

@@ -4,7 +4,7 @@ use Rattle.etcs_group.proofs.MixtureLemmas.{none-from_test, one_more_missed, one
 use Rattle.etcs_group.proofs.controlled.Controlled.missed.Goals as goal
 use Rattle.etcs_group.proofs.controlled.Controlled.missed.Goals.{then-is_none, else-is_none}
 
--- The bit of this place says whether it shows nothing.
+-- The bit of this place is set if the place shows nothing.
 pub places-preserved : goal.places-preserved
 places-preserved c =
     let lt = c.places-test.true in

@@ -37,7 +37,7 @@ returns-in-Nominal-clause-ok c =
     let is = all ∙ ap (mixed_from c.args.self.now (shown_in c.args.mixture.now.shown) 0) c.places.invariant.end ∙ sym (mixed-from c.args.self.now (shown_in c.args.mixture.now.shown) 0 (count_of c.args.self.now)) in
     rw c.in-Nominal.is is
 
--- What is shown is turned round.
+-- What is shown is reversed.
 pub returns-in-Reverse-clause-ok : goal.returns-in-Reverse-clause-ok
 returns-in-Reverse-clause-ok c =
     let all = all_read c.args.self.now (shown_in c.args.mixture.now.shown) c.places.place c.count-place-end.result (pointed c.places.read.items) _ c.places-test.false c.places.invariant.all in

@@ -5,7 +5,7 @@ use Rattle.etcs_group.specs.Places.{pointed}
 use Rattle.etcs_group.proofs.MixtureLemmas.{mixed_from}
 use Rattle.etcs_group.proofs.controlled.Controlled.mixed.Given as goal
 
--- what is read so far and what the other places show is all that is shown
+-- what is read so far and what the remaining places show is all that is shown
 abbrev pub invariant-places : goal.invariant-places
 invariant-places l = record {
   controlled : IsControlled l.self;

@@ -20,7 +20,7 @@ returns-in-Nominal-clause-ok c =
     let all : pointed c.telegrams.read.items ≡ kept_from 0 (is_missed c.args.missed.0) c.args.self.now = grind (arith, common_steps) in
     rw c.in-Nominal.is (all ∙ sym (kept-is (is_missed c.args.missed.0) c.args.self.now))
 
--- What is kept is turned round.
+-- What is kept is reversed.
 pub returns-in-Reverse-clause-ok : goal.returns-in-Reverse-clause-ok
 returns-in-Reverse-clause-ok c =
     let all : pointed c.telegrams.read.items ≡ kept_from 0 (is_missed c.args.missed.0) c.args.self.now = grind (arith, common_steps) in

@@ -3,7 +3,7 @@ use Rattle.serde_json.specs.Find.{as_array}
 use Rattle.etcs_schema.specs.Reading.{data_list}
 use Rattle.etcs_schema.proofs.node.Node.has_between.Given as goal
 
--- the items so far and those that are left are the list's
+-- the items so far and the remaining ones are the list's items
 abbrev pub invariant-items : goal.invariant-items
 invariant-items g l = record {
   few : l.count ≤ l.high;

@@ -4,7 +4,7 @@ use Rattle.serde_json.specs.View.{members_view}
 use Rattle.etcs_schema.specs.Entries.{are_known, is_among}
 use Rattle.etcs_schema.proofs.node.keys.all_among.Given as goal
 
--- the keys that are left decide
+-- the remaining keys decide
 abbrev pub invariant-loop-name : goal.invariant-loop-name
 invariant-loop-name l = record {
   can : (goal.iterator-loop-name).can_next l.name-iterator;

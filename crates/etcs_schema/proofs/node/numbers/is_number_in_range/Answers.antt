@@ -4,7 +4,7 @@ use Rattle.serde_json.specs.Read.{number_from}
 use Rattle.etcs_schema.proofs.NumberLemmas.{plain, signed}
 use Rattle.etcs_schema.proofs.node.numbers.is_number_in_range.Goals as goal
 
--- what stands behind the sign is scanned
+-- the text after the sign is scanned
 pub returns-then-has_minus : goal.returns-then-has_minus
 returns-then-has_minus c =
     let s = c.args.text.now in

@@ -3,6 +3,6 @@ use Rattle.json.specs.Tape.{node_token}
 use Rattle.etcs_schema.specs.node.Tape.{are_in_range}
 use Rattle.etcs_schema.proofs.node.tape_range.are_in_range.Given as goal
 
--- the nodes that are left decide
+-- the remaining nodes decide
 abbrev pub invariant-loop-node : goal.invariant-loop-node
 invariant-loop-node l = are_in_range (Some 0) (map node_token l.nodes) ≡ are_in_range (Some l.nested) (map node_token (drop l.node-index l.nodes))
