@@ -104,7 +104,7 @@ module _ (aspects : List (List Telegram)) (controlled : IsControlled aspects) wh
       let s = and_parts _ _ (all_at-says (is_steady f) p aspects h a t has) in
       ((Decides-same_telegram f t).0 s.1, eqb-true _ _ s.0)
 
-  -- a place that is not untold is fixed or switched
+  -- a place that is not ambiguous is fixed or switched
   pub told_place : 1 < length aspects → (p : ℕ) → ((f : Telegram) → At (first_aspect aspects) p f → is_ambiguous aspects p f ≡ false) → IsFixed aspects p ⊎ IsSwitched aspects p
   told_place many p told_at = elim (cases_lt p (length (first_aspect aspects))) [
     | inl lt ↦
@@ -137,7 +137,7 @@ mark-says t f h = (Decides-same_mark t.header.dup f.header.dup).0 (not-false _ h
 pub mark-is : (t f : Telegram) → t.header.dup ≡ f.header.dup → mark_differs (Some f) t ≡ false
 mark-is t f e = not_from_true _ ((Decides-same_mark t.header.dup f.header.dup).1 e)
 
--- a counter that is taken stands in an earlier aspect
+-- an earlier aspect has a counter that is taken
 pub taken-at : (aspects : List (List Telegram)) (a : ℕ) (t : Telegram) → is_counter_taken (take a aspects) t ≡ true → (c : ℕ) × (q : ℕ) × (u : Telegram) × (c < a) × HasAt aspects c q u × (t.header.counter < 254) × (u.header.counter ≡ t.header.counter)
 taken-at aspects a t taken =
     let parts = and_parts (ltb t.header.counter 254) _ taken in
@@ -146,7 +146,7 @@ taken-at aspects a t taken =
     let before = At-take a aspects r.0 r.1 r.2 in
     (r.0, q.0, q.1, before.0, (r.1, before.1, q.2), ltb-true _ _ parts.0, eqb-true _ _ q.3)
 
--- a counter that is not taken is that of no telegram of an earlier aspect
+-- no telegram of an earlier aspect has a counter that is not taken
 pub fresh-says : (aspects : List (List Telegram)) (a : ℕ) (u : Telegram) → is_counter_taken (take a aspects) u ≡ false → (k q : ℕ) (t : Telegram) → k < a → HasAt aspects k q t → u.header.counter < 254 → t.header.counter ≢ u.header.counter
 fresh-says aspects a u fresh k q t lt ht low same = elim (and_cases (ltb u.header.counter 254) _ fresh) [
   | inl high ↦ both_ways _ high (lt-ltb _ _ low)
@@ -154,7 +154,7 @@ fresh-says aspects a u fresh k q t lt ht low same = elim (and_cases (ltb u.heade
       (at_list_any _ ht.0 q t ht.2 (eq-eqb _ _ same)))
 ]
 
--- ---- parts that hold, so sound
+-- ---- sound if all parts hold
 
 -- Each part of a group: of the group as a whole, and of each aspect.
 abbrev pub HasGroupParts : Type 0 → List (List Telegram) → Type 0
@@ -194,7 +194,7 @@ module _ (new : Type 0) (aspects : List (List Telegram)) (controlled : IsControl
     one = one_group;
   }
 
--- ---- sound, so parts hold
+-- ---- all parts hold if sound
 
 module _ (aspects : List (List Telegram)) (controlled : IsControlled aspects) (sound : IsSoundControlled aspects) where
   alike_all : (a p : ℕ) (t f : Telegram) → HasAt aspects a p t → At (first_aspect aspects) 0 f → AreAlike t f

@@ -1,4 +1,4 @@
--- The findings of a line stand in order, each states a fact, and each fact has its finding.
+-- The findings of a line are in order, each states a fact, and each fact has its finding.
 use Rattle.std.proofs.Common.{◌≡◌, ℕ, zero, suc, ◌+◌, ◌<◌, Bool, true, false, not, ltb, List, [], ◌∷◌, length, map, slice_get, take, if◌then◌else◌, Option, Some, None, refl, sym, ap, subst, ◌∙◌, arith}
 use Rattle.std.specs.List.{filter, flat_map, enumerate_from, range_with_len}
 use Rattle.std.specs.Prelude.{⊤}
@@ -34,7 +34,7 @@ use Rattle.etcs_check.proofs.FactLemmas.{passed, passes_as, packet_stands}
 use Rattle.etcs_check.proofs.MemberLemmas.{IsListed, each-at, each-listed, rules-listed, made_of, At-append_cases, filter-at, at-filter, flat_map-at, at-flat_map, At-append_left, At-append_right}
 use Rattle.etcs_check.proofs.OrderLemmas.{AreOrdered, AreOrdered-filter, IsBlock, no_block, fact_block, joined, under, blocks, each_block, rising, one_list}
 
--- no fact stands against a group
+-- there is no fact against a group
 abbrev pub HasNoGroupFact : Bool → Aspects → Type 0
 HasNoGroupFact used aspects = (rule : Rule) (aspect : Option ℕ) (run : Option Run) (b k : Option ℕ) → group_fact used aspects rule aspect run b k ≡ false
 
@@ -90,7 +90,7 @@ module _ (spot : Spot) (count : ℕ) (packets : Option ℕ → List TrackPacket)
 
 -- ---- sorted by rule
 
--- of one rule and site, what comes before in the order of cells does so in that of findings
+-- for one rule and site, the order of cells implies the order of findings
 rule_first : (f g : Finding) → site_order f.site ≡ site_order g.site → site_place f.site ≡ site_place g.site → rule_number f.rule ≡ rule_number g.rule
     → slice_cmp nat_cmp (cell_order f) (cell_order g) ≡ Less → slice_cmp nat_cmp (order_of f) (order_of g) ≡ Less
 rule_first f g here place same less =
@@ -99,7 +99,7 @@ rule_first f g here place same less =
     let r : nat_cmp (rule_number f.rule) (rule_number g.rule) ≡ Equal = ap (nat_cmp (rule_number f.rule)) (sym same) ∙ tied_itself nat_cmp_total (rule_number f.rule) in
     rw (e, p, r) (rw (e, p, r) at less)
 
--- what is sorted by rule has the members that it had
+-- sorting by rule keeps the members
 by_rule-at : (xs : List Finding) (i : ℕ) (f : Finding) → At (by_rule xs) i f → (j : ℕ) × At xs j f
 by_rule-at xs i f at =
     let r = flat_map-at (λ rule. filter (is_of rule) xs) all_rules i f at in
@@ -193,7 +193,7 @@ cell_listed spot count packets rule run b k h g =
     let t = at-flat_map (λ b. flat_map (rules_at spot run b) (none_and (length (packets b)))) (none_and count) p.0 b s.0 f p.1 s.1 in
     at-flat_map (λ run. flat_map (λ b. flat_map (rules_at spot run b) (none_and (length (packets b)))) (none_and count)) directions d.0 run t.0 f d.1 t.1
 
--- a place at which something passes a test is one of the list, and a balise with a packet is one of the group
+-- a place at which an element passes a test is in the list, and a balise with a packet is in the group
 place_of : {X : Type 0} (xs : List X) (i : ℕ) (test : X → Bool) → passes_at xs i test ≡ true → i < length xs
 place_of xs i test h = let r = passed xs i test h in slice_get_within xs i r.0 r.1
 
@@ -304,7 +304,7 @@ module _ (site : Site) (used : Bool) (aspects : Aspects) where
       let l = group_celled used aspects site f.rule f.aspect f.dir f.balise f.packet h in
       sorted_listed (group_cells site aspects) of_group f (subst (λ n. IsListed n (group_cells site aspects)) (made_of f (record { site = site; aspect = f.aspect }) e refl) l) h
 
-  -- where there is no finding no fact stands
+  -- without a finding there is no fact
   pub group_silent : group_findings site used aspects ≡ [] → HasNoGroupFact used aspects
   group_silent none rule aspect run b k = false_from_ne_true _ (λ h.
       let f : Finding = record { rule = rule; site = site; aspect = aspect; dir = run; balise = b; packet = k } in

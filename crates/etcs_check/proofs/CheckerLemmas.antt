@@ -1,4 +1,4 @@
--- One group or one message more that was handed to a checker.
+-- One more group or message that a checker takes.
 use Rattle.std.proofs.Common.{◌≡◌, ℕ, ◌+◌, false, ◌||◌, eqb, List, [], ◌∷◌, ◌++◌, Result, Ok, Err, refl, ap, ap₂, sym, subst, ◌∙◌}
 use Rattle.std.specs.BTreeSet.{contains}
 use Rattle.std.specs.Ordering.{nat_cmp}
@@ -17,7 +17,7 @@ use Rattle.etcs_check.specs.declared.finding.Site.TheVariants as sites
 use Rattle.etcs_check.proofs.IdentityLemmas.{kept_and, used-among}
 use Rattle.etcs_check.proofs.LineLemmas.{each_and, groups_found, messages_found}
 
--- findings that were noted apart, and then appended
+-- findings that were collected separately, and then appended
 pub noted : (old none found new facts : List Finding) → none ≡ [] → found ≡ none ++ facts → new ≡ old ++ found → new ≡ old ++ facts
 noted old none found new facts empty some all = all ∙ ap (λ l. old ++ l) (some ∙ ap (λ l. l ++ facts) empty)
 
@@ -42,7 +42,7 @@ taken old new g controlled numbered found others count counted kept gs ms was =
       controlled = each_and IsControlled gs g was.controlled controlled;
     }
 
--- a checker takes a group, where its identity and findings are known of an equal one
+-- a checker takes a group, if the identity and findings of an equal group are known
 pub group_taken : (old new : CheckerState) (h g : List (List Telegram)) → h ≡ g → IsControlled h → HasIdentity h
     → new.about_groups ≡ old.about_groups ++ group_findings (sites.Group old.groups) (contains nat_cmp old.identities (identity_number h)) h → new.about_messages ≡ old.about_messages
     → new.groups ≡ old.groups + 1 → new.messages ≡ old.messages → ((n : ℕ) → contains nat_cmp new.identities n ≡ (eqb (identity_number h) n || contains nat_cmp old.identities n))
@@ -63,13 +63,13 @@ message_taken old new m found others count counted kept gs ms was = record {
   controlled = was.controlled;
 }
 
--- ---- what it has found
+-- ---- the findings
 
 pub held_findings : (held kept : CheckerState) (found : List Finding) (gs : List (List (List Telegram))) (ms : List Message) → held ≡ kept → found ≡ held.about_groups ++ held.about_messages → HasChecked kept gs ms → found ≡ findings gs ms
 held_findings held kept found gs ms same all was =
     all ∙ ap₂ ◌++◌ (ap (λ k. k.about_groups) same ∙ was.about_groups ∙ append-nil (group_list gs)) (ap (λ k. k.about_messages) same ∙ was.about_messages)
 
--- ---- none, and others after some
+-- ---- none, and more after some
 
 pub no_groups : (kept : CheckerState) → TakesGroups kept [] kept
 no_groups kept gs ms was = subst (λ l. HasChecked kept l ms) (sym (append-nil gs)) was

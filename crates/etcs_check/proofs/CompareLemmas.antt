@@ -1,4 +1,4 @@
--- Two lists compared in place, over what passes a test.
+-- Comparing in place the elements of two lists that pass a test.
 use Rattle.std.proofs.Common.{◌≡◌, ◌≢◌, ℕ, ◌+◌, ◌<◌, ◌≤◌, Bool, true, false, cond, ◌&&◌, eqb, List, [], ◌∷◌, length, drop, sym, ap, ◌∙◌, refl, arith}
 use Rattle.std.specs.List.{filter}
 use Rattle.std.specs.Cmp.Lexicographic.{pointwise}
@@ -24,7 +24,7 @@ module _ {X : Type 0} (same : X → X → Bool) (holds : X → Bool) where
   pub agree_here : (xs ys : List X) (i j : ℕ) (x y : X) → At xs i x → At ys j y → holds x ≡ true → holds y ≡ true → same x y ≡ true → pointwise same (filter holds (drop i xs)) (filter holds (drop j ys)) ≡ pointwise same (filter holds (drop (i + 1) xs)) (filter holds (drop (j + 1) ys))
   agree_here xs ys i j x y at at' h k e = rw (passes_here xs i x at h, passes_here ys j y at' k, e) refl
 
-  -- where one list is at its end
+  -- if one list is at its end
   pub same_at_end : (xs ys : List X) (i j : ℕ) → i ≤ length xs → j ≤ length ys → ((x : X) → At xs i x → holds x ≡ true) → ((y : X) → At ys j y → holds y ≡ true) → (i < length xs → length ys ≤ j) → pointwise same (filter holds (drop i xs)) (filter holds (drop j ys)) ≡ (eqb i (length xs) && eqb j (length ys))
   same_at_end xs ys i j le le' h k ended = elim (cases_lt i (length xs)) [
     | inl lt ↦

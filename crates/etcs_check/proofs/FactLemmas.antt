@@ -1,4 +1,4 @@
--- What the tests of facts say of what stands at a place, and how a finding names the aspect of its fact.
+-- What tests of facts show about the element at a place, and how a finding names the aspect of its fact.
 use Rattle.std.proofs.Common.{◌≡◌, ℕ, Bool, true, false, not, ltb, List, [], length, slice_get, take, Option, Some, None, refl, sym, ap, subst, ◌∙◌, arith}
 use Rattle.std.specs.Option.{option_map_or}
 use Rattle.std.proofs.lemmas.Bool.{both_ways, and_parts, and_from, or_cases, or_right, cases_lt, lt-ltb, le-ltb, ltb-true, ltb-false, not_from_false, not-true}
@@ -17,7 +17,7 @@ use Rattle.etcs_check.specs.Harm.{NamesAspect}
 use Rattle.etcs_check.specs.Soundness.{first_aspect}
 use Rattle.etcs_check.specs.declared.finding.Rule.{Rule}
 
--- ---- tests of what stands at a place
+-- ---- tests of the element at a place
 
 pub passed : {X : Type 0} (xs : List X) (i : ℕ) (test : X → Bool) → passes_at xs i test ≡ true → (x : X) × At xs i x × (test x ≡ true)
 passed {X} xs i test h = go (slice_get xs i) refl h
@@ -33,7 +33,7 @@ failing {X} xs i test h = go (slice_get xs i) refl
     go None e = refl
     go (Some x) e = h x e
 
--- what stands there decides
+-- the element there decides
 pub passes_as : {X : Type 0} (xs : List X) (i : ℕ) (test : X → Bool) (x : X) → At xs i x → passes_at xs i test ≡ test x
 passes_as xs i test x at = ap (λ o. option_map_or test o false) at
 
@@ -42,7 +42,7 @@ passes_as xs i test x at = ap (λ o. option_map_or test o false) at
 pub packets_as : (group : Telegrams) (b : ℕ) (t : Telegram) → At group b t → packets_at group (Some b) ≡ t.packets
 packets_as group b t at = ap (λ o. option_map_or (λ (t : Telegram). t.packets) o []) at
 
--- a packet of a balise is one of its telegram
+-- a packet of a balise is a packet of its telegram
 pub packet_stands : (group : Telegrams) (b k : ℕ) (p : TrackPacket) → At (packets_at group (Some b)) k p → (t : Telegram) × At group b t × At t.packets k p
 packet_stands group b k p h = go (slice_get group b) refl h
   where

@@ -1,4 +1,4 @@
--- A list of findings is empty if and only if none of its facts stands, and lists of the same findings are the same.
+-- A list of findings is empty if and only if none of its facts holds. Equal findings give equal lists.
 use Rattle.std.proofs.Common.{◌≡◌, ℕ, zero, suc, ◌+◌, Bool, false, List, [], ◌∷◌, ◌++◌, refl, sym, ap, ap₂, ◌∙◌, arith}
 use Rattle.std.specs.List.{flat_map, enumerate_from}
 use Rattle.std.proofs.lemmas.Option.{none-some, same_Some}

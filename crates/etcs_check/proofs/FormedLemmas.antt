@@ -1,4 +1,4 @@
--- The facts about headers, marks and counters against the parts of soundness that they break.
+-- The facts about headers, duplicate flags and counters, and the parts of soundness that they break.
 use Rattle.std.proofs.Common.{◌≡◌, ◌≢◌, ℕ, zero, suc, ◌+◌, ◌<◌, ◌≤◌, true, false, cond, eqb, ltb, List, [], ◌∷◌, length, slice_get, Option, Some, None, refl, sym, ap, subst, ◌∙◌, arith, IsSome}
 use Rattle.std.specs.Bool.{beq}
 use Rattle.std.specs.Cmp.{booleans_Decides}
@@ -35,7 +35,7 @@ alike-is t first a =
     not_from_true _ (and_from _ _ (eq-eqb _ _ (ap version_number a.version))
     (and_from _ _ (same_identity-is _ _ a.identity) ((booleans_Decides t.header.linked first.header.linked).1 a.linked)))
 
--- ---- marks
+-- ---- duplicate flags
 
 differs_from-false : (o : Option ℕ) (b : ℕ) → differs_from o b ≡ false → o ≡ Some b
 differs_from-false None b h = cc
@@ -44,7 +44,7 @@ differs_from-false (Some q) b h = ap Some (eqb-true q b (not-false _ h))
 other-is_false : (o : Option ℕ) (b : ℕ) → o ≡ Some b → differs_from o b ≡ false
 other-is_false o b e = rw e (not_from_true _ (eq-eqb b b refl))
 
--- a mark that lies inside has a partner
+-- a duplicate flag that is not outside has a partner
 pub inside-says : (group : List Telegram) (b : ℕ) (t : Telegram) → At group b t → is_outside (length group) t.header.dup b ≡ false → t.header.dup ≢ dups.Single → IsSome (partner_of group b)
 inside-says group b t at inside marked = go t.header.dup refl b at inside
   where
@@ -62,7 +62,7 @@ inside-says group b t at inside marked = go t.header.dup refl b at inside
         let w = slice_get_within group (suc a) t at in
         some (suc a) a (partner-is group (suc a) a t at (ap (λ m. named_by m (suc a)) e) (omega arith))
 
--- a mark that is answered names a balise that names this one
+-- a duplicate flag that is answered names a balise that names this one
 pub answered-says : (group : List Telegram) (b : ℕ) → ((t : Telegram) → At group b t → is_unanswered group (partner_of group b) b ≡ false) → (q : ℕ) → partner_of group b ≡ Some q → partner_of group q ≡ Some b
 answered-says group b answered q e =
     let r = partner-says group b q e in
@@ -76,7 +76,7 @@ counter-says group t one lt = elim (and_cases (ltb t.header.counter 254) (differ
   | inr same ↦ differs_from-false (first_counter group) t.header.counter same
 ]
 
--- ---- a part that holds, so no fact
+-- ---- no fact if the part holds
 
 -- a telegram like balise 0 of aspect 0, if there is one
 pub alike_first : (first : List Telegram) (t : Telegram) → ((f : Telegram) → At first 0 f → AreAlike t f) → header_differs (slice_get first 0) t ≡ false
@@ -86,7 +86,7 @@ alike_first first t h = go (slice_get first 0) refl
     go None e = refl
     go (Some f) e = alike-is t f (h f e)
 
--- a mark with a partner lies inside
+-- a duplicate flag with a partner is not outside
 pub inside-is : (group : List Telegram) (b : ℕ) (t : Telegram) → At group b t → (t.header.dup ≢ dups.Single → IsSome (partner_of group b)) → is_outside (length group) t.header.dup b ≡ false
 inside-is group b t at has = go t.header.dup refl has
   where
@@ -131,7 +131,7 @@ first_counter-is (x ∷ ts) (suc j) u first =
     ap (λ b. cond b (Some x.header.counter) (first_counter ts)) (le-ltb _ _ high)
     ∙ first_counter-is ts j u (first.0, first.1, λ i v lt at. first.2 (suc i) v (omega arith) at)
 
--- where there is one, there is a first one
+-- if there is one, there is a first one
 pub first_counted : (ts : List Telegram) (b : ℕ) (t : Telegram) → At ts b t → t.header.counter < 254 → (k : ℕ) × (u : Telegram) × IsFirstCounted ts k u
 first_counted [] b t at lt = absurd (none-some t at)
 first_counted (x ∷ ts) zero t at lt =

@@ -1,4 +1,5 @@
--- Each finding states a fact, which breaks its own part of soundness at its place and hurts the readings of its aspect.
+-- Each finding states a fact, by which its part of soundness does not hold, with the stated consequence for
+-- readings.
 use Rattle.std.proofs.Common.{◌≡◌, ℕ, suc, ◌+◌, Bool, false, true, List, [], slice_get, take, Option, Some, None, refl, sym, ap, subst, ◌∙◌, arith}
 use Rattle.std.proofs.lemmas.Option.{none-some}
 use Rattle.std.proofs.lemmas.Bool.{both_ways, false_from_ne_true, or_parts}
@@ -36,7 +37,7 @@ use Rattle.etcs_check.proofs.SoundLemmas.{fitting-from_accepted, pair-says}
 
 -- ---- readings
 
--- what is said is the packets of the reading with nothing missed
+-- the message is the packets of the reading with nothing missed
 of_said : (reach : TrackPacket → Option Reach) (group : List Telegram) (run : Run) → IsWellFormed group → HaveProfiles reach (full_packets group run) → HaveProfiles reach (said_by run group)
 of_said reach group run formed h = subst (HaveProfiles reach) (sym (said-packets group formed run)) h
 
@@ -113,7 +114,7 @@ parts_hold_unless_found groups messages f controlled none = parts_hold groups me
     let l = each_fact_is_listed groups messages f h in
     none l.0 l.1))
 
--- a finding that hurts has a part that does not hold
+-- a violation has a part that does not hold
 hurt_parts : (groups : List (List (List Telegram))) (messages : List Message) (f : Finding) (s : Site) → HasPartsAt groups messages f s → HurtsSite groups messages f s → ⊥
 hurt_parts groups messages f (sites.Group g) parts h =
     let p = parts h.0 h.1 in

@@ -1,4 +1,4 @@
--- One more mark in a table, one more group that was seen, and what the marks say.
+-- One more bit in a table, one more group that was seen, and what the bits show.
 use Rattle.std.proofs.Common.{◌≡◌, ◌≢◌, ℕ, suc, ◌+◌, ◌*◌, ◌/◌, ◌%◌, ◌^◌, ◌<◌, ◌≤◌, Bool, true, false, ◌&&◌, ◌||◌, eqb, List, [], ◌∷◌, ◌++◌, length, get_or, set, replicate, take, Option, Some, None, bit_or, slice_get, refl, sym, ap, ap₂, subst, ◌∙◌, arith}
 use Rattle.std.specs.Int.{w64}
 use Rattle.std.specs.Option.{option_map_or}
@@ -45,7 +45,7 @@ one_number g h a b =
       | inr ne ↦ false_from_ne_true _ (λ same. ne (ap number_of_identity (same_identity-says a.0 b.0 same))) ∙ sym (ne_eqb (number_of_identity a.0) (number_of_identity b.0) ne)
     ]
 
--- an earlier group has the identity where one has its number
+-- an earlier group has the identity if and only if one has its number
 pub used-among : (earlier : List (List (List Telegram))) (g : List (List Telegram)) → HaveIdentities earlier → HasIdentity g → is_used earlier g ≡ is_among earlier (identity_number g)
 used-among [] g all own = refl
 used-among (h ∷ hs) g all own = ap₂ ◌||◌ (one_number h g (all 0 h refl) own) (used-among hs g (λ k x at. all (suc k) x at) own)
@@ -123,7 +123,7 @@ pub seen_other : (base n : ℕ) (table : List ℕ) (groups : List (List (List Te
 seen_other base n table groups i g at other seen p lt =
     seen p lt ∙ sym (among_more groups i g (base + p) at ∙ or_false _ _ (ne_eqb _ _ (other p lt)))
 
--- the mark of its identity says whether it was used
+-- the bit of its identity shows whether it was used
 pub used_mark : (base n : ℕ) (table : List ℕ) (groups : List (List (List Telegram))) (g : List (List Telegram)) (q : ℕ) → identity_number g ≡ base + q → q < n → HasSeen base n table groups → is_used groups g ≡ is_among groups (identity_number g) → is_used groups g ≡ is_marked table q
 used_mark base n table groups g q is lt seen numbered = numbered ∙ sym (seen q lt ∙ ap (is_among groups) (sym is))
 
@@ -164,7 +164,7 @@ kept_and groups g was is now before n =
     let own = eqb (identity_number g) n in
     now n ∙ ap (λ b. own || b) (before n) ∙ or_swap own (is_among groups n) ∙ ap (λ b. is_among groups n || b) (sym (or_false own false refl)) ∙ sym (list_any-append (λ h. eqb (identity_number h) n) groups (g ∷ []))
 
--- what is noted of one more group is whether its identity was used
+-- whether the identity of one more group was used decides its finding
 pub used_told : (groups : List (List (List Telegram))) (i : ℕ) (g : List (List Telegram)) (again : Bool) (is_kept : ℕ → Bool) → At groups i g → HasIdentity g → HaveIdentities (take i groups)
     → (again ≡ false → HasNoRepeat 0 16777216 groups) → (again ≡ true → HasKept is_kept (take i groups)) → (again && is_kept (identity_number g)) ≡ is_used (take i groups) g
 used_told groups i g true is_kept at own before none kept = kept refl (identity_number g) ∙ sym (used-among (take i groups) g before own)
@@ -180,7 +180,7 @@ repeat_stands groups r h =
     let none = group_silent (sites.Group r.0) (is_used (take r.0 groups) r.1) r.1 (for_each-says groups (group_at groups) h r.0 r.1 r.2) in
     both_ways _ (or_parts _ _ (none rules.IdentityUsed None None None None)).0 r.3
 
--- where memory was asked for there is a finding: that of a repeat, or one about this group
+-- if the call allocated, there is a finding: of a repeat, or about this group
 pub next_stands : (groups : List (List (List Telegram))) (i : ℕ) (g : List (List Telegram)) (again : Bool) → At groups i g → HasIdentity g → (again ≡ true → HasRepeat groups) → (again ≡ false → HasNoRepeat 0 16777216 groups)
     → (again ≡ false → group_findings (sites.Group i) false g ≢ []) → group_list groups ≢ []
 next_stands groups i g true at own repeat none some = repeat_stands groups (repeat refl)

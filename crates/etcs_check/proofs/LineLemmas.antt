@@ -1,5 +1,5 @@
--- A group, a message or a line is sound if and only if no fact stands against it. The findings of a line with one group
--- or one message more.
+-- A group, a message or a line is sound if and only if there is no fact against it. The findings of a line
+-- with one more group or message.
 use Rattle.std.proofs.Common.{◌≡◌, ◌≢◌, ◌↔◌, ℕ, zero, suc, ◌+◌, ◌<◌, Bool, true, false, List, [], ◌∷◌, ◌++◌, length, get_or, take, Option, Some, None, refl, sym, ap, ap₂, subst, ◌∙◌, arith}
 use Rattle.std.specs.List.{filter}
 use Rattle.std.proofs.lemmas.Bool.{both_ways, cases_lt, or_parts, false_from_ne_true}
@@ -40,7 +40,7 @@ use Rattle.etcs_check.proofs.ProfileLemmas.{HaveProfiles, profiles-from, profile
 
 -- ---- groups
 
--- no fact stands against a group if and only if it is sound and its identity is new, which `used` denies
+-- there is no fact against a group if and only if it is sound and its identity is new, which `used` denies
 module _ (new : Type 0) (used : Bool) (aspects : List (List Telegram)) (controlled : IsControlled aspects) where
   pub silent_sound : (used ≡ false → new) → HasNoGroupFact used aspects → IsSoundControlled aspects × new
   silent_sound is_new none = (sound_group new aspects controlled (whole, λ a group at rule run b k. aspect_holds aspects a group rule run b k (aspect_silent a group at rule run b k)), whole rules.IdentityUsed None None None)
@@ -191,7 +191,7 @@ all_but_last : {X : Type 0} (xs : List X) (x : X) → take (length xs) (xs ++ x 
 all_but_last [] x = refl
 all_but_last (y ∷ ys) x = ap (λ l. y ∷ l) (all_but_last ys x)
 
--- the findings with one item more, where those before it are the same
+-- the findings with one more item, if the findings before it are the same
 found_more : {X : Type 0} (f h : ℕ → X → List Finding) (b : ℕ) (xs : List X) (x : X) → ((i : ℕ) (y : X) → i < b + length xs → f i y ≡ h i y)
     → each_from f b (xs ++ x ∷ []) ≡ each_from h b xs ++ f (b + length xs) x
 found_more f h b [] x same =

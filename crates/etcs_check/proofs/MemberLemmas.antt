@@ -1,4 +1,4 @@
--- Members of joined, filtered and numbered lists, of lists of findings, and of what a group says.
+-- Members of joined, filtered and numbered lists, of lists of findings, and of the message of a group.
 use Rattle.std.proofs.Common.{◌≡◌, ℕ, zero, suc, ◌+◌, Bool, true, false, cond, List, [], ◌∷◌, ◌++◌, length, reverse, Some, refl, sym, ap, subst, ◌∙◌, arith}
 use Rattle.std.specs.List.{flat_map, enumerate_from, filter}
 use Rattle.std.proofs.lemmas.Option.{none-some, same_Some}
@@ -84,7 +84,7 @@ at-in_passing_order runs.Reverse xs i x h = let h' : At (reverse (reverse xs)) i
 
 -- ---- findings
 
--- a finding stands somewhere in a list
+-- a finding is somewhere in a list
 abbrev pub IsListed : Finding → List Finding → Type 0
 IsListed f found = (i : ℕ) × At found i f
 
@@ -112,9 +112,9 @@ pub made_of : (f : Finding) (spot : Spot) → f.site ≡ spot.site → f.aspect 
 made_of f spot e g = ap (λ z. finding_of f.rule (record { site = z; aspect = spot.aspect }) f.dir f.balise f.packet) (sym e)
     ∙ ap (λ z. finding_of f.rule (record { site = f.site; aspect = z }) f.dir f.balise f.packet) (sym g)
 
--- ---- what is said
+-- ---- the message of a group
 
--- what is said stands in a balise that is not silent, and holds
+-- a packet of the message is in a balise that is not silent, and holds
 pub said-site : (run : Run) (group : List Telegram) (i : ℕ) (p : TrackPacket) → At (said_by run group) i p → (b : ℕ) × (t : Telegram) × (k : ℕ) × At group b t × At t.packets k p × (is_silent run t.header.dup (length group) b ≡ false) × (holds run p ≡ true)
 said-site run group i p h =
     let r = flat_map-at (λ (e : ℕ × Telegram). said_at run (length group) e.0 e.1) (in_passing_order run (enumerate_from 0 group)) i p h in

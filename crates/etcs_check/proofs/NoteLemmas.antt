@@ -1,4 +1,4 @@
--- Steps of the loops that note findings.
+-- Steps of the loops that append findings.
 use Rattle.std.proofs.Common.{◌≡◌, ◌≢◌, ℕ, ◌+◌, ◌<◌, Bool, List, [], ◌∷◌, ◌++◌, length, get_or, slice_get, drop, Some, Result, Ok, Err, OnErr, sym, ap, subst, ◌∙◌, arith}
 use Rattle.std.specs.List.{flat_map}
 use Rattle.std.proofs.lemmas.Option.{same_Some, slice_get_within, slice_get-get_or, get_or_from_slice_get}
@@ -14,7 +14,7 @@ pub on_err : {A E : Type 0} (r : Result A E) (P : Type 0) → P → OnErr r P
 on_err (Ok x) P p = tt
 on_err (Err e) P p = p
 
--- what an index read stands there
+-- the element that was read at an index is at that place
 pub index_at : {X : Type 0} (xs : List X) (i : ℕ) (d x : X) → i < length xs → x ≡ get_or xs i d → At xs i x
 index_at xs i d x lt is = slice_get-get_or xs i d lt ∙ ap Some (sym is)
 
@@ -49,7 +49,7 @@ noted_as a b f found more h e = h ∙ ap (λ q. found ++ noted q f) e
 pub stands_as : (a b : Bool) (f : Finding) → noted a f ≢ [] → a ≡ b → noted b f ≢ []
 stands_as a b f h e g = h (ap (λ q. noted q f) e ∙ g)
 
--- ---- two lists noted one after the other
+-- ---- two lists appended one after the other
 
 pub first_stands : (xs ys : List Finding) → xs ≢ [] → xs ++ ys ≢ []
 first_stands xs ys some h = some (append_parts xs ys h).0
@@ -57,7 +57,7 @@ first_stands xs ys some h = some (append_parts xs ys h).0
 pub second_stands : (xs ys : List Finding) → ys ≢ [] → xs ++ ys ≢ []
 second_stands xs ys some h = some (append_parts xs ys h).1
 
--- what is known of each item and its place so far, and of one more
+-- a property of each item and its place so far, and of one more
 pub each_more : {X : Type 0} (P : ℕ → X → Type 0) (xs : List X) (i : ℕ) (x : X) → At xs i x → ((k : ℕ) (y : X) → k < i → At xs k y → P k y) → P i x → (k : ℕ) (y : X) → k < i + 1 → At xs k y → P k y
 each_more P xs i x at before now k y lt at' = elim (cases_eq k i) [
   | inl e ↦ subst (λ n. P n y) (sym e) (subst (P i) (same_Some x y (sym at ∙ ap (slice_get xs) (sym e) ∙ at')) now)

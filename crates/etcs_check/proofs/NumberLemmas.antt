@@ -34,7 +34,7 @@ same_head x y xs ys e = cc
 same_tail : {X : Type 0} (x y : X) (xs ys : List X) → x ∷ xs ≡ y ∷ ys → xs ≡ ys
 same_tail x y xs ys e = cc
 
--- whole lists of one table's rows, with other numbers behind them, are equal if the numbers are
+-- complete lists of one table's rows, with other numbers after them, are equal if the numbers are equal
 rows_decided : (fields : Fields) (xs ys : List Row) (us vs : List ℕ) → AreRowsOf fields xs → AreRowsOf fields ys → numbers xs ++ us ≡ numbers ys ++ vs → (xs ≡ ys) × (us ≡ vs)
 unfolding numbers
 rows_decided nothing xs ys us vs p q e = (p ∙ sym q, rw (p, q) at e)

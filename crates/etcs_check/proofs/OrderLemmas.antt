@@ -41,14 +41,14 @@ module _ {X : Type 0} (order : X → List ℕ) where
   same_first x y xs ys first second (suc j) h (suc i) g =
       absurd (not_both (order x) (order y) (first 0 (suc i) x y (omega arith) refl g) (second 0 (suc j) y x (omega arith) refl h))
 
-  -- what stands after the first in one list does so in the other
+  -- the elements after the first in one list are in the other list after its first
   rest_at : (x y : X) (xs ys : List X) → AreOrdered (x ∷ xs) → x ≡ y → (i : ℕ) (z : X) → At xs i z → (j : ℕ) → At (y ∷ ys) j z → (k : ℕ) × At ys k z
   rest_at x y xs ys ordered e i z at (suc j) h = (j, h)
   rest_at x y xs ys ordered e i z at zero h =
       let below = subst (λ w. slice_cmp nat_cmp (order x) (order w) ≡ Less) (sym (e ∙ same_Some y z h)) (ordered 0 (suc i) x z (omega arith) refl at) in
       absurd (not_both (order x) (order x) below below)
 
-  -- two ordered lists with the same members are one
+  -- two ordered lists with the same members are equal
   pub one_list : (xs ys : List X) → AreOrdered xs → AreOrdered ys → ((i : ℕ) (x : X) → At xs i x → (j : ℕ) × At ys j x) → ((j : ℕ) (y : X) → At ys j y → (i : ℕ) × At xs i y) → xs ≡ ys
   one_list [] [] first second into back = refl
   one_list [] (y ∷ ys) first second into back = absurd (none-some y (back 0 y refl).1)
@@ -63,7 +63,8 @@ module _ {X : Type 0} (order : X → List ℕ) where
 
   -- ---- blocks
 
-  -- The list is ordered, and the order of each member begins with these numbers and then one from low up to high.
+  -- The list is ordered, and the order of each member begins with these numbers and then one from low up to
+  -- high.
   pub record IsBlock (p : List ℕ) (low high : ℕ) (xs : List X) : Type 0 where
     pub begins : (i : ℕ) (x : X) → At xs i x → (n : ℕ) × (rest : List ℕ) × (low ≤ n) × (n < high) × (order x ≡ p ++ n ∷ rest)
     pub ordered : AreOrdered xs
@@ -79,7 +80,7 @@ module _ {X : Type 0} (order : X → List ℕ) where
   one_ordered x i zero y z lt at at' = absurd (omega arith)
   one_ordered x i (suc j) y z lt at at' = absurd (none-some z at')
 
-  -- one member where a fact stands
+  -- one member if a fact holds
   pub fact_block : (p : List ℕ) (n m : ℕ) (rest : List ℕ) (fact : Bool) (x : X) → m ≡ n → order x ≡ p ++ m ∷ rest → IsBlock p n (suc n) (if fact then x ∷ [] else [])
   fact_block p n m rest false x e is = no_block p n (suc n)
   fact_block p n m rest true x e is = record { begins = one_begins p n rest x (is ∙ ap (λ k. p ++ k ∷ rest) e); ordered = one_ordered x }

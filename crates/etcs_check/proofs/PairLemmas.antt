@@ -1,4 +1,5 @@
--- One balise of a pair alone is missed: the set is covered, and its reading says what the full one says only where the pair's packets are equal.
+-- Only one balise of a pair is missed: the set is covered, and the reading has the full message only if the
+-- packets of the pair are equal.
 use Rattle.std.proofs.Common.{◌≡◌, ◌≢◌, ℕ, zero, suc, ◌+◌, cond, eqb, List, [], ◌∷◌, ◌++◌, refl, sym, ap, subst, ◌∙◌, arith, IsSomeAnd, IsFalse}
 use Rattle.std.proofs.lemmas.List.{append-nil, append_cancel_left, append_cancel_right}
 use Rattle.std.proofs.lemmas.Option.{none-some, same_Some}
@@ -23,7 +24,8 @@ joined_cancel : {A : Type 0} (run : Run) (piece xs ys : List A) → joined run p
 joined_cancel runs.Nominal piece xs ys e = append_cancel_left piece xs ys e
 joined_cancel runs.Reverse piece xs ys e = append_cancel_right xs ys piece e
 
--- where two tellings are one and differ at two neighbours alone, these two are passed alike
+-- two functions of places that differ only at two neighbours are passed alike if the neighbours together are
+-- equal
 passed_cut : {A : Type 0} (run : Run) (f g : ℕ → Telegram → List A) (i : ℕ) (ts : List Telegram) (k : ℕ) (t u : Telegram) → At ts k t → At ts (suc k) u
     → ((j : ℕ) (v : Telegram) → At ts j v → j ≢ k → j ≢ suc k → f (i + j) v ≡ g (i + j) v)
     → passed run f i ts ≡ passed run g i ts
@@ -61,7 +63,7 @@ passed_cut run f g i (x ∷ xs) (suc k) t u a b other same =
           (subst (λ n. joined run (f n t) (joined run (f (suc i + suc k) u) r.0) ≡ joined run (g n t) (joined run (g (suc i + suc k) u) r.0)) p r.1),
     )
 
--- elsewhere none_missed changes
+-- nothing changes elsewhere
 part_elsewhere : (run : Run) (b j : ℕ) (v : Telegram) → j ≢ b → j ≢ suc b → part run (only (passed_first run b)) j v ≡ part run none_missed j v
 part_elsewhere run b j v n m = go run v.header.dup j n m
   where
@@ -101,7 +103,7 @@ duplicates-equal group run b t u formed at au e f same =
     let s : 0 + suc b ≡ suc b = omega arith in
     pair_equal run b t u r.0 e f (rw (z, s) at r.1)
 
--- the set of the first alone is covered
+-- the set of only the first is covered
 pub only-covered : (group : List Telegram) (run : Run) (b : ℕ) (t : Telegram) → IsWellFormed group → At group b t → t.header.dup ≡ dups.Next → IsCovered group (only (passed_first run b))
 only-covered group runs.Nominal b t formed at e p is =
     let s : b ≡ p = sym (eqb-true p b is) in

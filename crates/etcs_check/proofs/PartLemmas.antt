@@ -1,4 +1,4 @@
--- A fact stands if and only if the part of soundness that its rule asks for does not hold.
+-- There is a fact if and only if the part of soundness that its rule requires does not hold.
 use Rattle.std.proofs.Common.{◌≡◌, ℕ, ◌+◌, Bool, true, false, List, length, slice_get, take, Option, Some, None, refl, sym, ap, ◌∙◌}
 use Rattle.std.specs.List.{filter}
 use Rattle.std.proofs.lemmas.Option.{same_Some}
@@ -29,7 +29,7 @@ use Rattle.etcs_check.proofs.AspectLemmas.{mark-says, mark-is, taken-at, fresh-s
 
 -- ---- aspects
 
--- the mark of the same balise in aspect 0, if there is one
+-- the duplicate flag of the same balise in aspect 0, if there is one
 marks-are : (first : List Telegram) (b : ℕ) (t : Telegram) → ((f : Telegram) → At first b f → t.header.dup ≡ f.header.dup) → mark_differs (slice_get first b) t ≡ false
 marks-are first b t h = go (slice_get first b) refl
   where

@@ -35,7 +35,7 @@ pub filter-flat_map : {X : Type 0} (p : Finding → Bool) (f : X → List Findin
 filter-flat_map p f [] = refl
 filter-flat_map p f (x ∷ xs) = filter-append p (f x) (flat_map f xs) ∙ ap (λ l. filter p (f x) ++ l) (filter-flat_map p f xs)
 
--- the rules that a test passes, where what it says of each is known
+-- the rules that pass a test, if its result is known for each
 pub filter-rules : (p : Finding → Bool) (cell : Rule → Finding) (test : Rule → Bool) → ((r : Rule) → p (cell r) ≡ test r) → (rs : List Rule) → filter p (map cell rs) ≡ flat_map (λ r. noted (test r) (cell r)) rs
 filter-rules p cell test same [] = refl
 filter-rules p cell test same (r ∷ rs) = ap (λ b. cond b (cell r ∷ filter p (map cell rs)) (filter p (map cell rs))) (same r) ∙ go (test r) (filter-rules p cell test same rs)
@@ -55,7 +55,7 @@ each_place p f xs =
     filter-flat_map p f (none_and (length xs))
     ∙ ap (λ l. filter p (f None) ++ l) (flat_map-map (λ o. filter p (f o)) (λ i. Some i) (range_with_len 0 (length xs)) ∙ each_range (λ i. filter p (f (Some i))) 0 xs)
 
--- ---- what a walk over the cells of a spot finds, where it is known at each place
+-- ---- what a walk over the cells of a spot finds, if the result at each place is known
 
 pub record Leaves (p : Finding → Bool) (spot : Spot) (group : Telegrams) : Type 0 where
   pub lead : List Finding
@@ -102,7 +102,7 @@ module _ (p : Finding → Bool) (spot : Spot) (group : Telegrams) (leaves : Leav
       ∙ (λ i. in_none i ++ (in_direction runs.Nominal i ++ (in_direction runs.Reverse i ++ [])))
       ∙ ap (λ l. alone_walk ++ (direction_walk runs.Nominal ++ l)) (append-nil (direction_walk runs.Reverse))
 
--- ---- what is found at a place, whoever speaks
+-- ---- what is found at a place, for any sender
 
 abbrev pub unmodelled_test : TrackPacket → Rule → Bool
 unmodelled_test q rules.NotModelled = is_unmodelled q
@@ -141,7 +141,7 @@ module _ (p : Finding → Bool) (spot : Spot) where
 
 -- ---- an aspect
 
--- what the test of an aspect says at each place
+-- the result of the test of an aspect at each place
 module _ (first : Telegrams) (before : Aspects) (group : Telegrams) where
   pub says_balise : (b : ℕ) (t : Telegram) → At group b t → (rule : Rule) → aspect_fact first before group rule None (Some b) None ≡ balise_fact first before group rule b t
   says_balise b t at rules.PositionWrong = passes_as group b (balise_fact first before group rules.PositionWrong b) t at
@@ -174,7 +174,7 @@ module _ (first : Telegrams) (before : Aspects) (group : Telegrams) where
   says_none rules.PositionWrong = refl
   says_none rule = refl
 
-  -- a test that says the same of each place but none
+  -- a test with the same result at each place but none
   abbrev pub leaves_of : (p : Finding → Bool) (spot : Spot) (lead : List Finding) → filter p (rules_at spot None None None) ≡ lead
       → ((rule : Rule) (b : ℕ) (k : Option ℕ) → p (finding_of rule spot None (Some b) k) ≡ aspect_fact first before group rule None (Some b) k)
       → ((rule : Rule) (run : Run) (b k : Option ℕ) → p (finding_of rule spot (Some run) b k) ≡ aspect_fact first before group rule (Some run) b k) → Leaves p spot group

@@ -63,7 +63,7 @@ short-from reach packets p h = go (reach p) refl
 abbrev pub HaveProfiles : (TrackPacket → Option Reach) → List TrackPacket → Type 0
 HaveProfiles reach packets = (i : ℕ) (a : TrackPacket) (limit : ℕ) → At packets i a → limit_of a ≡ Some limit → HasProfiles reach packets limit
 
--- where none lacks, there is one
+-- if none is lacking, there is one
 pub one-from_lacks : (reach : TrackPacket → Option Reach) (packets : List TrackPacket) → lacks reach packets ≡ false → HasProfile reach packets
 one-from_lacks reach packets there i a limit at is =
     let some = at_list_any (λ p. is_some (limit_of p)) packets i a at (some_is (limit_of a) limit is) in
@@ -94,9 +94,9 @@ profiles-one reach packets h i a limit at is = (h i a limit at is).one
 pub profiles-long : (reach : TrackPacket → Option Reach) (packets : List TrackPacket) → HaveProfiles reach packets → (j : ℕ) (p : TrackPacket) → At packets j p → IsLong reach packets p
 profiles-long reach packets h j p at r has i a limit at_a is = (h i a limit at_a is).each j p r at has
 
--- ---- a packet that is said
+-- ---- a packet of the message
 
--- a packet that is said and is not short
+-- a packet of the message that is not short
 not_short : {silent held short : Bool} → silent ≡ false → held ≡ true → (not silent && (held && short)) ≡ false → short ≡ false
 not_short e f h = rw (e, f) at h
 
@@ -113,7 +113,7 @@ long-at reach said run silent p long = elim (cases_Bool silent) [
   ]
 ]
 
--- each profile that a group says is long
+-- each profile in the message of a group is long
 pub long-said : (reach : TrackPacket → Option Reach) (group : List Telegram) (run : Run) → HaveProfiles reach (said_by run group) → (b k : ℕ) → IsLongAt reach group run b k
 long-said reach group run h b k t p at at' speaks held =
     let s = site-said run group b t k p at at' speaks held in

@@ -1,4 +1,4 @@
--- What packets say together, in whichever order, and what the greatest location says of each authority.
+-- The summary of packets, in any order, and what the greatest location shows about each authority.
 use Rattle.std.proofs.Common.{◌≡◌, ℕ, ◌+◌, ◌≤◌, Bool, true, false, ◌||◌, ◌&&◌, max, ltb, if◌then◌else◌, List, [], ◌∷◌, ◌++◌, length, drop, filter, reverse, not, Option, Some, None, is_some, refl, sym, ap, ap₂, ◌∙◌, arith}
 use Rattle.std.specs.List.{list_any, flat_map, enumerate_from}
 use Rattle.std.specs.Option.{option_map_or}
@@ -84,7 +84,7 @@ said-passing f runs.Reverse (x ∷ xs) =
 
 -- ---- steps
 
--- what the balises from place i on say, in the order of their places
+-- the packets that the balises from place i on add, in the order of their places
 abbrev pub said_from : Run → ℕ → ℕ → List Telegram → List TrackPacket
 said_from run n i group = flat_map (λ (e : ℕ × Telegram). said_at run n e.0 e.1) (enumerate_from i (drop i group))
 
@@ -115,7 +115,7 @@ said_step run n group i t at = ap said_in (said_rest run n group i t at) ∙ sai
 pub said_whole : (run : Run) (group : List Telegram) → said_in (said_from run (length group) 0 group) ≡ said_in (said_by run group)
 said_whole run group = sym (said-passing (λ (e : ℕ × Telegram). said_at run (length group) e.0 e.1) run (enumerate_from 0 group))
 
--- ---- a location lies past a reach where the greatest one does
+-- ---- some location lies past a reach if and only if the greatest one does
 
 max_past : (n a b : ℕ) → ltb n (max a b) ≡ (ltb n a || ltb n b)
 max_past n a b = elim (cases_lt n a) [
@@ -136,7 +136,7 @@ past_said : (r : Reach) (packets : List TrackPacket) → list_any (goes_past r) 
 past_said r [] = refl
 past_said r (p ∷ ps) = ap (λ s. goes_past r p || s) (past_said r ps) ∙ sym (past_greater r (limit_of p) (said_in ps).limit)
 
--- a profile is short where it ends before the greatest location
+-- a profile is short if and only if it ends before the greatest location
 pub short-before : (reach : TrackPacket → Option Reach) (packets : List TrackPacket) (p : TrackPacket) → is_short reach packets p ≡ is_before reach (said_in packets).limit p
 short-before reach packets p = go (reach p)
   where
@@ -144,7 +144,7 @@ short-before reach packets p = go (reach p)
     go None = refl
     go (Some r) = past_said r packets
 
--- ---- what the parts say
+-- ---- the parts of the summary
 
 some_greater : (a b : Option ℕ) → is_some (greater a b) ≡ (is_some a || is_some b)
 some_greater None b = refl

@@ -1,4 +1,4 @@
--- What the findings of a line say, however they were found.
+-- What the findings of a line mean, in whichever way they were found.
 use Rattle.std.proofs.Common.{◌≡◌, ℕ, List, [], ◌++◌, ap, ap₂, sym, subst, ◌∙◌}
 use Rattle.std.specs.Prelude.{◌↔◌}
 use Rattle.etcs_radio.specs.declared.message.Message.{Message}
@@ -31,7 +31,7 @@ module _ (groups : List (List (List Telegram))) (messages : List Message) (found
     pub found_sound : (found ≡ []) ↔ IsSoundLine groups messages
     found_sound = let law = no_finding_means_sound_line groups messages controlled in (λ none. law.0 (sym is ∙ none), λ sound. is ∙ law.1 sound)
 
-    -- each finding hurts
+    -- each finding is a violation
     pub found_hurts : (i : ℕ) (f : Finding) → At found i f → Hurts groups messages f
     found_hurts i f at = (findings_are_facts groups messages i f (subst (λ l. At l i f) is at)).1 controlled
 

@@ -42,7 +42,7 @@ are_pair-says dups.Next dups.Next h = absurd (both_ways _ refl h)
 are_pair-says dups.Single n h = absurd (both_ways _ refl h)
 are_pair-says dups.Previous n h = absurd (both_ways _ refl h)
 
--- the second of a pair stands behind the first, and their packets differ
+-- the second of a pair is after the first, and their packets differ
 pub pair-says : (run : Run) (t : Telegram) (o : Option Telegram) → pair_differs run t o ≡ true → (u : Telegram) × (o ≡ Some u) × (t.header.dup ≡ dups.Next) × (u.header.dup ≡ dups.Previous) × (held_by run t ≢ held_by run u)
 pair-says run t None h = absurd (both_ways _ refl h)
 pair-says run t (Some u) h =
@@ -60,7 +60,7 @@ pair-equal run t u h e f =
     (Decides-same_packets (held_by run t) (held_by run u)).0 (not-false _ same)
 
 module _ (group : List Telegram) (run : Run) (formed : IsWellFormed group) (equal : (b : ℕ) (t u : Telegram) → At group b t → At group (b + 1) u → t.header.dup ≡ dups.Next → u.header.dup ≡ dups.Previous → held_by run t ≡ held_by run u) where
-  -- the packets of a balise and of the one behind it, which is its partner
+  -- the packets of a balise and of the one after it, which is its partner
   next_equal : (b : ℕ) (t u : Telegram) → At group b t → At group (suc b) u → t.header.dup ≡ dups.Next → u.header.dup ≡ dups.Previous → held_by run t ≡ held_by run u
   next_equal b t u at au e f =
       let one : b + 1 ≡ suc b = omega arith in
@@ -92,7 +92,7 @@ module _ (group : List Telegram) (run : Run) (formed : IsWellFormed group) (equa
           let n' : named_by dups.Previous (suc r.0) ≡ Some p = ap (named_by dups.Previous) (sym r.1) ∙ n in
           by_previous r.0 r.2 r.1 (sym (same_Some r.0 p n')) r.3 r.4 e
 
--- ---- parts that hold, so sound
+-- ---- sound if all parts hold
 
 -- each part of an aspect
 abbrev pub HasAspectParts : List (List Telegram) → ℕ → List Telegram → Type 0
@@ -151,7 +151,7 @@ module _ (aspects : List (List Telegram)) (a : ℕ) (group : List Telegram) (lon
     };
   }
 
--- ---- sound, so parts hold
+-- ---- all parts hold if sound
 
 none_set : (group : List Telegram) → IsSetOf group none_missed
 none_set group p h = absurd (both_ways false refl h)
@@ -159,7 +159,7 @@ none_set group p h = absurd (both_ways false refl h)
 none_covered : (group : List Telegram) → IsCovered group none_missed
 none_covered group p h = absurd (both_ways false refl h)
 
--- the counters agree where the reading with nothing missed is accepted
+-- the counters agree if the reading with nothing missed is accepted
 pub fitting-from_accepted : (group : List Telegram) (run : Run) → IsAccepted run (reading_of run none_missed group) → HasOneCounter group
 fitting-from_accepted group run accepted = record {
   agrees = λ b t at. let r = at-reading group none_missed run b t at refl in accepted.one_counter.agrees r.0 t r.1;

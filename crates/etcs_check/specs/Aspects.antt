@@ -1,6 +1,6 @@
--- The facts against a controlled group, whose lineside unit chooses among aspects (this project's rules,
--- after SUBSET-026, 3.16.2). Each aspect has the facts against itself. The group as a whole has the facts
--- about its identity, and about the counters that distinguish its aspects.
+-- The facts against a controlled group, whose lineside unit selects among aspects (this project's rules,
+-- after SUBSET-026, 3.16.2). Each aspect has facts of its own. The group as a whole has the facts about its
+-- identity, and about the counters that distinguish its aspects.
 use Rattle.std.specs.Prelude.{ℕ, ◌==◌, ◌&&◌, ◌||◌, nat_lt, Bool, false, not, List, length, slice_get, None}
 use Rattle.std.specs.List.{list_any, list_all}
 use Rattle.std.specs.Option.{option_map_or}
@@ -13,7 +13,7 @@ use Rattle.etcs_check.specs.declared.finding.Spot.{Spot}
 
 -- ---- the facts about a group as a whole
 
--- Two groups have one identity. A group without a balise has none.
+-- Two groups have the same identity. A group without a balise has none.
 abbrev pub have_one_identity : Aspects → Aspects → Bool
 have_one_identity g h =
     option_map_or (λ i. option_map_or (same_identity i) (group_identity h) false) (group_identity g) false
@@ -40,6 +40,6 @@ abbrev pub is_ambiguous : Aspects → ℕ → Telegram → Bool
 is_ambiguous aspects b t =
     nat_lt 1 (length aspects) && not (all_at (is_steady t) b aspects || all_at has_aspect_counter b aspects)
 
--- where a finding about a message or a whole group stands
+-- the location of a finding about a message or a whole group
 abbrev pub site_spot : Site → Spot
 site_spot site = record { site = site; aspect = None }

@@ -1,5 +1,5 @@
--- Equal packets and equal telegrams. A packet is the numbers in the rows of its table, one after the
--- other (SUBSET-026, 7.4.2), so two packets are equal where these numbers are.
+-- Equal packets and equal telegrams. A packet is the numbers in the rows of its table, in order (SUBSET-026,
+-- 7.4.2), so two packets are equal if these numbers are equal.
 use Rattle.std.specs.Prelude.{ℕ, ◌==◌, ◌&&◌, Bool, true, false, List, map}
 use Rattle.std.specs.Bool.{beq}
 use Rattle.std.specs.Cmp.Lexicographic.{pointwise}
@@ -39,7 +39,7 @@ same_held run t u = pointwise same_packet (held_by run t) (held_by run u)
 abbrev pub same_identity : Identity → Identity → Bool
 same_identity i j = (i.country == j.country) && (i.group == j.group)
 
--- whether two marks are equal
+-- whether two duplicate flags are equal
 abbrev pub same_mark : Dup → Dup → Bool
 same_mark dups.Single dups.Single = true
 same_mark dups.Next dups.Next = true
@@ -62,7 +62,7 @@ same_header g h =
 -- ---- equal telegrams
 -- Pinned by the law telegrams_are_their_parts.
 
--- Whether two telegrams have equal sizes, headers and packets. The fill after the end mark is no part of a
+-- Whether two telegrams have equal sizes, headers and packets. The fill after the end mark is not part of a
 -- telegram.
 abbrev pub same_telegram : Telegram → Telegram → Bool
 same_telegram t u =

@@ -1,5 +1,5 @@
--- Which facts stand against a line: for each rule one test, asked at a running direction, a balise and a packet
--- (this project's rules, after SUBSET-026, 3.16.2). No definition here speaks of what a train reads.
+-- The facts against a line: for each rule one test, at a running direction, a balise and a packet (this
+-- project's rules, after SUBSET-026, 3.16.2). No definition here refers to what a train reads.
 use Rattle.std.specs.Prelude.{ℕ, ◌+◌, ◌&&◌, ◌||◌, nat_lt, Bool, false, not, List, [], length, slice_get, take, filter, Option, Some, None, IsTrue}
 use Rattle.std.specs.Option.{option_map_or}
 use Rattle.etcs_packet.specs.Track.{holds}
@@ -20,15 +20,15 @@ use Rattle.etcs_check.specs.declared.finding.Rule.TheVariants as rules
 use Rattle.etcs_check.specs.declared.finding.Site.{Site}
 use Rattle.etcs_check.specs.declared.finding.Site.TheVariants as sites
 
--- something stands at place i of the list, and passes the test
+-- there is an element at place i of the list, and it passes the test
 abbrev pub passes_at : {X : Type 0} → List X → ℕ → (X → Bool) → Bool
 passes_at xs i test = option_map_or test (slice_get xs i) false
 
--- ---- packets, and what is said
+-- ---- packets, and the packets of the message
 
--- Who speaks: the balises of an aspect, each by its place, or a message, by no place. `packets` are those of a
--- speaker, `silent` says whether it is silent in a running direction, and `said` are the packets that all speakers say
--- in that direction.
+-- The senders of packets: the balises of an aspect, each by its place, or a message, without a place.
+-- `packets` are the packets of a sender, `silent` is whether it is silent in a running direction, and `said`
+-- are the packets of the whole message in that direction.
 pub record Speech : Type 0 where
   pub packets : Option ℕ → List TrackPacket
   pub silent : Run → Option ℕ → Bool
@@ -60,7 +60,7 @@ speech_in packets = record {
   said = λ run. filter (holds run) packets;
 }
 
--- F11 and F13 of a packet of this speaker
+-- F11 and F13 of a packet of this sender
 abbrev pub is_short_profile : (TrackPacket → Option Reach) → Speech → Run → Option ℕ → TrackPacket → Bool
 is_short_profile reach speech run b p = is_said_and_short reach (speech.said run) run (speech.silent run b) p
 
@@ -95,14 +95,14 @@ abbrev pub fact_of_aspect : Aspects → ℕ → Rule → Option Run → Option �
 fact_of_aspect aspects a rule run b k =
     passes_at aspects a (λ group. aspect_fact (first_aspect aspects) (take a aspects) group rule run b k)
 
--- A fact about a group: where no aspect is named, about the whole or its only aspect, else about the one that is
--- named. None of one aspect alone is named.
+-- A fact about a group: if no aspect is named, about the whole group or its only aspect, otherwise about the
+-- named aspect. A single aspect is never named.
 abbrev pub group_fact : Bool → Aspects → Rule → Option ℕ → Option Run → Option ℕ → Option ℕ → Bool
 group_fact used aspects rule None run b k = whole_fact used aspects rule run b k
     || (not (nat_lt 1 (length aspects)) && fact_of_aspect aspects 0 rule run b k)
 group_fact used aspects rule (Some a) run b k = nat_lt 1 (length aspects) && fact_of_aspect aspects a rule run b k
 
--- a message 3 is its packets; a message 136 has no fact against it
+-- a fact about a message 3 is a fact about its packets; there are no facts about a message 136
 abbrev pub message_fact : Message → Rule → Option ℕ → Option Run → Option ℕ → Option ℕ → Bool
 message_fact (messages.Movement m) rule None run b k = packet_fact (speech_in m.packets) rule run b k
 message_fact m rule aspect run b k = false
@@ -113,10 +113,10 @@ fact_at groups messages (sites.Group g) f = passes_at groups g
 fact_at groups messages (sites.Message i) f =
     passes_at messages i (λ m. message_fact m f.rule f.aspect f.dir f.balise f.packet)
 
--- the fact that a finding states stands against the line
+-- the finding states a fact against the line, as a test
 abbrev pub is_fact : List Aspects → List Message → Finding → Bool
 is_fact groups messages f = fact_at groups messages f.site f
 
--- a finding states a fact
+-- the finding states a fact against the line
 abbrev pub StatesFact : List Aspects → List Message → Finding → Type 0
 StatesFact groups messages f = IsTrue (is_fact groups messages f)

@@ -1,7 +1,7 @@
 -- The facts against one aspect of a balise group, and lists of findings (this project's rules, after
--- SUBSET-026, 3.16.2). A group that no lineside unit switches has one aspect. A fact is seen in the
--- telegrams of the aspect and of the aspects before it: no definition here speaks of what a train reads.
--- A place counts the balises of the group from 0.
+-- SUBSET-026, 3.16.2). A group that no lineside unit switches has one aspect. Facts depend only on the
+-- telegrams of the aspect and of the aspects before it: no definition here refers to what a train reads. A
+-- place is the index of a balise in the group, from 0.
 use Rattle.std.specs.Prelude.{ℕ, ◌+◌, ◌==◌, ◌&&◌, nat_lt, Bool, true, false, not, if◌then◌else◌, List, [], ◌∷◌, ◌++◌, length, slice_get, Option, Some, None, is_some, flat_map}
 use Rattle.std.specs.Bool.{beq}
 use Rattle.std.specs.List.{list_any, enumerate_from}
@@ -48,7 +48,7 @@ is_outside n dups.Single b = false
 is_outside n dups.Next b = (b + 1) == n
 is_outside n dups.Previous b = b == 0
 
--- there is no number, or another one
+-- the number is absent or another one
 abbrev pub differs_from : Option ℕ → ℕ → Bool
 differs_from o n = not (option_map_or (λ m. m == n) o false)
 
@@ -98,7 +98,7 @@ balise_fact first before group rules.MarksDiffer b t = mark_differs (slice_get f
 balise_fact first before group rules.NotToldApart b t = is_counter_taken before t
 balise_fact first before group r b t = false
 
--- ---- the facts about two balises, about packets and about what is said
+-- ---- the facts about two balises, about packets and about the message
 
 -- the first of two marks names the next balise, and the second the previous one
 abbrev pub are_pair : Dup → Dup → Bool
@@ -145,11 +145,11 @@ abbrev pub finding_of : Rule → Spot → Option Run → Option ℕ → Option �
 finding_of rule spot run b k =
     record { rule = rule; site = spot.site; aspect = spot.aspect; dir = run; balise = b; packet = k }
 
--- the finding alone, where its fact stands
+-- a list of the finding if the fact holds, otherwise empty
 abbrev pub noted : Bool → Finding → List Finding
 noted fact finding = if fact then finding ∷ [] else []
 
--- the findings of each item with its place, in order, where the first item stands at place b
+-- the findings of each item with its place, in order; the first item is at place b
 abbrev pub each_from : {X : Type 0} → (ℕ → X → List Finding) → ℕ → List X → List Finding
 each_from f b xs = flat_map (λ e. f e.0 e.1) (enumerate_from b xs)
 

@@ -1,4 +1,4 @@
--- What a finding means: which part of soundness does not hold at its place, and what that does to the
+-- What a finding means: which part of soundness does not hold at its location, and what follows for the
 -- readings of its group. Each part is named as in IsWellFormed, HasOneCounter, HasEqualPairs, HasProfiles,
 -- AreOneGroup, IsSoundMessage or IsSoundLine. It holds in each sound line (nothing_hurts_a_sound_line), and
 -- wherever its rule has no finding (parts_hold_unless_found).
@@ -46,8 +46,8 @@ IsNeverAccepted group = (run : Run) → IsAccepted run (reading_of run none_miss
 abbrev pub full_packets : Telegrams → Run → List TrackPacket
 full_packets group run = packets_of run (reading_of run none_missed group)
 
--- the balise of a pair that is passed first may be missed, and the packets are then not those of the
--- reading with nothing missed
+-- the balise of a pair that is passed first may be missed, and the packets are then different from the
+-- packets of the reading with nothing missed
 abbrev pub DependsOnMissed : Telegrams → Run → ℕ → Type 0
 DependsOnMissed group run b =
     IsCovered group (only (passed_first run b))
@@ -57,8 +57,8 @@ DependsOnMissed group run b =
 abbrev pub IsNotReached : Telegrams → Run → Type 0
 IsNotReached group run = AreReached (full_packets group run) → ⊥
 
--- What a finding of a rule means for the readings of its aspect. That of a pair or of profiles is said of
--- well-formed aspects alone.
+-- What a finding of a rule means for the readings of its aspect. For F8 and F10 to F13 this is defined only
+-- for well-formed aspects.
 abbrev pub HurtsReadings : Telegrams → Rule → Option Run → Option ℕ → Type 0
 HurtsReadings group rules.CounterUnfit run b = IsNeverAccepted group
 HurtsReadings group rules.CountersDiffer run b = IsNeverAccepted group
@@ -67,10 +67,10 @@ HurtsReadings group rules.NoGradient (Some run) b = IsWellFormed group → IsNot
 HurtsReadings group rules.GradientShort (Some run) b = IsWellFormed group → IsNotReached group run
 HurtsReadings group rules.NoSpeed (Some run) b = IsWellFormed group → IsNotReached group run
 HurtsReadings group rules.SpeedShort (Some run) b = IsWellFormed group → IsNotReached group run
--- of the readings the other rules claim nothing
+-- the other rules state nothing about readings
 HurtsReadings group rule run b = ⊤
 
--- ---- the part of soundness that a rule asks for at a place
+-- ---- the part of soundness that a rule requires at a location
 
 -- if there is an authority among the packets, there is a profile of the kind
 abbrev pub HasProfile : (TrackPacket → Option Reach) → List TrackPacket → Type 0
@@ -83,13 +83,13 @@ IsLong reach packets p = (r : Reach) → reach p ≡ Some r
     → (i : ℕ) (a : TrackPacket) (limit : ℕ) → At packets i a → limit_of a ≡ Some limit → Reaches r limit
 
 -- If packet k of the balise at place b is a profile of the kind, the balise is not silent and the packet
--- holds, then it reaches the supervised location of each authority that the group says.
+-- holds, then the packet reaches the supervised location of each authority in the message of the group.
 abbrev pub IsLongAt : (TrackPacket → Option Reach) → Telegrams → Run → ℕ → ℕ → Type 0
 IsLongAt reach group run b k = (t : Telegram) (p : TrackPacket) → At group b t → At t.packets k p
     → IsFalse (is_silent run t.header.dup (length group) b) → IsTrue (holds run p)
     → IsLong reach (said_by run group) p
 
--- u, at place j, is the first with a counter below 254
+-- u, at place j, is the first telegram with a counter below 254
 abbrev pub IsFirstCounted : Telegrams → ℕ → Telegram → Type 0
 IsFirstCounted group j u = At group j u × (u.header.counter < 254)
     × ((i : ℕ) (v : Telegram) → i < j → At group i v → 254 ≤ v.header.counter)
@@ -125,7 +125,7 @@ AspectPart aspects a group rules.DuplicatesDiffer (Some run) (Some b) None =
 -- modelled
 AspectPart aspects a group rules.NotModelled None (Some b) (Some k) =
     (t : Telegram) (p : TrackPacket) → At group b t → At t.packets k p → IsTrue (is_modelled p)
--- one and each, of gradients and of speeds, in what is said with nothing missed
+-- one and each, of gradients and of speeds, in the message with nothing missed
 AspectPart aspects a group rules.NoGradient (Some run) None None = HasProfile gradient_reach (said_by run group)
 AspectPart aspects a group rules.GradientShort (Some run) (Some b) (Some k) = IsLongAt gradient_reach group run b k
 AspectPart aspects a group rules.NoSpeed (Some run) None None = HasProfile speed_reach (said_by run group)
@@ -139,7 +139,7 @@ AspectPart aspects a group rules.NotToldApart None (Some b) None =
     → t.header.counter < 254 → t.header.counter ≢ u.header.counter
 AspectPart aspects a group rule run b k = ⊤
 
--- The part of a controlled group as a whole. `new` is the proposition that no earlier group has its identity.
+-- The part of a controlled group as a whole. `new` states that no earlier group has its identity.
 abbrev pub GroupPart : Type 0 → Aspects → Rule → Option Run → Option ℕ → Option ℕ → Type 0
 -- distinct, of the line
 GroupPart new aspects rules.IdentityUsed None None None = new
@@ -166,12 +166,12 @@ MessagePart (messages.Position m) rule run b k = ⊤
 
 -- ---- what a finding means
 
--- a finding names aspect a by its place where the group has two or more, and else names none
+-- a finding names aspect a by its index if the group has two or more aspects, and otherwise names none
 abbrev pub NamesAspect : Aspects → ℕ → Option ℕ → Type 0
 NamesAspect aspects a named = (1 < length aspects → named ≡ Some a) × (length aspects ≤ 1 → named ≡ None)
 
 -- A finding about a controlled group: the part of the group as a whole does not hold; or the part of the
--- aspect that is named does not, and its readings are hurt.
+-- named aspect does not hold, and its readings have the stated consequence.
 abbrev pub HurtsGroup : Type 0 → Aspects → Rule → Option ℕ → Option Run → Option ℕ → Option ℕ → Type 0
 HurtsGroup new aspects rule aspect run b k =
     ((aspect ≡ None) × (GroupPart new aspects rule run b k → ⊥))
@@ -208,6 +208,6 @@ HasPartsAt groups messages f (sites.Group g) = (aspects : Aspects) → At groups
 HasPartsAt groups messages f (sites.Message i) = (m : Message) → At messages i m → f.aspect ≡ None
     → MessagePart m f.rule f.dir f.balise f.packet
 
--- the parts that the rule of f asks for hold at its site, aspect, running direction, balise and packet
+-- the parts that the rule of f requires hold at its site, aspect, running direction, balise and packet
 abbrev pub HasParts : List Aspects → List Message → Finding → Type 0
 HasParts groups messages f = HasPartsAt groups messages f f.site

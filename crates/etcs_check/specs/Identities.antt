@@ -18,15 +18,15 @@ number_of_identity i = i.country * 16384 + i.group
 abbrev pub identity_number : Aspects → ℕ
 identity_number g = option_map_or number_of_identity (group_identity g) 0
 
--- a group has an identity, whose numbers are in range
+-- the group has an identity, and its numbers are in range
 abbrev pub HasIdentity : Aspects → Type 0
 HasIdentity g = (i : Identity) × (group_identity g ≡ Some i) × (i.country < 1024) × (i.group < 16384)
 
--- every group has an identity whose numbers are in range
+-- every group has an identity, and its numbers are in range
 abbrev pub HaveIdentities : List Aspects → Type 0
 HaveIdentities groups = (i : ℕ) (g : Aspects) → At groups i g → HasIdentity g
 
--- whether a bit of a number is set, and the bit of this place in a table
+-- whether a bit of a number is set, and whether the bit at this place of a table is set
 abbrev pub has_bit : ℕ → ℕ → Bool
 has_bit n b = bit_at n b == 1
 
@@ -37,11 +37,11 @@ is_marked table p = has_bit (slice_index table (p / 64)) (p % 64)
 abbrev pub is_among : List Aspects → ℕ → Bool
 is_among groups n = list_any (λ h. identity_number h == n) groups
 
--- Of the n identities from base on, just those of these groups are marked.
+-- Of the n identities from base on, only the identities of these groups are marked.
 abbrev pub HasSeen : ℕ → ℕ → List ℕ → List Aspects → Type 0
 HasSeen base n table groups = (p : ℕ) → p < n → is_marked table p ≡ is_among groups (base + p)
 
--- No group, its identity being one of the n from base on, has the identity of an earlier group.
+-- No group whose identity is one of the n from base on has the identity of an earlier group.
 abbrev pub HasNoRepeat : ℕ → ℕ → List Aspects → Type 0
 HasNoRepeat base n groups = (i : ℕ) (g : Aspects) → At groups i g
     → base ≤ identity_number g → identity_number g < base + n → is_used (take i groups) g ≡ false

@@ -25,12 +25,12 @@ use Rattle.etcs_check.specs.declared.finding.Rule.{Rule}
 use Rattle.etcs_check.specs.declared.finding.Site.{Site}
 use Rattle.etcs_check.specs.declared.finding.Site.TheVariants as sites
 
--- Two packets are equal if and only if the numbers in their rows are.
+-- Two packets are equal if and only if the numbers in their rows are equal.
 abbrev pub PacketsAreTheirNumbers : Type 0
 PacketsAreTheirNumbers = (p q : TrackPacket) → IsTrue (same_packet p q) ↔ (p ≡ q)
 
--- Two telegrams are equal if and only if their sizes and headers are, and the numbers in the rows of
--- their packets.
+-- Two telegrams are equal if and only if their sizes, their headers and the numbers in the rows of their
+-- packets are equal.
 abbrev pub TelegramsAreTheirParts : Type 0
 TelegramsAreTheirParts = (t u : Telegram) → IsTrue (same_telegram t u) ↔ (t ≡ u)
 
@@ -40,7 +40,8 @@ ProfilesAreTheirPackets =
     ((p : TrackPacket) → IsTrue (is_some (gradient_reach p)) → track_number p ≡ 21)
     × ((p : TrackPacket) → IsTrue (is_some (speed_reach p)) → track_number p ≡ 27)
 
--- No fact stands against a controlled group if and only if it is sound and no earlier group has its identity.
+-- There is no fact against a controlled group if and only if it is sound and no earlier group has its
+-- identity.
 abbrev pub NoFindingMeansSoundGroup : Type 0
 NoFindingMeansSoundGroup = (earlier : List Aspects) (aspects : Aspects) → IsControlled aspects
     → ((rule : Rule) (aspect : Option ℕ) (run : Option Run) (b k : Option ℕ)
@@ -48,7 +49,7 @@ NoFindingMeansSoundGroup = (earlier : List Aspects) (aspects : Aspects) → IsCo
     ↔ (IsSoundControlled aspects × ((i : ℕ) (h : Aspects) → At earlier i h
     → group_identity h ≢ group_identity aspects))
 
--- each group has aspects, all of one count, which is not 0
+-- each group has aspects, all with the same number of balises, which is not 0
 abbrev pub AreControlled : List Aspects → Type 0
 AreControlled groups = (i : ℕ) (aspects : Aspects) → At groups i aspects → IsControlled aspects
 
@@ -61,31 +62,32 @@ NoFindingMeansSoundLine = (groups : List Aspects) (messages : List Message) → 
 abbrev pub IsUnnamed : List Finding → Site → Type 0
 IsUnnamed found site = (i : ℕ) (f : Finding) → At found i f → f.site ≢ site
 
--- The findings of the list name exactly the groups that are not sound, or have the identity of an earlier
--- group, and the messages that are not sound.
+-- The findings of the list name only the groups that are not sound or have the identity of an earlier
+-- group, and the messages that are not sound. They name all of these.
 abbrev pub NamesTheUnsound : List Aspects → List Message → List Finding → Type 0
 NamesTheUnsound groups messages found =
     ((g : ℕ) (aspects : Aspects) → At groups g aspects
     → IsUnnamed found (sites.Group g) ↔ (IsSoundControlled aspects × IsNew groups g aspects))
     × ((i : ℕ) (m : Message) → At messages i m → IsUnnamed found (sites.Message i) ↔ IsSoundMessage m)
 
--- The findings of a line name exactly what is not sound in it, and the groups whose identity was used before.
+-- The findings of a line name what is not sound, the groups with the identity of an earlier group, and no
+-- others.
 abbrev pub UnnamedMeansSound : Type 0
 UnnamedMeansSound = (groups : List Aspects) (messages : List Message) → AreControlled groups
     → NamesTheUnsound groups messages (findings groups messages)
 
--- Each finding states a fact at its place, where its part of soundness does not hold.
+-- Each finding states a fact at its location, where its part of soundness does not hold.
 abbrev pub FindingsAreFacts : Type 0
 FindingsAreFacts = (groups : List Aspects) (messages : List Message) (i : ℕ) (f : Finding)
     → At (findings groups messages) i f
     → StatesFact groups messages f × (AreControlled groups → Hurts groups messages f)
 
--- At each place where a rule has no finding, its part of soundness holds.
+-- Wherever a rule has no finding, its part of soundness holds.
 abbrev pub PartsHoldUnlessFound : Type 0
 PartsHoldUnlessFound = (groups : List Aspects) (messages : List Message) (f : Finding)
     → AreControlled groups → ((i : ℕ) → At (findings groups messages) i f → ⊥) → HasParts groups messages f
 
--- In a sound line each part of soundness holds at each place, so nothing hurts.
+-- In a sound line each part of soundness holds everywhere, so there can be no violation.
 abbrev pub NothingHurtsASoundLine : Type 0
 NothingHurtsASoundLine = (groups : List Aspects) (messages : List Message) (f : Finding)
     → AreControlled groups → IsSoundLine groups messages
@@ -96,20 +98,20 @@ abbrev pub FactsAreFindings : Type 0
 FactsAreFindings = (groups : List Aspects) (messages : List Message) (f : Finding)
     → StatesFact groups messages f → (i : ℕ) × At (findings groups messages) i f
 
--- The list of a line's findings is the one that has each fact once, and nothing else, in order.
+-- The list of a line's findings is the only list that has each fact once, and only facts, in order.
 abbrev pub FindingsAreTheFactsInOrder : Type 0
 FindingsAreTheFactsInOrder = (groups : List Aspects) (messages : List Message) (found : List Finding)
     → (found ≡ findings groups messages) ↔ IsListOf groups messages found
 
--- Of a sound group exactly the covered readings are accepted. Of each other set of its places the
--- reading is refused: as Nothing if all are missed, else as Absent at the least place that is lost.
+-- The covered readings of a sound group are accepted. Every other reading is refused: as Nothing if all
+-- places are missed, otherwise as Absent at the least lost place.
 abbrev pub SoundGroupsAreDecided : Type 0
 SoundGroupsAreDecided = (group : Telegrams) (run : Run) (missed : ℕ → Bool)
     → IsSoundGroup group → 0 < length group → IsSetOf group missed
     → IsDecided run group missed (reading_of run missed group)
 
 -- In a sound controlled group a mixture is accepted if and only if it is covered and one aspect has all
--- that it shows. Its message is then that of this aspect with nothing missed.
+-- that it shows. Its message is then the message of this aspect with nothing missed.
 abbrev pub SoundMixturesAreDecided : Type 0
 SoundMixturesAreDecided = (run : Run) (aspects : Aspects) (shown : ℕ → Option ℕ)
     → IsControlled aspects → IsSoundControlled aspects → Fits aspects shown → IsMixtureDecided run aspects shown

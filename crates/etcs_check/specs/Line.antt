@@ -1,6 +1,6 @@
--- The findings of a line: at each place every rule is asked, and the facts of a group or a message are sorted by rule.
--- A place is an aspect or none, a running direction or none, a balise or none, and a packet or none. No finding hides
--- another.
+-- The findings of a line: every rule is tested at every location, and the facts of a group or a message are
+-- sorted by rule. A location is an aspect or none, a running direction or none, a balise or none, and a
+-- packet or none. No finding hides another.
 -- Pinned by the law findings_are_the_facts_in_order.
 use Rattle.std.specs.Prelude.{ℕ, nat_lt, if◌then◌else◌, Bool, take, List, [], ◌∷◌, ◌++◌, length, map, filter, flat_map, Option, Some, None}
 use Rattle.std.specs.List.{range_with_len}
@@ -32,7 +32,8 @@ directions = None ∷ Some runs.Nominal ∷ Some runs.Reverse ∷ []
 abbrev pub rules_at : Spot → Option Run → Option ℕ → Option ℕ → List Finding
 rules_at spot run b k = map (λ rule. finding_of rule spot run b k) all_rules
 
--- For each running direction or none, each of so many balises or none, and each of its packets or none: each rule.
+-- For each running direction or none, each of `count` balises or none, and each of its packets or none: each
+-- rule.
 abbrev pub cells_at : Spot → ℕ → (Option ℕ → List TrackPacket) → List Finding
 cells_at spot count packets = flat_map (λ run. flat_map (λ b.
     flat_map (rules_at spot run b) (none_and (length (packets b)))) (none_and count)) directions
@@ -41,7 +42,7 @@ cells_at spot count packets = flat_map (λ run. flat_map (λ b.
 abbrev pub cells_of : Spot → Telegrams → List Finding
 cells_of spot group = cells_at spot (length group) (packets_at group)
 
--- Of a group: with no aspect named, and with each of them named if there are two or more.
+-- of a group: without an aspect, and with each aspect if there are two or more
 abbrev pub group_cells : Site → Aspects → List Finding
 group_cells site aspects = cells_of (site_spot site) (first_aspect aspects)
     ++ for_each (if nat_lt 1 (length aspects) then aspects else []) (λ a group. cells_of (record { site = site; aspect = Some a }) group)
@@ -51,8 +52,8 @@ abbrev pub message_cells : Site → Message → List Finding
 message_cells site (messages.Movement m) = cells_at (site_spot site) 0 (packets_alone m.packets)
 message_cells site (messages.Position m) = []
 
--- The facts at these cells, sorted by rule. Proofs see through these two definitions only if they ask for it, so that
--- goals stay short.
+-- The facts at these cells, sorted by rule. Proofs unfold these two definitions only if they ask for it, so
+-- that goals stay short.
 unfoldable pub group_findings : Site → Bool → Aspects → List Finding
 group_findings site used aspects =
     by_rule (filter (λ f. group_fact used aspects f.rule f.aspect f.dir f.balise f.packet) (group_cells site aspects))

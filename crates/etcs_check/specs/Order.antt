@@ -1,5 +1,5 @@
--- The order in which findings are listed, and the one list that a line has: by group, then by message; within
--- each by rule, then by aspect, running direction, balise and packet.
+-- The order of findings, and the only list that a line has: by group, then by message; within each by rule,
+-- then by aspect, running direction, balise and packet.
 use Rattle.std.specs.Prelude.{◌≡◌, ℕ, suc, ◌<◌, ◌==◌, Bool, List, [], ◌∷◌, filter, flat_map, Option, Some, None}
 use Rattle.std.specs.Cmp.Lexicographic.{slice_cmp}
 use Rattle.std.specs.Ordering.{nat_cmp}
@@ -17,19 +17,19 @@ use Rattle.etcs_check.specs.declared.finding.Rule.TheVariants as rules
 use Rattle.etcs_check.specs.declared.finding.Site.{Site}
 use Rattle.etcs_check.specs.declared.finding.Site.TheVariants as sites
 
--- ---- where a finding stands in the list
+-- ---- the position of a finding in the list
 
 -- groups come before messages
 abbrev pub site_order : Site → ℕ
 site_order (sites.Group g) = 0
 site_order (sites.Message i) = 1
 
--- the place of the group or of the message
+-- the index of the group or of the message
 abbrev pub site_place : Site → ℕ
 site_place (sites.Group g) = g
 site_place (sites.Message i) = i
 
--- the number of a rule: that of F1 is 1
+-- the number of a rule: 1 for F1
 abbrev pub rule_number : Rule → ℕ
 rule_number rules.PositionWrong = 1
 rule_number rules.TotalWrong = 2
@@ -71,14 +71,14 @@ order_of f =
 abbrev pub is_of : Rule → Finding → Bool
 is_of rule f = rule_number f.rule == rule_number rule
 
--- the findings of each rule, as they are, in the order of rules
+-- the findings rule by rule; findings of the same rule keep their order
 abbrev pub by_rule : List Finding → List Finding
 by_rule facts = flat_map (λ rule. filter (is_of rule) facts) all_rules
 
 -- ---- the list
 
--- The list of a line's findings: each states a fact, each fact has its finding, and they stand in strict order,
--- so each stands once.
+-- The list of a line's findings: each states a fact, each fact has its finding, and the order is strict, so
+-- each occurs once.
 pub record IsListOf (groups : List Aspects) (messages : List Message) (found : List Finding) : Type 0 where
   pub facts : (i : ℕ) (f : Finding) → At found i f → StatesFact groups messages f
   pub all : (f : Finding) → StatesFact groups messages f → (i : ℕ) × At found i f

@@ -1,5 +1,5 @@
--- How far a train may run, and how far profiles describe the track (SUBSET-026, 3.8 and 7.4.2).
--- A movement authority has a supervised location, up to which gradients and speeds have to be known.
+-- How far a train may run, and how far profiles describe the track (SUBSET-026, 3.8 and 7.4.2). Gradients and
+-- speeds must be known up to the supervised location of each movement authority.
 use Rattle.std.specs.Prelude.{◌≡◌, ℕ, ◌≤◌, ◌==◌, List, Option, Some, None, is_some, IsTrue, ⊤}
 use Rattle.etcs_packet.specs.declared.track.TrackPacket.{TrackPacket}
 use Rattle.etcs_packet.specs.declared.track.TrackPacket.TheVariants as packets

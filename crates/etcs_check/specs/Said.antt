@@ -1,4 +1,4 @@
--- What packets say, in one summary: the greatest supervised location of the authorities, and which profiles there are.
+-- A summary of packets: the greatest supervised location of the authorities, and which profiles there are.
 use Rattle.std.specs.Prelude.{ℕ, Bool, ◌||◌, false, max, List, [], ◌∷◌, Option, Some, None, is_some}
 use Rattle.std.specs.Option.{option_map_or}
 use Rattle.etcs_packet.specs.declared.track.TrackPacket.{TrackPacket}
@@ -11,7 +11,7 @@ use Rattle.etcs_check.specs.declared.said.Said.{Said}
 abbrev pub is_before : (TrackPacket → Option Reach) → Option ℕ → TrackPacket → Bool
 is_before reach limit p = option_map_or (λ r. option_map_or (lies_past r) limit false) (reach p) false
 
--- the greater of two locations, either of which may be none
+-- the greater of two locations; None is below every location
 abbrev pub greater : Option ℕ → Option ℕ → Option ℕ
 greater None o = o
 greater (Some m) None = Some m
@@ -20,7 +20,7 @@ greater (Some m) (Some n) = Some (max m n)
 abbrev pub nothing : Said
 nothing = record { limit = None; has_gradient = false; has_speed = false }
 
--- what is said by two together
+-- the summary of two parts together
 abbrev pub both : Said → Said → Said
 both s t = record {
   limit = greater s.limit t.limit;

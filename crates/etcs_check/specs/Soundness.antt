@@ -1,5 +1,5 @@
--- Sound aspects, groups, messages and lines, by what trains may read of them (this project's rule, after
--- SUBSET-026, 3.16.2). No finding is mentioned here. A train may run over a group in either direction,
+-- Sound aspects, groups, messages and lines, defined by what trains may read of them (this project's rule,
+-- after SUBSET-026, 3.16.2), without reference to findings. A train may run over a group in either direction,
 -- and may miss balises whose duplicates it reads.
 use Rattle.std.specs.Prelude.{◌≡◌, ◌≢◌, ℕ, ◌<◌, Bool, List, [], ◌∷◌, length, Option, Some, None, filter, ⊤}
 use Rattle.std.specs.List.{AllPass}
@@ -35,7 +35,7 @@ pub record IsSoundControlled (aspects : Aspects) : Type 0 where
   pub sound : (a : ℕ) (group : Telegrams) → At aspects a group → IsSoundGroup group
   pub one : 1 < length aspects → AreOneGroup aspects
 
--- the identity of an aspect: that of its balise 0
+-- the identity of an aspect is the identity of its balise 0
 abbrev pub identity_of : Telegrams → Option Identity
 identity_of [] = None
 identity_of (t ∷ _) = Some t.header.identity
@@ -45,18 +45,18 @@ abbrev pub first_aspect : Aspects → Telegrams
 first_aspect [] = []
 first_aspect (first ∷ _) = first
 
--- the identity of a controlled group: that of its first aspect
+-- the identity of a controlled group is the identity of its first aspect
 abbrev pub group_identity : Aspects → Option Identity
 group_identity aspects = identity_of (first_aspect aspects)
 
--- A sound message 3 has modelled packets alone, and in each running direction the packets that hold are
+-- A sound message 3 has only modelled packets, and in each running direction the packets that hold are
 -- reached. A message 136 is always sound.
 abbrev pub IsSoundMessage : Message → Type 0
 IsSoundMessage (messages.Movement m) =
     AllPass is_modelled m.packets × ((run : Run) → AreReached (filter (holds run) m.packets))
 IsSoundMessage (messages.Position m) = ⊤
 
--- In a sound line the groups and the messages are sound, and no two groups have one identity.
+-- In a sound line the groups and the messages are sound, and no two groups have the same identity.
 pub record IsSoundLine (groups : List Aspects) (messages : List Message) : Type 0 where
   pub sound : (i : ℕ) (aspects : Aspects) → At groups i aspects → IsSoundControlled aspects
   pub distinct : (i j : ℕ) (g h : Aspects) → i < j → At groups i g → At groups j h

@@ -16,7 +16,7 @@ use etcs_bits::Memory;
 use etcs_group::Group;
 use etcs_telegram::Telegram;
 
-// Where the facts about a whole group or a message stand.
+// The location of facts about a whole group or a message.
 pub(crate) fn site_spot(site: Site) -> Spot
     ensures { result ≡ site_spot site }
 {
@@ -33,7 +33,7 @@ pub(crate) fn first_aspect(aspects: &[Group]) -> &[Telegram]
     aspects[0].telegrams()
 }
 
-// Whether an aspect has this very telegram at the place, and its counter is 255.
+// Whether an aspect has this telegram at the place, and its counter is 255.
 fn is_steady_in(wanted: &Telegram, group: &[Telegram], place: usize) -> bool
     ensures { result ≡ option_map_or (is_steady wanted.now) (slice_get group.now place) false }
 {
@@ -45,7 +45,7 @@ fn is_steady_in(wanted: &Telegram, group: &[Telegram], place: usize) -> bool
     }
 }
 
-// Whether every aspect has this very telegram at the place, with counter 255.
+// Whether every aspect has this telegram at the place, with counter 255.
 fn is_steady(wanted: &Telegram, aspects: &[Group], place: usize) -> bool
     ensures { result ≡ all_at (is_steady wanted.now) place aspects.now }
 {
@@ -79,8 +79,9 @@ fn has_aspect_counter(aspects: &[Group], place: usize) -> bool
     true
 }
 
-// Whether there are two or more aspects, and no counter at the place distinguishes them: they neither all
-// have `wanted` there, the telegram of aspect 0, with counter 255, nor all a counter below 254.
+// Whether there are two or more aspects, and the counters at the place do not distinguish them: not all
+// aspects have `wanted` there, the telegram of aspect 0, with counter 255, and not all have a counter below
+// 254.
 fn is_ambiguous(aspects: &[Group], place: usize, wanted: &Telegram) -> bool
     ensures { result ≡ is_ambiguous aspects.now place wanted.now }
 {

@@ -1,4 +1,4 @@
-//! The rules about balises by themselves, and about packets that are not modelled.
+//! The rules about single balises, and about packets that are not modelled.
 
 ghost use Rattle.std.specs.Prelude.{◌≡◌, ◌≢◌, ◌<◌, ◌≤◌, ◌++◌, [], length, slice_get, Some, IsFalse, OnOk, OnErr};
 ghost use Rattle.etcs_group.specs.Group.{partner_of};
@@ -14,7 +14,7 @@ use etcs_bits::{Dup, Memory};
 use etcs_packet::TrackPacket;
 use etcs_telegram::Telegram;
 
-// The place that the mark of the balise at this place names, if it lies in the group.
+// The place that the duplicate flag of the balise at this place names, if it is in the group.
 fn partner(group: &[Telegram], place: usize) -> Option<usize>
     requires { length group.now ≤ 8 }
     ensures { result ≡ partner_of group.now place }
@@ -30,7 +30,7 @@ fn partner(group: &[Telegram], place: usize) -> Option<usize>
     }
 }
 
-// Whether a number is not this one, or is not there.
+// Whether the number is absent or differs from `wanted`.
 fn differs_from(number: Option<usize>, wanted: usize) -> bool
     ensures { result ≡ differs_from number wanted }
 {
@@ -69,7 +69,7 @@ fn header_differs_from_first(first: &[Telegram], telegram: &Telegram) -> bool
     }
 }
 
-// Whether two marks are the same.
+// Whether two duplicate flags are the same.
 fn same_mark(this: Dup, that: Dup) -> bool
     ensures { result ≡ same_mark this that }
 {
@@ -81,7 +81,7 @@ fn same_mark(this: Dup, that: Dup) -> bool
     }
 }
 
-// Whether the mark of a telegram is not that of the balise of aspect 0 at the same place.
+// Whether the duplicate flag of a telegram differs from the flag of the same balise in aspect 0.
 fn mark_differs(first: &[Telegram], telegram: &Telegram, place: usize) -> bool
     ensures { result ≡ mark_differs (slice_get first.now place) telegram.now }
 {
@@ -91,7 +91,7 @@ fn mark_differs(first: &[Telegram], telegram: &Telegram, place: usize) -> bool
     }
 }
 
-// Whether a mark names a balise outside the group of this many balises.
+// Whether a duplicate flag names a balise outside a group of `count` balises.
 fn is_outside(count: usize, mark: Dup, place: usize) -> bool
     requires few { count ≤ 8 }
     requires within { place < count }
@@ -117,7 +117,7 @@ fn first_counter(group: &[Telegram]) -> Option<u32>
     None
 }
 
-// Whether a counter is below 254, and not the first one below 254.
+// Whether a counter is below 254, and differs from the first one below 254.
 fn counter_differs(group: &[Telegram], telegram: &Telegram) -> bool
     ensures { result ≡ counter_differs group.now telegram.now }
 {
@@ -131,9 +131,9 @@ fn counter_differs(group: &[Telegram], telegram: &Telegram) -> bool
     }
 }
 
-// Whether the rule is broken by this telegram, which is that of the balise at this place of an aspect. The
-// balise is compared with `first`, aspect 0. Counters of earlier aspects are not looked at. It is inlined
-// because each balise is asked for each rule.
+// Whether the telegram of the balise at this place breaks the rule. It is compared with `first`, aspect 0.
+// Counters of earlier aspects are checked elsewhere. Inlined, because every balise is checked against every
+// rule.
 #[inline(always)]
 fn balise_fact(
     first: &[Telegram],
@@ -160,7 +160,7 @@ fn balise_fact(
     }
 }
 
-// The rules about a balise by itself.
+// The rules about single balises.
 const ALONE: [Rule; 9] = [
     Rule::PositionWrong,
     Rule::TotalWrong,
@@ -173,7 +173,7 @@ const ALONE: [Rule; 9] = [
     Rule::NotToldApart,
 ];
 
-// Whether the rule is broken by this telegram. The table has the counters of earlier aspects.
+// Whether the telegram breaks the rule. The table has the counters of earlier aspects.
 fn balise_test(
     first: &[Telegram],
     table: &[u64],
@@ -193,7 +193,7 @@ fn balise_test(
     }
 }
 
-// Whether the balise breaks a rule about balises by themselves. The rules are named one by one: a loop is slower.
+// Whether the balise breaks a rule about single balises. The rules are listed one by one: a loop is slower.
 #[inline(always)]
 fn has_alone(
     first: &[Telegram],
@@ -219,7 +219,7 @@ fn has_alone(
         || is_taken(table, telegram)
 }
 
-// Appends a finding for each rule about balises by themselves that the balise breaks.
+// Appends a finding for each rule about single balises that the balise breaks.
 fn note_alone(
     found: &mut Vec<Finding>,
     spot: Spot,
@@ -282,7 +282,7 @@ pub(crate) fn note_unmodelled(
     Ok(())
 }
 
-// Appends the findings about the balise at this place by itself, and about its packets.
+// Appends the findings about the balise at this place, and about its packets.
 pub(crate) fn note_balise(
     found: &mut Vec<Finding>,
     spot: Spot,

@@ -1,4 +1,4 @@
-//! Whether the packets of two balises are the same, whether two telegrams are, and whether pairs of duplicates are.
+//! Equality of packets and telegrams, and differences between duplicates.
 
 ghost use Rattle.std.specs.Prelude.{◌≡◌, ◌↔◌, ◌≤◌, ◌<◌, ◌+◌, ℕ, length, drop, filter, slice_get, Some, IsFalse, IsTrue};
 ghost use Rattle.std.specs.Cmp.Lexicographic.{pointwise};
@@ -15,7 +15,7 @@ use etcs_bits::{Dup, Same, are_same};
 use etcs_packet::{Run, TrackPacket};
 use etcs_telegram::{Header, Size, Telegram};
 
-// The first place from `from` on at which a packet holds, or the length.
+// The index of the first packet from `from` on that holds, or the length.
 fn next_held(packets: &[TrackPacket], run: Run, from: usize) -> usize
     requires { from ≤ length packets.now }
     ensures behind { from ≤ result }
@@ -31,7 +31,7 @@ fn next_held(packets: &[TrackPacket], run: Run, from: usize) -> usize
     packets.len()
 }
 
-// Whether a packet of one list and a packet of another one are the same.
+// Whether a packet of one list equals a packet of another list.
 fn same_at(these: &[TrackPacket], i: usize, those: &[TrackPacket], j: usize) -> bool
     requires first { i < length these.now }
     requires second { j < length those.now }
@@ -41,7 +41,7 @@ fn same_at(these: &[TrackPacket], i: usize, those: &[TrackPacket], j: usize) -> 
     these[i].same(&those[j])
 }
 
-// Whether the packets that hold in the running direction are the same in two lists.
+// Whether two lists have the same packets that hold in the running direction.
 fn same_lists(these: &[TrackPacket], those: &[TrackPacket], run: Run) -> bool
     ensures { result ≡ pointwise same_packet (filter (holds run) these.now) (filter (holds run) those.now) }
 {
@@ -95,7 +95,7 @@ fn same_content(these: &[TrackPacket], those: &[TrackPacket]) -> bool
     are_same(these, those)
 }
 
-// Whether two telegrams are one and the same.
+// Whether two telegrams are equal.
 pub(crate) fn same_telegram(this: &Telegram, that: &Telegram) -> bool
     ensures { result ≡ same_telegram this.now that.now }
 {
@@ -105,14 +105,14 @@ pub(crate) fn same_telegram(this: &Telegram, that: &Telegram) -> bool
 }
 
 /// Whether two telegrams have equal lists of packets that hold in the running direction, in the same
-/// order, as the two balises of a pair of duplicates have to (SUBSET-026, 3.16.2). Takes no memory.
+/// order, as is required of the two balises of a pair of duplicates (SUBSET-026, 3.16.2). Allocates nothing.
 pub fn same_packets(this: &Telegram, that: &Telegram, run: Run) -> bool
     ensures { IsTrue result ↔ (held_by run this.now ≡ held_by run that.now) }
 {
     same_held(this, that, run)
 }
 
-// Whether a mark names the next balise, and another one the previous balise.
+// Whether the first duplicate flag names the next balise, and the second one the previous balise.
 fn are_pair(first: Dup, second: Dup) -> bool
     ensures { result ≡ are_pair first second }
 {
@@ -142,8 +142,8 @@ fn pair_differs_at(group: &[Telegram], run: Run, place: usize) -> bool
     }
 }
 
-// Whether the balise at this place and the next one are a pair of duplicates whose packets that hold differ. Packets
-// are compared only if some pair of the group is unlike.
+// Whether the balise at this place and the next one are a pair of duplicates whose packets that hold differ.
+// Packets are compared only if `unlike`: some pair of the group differs.
 #[inline(always)]
 pub(crate) fn is_pair_unlike(group: &[Telegram], run: Run, unlike: bool, place: usize) -> bool
     requires within { place < length group.now }
@@ -154,15 +154,15 @@ pub(crate) fn is_pair_unlike(group: &[Telegram], run: Run, unlike: bool, place: 
     unlike && pair_differs_at(group, run, place)
 }
 
-// Whether two neighbours are no pair of duplicates, or have the same packets.
+// Whether two neighbours are not a pair of duplicates, or have the same packets.
 fn are_same_pair(first: &Telegram, second: &Telegram) -> bool
     ensures { result ≡ are_same_pair first.now (Some second.now) }
 {
     !are_pair(first.header.dup, second.header.dup) || same_content(packets(first), packets(second))
 }
 
-// Whether a telegram, which is that of the balise at this place, and the next one are no pair of duplicates,
-// or have the same packets.
+// Whether the telegram of the balise at this place and the next one are not a pair of duplicates, or have the
+// same packets.
 fn are_same_pair_at(group: &[Telegram], place: usize, telegram: &Telegram) -> bool
     requires { place < length group.now }
     ensures { result ≡ are_same_pair telegram.now (slice_get group.now (place + 1)) }

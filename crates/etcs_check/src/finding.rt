@@ -1,4 +1,4 @@
-//! Findings: facts against a line, each of one rule at one place.
+//! Findings: facts against a line, each with its rule and location.
 
 ghost use Rattle.std.specs.Prelude.{◌≡◌, ◌≢◌, ◌++◌, [], OnOk, OnErr};
 ghost use Rattle.etcs_check.specs.Findings.{finding_of, noted};
@@ -8,59 +8,61 @@ use etcs_packet::Run;
 
 /// The rules, in the order in which findings are listed (this project's rules, after SUBSET-026,
 /// 3.16.2). F9 to F13 are about balise groups and messages 3, the others about groups. F1 to F13 are
-/// looked for in each aspect of a group.
+/// checked in each aspect of a group.
 #[derive(Clone, Copy, Debug, PartialEq, Eq)]
 pub enum Rule {
     /// F1: the position of a balise, N_PIG, is not its place in the group.
     PositionWrong,
-    /// F2: the number of balises that a balise gives, N_TOTAL plus one, is not that of the group.
+    /// F2: the number of balises that a balise gives, N_TOTAL plus one, differs from the number in the group.
     TotalWrong,
     /// F3: the version, the identity or the link flag of a balise differs from that of balise 0 of
     /// aspect 0.
     HeaderDiffers,
-    /// F4: the mark of a balise, M_DUP, names a balise outside the group.
+    /// F4: the duplicate flag of a balise, M_DUP, names a balise outside the group.
     MarkOutside,
-    /// F5: the mark of a balise names a balise of the group whose own mark does not name it.
+    /// F5: the duplicate flag of a balise names a balise of the group whose own flag does not name it.
     MarkUnanswered,
-    /// F6: the message counter of a balise, M_MCOUNT, is 254, which fits no message.
+    /// F6: the message counter of a balise, M_MCOUNT, is 254, which no message can have.
     CounterUnfit,
     /// F7: the counter of a balise is below 254, and differs from the first below 254 in the group.
     CountersDiffer,
-    /// F8: two balises that declare each other duplicates have different packets that hold in a
+    /// F8: two balises whose duplicate flags name each other have different packets that hold in a
     /// running direction.
     DuplicatesDiffer,
     /// F9: a packet is 0, 136 or 254, whose meaning is not modelled.
     NotModelled,
-    /// F10: in a running direction a movement authority is said, and no gradient profile.
+    /// F10: in a running direction the message has a movement authority, and no gradient profile.
     NoGradient,
-    /// F11: a gradient profile that is said ends before the supervised location of an authority
-    /// that is said.
+    /// F11: a gradient profile of the message ends before the supervised location of an authority of the
+    /// message.
     GradientShort,
-    /// F12: in a running direction a movement authority is said, and no speed profile.
+    /// F12: in a running direction the message has a movement authority, and no speed profile.
     NoSpeed,
-    /// F13: a speed profile that is said ends before the supervised location of an authority that
-    /// is said.
+    /// F13: a speed profile of the message ends before the supervised location of an authority of the
+    /// message.
     SpeedShort,
-    /// F14: an earlier group has the identity of the group, that of balise 0 of its aspect 0.
+    /// F14: an earlier group has the identity of the group, which is the identity of balise 0 of its aspect
+    /// 0.
     IdentityUsed,
-    /// F15: the mark of a balise differs from that of the same balise in aspect 0.
+    /// F15: the duplicate flag of a balise differs from the flag of the same balise in aspect 0.
     MarksDiffer,
-    /// F16: a train that reads two aspects could take them for one. Either no aspect is named: a balise
-    /// is neither one and the same telegram with counter 255 in all aspects, nor has a counter below 254
-    /// in each of them. Or an aspect is named: the balise's counter is below 254, and stands in an earlier aspect.
+    /// F16: a train that reads two aspects could take them for one. A finding without an aspect: the balise
+    /// has neither the same telegram with counter 255 in all aspects, nor a counter below 254 in each of
+    /// them. A finding with an aspect: the balise's counter is below 254, and an earlier aspect has the same
+    /// counter.
     NotToldApart,
 }
 
-/// Where a finding stands. Groups and messages are counted from 0, each by themselves.
+/// The group or message of a finding. Groups and messages are counted from 0, separately.
 #[derive(Clone, Copy, Debug, PartialEq, Eq)]
 pub enum Site {
-    /// The balise group at this place.
+    /// The balise group at this index.
     Group(usize),
-    /// The radio message at this place.
+    /// The radio message at this index.
     Message(usize),
 }
 
-// Where a finding stands: its group or message, and its aspect if the group has two or more.
+// The location of a finding: its group or message, and its aspect if the group has two or more.
 #[derive(Clone, Copy)]
 pub(crate) struct Spot {
     pub(crate) site: Site,
@@ -70,22 +72,21 @@ pub(crate) struct Spot {
 /// A fact against a line.
 #[derive(Clone, Copy, Debug, PartialEq, Eq)]
 pub struct Finding {
-    /// The rule that the fact breaks.
+    /// The rule that is broken.
     pub rule: Rule,
     /// The group or message.
     pub site: Site,
-    /// The aspect, counted from 0, where the group has two or more and the fact is about one of them.
+    /// The aspect, counted from 0, if the group has two or more and the fact is about one of them.
     pub aspect: Option<usize>,
     /// The running direction, for the rules F8 and F10 to F13.
     pub dir: Option<Run>,
-    /// The balise, counted from 0 by its place in the group, for all rules about one balise.
+    /// The balise, by its index in the group, for all rules about one balise.
     pub balise: Option<usize>,
     /// The packet, counted from 0 in its balise or message, for the rules F9, F11 and F13.
     pub packet: Option<usize>,
 }
 
-// Appends the finding of these parts where its fact stands. Memory is asked for only there. All
-// findings are made here.
+// Appends the finding of these parts if `fact` holds, and allocates only then. All findings are made here.
 pub(crate) fn note(
     found: &mut Vec<Finding>,
     fact: bool,
@@ -112,7 +113,7 @@ pub(crate) fn note(
     Ok(())
 }
 
-// Appends the other findings. Memory is asked for only if neither list is empty. If it runs out, nothing changes.
+// Appends the other findings. Allocates only if neither list is empty. If memory runs out, nothing changes.
 #[inline(always)]
 pub(crate) fn append(found: &mut Vec<Finding>, mut more: Vec<Finding>) -> Result<(), Memory>
     ensures ok { OnOk result (found.new.items ≡ found.old.items ++ more.items) }

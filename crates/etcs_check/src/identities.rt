@@ -1,5 +1,5 @@
-//! Identities that were used before: kept by their numbers as groups come, or found in a list of groups by a table of
-//! bits and without memory from the heap.
+//! Repeated identities: identities kept in a set while groups are read one by one, or found in a list of
+//! groups by a table of bits without heap memory.
 
 ghost use Rattle.std.specs.Prelude.{◌≡◌, ℕ, ◌+◌, ◌*◌, ◌^◌, ◌<◌, ◌≤◌, ◌||◌, ◌==◌, false, length, IsTrue, IsFalse, OnOk, OnErr};
 ghost use Rattle.std.specs.BTreeSet.{IsUnchanged, contains};
@@ -12,7 +12,7 @@ use etcs_group::{Controlled, Group};
 use etcs_telegram::Telegram;
 use std::collections::BTreeSet;
 
-// How many identities are looked at in one pass over the groups, 64 to a word of the table.
+// The number of identities that one pass over the groups considers, 64 to a word of the table.
 const PART: u32 = 2_097_152;
 
 // The number of the identity in a telegram.
@@ -38,7 +38,7 @@ pub(crate) fn identity_number(aspects: &[Group]) -> u32
     number_of_identity(&first[0])
 }
 
-// Keeps the number of an identity. Memory is asked for only where it was not kept. If it runs out, nothing changes.
+// Keeps the number of an identity. Allocates only if the number is new. If memory runs out, nothing changes.
 pub(crate) fn keep(kept: &mut BTreeSet<u32>, number: u32) -> Result<(), Memory>
     ensures ok { OnOk result ((n : ℕ) → contains nat_cmp kept.new n ≡ (number == n || contains nat_cmp kept.old n)) }
     ensures err { OnErr result (IsUnchanged kept.old kept.new) }
@@ -69,7 +69,7 @@ pub(crate) fn mark(table: &mut [u64], place: usize) -> bool
     marked
 }
 
-// Whether a group, its identity being one of `PART` from `base` on, has the identity of an earlier group.
+// Whether a group with one of the `PART` identities from `base` on has the identity of an earlier group.
 fn repeats_in(groups: &[Controlled], base: u32) -> bool
     requires { base + PART < 2 ^ 32 }
     ensures found { IsTrue result → HasRepeat groups.now }
@@ -88,7 +88,7 @@ fn repeats_in(groups: &[Controlled], base: u32) -> bool
     false
 }
 
-// Whether a group has the identity of an earlier one. Takes no memory from the heap.
+// Whether a group has the identity of an earlier one. Uses no heap memory.
 pub(crate) fn has_repeat(groups: &[Controlled]) -> bool
     ensures found { IsTrue result → HasRepeat groups.now }
     ensures none { IsFalse result → HasNoRepeat 0 16777216 groups.now }

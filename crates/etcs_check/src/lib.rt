@@ -1,11 +1,11 @@
 //! Findings: the facts against a railway line, found in its balise groups and radio messages.
 //!
 //! A [`Line`] is balise groups, each with one or more aspects, and radio messages. A [`Finding`] states
-//! a fact about it by its [`Rule`], its [`Site`] and its aspect. [`same_packets`] compares the packets
-//! of two balises. Read `finding.rt` first, with `specs/Facts.antt`, which states each fact as a test, and
-//! `specs/Order.antt`, then `specs/Soundness.antt`, which states what a sound line is by all that trains may
-//! read of it. [`laws`] joins the two: a line has no finding if and only if it is sound. The crate leaves out
-//! how a train reacts to what it reads.
+//! a fact against it by its [`Rule`], its [`Site`] and its aspect. [`same_packets`] compares the packets
+//! of two balises. Read `finding.rt` first, with `specs/Facts.antt`, which defines each fact by a test, and
+//! `specs/Order.antt`, then `specs/Soundness.antt`, which defines a sound line by what trains may read of it.
+//! [`laws`] connects the two: a line has no finding if and only if it is sound. Not modelled: how a train
+//! reacts to what it reads.
 #![tactic(auto)]
 
 mod aspects;

@@ -38,8 +38,8 @@ pub struct Line {
     pub messages: Vec<Message>,
 }
 
-// Appends the findings about the group at this place, and keeps its identity, which was used if it was kept before.
-// Where no identity is used again, none is kept, and memory is asked for only if there is a finding.
+// Appends the findings about the group at this place. With `again`, its identity counts as used if it is in
+// `kept`, and is kept. Without, nothing is kept, and the call allocates only if there is a finding.
 fn note_next(
     alloc: Global,
     found: &mut Vec<Finding>,
@@ -63,7 +63,7 @@ fn note_next(
     if again { keep(kept, identity) } else { Ok(()) }
 }
 
-// Appends the findings about the groups. Each of them has aspects of one count.
+// Appends the findings about the groups.
 fn note_groups(alloc: Global, found: &mut Vec<Finding>, groups: &[Controlled]) -> Result<(), Memory>
     ensures ok { OnOk result (found.new.items ≡ found.old.items ++ group_list groups.now) }
     ensures memory { OnErr result (group_list groups.now ≢ []) }
@@ -100,24 +100,24 @@ fn note_messages(
     Ok(())
 }
 
-/// All facts against a line: by group, then by message; within each by rule, then by aspect (those about
+/// All facts against a line: by group, then by message; within each by rule, then by aspect (facts about
 /// the whole group first), by running direction, nominal first, then by balise and packet. No finding
 /// hides another.
 ///
-/// An empty list says exactly that the line is sound (this project's rules, after SUBSET-026, 3.16.2):
+/// The list is empty if and only if the line is sound (this project's rules, after SUBSET-026, 3.16.2):
 ///
 /// - Each aspect of a group is well formed: the positions, totals, versions, identities, link flags and
-///   marks of its balises fit together. No two groups have one identity. No group and no message 3 has
-///   a packet 0, 136 or 254.
-/// - For each aspect of every group and each running direction, a train makes the same message whatever
-///   it misses, as long as it reads the duplicate of each missed balise.
+///   duplicate flags of its balises fit together. No two groups have the same identity. No group and no
+///   message 3 has a packet 0, 136 or 254.
+/// - For each aspect of every group and each running direction, a train makes the same message for every set
+///   of missed balises, provided that it reads the duplicate of each missed balise.
 /// - In that message, and in each message 3 for either direction, every movement authority has a gradient
 ///   and a speed profile, and all such profiles reach its supervised location.
 /// - The aspects of a group are contents of one group, and their counters distinguish them. So a train
 ///   that passes while the group is switched refuses what it reads, unless one aspect has all of it.
 ///
-/// Memory is asked for only if there is a finding. A repeated identity is one; then the number of each group's
-/// identity is kept besides. The only error is that memory runs out; then no finding is returned.
+/// Allocates only if there is a finding. If an identity is repeated, the numbers of all identities are kept
+/// as well. The only error is that memory runs out; then no finding is returned.
 pub fn check(alloc: Global, line: &Line) -> Result<Vec<Finding>, Memory>
     ensures ok { IfOk result (λ found. found.items ≡ findings line.now.groups.items line.now.messages.items) }
     ensures memory { OnErr result (findings line.now.groups.items line.now.messages.items ≢ []) }
@@ -126,27 +126,27 @@ pub fn check(alloc: Global, line: &Line) -> Result<Vec<Finding>, Memory>
     ensures sound { IfOk result (λ found. (found.items ≡ [])
         ↔ IsSoundLine line.now.groups.items line.now.messages.items) }
 
-    // A group or a message is sound if and only if no finding names it, whatever is found elsewhere. Of two
-    // groups with one identity the later one is named.
+    // A group or a message is sound if and only if no finding names it, whatever is found elsewhere.
+    // Exception: of two groups with the same identity the later one is named.
     ensures unnamed { IfOk result
         (λ found. NamesTheUnsound line.now.groups.items line.now.messages.items found.items) }
 
-    // Each fact has its finding, nothing else has, and they stand in strict order: none hides another.
+    // Each fact has one finding, each finding states a fact, and the order is strict. So none hides another.
     ensures list { IfOk result
         (λ found. IsListOf line.now.groups.items line.now.messages.items found.items) }
 
-    // At the place of each finding its own part of soundness does not hold.
+    // The part of soundness that the rule of a finding requires does not hold at its location.
     ensures hurts { IfOk result (λ found. (i : ℕ) (f : Finding) → At found.items i f
         → Hurts line.now.groups.items line.now.messages.items f) }
 
-    // What was missed alone decides whether a reading of a sound aspect is accepted. This clause and the
+    // Only what was missed decides whether a reading of a sound aspect is accepted. This clause and the
     // next one are laws of the line, whatever is found.
     ensures decided { OnOk result ((g a : ℕ) (aspects : Aspects) (group : Telegrams) (run : Run)
         (missed : ℕ → Bool) → At line.now.groups.items g aspects → At aspects a group → IsSoundGroup group
         → IsSetOf group missed → IsDecided run group missed (reading_of run missed group)) }
 
     // A mixture of aspects of a sound group is accepted if and only if it is covered and one aspect has all
-    // that it shows. Its packets are then those of that aspect.
+    // that it shows. Its packets are then the packets of that aspect.
     ensures mixtures { OnOk result ((g : ℕ) (aspects : Aspects) (run : Run) (shown : ℕ → Option ℕ)
         → At line.now.groups.items g aspects → IsSoundControlled aspects → Fits aspects shown
         → IsMixtureDecided run aspects shown) }

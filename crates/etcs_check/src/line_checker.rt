@@ -1,4 +1,4 @@
-//! A railway line that is checked as it comes, and not kept.
+//! Checks a railway line group by group and message by message, without keeping them.
 
 ghost use Rattle.std.specs.Prelude.{◌≡◌, ◌≢◌, ◌↔◌, ◌∷◌, ◌++◌, [], ℕ, List, length, IfOk, IsErrOf, OnOk, OnErr};
 ghost use Rattle.etcs_radio.specs.declared.message.Message.{Message as SomeMessage};
@@ -29,7 +29,7 @@ pub enum CheckError {
     /// Memory ran out.
     #[error("out of memory")]
     Memory,
-    /// `usize::MAX` of them were taken before, and no more can be counted.
+    /// `usize::MAX` groups, or messages, were taken before, and no more can be counted.
     #[error("too many to be counted")]
     TooMany,
 }
@@ -45,9 +45,9 @@ impl From<Memory> for CheckError {
     }
 }
 
-/// The findings of a line whose groups and messages are handed over one by one, each kind in its order, and let go.
-/// What it holds grows with the identities and the findings alone. A group or a message that is refused changes nothing,
-/// and may be handed over again.
+/// Checks a line whose groups and messages are passed one by one, each kind in its order, and not kept. Its
+/// memory grows only with the identities and the findings. A group or message that is refused changes
+/// nothing, and may be passed again.
 #[derive(Debug, Drop)]
 pub struct LineChecker {
     about_groups: Vec<Finding>,
@@ -66,7 +66,7 @@ impl Model for LineChecker {
 }
 
 impl LineChecker {
-    /// A checker that has taken nothing yet. It asks for no memory.
+    /// A checker that has taken nothing yet. Allocates nothing.
     pub fn new(alloc: Global) -> LineChecker
         ensures { HasChecked result [] [] }
     {
@@ -79,7 +79,7 @@ impl LineChecker {
         }
     }
 
-    /// Takes the next group. Memory is asked for if its identity is new, and for its findings.
+    /// Takes the next group. Allocates if its identity is new, and for its findings.
     pub fn group(&mut self, alloc: Global, group: &Controlled) -> Result<(), CheckError>
         ensures ok { OnOk result (TakesGroups self.old (group.now ∷ []) self.new) }
 
@@ -87,8 +87,8 @@ impl LineChecker {
         ensures too_many { (gs : List Aspects) (ms : List SomeMessage) → HasChecked self.old gs ms
             → IsErrOf result CheckError.TooMany ↔ (length gs ≡ usize.MAX) }
 
-        // A refused group changes nothing. Any group can be refused for want of memory: a new identity has to be kept,
-        // and one that is used again is a finding.
+        // A refused group changes nothing. Memory can run out for any group: a new identity must be kept, and
+        // a repeated one is a finding.
         ensures kept { OnErr result (HasStill self.old self.new) }
     {
         let Some(groups) = self.groups.checked_add(1) else {
@@ -108,7 +108,7 @@ impl LineChecker {
         Ok(())
     }
 
-    /// Takes the next message. Memory is asked for only if there is a finding about it.
+    /// Takes the next message. Allocates only if there is a finding about it.
     pub fn message(&mut self, alloc: Global, message: &Message) -> Result<(), CheckError>
         ensures ok { OnOk result (TakesMessages self.old (message.now ∷ []) self.new) }
 
@@ -116,7 +116,7 @@ impl LineChecker {
         ensures too_many { (gs : List Aspects) (ms : List SomeMessage) → HasChecked self.old gs ms
             → IsErrOf result CheckError.TooMany ↔ (length ms ≡ usize.MAX) }
 
-        // A refused message changes nothing. One without a finding is never refused for want of memory.
+        // A refused message changes nothing. Memory cannot run out for a message without a finding.
         ensures kept { OnErr result (HasStill self.old self.new) }
         ensures memory { IsErrOf result CheckError.Memory → findings [] (message.now ∷ []) ≢ [] }
     {
@@ -145,9 +145,9 @@ impl LineChecker {
         self.messages
     }
 
-    /// All facts against the line of the groups and messages that were taken, in the order of [`check`](crate::check). Memory is
-    /// asked for only if there are findings both about groups and about messages. If it runs out, no finding is
-    /// returned.
+    /// All facts against the line of the groups and messages that were taken, in the order of
+    /// [`check`](crate::check). Allocates only if there are findings both about groups and about messages. If
+    /// memory runs out, no finding is returned.
     pub fn finish(self) -> Result<Vec<Finding>, Memory>
         ensures ok { IfOk result (λ found. (gs : List Aspects) (ms : List SomeMessage)
             → HasChecked self gs ms → found.items ≡ findings gs ms) }
@@ -158,16 +158,17 @@ impl LineChecker {
         ensures sound { IfOk result (λ found. (gs : List Aspects) (ms : List SomeMessage)
             → HasChecked self gs ms → (found.items ≡ []) ↔ IsSoundLine gs ms) }
 
-        // A group or a message is sound if and only if no finding names it, whatever is found elsewhere. Of two
-        // groups with one identity the later one is named.
+        // A group or a message is sound if and only if no finding names it, whatever is found elsewhere.
+        // Exception: of two groups with the same identity the later one is named.
         ensures unnamed { IfOk result (λ found. (gs : List Aspects) (ms : List SomeMessage)
             → HasChecked self gs ms → NamesTheUnsound gs ms found.items) }
 
-        // Each fact has its finding, nothing else has, and they stand in strict order: none hides another.
+        // Each fact has one finding, each finding states a fact, and the order is strict. So none hides
+        // another.
         ensures list { IfOk result (λ found. (gs : List Aspects) (ms : List SomeMessage)
             → HasChecked self gs ms → IsListOf gs ms found.items) }
 
-        // At the place of each finding its own part of soundness does not hold.
+        // The part of soundness that the rule of a finding requires does not hold at its location.
         ensures hurts { IfOk result (λ found. (gs : List Aspects) (ms : List SomeMessage)
             → HasChecked self gs ms → (i : ℕ) (f : SomeFinding) → At found.items i f → Hurts gs ms f) }
     {

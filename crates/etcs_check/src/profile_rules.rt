@@ -11,7 +11,7 @@ use etcs_packet::{Run, TrackPacket};
 use etcs_profile::Reach;
 use etcs_telegram::Telegram;
 
-// Appends a finding for each kind of profile that is not said beside an authority.
+// Appends a finding for each kind of profile that the packets lack, if they have an authority.
 pub(crate) fn note_lacks(
     found: &mut Vec<Finding>,
     spot: Spot,
@@ -35,7 +35,7 @@ pub(crate) fn note_lacks(
     note(found, speed, Rule::NoSpeed, spot, Some(run), None, None)
 }
 
-// Whether a reach ends before the location.
+// Whether a profile of this reach ends before the location.
 fn ends_before(reach: Reach, limit: u64) -> bool
     ensures { result ≡ lies_past reach limit }
 {
@@ -45,7 +45,7 @@ fn ends_before(reach: Reach, limit: u64) -> bool
     }
 }
 
-// Appends the finding about a packet that is a profile that holds and ends before the location.
+// Appends the finding about a packet, if it is a profile that holds and ends before the location.
 #[inline(always)]
 fn note_early(
     found: &mut Vec<Finding>,
@@ -107,7 +107,8 @@ pub(crate) fn note_short(
     Ok(())
 }
 
-// Appends the findings about the profiles that the balise at this place says, if an authority is said.
+// Appends the findings about the profiles of the balise at this place, unless it is silent or there is no
+// authority.
 #[inline(always)]
 pub(crate) fn note_short_by(
     found: &mut Vec<Finding>,

@@ -1,4 +1,5 @@
-//! What is said in a running direction: the greatest supervised location, and which profiles there are.
+//! A summary of the packets of a message in a running direction: the greatest supervised location, and which
+//! profiles there are.
 
 ghost use Rattle.std.specs.Prelude.{◌≡◌, ◌<◌, if◌then◌else◌, length, filter, slice_get, Some};
 ghost use Rattle.etcs_packet.specs.Track.{holds};
@@ -10,7 +11,7 @@ use etcs_bits::Dup;
 use etcs_packet::{Run, TrackPacket};
 use etcs_telegram::Telegram;
 
-// What is said in a running direction: the greatest supervised location, and which profiles there are.
+// A summary of packets: the greatest supervised location, and which profiles there are.
 #[derive(Clone, Copy)]
 pub(crate) struct Said {
     pub(crate) limit: Option<u64>,
@@ -18,7 +19,7 @@ pub(crate) struct Said {
     pub(crate) has_speed: bool,
 }
 
-// What no packets say.
+// The summary of no packets.
 pub(crate) const NOTHING: Said = Said {
     limit: None,
     has_gradient: false,
@@ -43,7 +44,7 @@ fn greater(this: Option<u64>, that: Option<u64>) -> Option<u64>
     }
 }
 
-// Whether a balise of a group of this many is passed after the one that its mark names.
+// Whether a balise of a group of `count` is passed after the balise that its duplicate flag names.
 pub(crate) fn is_silent(run: Run, telegram: &Telegram, count: usize, place: usize) -> bool
     requires { place < count }
     ensures { result ≡ is_silent run telegram.now.header.dup count place }
@@ -55,7 +56,8 @@ pub(crate) fn is_silent(run: Run, telegram: &Telegram, count: usize, place: usiz
     }
 }
 
-// What is said with one more packet, if it holds. Most packets say nothing, and are not asked whether they hold.
+// The summary with one more packet, if it holds. Only authorities and profiles count, so for most packets the
+// direction is not checked.
 #[inline(always)]
 fn add_packet(so_far: Said, packet: &TrackPacket, run: Run) -> Said
     ensures { result ≡ both so_far (if holds run packet.now then by_one packet.now else nothing) }
@@ -77,7 +79,7 @@ fn add_packet(so_far: Said, packet: &TrackPacket, run: Run) -> Said
     }
 }
 
-// What is said with the packets that hold.
+// The summary with more packets, of which those that hold count.
 #[inline(always)]
 pub(crate) fn add_packets(so_far: Said, packets: &[TrackPacket], run: Run) -> Said
     ensures { result ≡ both so_far (said_in (filter (holds run) packets.now)) }
@@ -89,7 +91,7 @@ pub(crate) fn add_packets(so_far: Said, packets: &[TrackPacket], run: Run) -> Sa
     said
 }
 
-// What is said with the balise at this place.
+// The summary with the packets of the balise at this place, unless it is silent.
 #[inline(always)]
 fn add_balise(so_far: Said, group: &[Telegram], run: Run, place: usize) -> Said
     requires { place < length group.now }
@@ -104,7 +106,7 @@ fn add_balise(so_far: Said, group: &[Telegram], run: Run, place: usize) -> Said
     }
 }
 
-// What a group says in a running direction.
+// The summary of a group's message in a running direction.
 pub(crate) fn said_of(group: &[Telegram], run: Run) -> Said
     ensures { result ≡ said_in (said_by run group.now) }
 {

@@ -1,5 +1,5 @@
-//! Decodes hexadecimal text: 32 digits at a time, and the last ones by two tables. Any other text goes to `hex`,
-//! which reports the error.
+//! Decodes hexadecimal text: 32 digits at a time, and the last ones by two tables. Any other text goes to
+//! `hex`, which reports the error.
 
 ghost use Rattle.std.specs.Prelude.{ℕ, ◌≡◌, ◌+◌, ◌*◌, ◌<◌, ◌≤◌, true, false, length, get_or, map, ◌%◌, ◌⊎◌, IsTrue, IfOk, IfErr, Ok, MatchResult};
 ghost use Rattle.std.specs.Option.{unwrap_or};
@@ -72,8 +72,8 @@ fn block(text: &[u8]) -> (u8x16, bool)
     ((high << u8x16::splat(4)) | low, are_digits)
 }
 
-// Writes the bytes that pairs of digits spell. `false` is inconclusive. One test after the last block covers all
-// remaining digits: a byte that is no digit sets a high bit of `seen`.
+// Writes the bytes that pairs of digits spell. `false` is inconclusive. One test after the last block covers
+// all remaining digits: a byte that is no digit sets a high bit of `seen`.
 #[inline(always)]
 fn decode_quickly(text: &[u8], out: &mut [u8]) -> bool
     requires { length text.now ≡ 2 * length out.old }

@@ -1,10 +1,10 @@
 //! Digits as text, quickly: pairs of hexadecimal digits to bytes, and numbers to decimal digits.
 //!
-//! [`decode`] and [`decode_to_vec`] decode 32 digits at a time, and the rest by two tables. Any other text goes
-//! to `hex`, which reports the error, so their contracts are the contracts of its calls.
+//! [`decode`] and [`decode_to_vec`] decode 32 digits at a time, and the rest by two tables. Any other text
+//! goes to `hex`, which reports the error, so their contracts are the contracts of its calls.
 //! [`send_decimal`] writes a number as `json`'s writer does. [`LineText`] is a line of JSON that is written
-//! token by token, a key and its number at once. Read `hexadecimal.rt`, then `decimal.rt` and
-//! `line_text.rt`. Nothing in this crate is specific to telegrams or messages.
+//! token by token, a key and its number at once. Read `hexadecimal.rt`, then `decimal.rt` and `line_text.rt`.
+//! Nothing in this crate is specific to telegrams or messages.
 #![tactic(auto)]
 
 mod decimal;

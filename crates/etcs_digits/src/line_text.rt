@@ -1,5 +1,5 @@
-//! A line of JSON, token by token. A value is written together with the comma that may follow it, and a closing
-//! bracket overwrites that comma. So most tokens are appended without a look at the next one.
+//! A line of JSON, token by token. A value is written together with the comma that may follow it, and a
+//! closing bracket overwrites that comma. So most tokens are appended without a look at the next one.
 
 ghost use Rattle.std.specs.Prelude.{◌≡◌, ◌-◌, ◌++◌, ◌∷◌, [], IfOk, List, OnOk, cond, decimal, false, not, true};
 ghost use Rattle.json.specs.Print.{begins, ends, print, IsPrintable};
@@ -129,7 +129,8 @@ impl LineText {
         Ok(())
     }
 
-    // Appends a token that begins a value or a member, as `json` writes it. Not used for the names of records.
+    // Appends a token that begins a value or a member, as `json` writes it. Not used for the names of
+    // records.
     #[cold]
     #[inline(never)]
     fn put_by_json(&mut self, token: Token<'_>) -> Result<(), AllocError>

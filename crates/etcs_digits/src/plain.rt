@@ -4,8 +4,8 @@ ghost use Rattle.std.specs.Prelude.{◌≡◌};
 ghost use Rattle.std.specs.Bool.{OnTrue};
 ghost use Rattle.json.specs.Print.{escape};
 
-// Whether a text needs no escape. `false` is inconclusive. The compiler evaluates the call for a constant text,
-// such as a key.
+// Whether a text needs no escape. `false` is inconclusive. The compiler evaluates the call for a constant
+// text, such as a key.
 #[inline(always)]
 pub(crate) fn is_plain(text: &[u8]) -> bool
     ensures { OnTrue result (escape text.now ≡ text.now) }

@@ -23,7 +23,8 @@ use Rattle.etcs_group.proofs.SaidLemmas.{is_quiet, part, packets-passed, said-pa
 
 -- ---- a pair
 
--- whether a balise of a pair is quiet, given whether the other one is missed: first the first, then the second
+-- whether a balise of a pair is quiet, given whether the other one is missed: first the first, then the
+-- second
 abbrev pub quiet_next : Run → Bool → Bool
 quiet_next runs.Nominal b = false
 quiet_next runs.Reverse b = not b

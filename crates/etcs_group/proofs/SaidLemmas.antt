@@ -67,7 +67,8 @@ passed_same runs.Nominal b h = omega arith
 passed_same runs.Reverse b h = omega arith
 
 module _ (group : List Telegram) (run : Run) (missed : ℕ → Bool) (formed : IsWellFormed group) where
-  -- the telegram that a duplicate flag names is read earlier if and only if its balise is read and passed before
+  -- the telegram that a duplicate flag names is read earlier if and only if its balise is read and passed
+  -- before
   quiet-read : (i : ℕ) (t : Telegram) → At (reading_of run missed group) i t → list_any (λ u. names t u.header.position) (take i (reading_of run missed group)) ≡ is_quiet run missed t.header.dup t.header.position
   quiet-read i t e = same_bool _ _ forth back
     where

@@ -1,7 +1,7 @@
--- Balise groups and their duplicate flags (SUBSET-026, 3.16.2). A group is the telegrams of its balises, in the
--- order given; a place is an index in it. By its duplicate flag, M_DUP, a balise declares that a
--- neighbour carries the same information, so that a train may miss either of the two. Which groups are
--- well formed is this project's rule.
+-- Balise groups and their duplicate flags (SUBSET-026, 3.16.2). A group is the telegrams of its balises, in
+-- the order given; a place is an index in it. By its duplicate flag, M_DUP, a balise declares that a
+-- neighbour carries the same information, so that a train may miss either of the two. Which groups are well
+-- formed is this project's rule.
 use Rattle.std.specs.Prelude.{◌≡◌, ◌≢◌, ℕ, zero, suc, ◌+◌, ◌<◌, Bool, not, ◌||◌, ◌==◌, nat_lt, if◌then◌else◌, List, length, slice_get, Option, Some, None, IsSome, option_and_then}
 use Rattle.std.specs.List.{AllPass}
 use Rattle.etcs_bits.specs.declared.variables.duplicate.Dup.{Dup}

@@ -1,5 +1,5 @@
-//! Laws of groups, readings, messages and mixtures, for users. Each law is the contract of a function that does
-//! nothing.
+//! Laws of groups, readings, messages and mixtures, for users. Each law is the contract of a function that
+//! does nothing.
 
 ghost use Rattle.etcs_group.specs.Laws.{AcceptedOrRefused, MixturesAreDecided, ReadingsAreDecided, ReadingsSayTheSame};
 
@@ -15,14 +15,14 @@ pub fn readings_are_decided()
     ensures { ReadingsAreDecided }
 {}
 
-/// The message of a well-formed group is the message of the reading with nothing missed. If the two balises of
-/// each pair have the same packets for the running direction, it is the message of each covered reading.
+/// The message of a well-formed group is the message of the reading with nothing missed. If the two balises
+/// of each pair have the same packets for the running direction, it is the message of each covered reading.
 pub fn readings_say_the_same()
     ensures { ReadingsSayTheSame }
 {}
 
-/// In a controlled group whose aspects make one message each and, if there are two or more, are contents
-/// of one group and distinguished by their counters, a mixture is accepted if and only if it is covered and one
+/// In a controlled group whose aspects make one message each and, if there are two or more, are contents of
+/// one group and distinguished by their counters, a mixture is accepted if and only if it is covered and one
 /// aspect has, at their indexes, all the telegrams that it shows. Its message is then the message of this
 /// aspect with nothing missed.
 pub fn mixtures_are_decided()

@@ -25,7 +25,8 @@ pub enum Refused {
     /// N_PIG before it: greater in nominal running, smaller in reverse.
     #[error("place {0} out of order")]
     Order(usize),
-    /// This position is the least, up to N_TOTAL, that no telegram has and no telegram's duplicate flag names.
+    /// This position is the least, up to N_TOTAL, that no telegram has and no telegram's duplicate flag
+    /// names.
     #[error("position {0} absent")]
     Absent(usize),
     /// The telegram at this index is the first whose counter is 254, or is below 254 and differs from

@@ -40,8 +40,8 @@ fn scan_length(cur: &mut Cursor<'_>, count: usize) -> Result<(), DecodeError>
     }
 }
 
-// Reads what follows NID_MESSAGE in a message of `count` bytes. After an error the cursor is at an unspecified
-// position.
+// Reads what follows NID_MESSAGE in a message of `count` bytes. After an error the cursor is at an
+// unspecified position.
 fn scan_rest(
     alloc: Global,
     number: u64,

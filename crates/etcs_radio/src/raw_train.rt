@@ -37,8 +37,8 @@ pub struct RawTrainPacket {
 }
 
 impl RawTrainPacket {
-    /// Whether packets of this number are kept as bits: it has eight bits, and is not the number of a position
-    /// report or of the end mark.
+    /// Whether packets of this number are kept as bits: it has eight bits, and is not the number of a
+    /// position report or of the end mark.
     pub fn has_number(number: u64) -> bool
         ensures value { number < 256 → result ≡ is_kept_number number }
         ensures small { IsTrue result → number < 256 }
@@ -48,8 +48,8 @@ impl RawTrainPacket {
 
     /// The packet of these parts.
     ///
-    /// The error gives the body back: the number is the number of a position report or of the end mark, or the
-    /// body has more than 8,170 bits.
+    /// The error gives the body back: the number is the number of a position report or of the end mark, or
+    /// the body has more than 8,170 bits.
     pub fn new(number: u8, body: Bits) -> Result<Self, Bits>
         ensures ok { IfOk result (λ r. (r.number ≡ number) × (r.body ≡ body)) }
         ensures made { IsOk result ↔ (is_kept number (length body) ≡ true) }
@@ -82,7 +82,8 @@ impl RawTrainPacket {
     ghost use Rattle.etcs_bits.specs.layout.Choice.{chosen_at, numbered_rows};
     ghost use Rattle.etcs_radio.specs.RawTrain.{others};
 
-    // Reads what follows a number that is kept as bits. After an error the cursor is at an unspecified position.
+    // Reads what follows a number that is kept as bits. After an error the cursor is at an unspecified
+    // position.
     pub(crate) fn scan_rest(
         alloc: Global,
         number: u64,

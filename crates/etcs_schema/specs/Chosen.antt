@@ -55,7 +55,8 @@ begins_with name n o x rest begins =
 -- ---- what the number decides
 
 -- the numbers that have a form; the number of a value, which is the number of the variable x in the bits, and
--- the rows after it; the value's form, with that number at the key; and what an object with a number is read as
+-- the rows after it; the value's form, with that number at the key; and what an object with a number is read
+-- as
 pub record Choice (name : List ℕ) (x : Variable) (X : Type 0) : Type 0 where
   pub allows : ℕ → Bool
   pub number : X → ℕ
@@ -124,7 +125,8 @@ pub as_other : (x y : Variable) (n : ℕ) (rows : List Row) → x.width ≡ y.wi
 unfolding alone
 as_other x y n rows same is allowed = ((rw same at allowed.0.0, is), allowed.1)
 
--- every number that the variable y allows; the number is a member of the object itself and a part of the value
+-- every number that the variable y allows; the number is a member of the object itself and a part of the
+-- value
 abbrev pub others : {name : List ℕ} {x : Variable} {X : Type 0} (y : Variable) (number : X → ℕ) (rows : X → List Row) (o : ObjectOf (λ v. alone y (number v) ++ rows v))
     → x.width ≡ y.width → ((v : X) → y.allows (number v) ≡ true) → ((v : X) → HasNumber name (number v) ((object o).to v)) → Choice name x X
 others {x = x} y number rows o same is_number has_number = record {

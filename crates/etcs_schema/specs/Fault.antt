@@ -89,7 +89,8 @@ IsAround step f (Some g) = f ≡ deeper step g
 abbrev pub IsDeeper : Step → FormError → FormError → Type 0
 IsDeeper step inner outer = IfSome (fault_of outer) (λ f. IsAround step f (fault_of inner))
 
--- what a call returned, as the enclosing value reports it: the same value, or its fault with this step in front
+-- what a call returned, as the enclosing value reports it: the same value, or its fault with this step in
+-- front
 abbrev pub IsUnder : {X : Type 0} → Step → Result X FormError → Result X FormError → Type 0
 IsUnder step (Ok x) outer = outer ≡ Ok x
 IsUnder step (Err inner) outer = IsErrAnd outer (λ e. IsDeeper step inner e)

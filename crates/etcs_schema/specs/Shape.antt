@@ -1,5 +1,5 @@
--- The JSON form of a type: what a value is written as, what is read, and that reading what was written gives the
--- same value, if the rows of its bits are allowed.
+-- The JSON form of a type: what a value is written as, what is read, and that reading what was written gives
+-- the same value, if the rows of its bits are allowed.
 use Rattle.std.specs.Prelude.{◌≡◌, ◌≤◌, ◌+◌, ◌++◌, ◌==◌, ℕ, Bool, true, List, [], ◌∷◌, length, Option, Some, None, Result, Ok, Err, if◌then◌else◌, refl}
 use Rattle.etcs_schema.specs.Prelude.{is_itself, flat_map, ap, ◌∙◌, arith, and_from, le-leb, Data, Items, item, no_items, array, number, unsigned, body_rows, counted_rows, option_rows, pair_rows, l_packet, AreAllowed, Row, Variable, alone, width}
 use Rattle.etcs_bits.specs.layout.RowLemmas.{allowed_first, allowed_second}

@@ -34,8 +34,8 @@ pub struct JsonText<'a> {
 impl<'a> JsonText<'a> {
     ghost use Rattle.etcs_schema.specs.node.Texts.{text_data};
 
-    /// Reads a text as `serde_json` does. The tokens go into `room`, which is emptied first and grows if it is
-    /// too small. Strings with escapes go into the scratch.
+    /// Reads a text as `serde_json` does. The tokens go into `room`, which is emptied first and grows if it
+    /// is too small. Strings with escapes go into the scratch.
     pub fn read(
         text: &'a str,
         scratch: &'a mut Scratch,

@@ -26,8 +26,8 @@ pub(crate) fn is_key(name: &str, keys: &[&str]) -> bool
     is_one_of(name, keys)
 }
 
-/// The index after a key that is in the list at `from` or later, 0 for any other key of the list, and `None` if
-/// the key is not in the list. So keys that come in the order of the list are found at once.
+/// The index after a key that is in the list at `from` or later, 0 for any other key of the list, and `None`
+/// if the key is not in the list. So keys that come in the order of the list are found at once.
 #[inline]
 pub(crate) fn place_after(name: &str, keys: &[&str], from: usize) -> Option<usize>
     ensures { is_some result ≡ is_among name.now (map (λ l. l.now) keys.now) }

@@ -37,8 +37,8 @@ fn plain_number(text: &[u8]) -> Option<u64>
     Some(number)
 }
 
-// The whole number without a sign in any text. Cold path, out of line: its large stack frame would be zeroed in
-// the fast path too.
+// The whole number without a sign in any text. Cold path, out of line: its large stack frame would be zeroed
+// in the fast path too.
 #[cold]
 #[inline(never)]
 fn whole_number_of(text: &[u8]) -> Option<u64>

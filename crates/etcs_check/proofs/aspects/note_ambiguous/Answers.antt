@@ -5,7 +5,7 @@ use Rattle.etcs_check.specs.Walk.{ambiguous_at}
 use Rattle.etcs_check.proofs.NoteLemmas.{on_err, index_at, each_stands, stands_as}
 use Rattle.etcs_check.proofs.aspects.note_ambiguous.Goals as goal
 
--- Memory was asked for a finding of this place.
+-- The call allocated for a finding of this place.
 pub returns-in_err-note-clause-memory : goal.returns-in_err-note-clause-memory
 returns-in_err-note-clause-memory c =
     let at = index_at c.first_aspect-first.result.now c.places.place _ c.index-first-place.result c.places-test.true c.index-first-place.is in

@@ -2,7 +2,7 @@ use Rattle.etcs_check.specs.Walk.{unmodelled_at}
 use Rattle.etcs_check.proofs.NoteLemmas.{on_err, index_at, each_stands, each_pushed, noted_as, stands_as}
 use Rattle.etcs_check.proofs.balise_rules.note_unmodelled.Goals as goal
 
--- Memory was asked for a finding of this packet.
+-- The call allocated for a finding of this packet.
 pub returns-in_err-note-clause-memory : goal.returns-in_err-note-clause-memory
 returns-in_err-note-clause-memory c =
     let at = index_at c.args.packets.now c.places.place _ c.index-packets-place.result c.places-test.true c.index-packets-place.is in

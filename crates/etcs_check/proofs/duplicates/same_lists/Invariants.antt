@@ -6,7 +6,7 @@ use Rattle.etcs_packet.specs.declared.track.TrackPacket.{TrackPacket}
 use Rattle.etcs_check.specs.Duplicates.{same_packet}
 use Rattle.etcs_check.proofs.duplicates.same_lists.Given as goal
 
--- what is left decides, and both places hold
+-- the remaining packets decide, and the packets at both places hold
 abbrev pub invariant-packets : goal.invariant-packets
 invariant-packets l = record {
   left : pointwise same_packet (filter (holds l.run) (drop l.i l.these)) (filter (holds l.run) (drop l.j l.those)) ≡ pointwise same_packet (filter (holds l.run) l.these) (filter (holds l.run) l.those);

@@ -4,7 +4,7 @@ use Rattle.etcs_check.proofs.IdentityLemmas.{identity-at, number-is}
 use Rattle.etcs_check.proofs.NoteLemmas.{index_at}
 use Rattle.etcs_check.proofs.identities.identity_number.Goals as goal
 
--- A group's identity is that of balise 0 of its first aspect.
+-- A group's identity is the identity of balise 0 of its first aspect.
 pub returns-clause-value : goal.returns-clause-value
 returns-clause-value c =
     let first = c.first_aspect-first.result.now in

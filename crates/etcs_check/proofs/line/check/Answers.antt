@@ -13,7 +13,7 @@ returns-clause-sound c =
     findings_noted _ _ _ _ _ _ _ c.new-found.ensures.items c.in_ok-note_groups.ensures.ok c.in_ok-note_messages.ensures.ok c.deref.ensures.value c.deref-2.ensures.value in
     found_sound _ _ _ is (subst AreControlled c.deref.ensures.value c.in_ok-note_groups.ensures.controlled)
 
--- Each finding hurts.
+-- Each finding is a violation.
 pub returns-clause-hurts : goal.returns-clause-hurts
 returns-clause-hurts c =
     let is : c.note_messages.new.found.items ≡ findings c.args.line.now.groups.items c.args.line.now.messages.items =

@@ -11,7 +11,8 @@ use Rattle.etcs_check.proofs.IdentityLemmas.{kept_more, next_stands, numbered_be
 use Rattle.etcs_check.proofs.NoteLemmas.{each_more, each_pushed, index_at, on_err}
 use Rattle.etcs_check.proofs.line.note_groups.Goals as goal
 
--- An identity is kept only where one is used twice, which is a finding. Else memory was asked for one of this group.
+-- An identity is kept only if one is used twice, which is a finding. Otherwise the call allocated for this
+-- group.
 pub returns-in_err-note_next-clause-memory : goal.returns-in_err-note_next-clause-memory
 returns-in_err-note_next-clause-memory c =
     let at = index_at c.args.groups.now c.places.place _ c.aspects.result.now c.places-test.true (c.aspects.ensures.value ∙ c.index-groups-place.is) in

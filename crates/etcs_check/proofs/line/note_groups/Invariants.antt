@@ -10,8 +10,8 @@ use Rattle.etcs_check.specs.Line.{group_at, group_list}
 use Rattle.etcs_check.specs.LineChecker.{HasKept}
 use Rattle.etcs_check.proofs.line.note_groups.Given as goal
 
--- The findings so far and those about the rest are all. Each group so far has aspects of one count and an
--- identity in range, which is kept if one is used again.
+-- The findings so far and those about the rest are all findings. Each group so far has aspects with the same
+-- number of balises and an identity in range, which is kept if one is used again.
 abbrev pub invariant-places : goal.invariant-places
 invariant-places l = record {
   all : l.found.items ++ each_from (group_at l.groups) l.place (drop l.place l.groups) ≡ l.initial.found.items ++ group_list l.groups;

@@ -3,7 +3,7 @@ use Rattle.etcs_check.specs.Line.{message_at}
 use Rattle.etcs_check.proofs.NoteLemmas.{on_err, index_at, each_stands, each_pushed}
 use Rattle.etcs_check.proofs.line.note_messages.Goals as goal
 
--- Memory was asked for a finding of this message.
+-- The call allocated for a finding of this message.
 pub returns-in_err-more-clause-memory : goal.returns-in_err-more-clause-memory
 returns-in_err-more-clause-memory c =
     let at = index_at c.args.messages.now c.places.place _ c.index-messages-place.result c.places-test.true c.index-messages-place.is in

@@ -20,7 +20,7 @@ returns-clause-unnamed c = λ gs ms was.
 pub returns-clause-list : goal.returns-clause-list
 returns-clause-list c = λ gs ms was. found_list gs ms _ (held_findings _ _ _ gs ms c.self.view_is c.in_ok-append.ensures.ok was)
 
--- Each finding hurts.
+-- Each finding is a violation.
 pub returns-clause-hurts : goal.returns-clause-hurts
 returns-clause-hurts c = λ gs ms was.
     found_hurts gs ms _ (held_findings _ _ _ gs ms c.self.view_is c.in_ok-append.ensures.ok was) was.controlled
