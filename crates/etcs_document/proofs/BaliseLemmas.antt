@@ -1,4 +1,4 @@
--- Each telegram that was read is that of its balise's text in the document.
+-- Each telegram that was read is the telegram of its balise's text in the document.
 use Rattle.std.proofs.Common.{◌≡◌, ◌+◌, ◌∙◌, ◌&&◌, ℕ, zero, suc, List, [], ◌∷◌, length, Option, Some, None, Ok, refl, ap, sym, subst}
 use Rattle.std.specs.Option.{is_some}
 use Rattle.std.specs.Prelude.{IsSomeAnd, codes, if◌then◌else◌, nat_le, nat_lt}
@@ -35,7 +35,7 @@ some_and P o x is h = rw is h
 
 -- ---- aspects
 
--- a group was read of the balises of this object, as balises of group g or of aspect a of it
+-- a group was read from the balises of this object, as balises of group g or of aspect a of it
 abbrev IsReadOf : ℕ → Option ℕ → Data → List Telegram → Type 0
 IsReadOf g a e group =
     (es : List Data) × (at_key values_of (codes "balises") e ≡ Ok es) × (each_from (telegram_at g a) 0 es ≡ Ok group)
@@ -56,7 +56,7 @@ aspect_read g first a e group is =
     let form = then_ok (in_form (path_of g a) (only_values (codes "balises") e)) (telegrams_of g a first) group is in
     (form.0, only_ok (path_of g a) (codes "balises") e form.0 form.1, counted_ok g a first form.0 group form.2)
 
--- the object of aspect a, among those of its group, of which a group was read
+-- the object of aspect a, among the aspects of its group, from which a group was read
 abbrev IsAspectOf : ℕ → ℕ → List Data → List Telegram → Type 0
 IsAspectOf g a ds group = (which : Option ℕ) × (e : Data) × At ds a e × IsReadOf g which e group
 
@@ -78,7 +78,7 @@ aspect_among g (suc a) (d ∷ ds) aspects group is h =
 
 -- ---- groups
 
--- the object of aspect a in a group's value, of which a group was read
+-- the object of aspect a in a group's value, from which a group was read
 abbrev HasAspect : ℕ → ℕ → Data → List Telegram → Type 0
 HasAspect g a e group = (which : Option ℕ) × (o : Data) × (aspect_in a e ≡ Some o) × IsReadOf g which o group
 
@@ -111,7 +111,7 @@ aspect_found g a e aspects group is h = aspect_or g a e aspects group (get (code
 
 -- ---- the text of each balise
 
--- a telegram that was read is that of its text in the object of its aspect
+-- a telegram that was read is the telegram of its text in the object of its aspect
 balise_read : (g : ℕ) (which : Option ℕ) (b : ℕ) (o : Data) (group : List Telegram) (t : Telegram) → IsReadOf g which o group → At group b t
     → (text : List ℕ) × (text_in (codes "balises") b o ≡ Some text) × (telegram_of_text text ≡ Ok t)
 balise_read g which b o group t read h =
@@ -121,7 +121,7 @@ balise_read g which b o group t read h =
     let text = telegram_in g which (0 + b) one.0 t one.2 in
     (text.0, rw (found.1, found.2) text.1, text.2)
 
--- each telegram is the one of its text
+-- each telegram is the telegram of its text
 pub telegrams_read : (d : Data) (groups : List (List (List Telegram))) → groups_of d ≡ Ok groups → (g a b : ℕ) (aspects : List (List Telegram)) (group : List Telegram) (t : Telegram)
     → At groups g aspects → At aspects a group → At group b t → IsSomeAnd (balise_text d g a b) (IsOnlyTextOf IsTelegramText t)
 unfolding groups_of

@@ -1,4 +1,4 @@
--- What is read of a document's values, and when bytes are JSON.
+-- Reading a document's values, and when bytes are JSON.
 use Rattle.std.proofs.Common.{◌≡◌, ◌+◌, ℕ, suc, Bool, true, false, List, [], ◌∷◌, ◌++◌, length, Option, Some, None, Result, Ok, Err, refl, ap, sym, subst, ◌∙◌}
 use Rattle.std.specs.Prelude.{◌↔◌, IsTrue, if◌then◌else◌}
 use Rattle.std.specs.Option.{ok_or}
@@ -49,6 +49,6 @@ pub read_count : {A : Type 0} (read : ℕ → Data → Result A DocumentFault) (
 read_count read i [] xs is = ap length (same_ok xs [] (Ok []) is refl)
 read_count read i (d ∷ ds) xs is = as_many (read i d) (each_from read (i + 1) ds) (length ds) (read_count read (i + 1) ds) xs is
 
--- a test that fails decides against what it tests
+-- if the test of a fact fails, the fact does not hold
 pub is_not : {P : Type 0} (b : Bool) → IsTrue b ↔ P → b ≡ false → P → ⊥
 is_not b tests is p = subst OnlyFalse (sym is ∙ tests.1 p) tt

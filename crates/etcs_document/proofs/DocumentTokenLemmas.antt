@@ -53,7 +53,7 @@ message_taken depth text old new m begins is = record {
 pub first_shorter : {X : Type 0} (Is : Data → X → Type 0) (depth : ℕ) (old : List Token) (x : X) (new : List Token) → IsFirst Is depth old x new → length new < length old
 first_shorter Is depth old x new one = value_shorter depth old new one.found one.stands
 
--- a list does not end where a value stands
+-- a list does not end at a value
 value_goes : (depth : ℕ) (old : List Token) (found : Json × List Token) → value depth old ≡ Some found → after_end_array old ≡ None
 value_goes depth (Token.end_array ∷ ts) found is = absurd (cc (value_is depth (Token.end_array ∷ ts)))
 value_goes depth old found is = refl
@@ -80,7 +80,7 @@ first_more Is depth old xs ys x mid new some one pushed = rw pushed record {
   are = each_and Is some.found xs one.found x some.are one.is;
 }
 
--- the values between the two marks of a list
+-- the values between the brackets of a list
 pub list_taken : {X : Type 0} (Is : Data → X → Type 0) (depth : ℕ) (old begun ended new : List Token) (xs : List X) → 0 < depth → old ≡ Token.begin_array ∷ begun
     → AreFirst Is (depth - 1) begun xs ended → after_end_array ended ≡ Some new → IsFirst (IsList Is) depth old xs new
 list_taken Is depth old begun ended new xs deep begins some ends = record {
@@ -91,7 +91,7 @@ list_taken Is depth old begun ended new xs deep begins some ends = record {
 
 -- ---- objects
 
--- the members between the two marks of an object
+-- the members between the braces of an object
 pub object_stands : (depth : ℕ) (es : List Entry) (old begun ended new : List Token) → 0 < depth → old ≡ Token.begin_object ∷ begun → HasMembers (depth - 1) es begun ended → read_key ended ≡ Some (None, new)
     → first_value depth old ≡ Some (object_of es, new)
 object_stands depth es old begun ended new deep begins stand ends =
@@ -129,7 +129,7 @@ unfolding telegrams_of
 balises_are ds ts are few = λ g a first has.
     rw (same_count IsTelegram ds ts are, few, has) (each_read IsTelegram (telegram_at g a) (λ d t is b. is g a b) 0 ds ts are)
 
--- the balises of a list are one to eight
+-- a list of one to eight balises
 pub balises_taken : (depth : ℕ) (old : List Token) (ts : List Telegram) (new : List Token) → IsFirst (IsList IsTelegram) depth old ts new → 0 < length ts → length ts ≤ 8 → IsFirst IsBalises depth old ts new
 balises_taken depth old ts new one some few =
     let fits : (nat_lt 0 (length ts) && nat_le (length ts) 8) ≡ true = grind (arith, nat_tests) in

@@ -1,4 +1,4 @@
--- No bytes are no document, and bytes that are not UTF-8 are none.
+-- An empty input is not a document, nor are bytes that are not UTF-8.
 use Rattle.std.proofs.Common.{◌≡◌, ℕ, false, List, [], None, Some, Ok, Err, refl, ap, sym, ◌∙◌}
 use Rattle.std.specs.Str.{is_utf8}
 use Rattle.std.proofs.lemmas.Option.{none-some}

@@ -1,4 +1,4 @@
--- A line's groups and messages, read one after the other and handed to a checker.
+-- A line's groups and messages, read one after the other and passed to a checker.
 use Rattle.std.proofs.Common.{◌≡◌, ℕ, ◌-◌, ◌<◌, List, [], ◌∷◌, ◌++◌, codes, Some, None, Ok, option_and_then, refl, ap, sym, ◌∙◌}
 use Rattle.std.specs.Str.{IsUtf8}
 use Rattle.json.specs.Json.{after_end_array, if_last, read_key, value}
@@ -26,7 +26,7 @@ module _ {X : Type 0} (Is : Data → X → Type 0) (Takes : CheckerState → Lis
   pub none_taken : (was : CheckerState) → Takes was [] was → AreTaken (λ xs. AreFirst Is depth old xs old) Takes was was
   none_taken was none = record { items = []; read = none_first Is depth old; takes = none }
 
-  -- one more was read, and handed to the checker
+  -- one more was read, and passed to the checker
   pub one_taken : (was kept is : CheckerState) (mid new : List Token) → ((xs ys : List X) → Takes was xs kept → Takes kept ys is → Takes was (xs ++ ys) is) → AreTaken (λ xs. AreFirst Is depth old xs mid) Takes was kept
       → (one : X) → IsFirst Is depth mid one new → Takes kept (one ∷ []) is → AreTaken (λ xs. AreFirst Is depth old xs new) Takes was is
   one_taken was kept is mid new joined so one first takes = record {

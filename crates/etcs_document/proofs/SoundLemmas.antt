@@ -1,4 +1,4 @@
--- A document that was read has controlled groups. So it has no finding exactly where its line is sound.
+-- A document that was read has controlled groups. So it has no finding if and only if its line is sound.
 use Rattle.std.proofs.Common.{◌≡◌, ◌+◌, ◌<◌, ◌&&◌, arith, ℕ, List, [], ◌∷◌, length, Option, Some, None, Result, Ok, Err, refl, subst}
 use Rattle.std.specs.Option.{is_some}
 use Rattle.std.specs.Prelude.{◌↔◌, IsOkAnd, codes, if◌then◌else◌, nat_le, nat_lt}
@@ -88,6 +88,6 @@ sound_or : NoFindingMeansSoundLine → (r : Result (List (List (List Telegram)) 
 sound_or law (Ok line) controlled = law line.0 line.1 (controlled line.0 line.1 refl)
 sound_or law (Err f) controlled = (λ no. no, λ no. no)
 
--- bytes have no finding exactly where they are the document of a sound line
+-- bytes have no finding if and only if they are the document of a sound line
 pub no_finding_sound : NoFindingMeansSoundLine → (bytes : List ℕ) → IsOkAnd (summary_of_text bytes) (λ c. c.1 ≡ []) ↔ IsSoundText bytes
 no_finding_sound law bytes = sound_or law (line_of_text bytes) (line_controlled bytes)

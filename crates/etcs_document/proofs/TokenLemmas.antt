@@ -1,4 +1,4 @@
--- A text's tokens, read as a value a step at a time.
+-- A text's tokens, read as a value step by step.
 use Rattle.std.proofs.Common.{◌≡◌, ℕ, ◌-◌, ◌<◌, ◌≤◌, List, [], ◌∷◌, ◌++◌, length, Option, Some, None, option_map, refl, ap, ◌∙◌, arith}
 use Rattle.std.specs.Prelude.{IfSome}
 use Rattle.json.proofs.Grammar.{items_end, items_more, left, members_more, read_key-shorter, skip_value-shorter, value-begin_array}
@@ -66,7 +66,7 @@ key_stands depth name d old mid new named e = record {
       (turns - 1, rest, ap (converted (λ r. of_members r ms)) (members_more (value depth) turns name old mid new j.0 some named j.1) ∙ with_member name j.0 d ms j.2 _);
 }
 
--- one member, and then others
+-- one member, and then more members
 pub then_stand : (depth : ℕ) (e : Entry) (es : List Entry) (old mid new : List Token) → HasMembers depth (e ∷ []) old mid → HasMembers depth es mid new → HasMembers depth (e ∷ es) old new
 then_stand depth e es old mid new one rest = record {
   one_by_one = λ ms turns enough.
@@ -92,7 +92,7 @@ after_more : (ds : List Data) (d : Data) (o : Option (Items × List Token)) → 
 after_more ds d None = refl
 after_more ds d (Some p) = ap (λ is. Some (is, p.1)) (onto_more ds d p.0)
 
--- one item more
+-- one more item
 pub item_more : (depth : ℕ) (ds : List Data) (d : Data) (old mid new : List Token) → HasItems depth ds old mid → after_end_array mid ≡ None → first_value depth mid ≡ Some (d, new)
     → HasItems depth (ds ++ d ∷ []) old new
 item_more depth ds d old mid new some going e =
@@ -109,7 +109,7 @@ item_more depth ds d old mid new some going e =
           );
     }
 
--- the items between the two marks of a list
+-- the items between the brackets of a list
 pub list_stands : (depth : ℕ) (ds : List Data) (old begun ended new : List Token) → 0 < depth → old ≡ Token.begin_array ∷ begun
     → HasItems (depth - 1) ds begun ended → after_end_array ended ≡ Some new → first_value depth old ≡ Some (array (items_onto ds no_items), new)
 list_stands depth ds old begun ended new deep begins some ends =

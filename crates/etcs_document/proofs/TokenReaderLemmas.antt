@@ -1,4 +1,4 @@
--- Bytes, read as tokens a mark at a time.
+-- Bytes, read as tokens one by one.
 use Rattle.std.proofs.Common.{◌≡◌, ℕ, eqb, ◌==◌, nat_lt, ◌+◌, ◌-◌, ◌<◌, Bool, true, false, ◌||◌, cond, List, [], ◌∷◌, ◌++◌, length, take, drop, get_or, Some, None, refl, sym, ap, ap₂, ◌∙◌, arith}
 use Rattle.std.proofs.lemmas.Bool.{and_parts, eqb-true, false≢true, not-true, or_cases, or_parts}
 use Rattle.std.proofs.lemmas.List.{drop_all, drop_more, length-drop, take-append-drop, take_all}
@@ -34,7 +34,7 @@ pub blank_at : (text : List ℕ) (i : ℕ) → i < length text → is_space (get
 blank_at text i within blank =
     sym (blank_passed _ _ blank) ∙ ap (lex between) (sym (drop_more text i 0 within))
 
--- the byte that is passed is the first of the rest
+-- the byte that is read is the first of the rest
 pub byte_passed : (text begun : List ℕ) (byte : ℕ) → lex between begun ≡ lex between text → 0 < length begun
     → get_or begun 0 0 ≡ byte → lex between text ≡ lex between (byte ∷ drop 1 begun)
 byte_passed text begun byte same some is =
@@ -85,7 +85,7 @@ none_left AfterComma text begun may same none = absurd (false≢true may)
 
 -- ---- strings
 
--- the tests of a byte that stands for itself
+-- the tests of a byte that needs no escape
 plain_tests : (x : ℕ) → is_plain x ≡ true → ((x == 34) ≡ false) × ((x == 92) ≡ false) × (nat_lt x 32 ≡ false)
 plain_tests x is =
     let none = or_parts ((x == 34) || (x == 92)) _ (not-true _ is) in
@@ -122,7 +122,7 @@ unfolding lex
 string_rest [] rest are = refl
 string_rest (x ∷ xs) rest are = let both = and_parts _ _ are in within_step x (xs ++ 34 ∷ rest) both.0 ∙ string_rest xs rest both.1
 
--- a string whose bytes stand for themselves
+-- a string without escapes
 pub string_passed : (text rest : List ℕ) → ArePlain text
     → lex between (34 ∷ (text ++ 34 ∷ rest)) ≡ token (string text) ∷ lex between rest
 unfolding lex
@@ -161,7 +161,7 @@ behind n bytes = take (length bytes - n) (drop n bytes)
 behind-is : (n : ℕ) (bytes : List ℕ) → behind n bytes ≡ drop n bytes
 behind-is n bytes = take_all _ _ (omega (arith, length-drop n bytes))
 
--- the first bytes are those of the key
+-- the first bytes are the bytes of the key
 pub name_passed : (text begun name prefix ended rest : List ℕ) → ArePlain name → lex between text ≡ lex between (34 ∷ begun)
     → prefix ≡ name → take (length prefix) begun ≡ prefix → ended ≡ drop (length prefix) begun → 0 < length ended → get_or ended 0 0 ≡ 34
     → lex between (behind 1 ended) ≡ lex between (58 ∷ rest)
@@ -173,7 +173,7 @@ name_passed text begun name prefix ended rest are opens same front back some quo
     opens ∙ ap (λ l. lex between (34 ∷ l)) whole ∙ string_passed name (drop 1 ended) are
     ∙ ap (λ l. token (string name) ∷ lex between l) (sym (behind-is 1 ended)) ∙ ap (λ l. token (string name) ∷ l) ends
 
--- the bytes before a quote are those of a text
+-- the bytes in front of a quote are the bytes of a text
 pub text_read : (all begun : List ℕ) (len : ℕ) → lex between all ≡ lex between (34 ∷ begun) → len < length begun → get_or begun len 0 ≡ 34
     → ArePlain (take len begun) → lex between all ≡ token (string (take len begun)) ∷ lex between (behind (len + 1) begun)
 text_read all begun len opens within quoted are =

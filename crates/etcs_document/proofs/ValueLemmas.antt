@@ -1,4 +1,4 @@
--- What was read stands in the values of a document.
+-- What was read is in the values of a document.
 use Rattle.std.proofs.Common.{◌≡◌, ◌+◌, ◌∙◌, ℕ, zero, suc, List, [], ◌∷◌, Option, Some, None, Result, Ok, Err, refl, ap, sym, subst, arith, add-zero}
 use Rattle.std.specs.Option.{ok_or}
 use Rattle.std.specs.Prelude.{option_map}
@@ -44,7 +44,7 @@ value_at (string s) items k x is h = absurd (none-some items is)
 value_at (object ms) items k x is h = absurd (none-some items is)
 value_at (array ds) items k x is h = item_at k ds x (subst (λ (l : Items). At (data_list l) k x) (sym (same_Some ds items is)) h)
 
--- the value of a list that stands at a key
+-- the value of a list at a key
 pub stands : (name : List ℕ) (d : Data) (ds : List Data) (k : ℕ) (x : Data) → IsListAt name (get name d) ds → At ds k x → (v : Data) × (get name d ≡ Some v) × (at k v ≡ Some x)
 stands name d ds k x list h = (list.0, list.2, value_at list.0 list.1 k x list.3 (subst (λ (l : List Data). At l k x) (sym list.4) h))
 
@@ -53,7 +53,7 @@ stands name d ds k x list h = (list.0, list.2, value_at list.0 list.1 k x list.3
 abbrev pub IsReadAt : {A : Type 0} → (ℕ → Data → Result A DocumentFault) → ℕ → List Data → ℕ → A → Type 0
 IsReadAt read i ds k x = (d : Data) × At ds k d × (read (i + k) d ≡ Ok x)
 
--- each thing that was read stands in the list
+-- each element that was read is in the list
 pub each_at : {A : Type 0} (read : ℕ → Data → Result A DocumentFault) (i : ℕ) (ds : List Data) (xs : List A) → each_from read i ds ≡ Ok xs
     → (k : ℕ) (x : A) → At xs k x → IsReadAt read i ds k x
 each_at {A = A} read i [] xs is k x h = absurd (none-some x (subst (λ (l : List A). At l k x) (sym (same_ok [] xs (Ok []) refl is)) h))

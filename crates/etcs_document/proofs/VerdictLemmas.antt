@@ -1,4 +1,4 @@
--- What a yes says follows from the soundness of the line, and from how its document was read.
+-- What a yes states follows from the soundness of the line, and from how its document was read.
 use Rattle.std.proofs.Common.{◌≡◌, ◌+◌, ◌∙◌, ℕ, Bool, List, [], ◌∷◌, Some, Ok, refl, ap}
 use Rattle.std.specs.Prelude.{IsSomeAnd, codes}
 use Rattle.serde_json.specs.Data.{Data}
@@ -35,7 +35,7 @@ only_message text m is = record {
   only = λ u read. same_ok u m (message_of_text text) (text_meaning u text read) is;
 }
 
--- each message is the one of its text
+-- each message is the message of its text
 pub messages_read : (d : Data) (ms : List Message) → messages_of d ≡ Ok ms → (i : ℕ) (m : Message) → At ms i m → IsSomeAnd (message_text d i) (IsOnlyTextOf IsMessageText m)
 unfolding messages_of
 messages_read d ms is i m here =
@@ -66,12 +66,12 @@ reached : (m : Message) → IsSoundMessage m → IsReachedMessage m
 reached (messages.Movement m) sound = sound.1
 reached (messages.Position m) sound = tt
 
--- what is read of each aspect is accepted or refused by what was missed alone
+-- only what was missed decides whether a reading of an aspect is accepted
 abbrev AreDecided : List (List (List Telegram)) → Type 0
 AreDecided groups = (g a : ℕ) (aspects : List (List Telegram)) (group : List Telegram) (run : Run) (missed : ℕ → Bool)
     → At groups g aspects → At aspects a group → IsSetOf group missed → IsDecided run group missed (reading_of run missed group)
 
--- a sound line is what a yes says it is
+-- what a yes states is true for a sound line
 pub says_yes : (bytes : List ℕ) (groups : List (List (List Telegram))) (ms : List Message) → line_of_text bytes ≡ Ok (groups, ms) → IsSoundLine groups ms
     → AreDecided groups → AreMixturesDecided groups → SaysYes bytes groups ms
 says_yes bytes groups ms is sound decided mixtures =

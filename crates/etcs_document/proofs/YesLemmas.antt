@@ -1,4 +1,4 @@
--- Bytes without a finding are a line of which all is true that a yes says.
+-- Bytes without a finding are a line for which everything that a yes states is true.
 use Rattle.std.proofs.Common.{◌≡◌, ◌∙◌, ℕ, Bool, List, [], Option, Result, Ok, Err, refl, ap, sym, subst}
 use Rattle.std.specs.Prelude.{IsOkAnd}
 use Rattle.etcs_check.proofs.AspectLemmas.{aspect_long, sound_mixtures_are_decided}
@@ -24,7 +24,7 @@ use Rattle.etcs_packet.specs.declared.run.Run.{Run}
 use Rattle.etcs_radio.specs.declared.message.Message.{Message}
 use Rattle.etcs_telegram.specs.Record.{Telegram}
 
--- the groups of a document are controlled, so the laws of sound groups hold of them
+-- the groups of a document are controlled, so the laws of sound groups apply to them
 module _ (bytes : List ℕ) (groups : List (List (List Telegram))) (ms : List Message) (is : line_of_text bytes ≡ Ok (groups, ms)) where
   controlled : AreControlled groups
   controlled = line_controlled bytes groups ms is
@@ -38,7 +38,7 @@ module _ (bytes : List ℕ) (groups : List (List (List Telegram))) (ms : List Me
       → Fits aspects shown → IsMixtureDecided run aspects shown
   mixtures_decided g aspects run shown here sound fits = sound_mixtures_are_decided run aspects shown (controlled g aspects here) sound fits
 
-  -- a sound line is what a yes says it is
+  -- what a yes states is true for a sound line
   pub sound_says_yes : IsSoundLine groups ms → SaysYes bytes groups ms
   sound_says_yes sound =
       says_yes bytes groups ms is sound
@@ -56,13 +56,13 @@ no_finding_says_yes bytes none = yes_or bytes (line_of_text bytes) refl ((no_fin
 pub counted_none : (r : Result Summary DocumentFault) (c : Summary) → r ≡ Ok c → c.1 ≡ [] → IsOkAnd r (λ checked. checked.1 ≡ [])
 counted_none r c is none = subst (λ q. IsOkAnd q (λ checked. checked.1 ≡ [])) (sym is) none
 
--- the line of which a yes says something is that of the bytes
+-- what a yes states is about the line of the bytes
 pub text_says_yes : (bytes : List ℕ) (groups : List (List (List Telegram))) (ms : List Message) → SaysYes bytes groups ms → TextSaysYes bytes
 unfolding line_of_text
 text_says_yes bytes groups ms said =
     subst (λ r. IsOkAnd r (λ line. SaysYes bytes line.0 line.1)) (sym (ap (λ r. r then line_of) said.json ∙ said.line)) said
 
--- what is found about the line of the bytes
+-- the findings about the line of the bytes
 counted_in : (bytes : List ℕ) (c : Summary) (r : Result (List (List (List Telegram)) × List Message) DocumentFault) → line_of_text bytes ≡ r
     → ((r then λ line. Ok (judged line)) then λ v. Ok (summary v)) ≡ Ok c → IsOkAnd r (λ line. NamesTheUnsound line.0 line.1 c.1)
 counted_in bytes c (Ok line) is found =

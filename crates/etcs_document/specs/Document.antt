@@ -1,8 +1,7 @@
--- The document of a railway line: a JSON object with its groups and its messages. A group is an object
--- with its balises, or one with its aspects, each of which is an object with its balises. Each balise
--- and each message is the text of its hexadecimal digits. The form is this project's. The first fault
--- is the answer, where each group and each aspect is read whole before the next, and all groups before
--- the messages.
+-- The document of a railway line: a JSON object with its groups and its messages. A group is an object with
+-- its balises, or an object with its aspects, each of which is an object with its balises. Each balise and
+-- each message is the text of its hexadecimal digits. The form is this project's. The result is the line or
+-- the first fault: groups and aspects are read one after the other, and all groups before the messages.
 use Rattle.std.specs.Prelude.{ℕ, ◌+◌, ◌++◌, ◌==◌, ◌&&◌, Bool, true, if◌then◌else◌, nat_le, nat_lt, codes, List, [], ◌∷◌, length, Option, Some, None, option_map, Result, Ok, Err}
 use Rattle.std.specs.Option.{is_some, ok_or}
 use Rattle.std.specs.Result.{result_map_both}
@@ -22,19 +21,19 @@ use Rattle.etcs_group.specs.Group.{Telegrams, Aspects}
 -- ---- one part after the other
 
 infixl 10 ◌then◌
--- what is read next, unless there was a fault
+-- the result of the next step, unless there was a fault
 abbrev pub ◌then◌ : {A B : Type 0} → Result A DocumentFault → (A → Result B DocumentFault) → Result B DocumentFault
 (Ok x) then next = next x
 (Err f) then next = Err f
 
--- a fault in the form of what stands at this path of the document
+-- a fault in the form of the value at this path of the document
 abbrev pub in_form : {A : Type 0} → List Step → Result A Fault → Result A DocumentFault
 in_form path r = result_map_both (λ x. x) (λ f. bad_form (fault f.reason (path ++ f.path))) r
 
 abbrev pub with_first : {A : Type 0} → A → Result (List A) DocumentFault → Result (List A) DocumentFault
 with_first x r = r then λ xs. Ok (x ∷ xs)
 
--- what is read of each value and its place, where the first value has this place
+-- the result of reading each value with its index; the first value has index i
 abbrev pub each_from : {A : Type 0} → (ℕ → Data → Result A DocumentFault) → ℕ → List Data → Result (List A) DocumentFault
 each_from read i [] = Ok []
 each_from read i (d ∷ ds) = read i d then λ x. with_first x (each_from read (i + 1) ds)
@@ -43,11 +42,11 @@ each_from read i (d ∷ ds) = read i d then λ x. with_first x (each_from read (
 unfoldable pub values_of : Data → Result (List Data) Fault
 values_of d = ok_or (option_map data_list (as_array d)) (here Kind)
 
--- what is read of the text at this path, where `bad` is the fault that its error is
+-- the result of reading the text at this path; `bad` makes the fault of its error
 abbrev pub text_or : {A E : Type 0} → List Step → (List ℕ → Result A E) → (E → DocumentFault) → Option (List ℕ) → Result A DocumentFault
 text_or path read bad o = ok_or o (bad_form (fault Kind path)) then λ text. result_map_both (λ x. x) bad (read text)
 
--- the list at this key of an object that has no other key
+-- the list at this key of an object without other keys
 unfoldable pub only_values : List ℕ → Data → Result (List Data) Fault
 only_values name d = object_with (name ∷ []) d >>= λ _. at_key values_of name d
 
@@ -58,29 +57,28 @@ abbrev pub path_of : ℕ → Option ℕ → List Step
 path_of g None = key (codes "groups") ∷ list_item g ∷ []
 path_of g (Some a) = key (codes "groups") ∷ list_item g ∷ key (codes "aspects") ∷ list_item a ∷ []
 
--- balise b of that group or aspect: a text, which is a telegram
+-- balise b of that group or aspect: the text of a telegram
 unfoldable pub telegram_at : ℕ → Option ℕ → ℕ → Data → Result Telegram DocumentFault
 telegram_at g a b d =
     text_or (path_of g a ++ key (codes "balises") ∷ list_item b ∷ []) telegram_of_text (bad_telegram g a b) (as_str d)
 
 -- ---- aspects
 
--- whether the aspect has as many balises as the first one; the first itself, and a group without a list of
--- aspects, may have any count
+-- whether the aspect has as many balises as the first one; the first aspect itself, and a group without a
+-- list of aspects, may have any number
 abbrev pub has_count : Option ℕ → ℕ → Bool
 has_count None count = true
 has_count (Some first) count = count == first
 
 -- The balises of group g, or of aspect a of that group: one to eight of them, and as many as the first
--- aspect has. These are looked at before the balises.
+-- aspect has. Their number is checked before the balises.
 unfoldable pub telegrams_of : ℕ → Option ℕ → Option ℕ → List Data → Result Telegrams DocumentFault
 telegrams_of g a first ds =
     if nat_lt 0 (length ds) && nat_le (length ds) 8
     then (if has_count first (length ds) then each_from (telegram_at g a) 0 ds else Err (bad_aspects g))
     else Err (bad_count g)
 
--- group g, or aspect a of that group: first its form, then the count of its balises, and then each of
--- these
+-- group g, or aspect a of that group: first its form, then the number of its balises, and then each balise
 unfoldable pub aspect_at : ℕ → Option ℕ → Option ℕ → Data → Result Telegrams DocumentFault
 aspect_at g first a d = in_form (path_of g a) (only_values (codes "balises") d) then telegrams_of g a first
 
@@ -88,7 +86,7 @@ aspect_at g first a d = in_form (path_of g a) (only_values (codes "balises") d) 
 abbrev pub others_of : ℕ → ℕ → List Data → Result Aspects DocumentFault
 others_of g count ds = each_from (λ a. aspect_at g (Some count) (Some a)) 1 ds
 
--- the aspects of group g, of which there is one or more
+-- the aspects of group g, one or more
 unfoldable pub aspects_of : ℕ → List Data → Result Aspects DocumentFault
 aspects_of g [] = Err (bad_aspects g)
 aspects_of g (d ∷ ds) = aspect_at g None (Some 0) d then λ first. with_first first (others_of g (length first) ds)
@@ -103,19 +101,19 @@ only_aspect g d = aspect_at g None None d then λ only. Ok (only ∷ [])
 unfoldable pub controlled_at : ℕ → Data → Result Aspects DocumentFault
 controlled_at g d = in_form (path_of g None) (only_values (codes "aspects") d) then aspects_of g
 
--- the aspects of group g, which has a list of them where the key `aspects` is there
+-- the aspects of group g, which has a list of them if it has the key `aspects`
 unfoldable pub group_at : ℕ → Data → Result Aspects DocumentFault
 group_at g d = if is_some (get (codes "aspects") d) then controlled_at g d else only_aspect g d
 
 -- ---- messages
 
--- message m: a text, which is a radio message
+-- message m: the text of a radio message
 unfoldable pub message_at : ℕ → Data → Result Message DocumentFault
 message_at m d = text_or (key (codes "messages") ∷ list_item m ∷ []) message_of_text (bad_message m) (as_str d)
 
 -- ---- the document
 
--- the JSON value that bytes are: UTF-8, one value, and at most 127 levels
+-- the JSON value of the bytes: UTF-8, one value, and at most 127 levels
 unfoldable pub json_of : List ℕ → Result Data DocumentFault
 json_of bytes = if is_utf8 bytes then ok_or (read bytes) no_json else Err no_json
 
@@ -137,6 +135,6 @@ line_of d =
     then (λ _. groups_of d)
     then (λ groups. messages_of d then λ messages. Ok (groups, messages))
 
--- the line of bytes, or their first fault
+-- the line of the bytes, or their first fault
 unfoldable pub line_of_text : List ℕ → Result (List Aspects × List Message) DocumentFault
 line_of_text bytes = json_of bytes then line_of

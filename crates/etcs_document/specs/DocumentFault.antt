@@ -1,4 +1,4 @@
--- What is wrong with bytes that are no document of a railway line, and where. Groups, aspects, balises
+-- The faults of bytes that are not the document of a railway line. Groups, aspects, balises
 -- and messages count from 0.
 use Rattle.std.specs.Prelude.{◌≡◌, ℕ, Option, Some, None, Result, Ok, Err, IsSomeAnd}
 use Rattle.etcs_schema.specs.Fault.{Fault, fault_of}
@@ -11,24 +11,24 @@ use Rattle.etcs_radio.specs.declared.error.RadioTextError.TheVariants as radio
 use Rattle.etcs_telegram.specs.declared.error.TextError.{TextError}
 use Rattle.etcs_telegram.specs.declared.error.TextError.TheVariants as texts
 
--- what is wrong with the bytes
+-- the fault of the bytes
 pub data DocumentFault : Type 0 where
-  -- they are no JSON
+  -- they are not JSON
   no_json : DocumentFault
-  -- the value has not the form of a line
+  -- the value does not have the form of a line
   bad_form : Fault → DocumentFault
   -- this group has no balise, or more than eight
   bad_count : ℕ → DocumentFault
-  -- this group has an empty list of aspects, or aspects whose counts of balises differ
+  -- this group has an empty list of aspects, or aspects with different numbers of balises
   bad_aspects : ℕ → DocumentFault
-  -- in this group, and in this aspect of it if it has such a list, the text of this balise is no telegram
+  -- the text of this balise, in this group, and in this aspect if it has aspects, is not a telegram
   bad_telegram : ℕ → Option ℕ → ℕ → TextError → DocumentFault
-  -- the text of this message is no message
+  -- the text of this message is not a message
   bad_message : ℕ → RadioTextError → DocumentFault
 
 -- ---- the fault of an error
 
--- reading gives the fault that the error names; want of memory names none, and stands inside no other
+-- reading gives the fault that the error names; lack of memory names none, and is contained in no other
 -- error
 abbrev pub Fails : {Y : Type 0} → LineError → Result Y DocumentFault → Type 0
 Fails errors.Memory reading = Unit {0}
@@ -48,7 +48,7 @@ abbrev pub IsOfForm : FormError → LineError → Type 0
 IsOfForm forms.Memory e = e ≡ errors.Memory
 IsOfForm form e = e ≡ errors.Form form
 
--- What a call returned, seen by `view`, is what reading gives, unless memory ran out.
+-- What a call returned, seen through `view`, is what reading gives, unless memory ran out.
 abbrev pub Gives : {X Y : Type 0} → (X → Y) → Result X LineError → Result Y DocumentFault → Type 0
 Gives view (Ok x) reading = reading ≡ Ok (view x)
 Gives view (Err e) reading = Fails e reading

@@ -1,6 +1,6 @@
 -- The document of a railway line read from the tokens of its text, and checked group by group and message by
--- message, with no value and no line built for it. A text that this reader does not know is left to the reader
--- of values.
+-- message, without building a value or a line. A text that this reader cannot decide is read by the reader of
+-- values.
 use Rattle.std.specs.Prelude.{◌≡◌, ℕ, true, List, [], ◌∷◌, codes, length, Option, Some, Ok}
 use Rattle.json.specs.Token.{Token}
 use Rattle.serde_json.specs.Data.{Data, array, no_items}
@@ -12,7 +12,7 @@ use Rattle.etcs_radio.specs.declared.message.Message.{Message}
 use Rattle.etcs_telegram.specs.Record.{Telegram}
 use Rattle.etcs_group.specs.Group.{Telegrams, Aspects}
 
--- ---- what a value is, at whatever place it stands
+-- ---- what a value is, independent of its index
 
 -- the text of this telegram
 abbrev pub IsTelegram : Data → Telegram → Type 0
@@ -47,28 +47,28 @@ IsAspects d aspects = (ds : List Data) × (values_of d ≡ Ok ds) × ((g : ℕ) 
 abbrev pub IsGroup : Data → Aspects → Type 0
 IsGroup d aspects = (g : ℕ) → group_at g d ≡ Ok aspects
 
--- ---- values that come first
+-- ---- the first values of tokens
 
--- the first value of the tokens is that of x
+-- the first value of the tokens is the value of x
 pub record IsFirst {X : Type 0} (Is : Data → X → Type 0) (depth : ℕ) (old : List Token) (x : X) (new : List Token) : Type 0 where
   pub found : Data
   pub stands : first_value depth old ≡ Some (found, new)
   pub is : Is found x
 
--- each value is that of its x
+-- each value is the value of its x
 abbrev pub AreEach : {X : Type 0} → (Data → X → Type 0) → List Data → List X → Type 0
 AreEach Is [] [] = Unit {0}
 AreEach Is [] (x ∷ xs) = ⊥
 AreEach Is (d ∷ ds) [] = ⊥
 AreEach Is (d ∷ ds) (x ∷ xs) = Is d x × AreEach Is ds xs
 
--- the first items that the tokens have are the items of xs
+-- the first items of the tokens are the items of xs
 pub record AreFirst {X : Type 0} (Is : Data → X → Type 0) (depth : ℕ) (old : List Token) (xs : List X) (new : List Token) : Type 0 where
   pub found : List Data
   pub stand : HasItems depth found old new
   pub are : AreEach Is found xs
 
--- the list of these
+-- the list of these items
 abbrev pub IsList : {X : Type 0} → (Data → X → Type 0) → Data → List X → Type 0
 IsList Is d xs = (ds : List Data) × (d ≡ array (items_onto ds no_items)) × AreEach Is ds xs
 
@@ -79,15 +79,16 @@ pub record HasGroup (depth : ℕ) (old : List Token) (aspects : Aspects) (new : 
   pub stand : HasMembers depth ((name, Some found) ∷ []) old new
   pub is : IsGroup (object_of ((name, Some found) ∷ [])) aspects
 
--- ---- what was handed to a checker
+-- ---- what was passed to a checker
 
--- Some items are read. A checker that held the one takes them, and holds the other then.
+-- Some items are read. A checker takes them, and its state changes from the first to the second.
 pub record AreTaken {X : Type 0} (AreRead : List X → Type 0) (Takes : CheckerState → List X → CheckerState → Type 0) (was is : CheckerState) : Type 0 where
   pub items : List X
   pub read : AreRead items
   pub takes : Takes was items is
 
--- The value is the document of a line. A checker holds this that has taken its groups and messages.
+-- The value is the document of a line, and `state` is the state of a checker that has taken its groups and
+-- messages.
 pub record IsChecked (d : Data) (state : CheckerState) : Type 0 where
   pub groups : List Aspects
   pub messages : List Message

@@ -1,5 +1,5 @@
--- The lines that say why an input is refused. The words are this project's. Want of memory is no reason
--- to refuse an input, and has no words.
+-- The texts of refusals. The words are this project's. Lack of memory is no reason to refuse an input, and
+-- has no text.
 use Rattle.std.specs.Prelude.{◌++◌, ℕ, List, [], codes, decimal}
 use Rattle.std.specs.Option.{option_map_or}
 use Rattle.etcs_bits.specs.layout.FaultWords.{fault_words}
@@ -19,7 +19,7 @@ use Rattle.etcs_document.specs.declared.refusal.StreamFault.TheVariants as strea
 use Rattle.etcs_document.specs.declared.refusal.Refusal.{Refusal}
 use Rattle.etcs_document.specs.declared.refusal.Refusal.TheVariants as refusals
 
--- ---- why a text is no telegram
+-- ---- why a text is not a telegram
 
 abbrev pub text_words : TextError → List ℕ
 text_words texts.Memory = []
@@ -28,13 +28,13 @@ text_words texts.WrongSize = codes "wrong size"
 text_words texts.PadBits = codes "pad bits set"
 text_words (texts.Fault fault) = fault_words fault
 
--- why a text is no radio message
+-- why a text is not a radio message
 abbrev pub radio_words : RadioTextError → List ℕ
 radio_words radio.Memory = []
 radio_words radio.NotHex = codes "not hexadecimal"
 radio_words (radio.Fault fault) = fault_words fault
 
--- ---- why a value is no form
+-- ---- why a value is not a form
 
 -- what is wrong
 abbrev pub reason_words : Reason → List ℕ
@@ -43,7 +43,7 @@ reason_words Unknown = codes "unknown key"
 reason_words Kind = codes "kind"
 reason_words Range = codes "range"
 
--- what is wrong, and where
+-- the fault, and its path
 abbrev pub form_fault_words : Fault → List ℕ
 form_fault_words f = codes "form " ++ (reason_words f.reason ++ (codes " at " ++ path_words f.path))
 
@@ -66,8 +66,7 @@ stream_words (streams.Fault fault) = fault_words fault
 stream_words streams.BelowThree = codes "length below 3"
 stream_words streams.CutOff = codes "cut off"
 
--- Why bytes are no document of a line: a group, an aspect, a balise and a message are named by their
--- places.
+-- why bytes are not the document of a line; groups, aspects, balises and messages are named by their indexes
 unfoldable pub document_words : LineError → List ℕ
 document_words documents.Memory = []
 document_words documents.NotJson = codes "not JSON"
@@ -81,7 +80,7 @@ document_words (documents.AspectTelegram g a b why) =
     codes "group " ++ (decimal g ++ (codes " aspect " ++ (decimal a ++ (codes " balise " ++ (decimal b
     ++ (codes ": " ++ text_words why))))))
 
--- the line that says why an input is refused
+-- the text of a refusal
 unfoldable pub refusal_words : Refusal → List ℕ
 refusal_words refusals.Usage = codes "refused: usage is balisecheck check, decode [--radio] or encode [--radio]\n"
 refusal_words (refusals.Line n why) = codes "refused: line " ++ (decimal n ++ (codes ": " ++ (line_words why ++ codes "\n")))

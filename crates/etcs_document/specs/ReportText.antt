@@ -1,4 +1,4 @@
--- The report of a check: whether a line has findings, and then each of them on a line of its own. The
+-- The report of a check: whether a line has findings, and then each finding on a line of its own. The
 -- words are this project's.
 use Rattle.std.specs.Prelude.{◌++◌, ℕ, List, [], ◌∷◌, codes, decimal, length, flat_map, Option, Some, None}
 use Rattle.etcs_packet.specs.declared.run.Run.{Run}
@@ -11,7 +11,7 @@ use Rattle.etcs_check.specs.declared.finding.Site.TheVariants as sites
 
 -- ---- the rules
 
--- the number of a rule, and the name of what it finds
+-- the number of a rule, and the name of its findings
 unfoldable pub rule_words : Rule → List ℕ × List ℕ
 rule_words rules.PositionWrong = (codes "F1", codes "position wrong")
 rule_words rules.TotalWrong = (codes "F2", codes "total wrong")
@@ -30,25 +30,25 @@ rule_words rules.IdentityUsed = (codes "F14", codes "identity used before")
 rule_words rules.MarksDiffer = (codes "F15", codes "marks differ between aspects")
 rule_words rules.NotToldApart = (codes "F16", codes "aspects not told apart")
 
--- ---- where a finding stands
+-- ---- the location of a finding
 
 -- the group or the message
 unfoldable pub site_words : Site → List ℕ
 site_words (sites.Group g) = codes " group " ++ decimal g
 site_words (sites.Message m) = codes " message " ++ decimal m
 
--- the aspect, the balise or the packet, where the finding has one: its word, and its number
+-- the aspect, the balise or the packet, if the finding has one: its word, and its number
 unfoldable pub part_words : List ℕ → Option ℕ → List ℕ
 part_words word None = []
 part_words word (Some n) = codes " " ++ (word ++ (codes " " ++ decimal n))
 
--- the running direction, where the finding has one
+-- the running direction, if the finding has one
 unfoldable pub direction_words : Option Run → List ℕ
 direction_words None = []
 direction_words (Some runs.Nominal) = codes " nominal"
 direction_words (Some runs.Reverse) = codes " reverse"
 
--- the way from the line to what is at fault, and the running direction
+-- the location in the line, and the running direction
 unfoldable pub place_words : Finding → List ℕ
 place_words f =
     site_words f.site
@@ -57,7 +57,7 @@ place_words f =
 
 -- ---- the lines
 
--- the line for a finding: its number, where it stands, and its name
+-- the line for a finding: its number, its location, and its name
 unfoldable pub finding_words : Finding → List ℕ
 finding_words f =
     (rule_words f.rule).0 ++ (place_words f ++ (codes ": " ++ ((rule_words f.rule).1 ++ codes "\n")))
@@ -66,7 +66,7 @@ finding_words f =
 abbrev pub findings_words : List Finding → List ℕ
 findings_words found = flat_map finding_words found
 
--- The report on a line, given the counts of its groups and messages: yes where nothing is found, and else
+-- The report on a line, given the counts of its groups and messages: yes if there are no findings, otherwise
 -- no and each finding.
 unfoldable pub report_words : ℕ → ℕ → List Finding → List ℕ
 report_words groups messages [] =

@@ -1,4 +1,4 @@
--- A text's tokens, read from the bytes that are left of it.
+-- A text's tokens, read from its remaining bytes.
 use Rattle.std.specs.Prelude.{◌≡◌, ℕ, ◌==◌, List, Bool, true, false, not, if◌then◌else◌, get_or}
 use Rattle.std.specs.List.{list_all, prefix_len}
 use Rattle.json.specs.Lex.{between, lex, fresh, after_value, after_comma, punctuate}
@@ -9,34 +9,34 @@ use Rattle.etcs_document.specs.declared.token_reader.Place.TheVariants.{Fresh, A
 use Rattle.etcs_document.specs.declared.token_reader.TextKind.{TextKind}
 use Rattle.etcs_document.specs.declared.token_reader.TextKind.TheVariants.{Telegram, Message}
 
--- the tokens of the bytes that are left, at this place
+-- the tokens of the remaining bytes, in this state
 abbrev pub tokens_at : Place → List ℕ → List Token
 tokens_at Fresh rest = punctuate fresh (lex between rest)
 tokens_at AfterValue rest = punctuate after_value (lex between rest)
 tokens_at AfterComma rest = punctuate after_comma (lex between rest)
 
--- a value or a key may begin at this place
+-- a value or a key may begin in this state
 abbrev pub begins_at : Place → Bool
 begins_at Fresh = true
 begins_at AfterValue = false
 begins_at AfterComma = true
 
--- a mark may stand there that closes a list or an object
+-- a list or an object may end in this state
 abbrev pub closes_at : Place → Bool
 closes_at Fresh = true
 closes_at AfterValue = true
 closes_at AfterComma = false
 
--- each byte stands for itself in a string
+-- no byte needs an escape in a string
 abbrev pub ArePlain : List ℕ → Type 0
 ArePlain text = list_all is_plain text ≡ true
 
--- how many bytes stand before the first quote
+-- the number of bytes in front of the first quote
 abbrev pub quote_place : List ℕ → ℕ
 quote_place bytes = prefix_len (λ b. not (b == 34)) bytes
 
--- how many bytes a text of this kind has, of which these are the rest behind the first quote; those of telegrams
--- have 54 or 208
+-- the length of a text of this kind, given the bytes after its opening quote; texts of telegrams have 54 or
+-- 208 bytes
 abbrev pub text_len : TextKind → List ℕ → ℕ
 text_len Telegram begun = if get_or begun 54 0 == 34 then 54 else 208
 text_len Message begun = quote_place begun

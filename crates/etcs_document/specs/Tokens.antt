@@ -1,4 +1,4 @@
--- Values, members and items read from the tokens of a text, with no JSON value built for them.
+-- Values, members and items read from the tokens of a text, without building a JSON value.
 use Rattle.std.specs.Prelude.{◌≡◌, ◌≤◌, ℕ, List, [], ◌∷◌, length, Option, Some, option_and_then}
 use Rattle.json.specs.Json.{items, members, value}
 use Rattle.json.specs.Token.{Token}
@@ -8,13 +8,13 @@ use Rattle.etcs_schema.specs.Entries.{Entry, members_onto}
 
 -- ---- one value
 
--- the first value of the tokens, nested no deeper than `depth`
+-- the first value of the tokens, nested at most `depth` deep
 abbrev pub first_value : ℕ → List Token → Option (Data × List Token)
 first_value depth tokens = converted of_json (value depth tokens)
 
 -- ---- the members of an object
 
--- these entries are the first members that the tokens have
+-- these entries are the first members of the tokens
 pub record HasMembers (depth : ℕ) (es : List Entry) (old new : List Token) : Type 0 where
   pub one_by_one : (ms : Members) (turns : ℕ) → length old ≤ turns → (left : ℕ) × (length new ≤ left)
       × (converted (λ r. of_members r ms) (members (value depth) turns old)
@@ -29,7 +29,7 @@ items_onto (d ∷ ds) rest = item d (items_onto ds rest)
 abbrev pub items_after : List Data → Option (Items × List Token) → Option (Items × List Token)
 items_after ds found = option_and_then (λ p. Some (items_onto ds p.0, p.1)) found
 
--- these values are the first items that the tokens have
+-- these values are the first items of the tokens
 pub record HasItems (depth : ℕ) (ds : List Data) (old new : List Token) : Type 0 where
   pub one_by_one : (turns : ℕ) → length old ≤ turns → (left : ℕ) × (length new ≤ left)
       × (converted of_items (items (value depth) turns old) ≡ items_after ds (converted of_items (items (value depth) left new)))

@@ -1,4 +1,4 @@
--- What a yes says of bytes: they are the document of a line, and the line is sound.
+-- What a yes states about bytes: they are the document of a line, and the line is sound.
 use Rattle.std.specs.Prelude.{◌≡◌, ◌↔◌, ℕ, Bool, List, [], length, Option, Some, Result, Ok, codes, filter, option_and_then, IsOkAnd, IsSomeAnd}
 use Rattle.std.specs.Option.{option_map_or}
 use Rattle.serde_json.specs.Data.{Data}
@@ -41,7 +41,7 @@ judged line = (line, findings line.0 line.1)
 abbrev pub verdict_of_text : List ℕ → Result Judged DocumentFault
 verdict_of_text bytes = line_of_text bytes then λ line. Ok (judged line)
 
--- how many groups and messages a line has, and all its findings
+-- the numbers of groups and messages of a line, and all its findings
 abbrev pub Summary : Type 0
 Summary = (ℕ × ℕ) × List Finding
 
@@ -52,7 +52,7 @@ summary verdict = ((length verdict.0.0, length verdict.0.1), verdict.1)
 abbrev pub summary_of_text : List ℕ → Result Summary DocumentFault
 summary_of_text bytes = verdict_of_text bytes then λ verdict. Ok (summary verdict)
 
--- the answer is yes: there is a verdict, and no fact stands against the line
+-- the answer is yes: there is a verdict, and no fact against the line
 abbrev pub IsYes : Result Verdict LineError → Type 0
 IsYes answer = IsOkAnd answer (λ verdict. verdict.findings.items ≡ [])
 
@@ -60,14 +60,14 @@ IsYes answer = IsOkAnd answer (λ verdict. verdict.findings.items ≡ [])
 abbrev pub IsSoundText : List ℕ → Type 0
 IsSoundText bytes = IsOkAnd (line_of_text bytes) (λ line. IsSoundLine line.0 line.1)
 
--- the bytes are a line, and the findings of the list name exactly what is not sound in it
+-- the bytes are a line, and the findings of the list name what is not sound in it, and only that
 abbrev pub NamesTheUnsoundIn : List ℕ → List Finding → Type 0
 NamesTheUnsoundIn bytes found = IsOkAnd (line_of_text bytes) (λ line. NamesTheUnsound line.0 line.1 found)
 
--- ---- each text is that of exactly one telegram or message, its record
+-- ---- each text is the text of exactly one telegram or message, its record
 
 -- the object with the balises of aspect a of a group: an item of its aspects if it has such a list, and
--- else the group itself
+-- otherwise the group itself
 abbrev pub aspect_in : ℕ → Data → Option Data
 aspect_in a group = option_map_or (at a) (get (codes "aspects") group) (Some group)
 
@@ -85,12 +85,12 @@ balise_text d g a b =
 abbrev pub message_text : Data → ℕ → Option (List ℕ)
 message_text d m = text_in (codes "messages") m d
 
--- the text is that of this record, and of no other
+-- the text is the text of this record, and of no other
 pub record IsOnlyTextOf {X : Type 0} (Is : X → List ℕ → Type 0) (x : X) (text : List ℕ) : Type 0 where
   pub is : Is x text
   pub only : (y : X) → Is y text → y ≡ x
 
--- ---- what a yes says
+-- ---- what a yes states
 
 -- In each running direction each movement authority among the packets of message 3 that hold has
 -- gradient and speed profiles, all up to its supervised location.
@@ -98,24 +98,24 @@ abbrev pub IsReachedMessage : Message → Type 0
 IsReachedMessage (messages.Movement m) = (run : Run) → AreReached (filter (holds run) m.packets)
 IsReachedMessage (messages.Position m) = Unit {0}
 
--- In each group a mixture is accepted exactly where it is covered and some aspect has, at their places, all
+-- In each group a mixture is accepted if and only if it is covered and some aspect has, at their places, all
 -- the telegrams that it shows; its packets are then the packets of that aspect with nothing missed.
 abbrev pub AreMixturesDecided : List Aspects → Type 0
 AreMixturesDecided groups = (g : ℕ) (aspects : Aspects) (run : Run) (shown : ℕ → Option ℕ)
     → At groups g aspects → Fits aspects shown → IsMixtureDecided run aspects shown
 
--- The message assembled from an aspect, where a train has missed these balises: it is accepted exactly where
--- their declared duplicates are read. It then equals that with nothing missed, and is reached.
+-- The message assembled from an aspect, if a train has missed these balises: it is accepted if and only if
+-- their declared duplicates are read. It then equals the message with nothing missed, and is reached.
 pub record IsSoundIfCovered (group : Telegrams) (run : Run) (missed : ℕ → Bool) : Type 0 where
   pub accepted : IsCovered group missed ↔ IsAccepted run (reading_of run missed group)
   pub sound : IsCovered group missed → IsSoundReading group run missed
 
 -- Every telegram and message of the line has exactly one record. For each aspect of every group, running
--- direction and set of missed balises whose declared duplicates are read, the assembled message is
--- accepted and equals that with nothing missed, every other set being refused. There, as among the packets
--- of each message 3 that hold, every movement authority has gradient and speed profiles, all reaching at
--- least its supervised location. Mixtures of aspects are decided. And the line is sound, so no two groups
--- have the same identity.
+-- direction and set of missed balises whose declared duplicates are read, the assembled message is accepted
+-- and equals the message with nothing missed. Every other set is refused. In these messages, and among the
+-- packets of each message 3 that hold, every movement authority has gradient and speed profiles, all reaching
+-- at least its supervised location. Mixtures of aspects are decided. The line is sound, so no two groups have
+-- the same identity.
 pub record SaysYes (bytes : List ℕ) (groups : List Aspects) (messages : List Message) : Type 0 where
   pub document : Data
   pub json : json_of bytes ≡ Ok document
@@ -132,6 +132,6 @@ pub record SaysYes (bytes : List ℕ) (groups : List Aspects) (messages : List M
   pub messages_reached : (i : ℕ) (m : Message) → At messages i m → IsReachedMessage m
   pub sound : IsSoundLine groups messages
 
--- The bytes are a line of which all of this is true.
+-- The bytes are a line for which all of this is true.
 abbrev pub TextSaysYes : List ℕ → Type 0
 TextSaysYes bytes = IsOkAnd (line_of_text bytes) (λ line. SaysYes bytes line.0 line.1)

@@ -1,4 +1,4 @@
-//! The document of a railway line, read.
+//! Reads the document of a railway line.
 
 ghost use Rattle.std.specs.Prelude.{◌≡◌, [], false};
 ghost use Rattle.std.specs.Str.{is_utf8};
@@ -31,7 +31,7 @@ fn read_json(alloc: Global, bytes: &[u8]) -> Result<Value, LineError>
     }
 }
 
-// Reads the line of a document: the groups, and then the messages.
+// Reads the railway line of a document: the groups, and then the messages.
 #[tactic(auto, unfolding(crate::specs::Document::line_of))]
 fn read_document(alloc: Global, value: &Value) -> Result<Line, LineError>
     ensures { Gives (λ l. (l.groups.items, l.messages.items)) result (line_of (view value.now)) }
@@ -44,20 +44,19 @@ fn read_document(alloc: Global, value: &Value) -> Result<Line, LineError>
 
 /// Reads the document of a railway line: `{"groups":[{"balises":["TEXT"]}],"messages":["TEXT"]}`,
 /// where each text is the hexadecimal digits of a telegram or of a radio message. A group that a
-/// lineside unit switches is `{"aspects":[{"balises":["TEXT"]}]}`, with each content that it shows.
+/// lineside unit switches is `{"aspects":[{"balises":["TEXT"]}]}`, with one item for each aspect.
 /// (The form is this project's.)
 ///
-/// The error is the first fault, depth first: `NotJson`; then the document's own form; then each group
-/// whole before the next, which is its form, the count of its balises and each of these, or its list
-/// of aspects, each whole before the next; and only then the messages. An aspect's count is compared
-/// with that of aspect 0 before its balises are looked at. The one error besides is that memory ran out.
-/// A fault may then go unseen, but not that there are no bytes, or that they are not UTF-8. After an error
-/// nothing is returned of what was read.
+/// The error is the first fault, depth first: `NotJson`; then the form of the document; then group by group
+/// its form, the number of its balises and each balise, or its list of aspects, aspect by aspect; and only
+/// then the messages. The number of balises of an aspect is compared with aspect 0 before its balises are
+/// read. The only other error is that memory ran out. A fault might then be unreported, except that the input
+/// is empty or not UTF-8. After an error nothing is returned of what was read.
 #[tactic(auto, unfolding(crate::specs::Document::line_of_text))]
 pub fn read_line(alloc: Global, bytes: &[u8]) -> Result<Line, LineError>
     ensures exact { Gives (λ l. (l.groups.items, l.messages.items)) result (line_of_text bytes.now) }
 
-    // An empty input is not JSON, nor is one that is not UTF-8, whatever memory there is.
+    // An empty input and an input that is not UTF-8 are not JSON, even if memory is short.
     ensures empty { bytes.now ≡ [] → result ≡ Err LineError.NotJson }
     ensures unreadable { is_utf8 bytes.now ≡ false → result ≡ Err LineError.NotJson }
 {

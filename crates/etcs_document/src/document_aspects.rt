@@ -13,7 +13,7 @@ use etcs_telegram::{Telegram, TextError, from_hex};
 use serde_json::Value;
 use std::alloc::Global;
 
-// Reads a balise of the group, or of an aspect of the group: a text, which is a telegram.
+// Reads a balise of the group, or of an aspect of the group: the text of a telegram.
 #[tactic(auto, unfolding(crate::specs::Document::telegram_at))]
 fn read_telegram(
     alloc: Global,
@@ -37,8 +37,7 @@ fn read_telegram(
     }
 }
 
-// Reads balises, one after the other. All of them are kept, so their lists of packets give back the room
-// that they do not need.
+// Reads balises, one after the other. Their lists of packets are shrunk to fit, because all of them are kept.
 fn read_telegrams(
     alloc: Global,
     group: usize,
@@ -58,7 +57,7 @@ fn read_telegrams(
     Ok(telegrams)
 }
 
-// Whether there are as many as the first aspect has.
+// Whether an aspect has as many balises as the first one.
 fn is_count(first: Option<usize>, count: usize) -> bool
     ensures { result ≡ has_count first count }
 {
@@ -68,8 +67,8 @@ fn is_count(first: Option<usize>, count: usize) -> bool
     }
 }
 
-// Reads the balises of the group, or of an aspect of the group. Their count comes before them: it is
-// one to eight, and that of the first aspect.
+// Reads the balises of the group, or of an aspect of the group. Their number is checked first: it is
+// one to eight, and the number in the first aspect.
 #[tactic(auto, unfolding(crate::specs::Document::telegrams_of))]
 fn read_counted(
     alloc: Global,
@@ -93,8 +92,7 @@ fn read_counted(
     }
 }
 
-/// Reads the group, or the aspect of the group: its form, the count of its balises, and then each of
-/// these.
+/// Reads the group, or the aspect of the group: its form, the number of its balises, and then each balise.
 #[tactic(auto, unfolding(crate::specs::Document::aspect_at))]
 pub(crate) fn read_aspect(
     alloc: Global,

@@ -35,7 +35,7 @@ fn read_others(
     Ok(aspects)
 }
 
-// Reads the aspects of the group at this place, each whole before the next.
+// Reads the aspects of the group at this index, one after the other.
 #[tactic(auto, unfolding(crate::specs::Document::aspects_of))]
 fn read_aspects(alloc: Global, group: usize, values: &[Value]) -> Result<Controlled, LineError>
     ensures { Gives (λ c. c) result (aspects_of group (map view values.now)) }
@@ -52,7 +52,7 @@ fn read_aspects(alloc: Global, group: usize, values: &[Value]) -> Result<Control
     }
 }
 
-// Reads the group at this place, which has a list of aspects.
+// Reads the group at this index, which has a list of aspects.
 #[tactic(auto, unfolding(crate::specs::Document::controlled_at))]
 fn read_controlled(alloc: Global, place: usize, value: &Value) -> Result<Controlled, LineError>
     ensures { Gives (λ c. c) result (controlled_at place (view value.now)) }
@@ -76,7 +76,7 @@ pub(crate) fn as_only_aspect(alloc: Global, group: Group) -> Result<Controlled, 
     }
 }
 
-// Reads the group at this place, which has balises.
+// Reads the group at this index, which has balises.
 #[tactic(auto, unfolding(crate::specs::Document::only_aspect))]
 fn read_uncontrolled(alloc: Global, place: usize, value: &Value) -> Result<Controlled, LineError>
     ensures { Gives (λ c. c) result (only_aspect place (view value.now)) }
@@ -85,7 +85,7 @@ fn read_uncontrolled(alloc: Global, place: usize, value: &Value) -> Result<Contr
     as_only_aspect(alloc, group)
 }
 
-// Reads the group at this place: one with the key `aspects` if it is there, and else one with balises.
+// Reads the group at this index: with aspects if it has the key `aspects`, otherwise with balises.
 #[tactic(auto, unfolding(crate::specs::Document::group_at))]
 fn read_group(alloc: Global, place: usize, value: &Value) -> Result<Controlled, LineError>
     ensures { Gives (λ c. c) result (group_at place (view value.now)) }
@@ -110,7 +110,7 @@ fn read_each(alloc: Global, values: &[Value]) -> Result<Vec<Controlled>, LineErr
     Ok(groups)
 }
 
-/// Reads the groups of a document, each whole before the next.
+/// Reads the groups of a document, one after the other.
 #[tactic(auto, unfolding(crate::specs::Document::groups_of))]
 pub(crate) fn read_groups(alloc: Global, value: &Value) -> Result<Vec<Controlled>, LineError>
     ensures { Gives (λ v. v.items) result (groups_of (view value.now)) }

@@ -12,7 +12,7 @@ use etcs_schema::{FormError, Step};
 use serde_json::Value;
 use std::alloc::Global;
 
-// Reads the message at this place: a text, which is a radio message.
+// Reads the message at this index: the text of a radio message.
 #[tactic(auto, unfolding(crate::specs::Document::message_at))]
 fn read_message(alloc: Global, place: usize, value: &Value) -> Result<Message, LineError>
     ensures { Gives (λ m. m) result (message_at place (view value.now)) }

@@ -1,4 +1,4 @@
-//! The lists of a document, before their values are looked at.
+//! The lists of a document, before their values are read.
 
 ghost use Rattle.std.specs.Prelude.{map};
 ghost use Rattle.serde_json.specs.View.{view};
@@ -21,7 +21,7 @@ fn values<'a>(alloc: Global, value: &'a Value) -> Result<&'a [Value], FormError>
     }
 }
 
-/// The values in the list at a key that has to be there.
+/// The values in the list at a required key.
 #[tactic(auto, using(etcs_schema::proofs::Objects::fails_as, etcs_schema::proofs::Objects::fails_under), unfolding(etcs_schema::specs::Reading::at_key))]
 pub(crate) fn values_at<'a>(
     alloc: Global,
@@ -39,7 +39,7 @@ pub(crate) fn values_at<'a>(
     }
 }
 
-/// The values in the list at this key of an object that has no other key.
+/// The values in the list at this key of an object without other keys.
 #[tactic(auto, unfolding(crate::specs::Document::only_values))]
 pub(crate) fn only_values<'a>(
     alloc: Global,

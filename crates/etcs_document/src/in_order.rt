@@ -1,5 +1,5 @@
-//! The document of a railway line, checked group by group as it is read. Where a function here answers no, it says
-//! nothing about the document.
+//! Streaming check: reads the document of a railway line and checks it group by group. `None` means
+//! undecided, not refused.
 
 ghost use Rattle.std.specs.Prelude.{◌≡◌, ◌∷◌, [], false, List, codes, Ok, Some, IfOk, IfSome, IsTrue};
 ghost use Rattle.std.specs.Str.{is_utf8};
@@ -19,21 +19,21 @@ use crate::token_reader::TokenReader;
 use etcs_check::{Finding, LineChecker};
 use std::alloc::Global;
 
-// How deep a document may nest.
+// The greatest depth of nesting in a document.
 const DEPTH: usize = 127;
 
-/// What is found about a line whose records were not kept.
+/// The result of a streaming check: the counts of a line, whose records were not kept, and its findings.
 #[derive(Debug, Drop)]
 pub struct Checked {
-    /// How many groups the line has.
+    /// The number of groups of the line.
     pub groups: usize,
-    /// How many messages the line has.
+    /// The number of messages of the line.
     pub messages: usize,
     /// All facts against the line, in the order of [`Verdict`](crate::Verdict).
     pub findings: Vec<Finding>,
 }
 
-// Reads the next group, and hands it to the checker.
+// Reads the next group, and passes it to the checker.
 fn next_group(
     alloc: Global,
     reader: &mut TokenReader<'_>,
@@ -49,7 +49,7 @@ fn next_group(
     checker.group(alloc, &group).is_ok()
 }
 
-// Reads groups up to the end of their list, and hands each to the checker.
+// Reads groups up to the end of their list, and passes each to the checker.
 fn each_group(
     alloc: Global,
     reader: &mut TokenReader<'_>,
@@ -68,7 +68,7 @@ fn each_group(
     true
 }
 
-// Reads the list of groups, and hands each to the checker.
+// Reads the list of groups, and passes each to the checker.
 fn groups(
     alloc: Global,
     reader: &mut TokenReader<'_>,
@@ -84,7 +84,7 @@ fn groups(
     each_group(alloc, reader, depth - 1, checker)
 }
 
-// Reads the next message, and hands it to the checker.
+// Reads the next message, and passes it to the checker.
 fn next_message(
     alloc: Global,
     reader: &mut TokenReader<'_>,
@@ -100,7 +100,7 @@ fn next_message(
     checker.message(alloc, &message).is_ok()
 }
 
-// Reads messages up to the end of their list, and hands each to the checker.
+// Reads messages up to the end of their list, and passes each to the checker.
 fn each_message(
     alloc: Global,
     reader: &mut TokenReader<'_>,
@@ -119,7 +119,7 @@ fn each_message(
     true
 }
 
-// Reads the list of messages, and hands each to the checker.
+// Reads the list of messages, and passes each to the checker.
 fn messages(
     alloc: Global,
     reader: &mut TokenReader<'_>,
@@ -135,7 +135,7 @@ fn messages(
     each_message(alloc, reader, depth - 1, checker)
 }
 
-// Reads the groups, whose key was passed, and then the messages.
+// Reads the groups, whose key was read, and then the messages.
 fn groups_first(
     alloc: Global,
     reader: &mut TokenReader<'_>,
@@ -151,7 +151,7 @@ fn groups_first(
     messages(alloc, reader, depth, checker)
 }
 
-// Reads the messages, whose key was passed, and then the groups.
+// Reads the messages, whose key was read, and then the groups.
 fn messages_first(
     alloc: Global,
     reader: &mut TokenReader<'_>,
@@ -167,7 +167,7 @@ fn messages_first(
     groups(alloc, reader, depth, checker)
 }
 
-// Reads the two members of a document, in whichever order they stand.
+// Reads the two members of a document, in either order.
 fn members(
     alloc: Global,
     reader: &mut TokenReader<'_>,
@@ -185,7 +185,7 @@ fn members(
     false
 }
 
-// Reads a document, and hands its groups and messages to the checker.
+// Reads a document, and passes its groups and messages to the checker.
 fn document(
     alloc: Global,
     reader: &mut TokenReader<'_>,
@@ -201,7 +201,7 @@ fn document(
     members(alloc, reader, depth - 1, checker) && reader.pass_end()
 }
 
-// What a checker has found.
+// The result of a checker.
 fn found_by(checker: LineChecker) -> Option<Checked>
     ensures { IfSome result (λ c. (gs : List Aspects) (ms : List SomeMessage)
         → HasChecked checker gs ms → ((c.groups, c.messages), c.findings.items) ≡ summary (judged (gs, ms))) }
@@ -218,8 +218,8 @@ fn found_by(checker: LineChecker) -> Option<Checked>
     }
 }
 
-/// Reads and checks a document group by group and message by message. `None` says nothing about the bytes; the caller
-/// then asks [`check_text`].
+/// Reads and checks a document group by group and message by message. `None` is inconclusive; the caller
+/// then calls [`check_text`].
 pub(crate) fn quick_check(alloc: Global, bytes: &[u8]) -> Option<Checked>
     ensures { IfSome result
         (λ c. summary_of_text bytes.now ≡ Ok ((c.groups, c.messages), c.findings.items)) }
@@ -235,27 +235,27 @@ pub(crate) fn quick_check(alloc: Global, bytes: &[u8]) -> Option<Checked>
     found_by(checker)
 }
 
-/// Checks the document of a railway line as [`check_text`] does, but keeps no group and no message: only their counts,
-/// and what is found about them.
+/// Checks the document of a railway line as [`check_text`] does, but keeps no group and no message: only
+/// their counts, and the findings.
 ///
-/// A document in which no key stands twice and no string has an escape is read group by group and message by message,
-/// in either order of the two lists. That takes memory for the identities, the findings, and the records of one group
-/// or message at a time. Any other document is read as by [`check_text`]. So is one that is refused, and one for which
-/// memory ran out.
+/// A document without repeated keys and without escapes in strings is read group by group and message by
+/// message, in either order of the two lists. This takes memory for the identities, the findings, and the
+/// records of one group or message at a time. [`check_text`] reads any other document, a document that is
+/// refused, and a document for which memory ran out.
 ///
-/// The error is that of [`check_text`]. After an error neither counts nor findings are returned.
+/// The errors are the same as for [`check_text`]. After an error neither counts nor findings are returned.
 pub fn check_in_order(alloc: Global, bytes: &[u8]) -> Result<Checked, LineError>
     ensures exact { Gives (λ c. ((c.groups, c.messages), c.findings.items)) result
         (summary_of_text bytes.now) }
 
-    // Where nothing is found, the bytes are a line of which all is true that a yes says.
+    // Without findings, the bytes are a line for which everything that a yes states is true.
     ensures says { IfOk result (λ c. c.findings.items ≡ [] → TextSaysYes bytes.now) }
 
-    // A group or a message is sound exactly where no finding names it, whatever is found elsewhere. Of two
-    // groups with one identity the later one is named.
+    // A group or a message is sound if and only if no finding names it, whatever is found elsewhere.
+    // Exception: of two groups with the same identity the later one is named.
     ensures unnamed { IfOk result (λ c. NamesTheUnsoundIn bytes.now c.findings.items) }
 
-    // An empty input is not JSON, nor is one that is not UTF-8, whatever memory there is.
+    // An empty input and an input that is not UTF-8 are not JSON, even if memory is short.
     ensures empty { bytes.now ≡ [] → result ≡ Err LineError.NotJson }
     ensures unreadable { is_utf8 bytes.now ≡ false → result ≡ Err LineError.NotJson }
 {

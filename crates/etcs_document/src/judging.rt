@@ -1,4 +1,4 @@
-//! The document of a railway line, checked.
+//! Checks the document of a railway line.
 
 ghost use Rattle.std.specs.Prelude.{◌≡◌, ◌≢◌, ◌↔◌, ℕ, Bool, false, [], Option, IfOk};
 ghost use Rattle.std.specs.Str.{is_utf8};
@@ -19,18 +19,19 @@ use crate::verdict::Verdict;
 use etcs_check::check;
 use std::alloc::Global;
 
-/// Reads the document of a railway line, and finds all facts against the line. Where none is found,
-/// the answer is yes: every telegram and message of the line has exactly one record, and for each
-/// aspect of every group, running direction and set of missed balises whose declared duplicates are
-/// read, the assembled message is accepted and equals that with nothing missed, every other set being
-/// refused; there, as in each radio message, every movement authority has gradient and speed profiles,
-/// all reaching at least its supervised location.
+/// Reads the document of a railway line, and finds all facts against the line. Without findings the answer is
+/// yes:
 ///
-/// Where a unit switches a group while a train passes, the train reads a mixture of aspects. A yes also
-/// says that a mixture is accepted exactly where it is covered and one aspect has, at their places, all
-/// the telegrams that it shows. Its packets are then those of that aspect with nothing missed.
+/// - Every telegram and message of the line has exactly one record.
+/// - For each aspect of every group, running direction and set of missed balises whose declared duplicates are read,
+///   the assembled message is accepted and equals the message with nothing missed. Every other set is refused.
+/// - In these messages and in each radio message, every movement authority has gradient and speed profiles, and all
+///   of them reach its supervised location.
+/// - If a lineside unit switches a group while a train passes, the train reads a mixture of aspects. A mixture is
+///   accepted if and only if it is covered and one aspect has, at their indexes, all the telegrams that it shows. Its
+///   packets are then the packets of that aspect with nothing missed.
 ///
-/// The error is that of [`read_line`]. Findings take memory too. After an error neither line nor
+/// The errors are the same as for [`read_line`]. Findings need memory too. After an error neither line nor
 /// findings are returned.
 pub fn check_text(alloc: Global, bytes: &[u8]) -> Result<Verdict, LineError>
     ensures exact { Gives (λ v. ((v.line.groups.items, v.line.messages.items), v.findings.items)) result
@@ -41,22 +42,22 @@ pub fn check_text(alloc: Global, bytes: &[u8]) -> Result<Verdict, LineError>
     ensures says { IfOk result (λ v. v.findings.items ≡ []
         → SaysYes bytes.now v.line.groups.items v.line.messages.items) }
 
-    // A group or a message is sound exactly where no finding names it, whatever is found elsewhere. Of two
-    // groups with one identity the later one is named.
+    // A group or a message is sound if and only if no finding names it, whatever is found elsewhere.
+    // Exception: of two groups with the same identity the later one is named.
     ensures unnamed { IfOk result (λ v. NamesTheUnsoundIn bytes.now v.findings.items) }
 
-    // Each reading of a sound aspect is accepted or refused by what was missed alone, whatever else is found.
+    // Only what was missed decides whether a reading of a sound aspect is accepted, whatever else is found.
     ensures decided { IfOk result (λ v. (g a : ℕ) (aspects : Aspects) (group : Telegrams)
         (run : Run) (missed : ℕ → Bool) → At v.line.groups.items g aspects → At aspects a group
         → IsSoundGroup group → IsSetOf group missed → IsDecided run group missed (reading_of run missed group)) }
 
-    // A mixture of a sound group's aspects is accepted exactly where it is covered and one aspect has all
+    // A mixture of a sound group's aspects is accepted if and only if it is covered and one aspect has all
     // that it shows, whatever else is found. Its packets are then the packets of that aspect.
     ensures mixtures { IfOk result (λ v. (g : ℕ) (aspects : Aspects) (run : Run)
         (shown : ℕ → Option ℕ) → At v.line.groups.items g aspects → IsSoundControlled aspects
         → Fits aspects shown → IsMixtureDecided run aspects shown) }
 
-    // An empty input is not JSON, nor is one that is not UTF-8, whatever memory there is.
+    // An empty input and an input that is not UTF-8 are not JSON, even if memory is short.
     ensures empty { bytes.now ≡ [] → result ≡ Err LineError.NotJson }
     ensures unreadable { is_utf8 bytes.now ≡ false → result ≡ Err LineError.NotJson }
 {

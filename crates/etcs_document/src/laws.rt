@@ -4,20 +4,20 @@ ghost use Rattle.etcs_document.specs.Laws.{NoFindingMeansSoundText, NoFindingSay
 
 use etcs_check::laws::no_finding_means_sound_line;
 
-/// Bytes are read as a line without a finding exactly if they are the document of a sound line.
-/// [`check_text`](crate::check_text) and [`check_in_order`](crate::check_in_order) answer what this
-/// reading gives, unless memory runs out.
+/// Bytes are read as a line without a finding if and only if they are the document of a sound line.
+/// [`check_text`](crate::check_text) and [`check_in_order`](crate::check_in_order) return the result of this
+/// reading, unless memory runs out.
 pub fn no_finding_means_sound_text()
     ensures { NoFindingMeansSoundText }
 {
     no_finding_means_sound_line();
 }
 
-/// Of bytes that are read as a line without a finding, all is true that a yes says: every telegram and
-/// message of the line has exactly one record, and for each aspect of every group, running direction and
+/// If bytes are read as a line without a finding, everything that a yes states is true: every telegram and
+/// message of the line has exactly one record. For each aspect of every group, running direction and
 /// set of missed balises whose declared duplicates are read, the assembled message is accepted and equals
-/// that with nothing missed, every other set being refused; there, as in each radio message, every movement
-/// authority has gradient and speed profiles, all reaching at least its supervised location.
+/// the message with nothing missed. Every other set is refused. In these messages and in each radio message,
+/// every movement authority has gradient and speed profiles, and all of them reach its supervised location.
 pub fn no_finding_says_yes()
     ensures { NoFindingSaysYes }
 {}

@@ -1,12 +1,11 @@
-//! The document of a railway line, read and checked, and the texts of what is found.
+//! Reads and checks the document of a railway line, and writes the texts of findings and refusals.
 //!
-//! [`read_line`] reads the document, and [`check_text`] finds all facts against the line: of these read
-//! `document.rt` first, with `specs/Document.antt`, and then `specs/Verdict.antt`, which states what a
-//! yes says. [`check_in_order`] checks a document group by group, and builds no JSON value. Its answer
-//! is that of [`check_text`], to which it leaves what it does not know (`in_order.rt`,
-//! `specs/DocumentTokens.antt`).
-//! [`report`] says what is found about a line, and [`refusal_text`] why an input is refused. The names of this
-//! crate and of `etcs_json` are exported by `etcs_form`.
+//! [`read_line`] reads the document, and [`check_text`] finds all facts against the line. Read `document.rt`
+//! first, with `specs/Document.antt`, and then `specs/Verdict.antt`, which defines what a yes states.
+//! [`check_in_order`] checks a document group by group, and builds no JSON value. It gives the same answer as
+//! [`check_text`], and calls it for what it cannot decide (`in_order.rt`, `specs/DocumentTokens.antt`).
+//! [`report`] writes the findings of a line, and [`refusal_text`] why an input is refused. `etcs_form`
+//! exports the names of this crate and of `etcs_json`.
 #![tactic(auto)]
 
 mod document;

@@ -1,4 +1,4 @@
-//! Why bytes are no line document.
+//! Why bytes are not the document of a railway line.
 
 ghost use Rattle.std.specs.Prelude.{◌≡◌, ◌++◌, IfSome, IsSomeAnd};
 ghost use Rattle.etcs_document.specs.Document.{path_of};
@@ -16,10 +16,10 @@ use thiserror::Error;
 /// aspects, balises and messages count from 0.
 #[derive(Debug, Drop, Error)]
 pub enum LineError {
-    /// Memory ran out. A fault may then go unseen. No other error holds this one.
+    /// Memory ran out. A fault might then be unreported. No other error contains this one.
     #[error("out of memory")]
     Memory,
-    /// The bytes are not UTF-8, are no JSON, hold more than one value, or nest more than 127 levels.
+    /// The bytes are not UTF-8 or not JSON, have more than one value, or nest more than 127 levels.
     #[error("not JSON")]
     NotJson,
     /// The value does not have the form of a line.
@@ -28,19 +28,18 @@ pub enum LineError {
     /// The group with this number has no balise, or more than eight (SUBSET-026, 3.4.1).
     #[error("group {0}: count")]
     Count(usize),
-    /// In the group with the first number, the balise with the second has a text that is no
-    /// telegram.
+    /// In the group with the first number, the text of the balise with the second is not a telegram.
     #[error("group {0} balise {1}: {2}")]
     Telegram(usize, usize, TextError),
-    /// The text of the message with this number is no radio message.
+    /// The text of the message with this number is not a radio message.
     #[error("message {0}: {1}")]
     Message(usize, RadioTextError),
-    /// The group with this number has an empty list of aspects, or an aspect whose count of balises
-    /// differs from that of aspect 0.
+    /// The group with this number has an empty list of aspects, or an aspect whose number of balises
+    /// differs from aspect 0.
     #[error("group {0}: aspects")]
     Aspects(usize),
-    /// In the group with the first number, in the aspect with the second, the balise with the third
-    /// has a text that is no telegram.
+    /// In the group with the first number, in the aspect with the second, the text of the balise with the
+    /// third is not a telegram.
     #[error("group {0} aspect {1} balise {2}: {3}")]
     AspectTelegram(usize, usize, usize, TextError),
 }
@@ -64,7 +63,7 @@ impl From<FormError> for LineError {
     }
 }
 
-/// A fault as the document has it: the way to it leads through this group, or this aspect of the group.
+/// The same fault, with its path prefixed with the path of its group and aspect.
 pub(crate) fn in_group(error: FormError, group: usize, aspect: Option<usize>) -> FormError
     ensures { IfSome (fault_of result) (λ f. IsSomeAnd (fault_of error)
         (λ inner. f ≡ fault inner.reason (path_of group aspect ++ inner.path))) }

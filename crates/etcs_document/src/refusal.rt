@@ -1,4 +1,4 @@
-//! `Refusal`: why an input is refused, and the line that says so.
+//! `Refusal`: why an input is refused, and the text of the refusal.
 
 ghost use Rattle.std.specs.Prelude.{◌≡◌, ◌++◌, codes, map, string_bytes, IfOk};
 ghost use Rattle.etcs_schema.specs.Fault.{step_of};
@@ -15,11 +15,11 @@ use std::alloc::{AllocError, Global};
 /// Why a line of the input is refused.
 #[derive(Debug, Drop)]
 pub enum LineFault {
-    /// The line is no telegram's text. Of a line of radio data, only that it is not hexadecimal.
+    /// The line is not the text of a telegram. For a line of radio data, only: it is not hexadecimal.
     Text(TextError),
-    /// The line is no JSON value.
+    /// The line is not a JSON value.
     Json,
-    /// The JSON value is not the form of what was to be encoded, a telegram or a radio message.
+    /// The JSON value is not the form of a telegram, or of a radio message if messages are encoded.
     Form(FormError),
     /// The telegram has more bits than its size, or the radio message more bytes than L_MESSAGE can count.
     TooBig,
@@ -28,18 +28,18 @@ pub enum LineFault {
 /// Why a message in a stream of radio messages is refused.
 #[derive(Clone, Copy, Debug, PartialEq, Eq)]
 pub enum StreamFault {
-    /// The bytes of the message are no message. This is their first fault.
+    /// The bytes of the message are not a message. This is their first fault.
     Fault(Fault),
-    /// L_MESSAGE is below 3, the count of the bytes up to its own last one.
+    /// L_MESSAGE is below 3, the number of bytes up to the end of L_MESSAGE itself.
     BelowThree,
     /// The input ends within the message.
     CutOff,
 }
 
-/// Why the input is refused, and where.
+/// Why the input is refused, and at which line or message.
 #[derive(Debug, Drop)]
 pub enum Refusal {
-    /// The words of the command line are none that the program knows.
+    /// The command line is not one that the program knows.
     Usage,
     /// The line with this number is refused. Lines count from 1.
     Line(u64, LineFault),
@@ -49,7 +49,7 @@ pub enum Refusal {
     Document(LineError),
 }
 
-// Why a text is no telegram, in words.
+// Why a text is not a telegram, in words.
 fn text_reason(alloc: Global, why: &TextError) -> Result<String, AllocError>
     ensures { IfOk result (λ s. string_bytes s ≡ text_words why.now) }
 {
@@ -62,7 +62,7 @@ fn text_reason(alloc: Global, why: &TextError) -> Result<String, AllocError>
     }
 }
 
-// Why a text is no radio message, in words.
+// Why a text is not a radio message, in words.
 fn radio_reason(alloc: Global, why: &RadioTextError) -> Result<String, AllocError>
     ensures { IfOk result (λ s. string_bytes s ≡ radio_words why.now) }
 {
@@ -73,7 +73,7 @@ fn radio_reason(alloc: Global, why: &RadioTextError) -> Result<String, AllocErro
     }
 }
 
-// What is wrong with a form, and where.
+// The fault of a form, and its path.
 fn form_text(alloc: Global, reason: &str, path: &[Step]) -> Result<String, AllocError>
     ensures { IfOk result (λ s. string_bytes s
         ≡ codes "form " ++ (reason.now ++ (codes " at " ++ path_words (map step_of path.now)))) }
@@ -82,7 +82,7 @@ fn form_text(alloc: Global, reason: &str, path: &[Step]) -> Result<String, Alloc
     format!(in alloc; "form {reason} at {path}")
 }
 
-// Why a JSON value is no form, in words.
+// Why a JSON value is not a form, in words.
 fn form_reason(alloc: Global, why: &FormError) -> Result<String, AllocError>
     ensures { IfOk result (λ s. string_bytes s ≡ form_words why.now) }
 {
@@ -146,8 +146,8 @@ fn document_reason(alloc: Global, why: &LineError) -> Result<String, AllocError>
     }
 }
 
-/// The line that says why an input is refused, with its `\n`. Want of memory is no reason to refuse an input,
-/// and has no words. The only error is that memory runs out; then no text is returned.
+/// The text of a refusal, with its `\n`. Lack of memory is no reason to refuse an input, and has no text.
+/// Fails only if memory runs out; then no text is returned.
 #[tactic(auto, unfolding(crate::specs::Refusal::refusal_words))]
 pub fn refusal_text(alloc: Global, refusal: &Refusal) -> Result<String, Memory>
     ensures { IfOk result (λ s. string_bytes s ≡ refusal_words refusal.now) }

@@ -1,4 +1,4 @@
-//! `report`: what a check of a line found, as text.
+//! `report`: the findings of a line, as text.
 
 ghost use Rattle.std.specs.Prelude.{◌≡◌, ◌++◌, length, string_bytes, IfOk, OnOk};
 ghost use Rattle.etcs_document.specs.ReportText.{direction_words, finding_words, findings_words, part_words, place_words, report_words, rule_words, site_words};
@@ -8,7 +8,7 @@ use etcs_check::{Finding, Line, Rule, Site};
 use etcs_packet::Run;
 use std::alloc::{AllocError, Global};
 
-// The number of a rule, and the name of what it finds.
+// The number of a rule, and the name of its findings.
 #[tactic(auto, unfolding(crate::specs::ReportText::rule_words))]
 fn words_of(rule: Rule) -> (&'static str, &'static str)
     ensures { (result.0.now, result.1.now) ≡ rule_words rule }
@@ -44,7 +44,7 @@ fn site_text(alloc: Global, site: Site) -> Result<String, AllocError>
     }
 }
 
-// The aspect, the balise or the packet, where there is one: its word, and its number.
+// The aspect, the balise or the packet, if there is one: its word, and its number.
 #[tactic(auto, unfolding(crate::specs::ReportText::part_words))]
 fn part_text(alloc: Global, word: &str, part: Option<usize>) -> Result<String, AllocError>
     ensures { IfOk result (λ s. string_bytes s ≡ part_words word.now part) }
@@ -55,7 +55,7 @@ fn part_text(alloc: Global, word: &str, part: Option<usize>) -> Result<String, A
     }
 }
 
-// The running direction, where there is one.
+// The running direction, if there is one.
 #[tactic(auto, unfolding(crate::specs::ReportText::direction_words))]
 fn direction_text(dir: Option<Run>) -> &'static str
     ensures { result.now ≡ direction_words dir }
@@ -67,7 +67,7 @@ fn direction_text(dir: Option<Run>) -> &'static str
     }
 }
 
-// The way from the line to what is at fault, and the running direction.
+// The location of a finding in the line, and the running direction.
 #[tactic(auto, unfolding(crate::specs::ReportText::place_words))]
 fn place_text(alloc: Global, finding: &Finding) -> Result<String, AllocError>
     ensures { IfOk result (λ s. string_bytes s ≡ place_words finding.now) }
@@ -103,9 +103,9 @@ fn findings_text(alloc: Global, findings: &[Finding]) -> Result<String, AllocErr
     Ok(text)
 }
 
-/// The text of a report. `groups` and `messages` are the counts of the railway line, `findings` is what
-/// `check` returned. The text is `yes` and the two counts, or `no`, the count of findings, and then a line for
-/// each finding. Each line ends with `\n`. The only error is that memory runs out; then no text is returned.
+/// The text of a report. `groups` and `messages` are the counts of the railway line, `findings` is the result
+/// of `check`. The text is `yes` and the two counts, or `no`, the count of findings, and then a line for each
+/// finding. Each line ends with `\n`. Fails only if memory runs out; then no text is returned.
 #[tactic(auto, unfolding(crate::specs::ReportText::report_words))]
 pub fn report_counts(
     alloc: Global,
@@ -123,8 +123,8 @@ pub fn report_counts(
     Ok(format!(in alloc; "no: findings {count}\n{lines}")?)
 }
 
-/// The report on a line, as [`report_counts`] gives it for the counts of its groups and messages. The
-/// only error is that memory runs out; then no text is returned.
+/// The report on a line: [`report_counts`] with the counts of its groups and messages. Fails only if memory
+/// runs out; then no text is returned.
 pub fn report(alloc: Global, line: &Line, findings: &[Finding]) -> Result<String, Memory>
     ensures { IfOk result (λ s. string_bytes s
         ≡ report_words (length line.now.groups.items) (length line.now.messages.items) findings.now) }

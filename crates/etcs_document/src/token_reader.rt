@@ -1,6 +1,6 @@
-//! The tokens of a document, read one by one from its bytes. They are those that `json` gives of the text. A string is
-//! read only where each of its bytes stands for itself. Where a function here answers no, it says nothing about the
-//! text.
+//! Fast path: the tokens of a document, read one by one from its bytes. They are the tokens that `json` gives
+//! for the text. Strings without escapes only. `false` or `None` is inconclusive; the caller then uses the
+//! full reader.
 
 ghost use Rattle.std.specs.Prelude.{◌≡◌, ◌≤◌, ◌∷◌, [], false, length, None, Some, IfSome, IsFalse, IsTrue};
 ghost use Rattle.std.specs.Bool.{MatchBool};
@@ -12,7 +12,7 @@ ghost use Rattle.etcs_document.specs.TokenReader.{ArePlain, begins_at, closes_at
 
 use std::marker::Model;
 
-// Where the bytes that are left begin: where a value or a mark may stand, behind a value, or behind a comma.
+// The state of the reader: in front of a value or a mark, after a value, or after a comma.
 #[derive(Clone, Copy, Drop)]
 enum Place {
     Fresh,
@@ -20,7 +20,7 @@ enum Place {
     AfterComma,
 }
 
-/// Which kind of text is due.
+/// The kind of text that is due.
 #[derive(Clone, Copy, Drop)]
 pub(crate) enum TextKind {
     /// A telegram.
@@ -29,7 +29,7 @@ pub(crate) enum TextKind {
     Message,
 }
 
-/// A reader. A clause sees the tokens that are still to come.
+/// A reader of tokens. Contracts see the remaining tokens.
 #[derive(Drop)]
 pub(crate) struct TokenReader<'a> {
     rest: &'a [u8],
@@ -55,7 +55,7 @@ fn is_blank(byte: u8) -> bool
     matches!(byte, b' ' | b'\t' | b'\n' | b'\r')
 }
 
-// The bytes behind blanks.
+// The bytes after blanks.
 #[inline]
 fn pass_blanks(rest: &[u8]) -> &[u8]
     ensures { lex between result.now ≡ lex between rest.now }
@@ -67,7 +67,7 @@ fn pass_blanks(rest: &[u8]) -> &[u8]
     &rest[at..]
 }
 
-// The bytes behind this byte, if it is the next one behind blanks.
+// The bytes after this byte, if it is the next one after blanks.
 #[inline]
 fn pass_byte(rest: &[u8], byte: u8) -> Option<&[u8]>
     ensures { IfSome result (λ r. lex between rest.now ≡ lex between (byte ∷ r.now)) }
@@ -79,7 +79,7 @@ fn pass_byte(rest: &[u8], byte: u8) -> Option<&[u8]>
     Some(&begun[1..])
 }
 
-// The bytes behind this key and its colon, if it is next.
+// The bytes after this key and its colon, if it is next.
 fn pass_name<'a>(rest: &'a [u8], name: &str) -> Option<&'a [u8]>
     requires plain { ArePlain name.now }
     ensures { IfSome result (λ r. lex between rest.now ≡ token (string_token name.now) ∷ colon ∷ lex between r.now) }
@@ -92,7 +92,7 @@ fn pass_name<'a>(rest: &'a [u8], name: &str) -> Option<&'a [u8]>
     pass_byte(&ended[1..], b':')
 }
 
-// How many bytes stand before the first quote.
+// The number of bytes in front of the first quote.
 fn quote_place(bytes: &[u8]) -> usize
     ensures { result ≡ quote_place bytes.now }
 {
@@ -103,8 +103,8 @@ fn quote_place(bytes: &[u8]) -> usize
     at
 }
 
-// How many bytes a text of this kind has, of which these bytes are the rest behind the first quote. A short telegram
-// has 54 digits and a long one 208, so that no quote has to be looked for.
+// The length of a text of this kind, given the bytes after its opening quote. A short telegram has 54 digits
+// and a long one 208, so that no quote has to be searched.
 fn text_len(kind: TextKind, begun: &[u8]) -> usize
     ensures { result ≡ text_len kind begun.now }
 {
@@ -115,7 +115,7 @@ fn text_len(kind: TextKind, begun: &[u8]) -> usize
     }
 }
 
-// What follows a text of a list, up to the next item or the end of the list.
+// The bytes after a text of a list, up to the next item or the end of the list.
 fn pass_text(rest: &[u8]) -> Option<(&[u8], Place)>
     ensures { IfSome result (λ r. (tokens_at r.1 r.0.now ≡ punctuate after_value (lex between rest.now))
         × (begins_colon (lex between rest.now) ≡ false)) }
@@ -156,7 +156,7 @@ impl<'a> TokenReader<'a> {
         }
     }
 
-    // Goes on behind a value, which these bytes follow.
+    // Continues after a value, with these bytes.
     #[inline]
     fn go_on(&mut self, rest: &'a [u8])
         ensures { self.new ≡ punctuate after_value (lex between rest.now) }
@@ -173,7 +173,7 @@ impl<'a> TokenReader<'a> {
         }
     }
 
-    /// Passes the mark at which an object begins.
+    /// Reads the beginning of an object.
     pub(crate) fn pass_begin(&mut self) -> bool
         ensures { IsTrue result → self.old ≡ begin_object ∷ self.new }
     {
@@ -188,7 +188,7 @@ impl<'a> TokenReader<'a> {
         true
     }
 
-    /// Passes the mark at which a list begins.
+    /// Reads the beginning of a list.
     pub(crate) fn pass_list(&mut self) -> bool
         ensures { IsTrue result → self.old ≡ begin_array ∷ self.new }
     {
@@ -203,7 +203,7 @@ impl<'a> TokenReader<'a> {
         true
     }
 
-    /// Passes the mark at which an object ends.
+    /// Reads the end of an object.
     pub(crate) fn pass_end(&mut self) -> bool
         ensures { IsTrue result → read_key self.old ≡ Some (None, self.new) }
     {
@@ -217,7 +217,7 @@ impl<'a> TokenReader<'a> {
         true
     }
 
-    /// Passes the mark at which a list ends. If it says no, nothing changes.
+    /// Reads the end of a list. `false` changes nothing.
     pub(crate) fn take_end_array(&mut self) -> bool
         ensures { MatchBool result (after_end_array self.old ≡ Some self.new) (self.new ≡ self.old) }
     {
@@ -231,7 +231,7 @@ impl<'a> TokenReader<'a> {
         true
     }
 
-    /// Passes this key. If it says no, nothing changes.
+    /// Reads this key. `false` changes nothing.
     pub(crate) fn pass_key(&mut self, name: &str) -> bool
         requires plain { ArePlain name.now }
         ensures yes { IsTrue result → read_key self.old ≡ Some (Some name.now, self.new) }
@@ -248,7 +248,7 @@ impl<'a> TokenReader<'a> {
         true
     }
 
-    /// Reads a text of a list, which is the next string if each of its bytes stands for itself.
+    /// Reads a text of a list: the next string, if it has no escape.
     pub(crate) fn text(&mut self, kind: TextKind) -> Option<&'a [u8]>
         ensures { IfSome result (λ s. ArePlain s.now → self.old ≡ string_token s.now ∷ self.new) }
     {
@@ -263,7 +263,7 @@ impl<'a> TokenReader<'a> {
         Some(&begun[..len])
     }
 
-    /// Whether no token is left.
+    /// Whether all tokens were read.
     pub(crate) fn is_at_end(&self) -> bool
         ensures { IsTrue result → self.now ≡ [] }
     {

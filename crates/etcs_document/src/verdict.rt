@@ -1,10 +1,10 @@
-//! What is found about a line.
+//! The verdict on a line.
 
 ghost use Rattle.std.specs.Prelude.{◌≡◌, ◌↔◌, [], IsTrue};
 
 use etcs_check::{Finding, Line};
 
-/// What is found about a line: the line that was read, and all facts against it.
+/// The verdict on a line: the line that was read, and all facts against it.
 #[derive(Debug, Drop)]
 pub struct Verdict {
     /// The line.

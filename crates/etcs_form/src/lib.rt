@@ -1,4 +1,4 @@
-//! JSON forms and documents of railway lines, for who writes programs: the names of `etcs_json`, which has
+//! JSON forms and documents of railway lines, for programmers: the names of `etcs_json`, which has
 //! the forms of telegrams and messages, of `etcs_document`, which reads and checks documents, and of
 //! `etcs_schema` below both. It has no code of its own.
 #![tactic(auto)]

@@ -4,7 +4,7 @@ use Rattle.etcs_document.specs.Document.{each_from, telegram_at}
 use Rattle.etcs_document.proofs.DocumentLemmas.{with_front}
 use Rattle.etcs_document.proofs.document_aspects.read_telegrams.Given as goal
 
--- what was read, and then what is read of the values that are left
+-- what was read, and then what is read from the remaining values
 abbrev pub invariant-balises : goal.invariant-balises
 invariant-balises l =
     with_front l.telegrams.items (each_from (telegram_at l.group l.aspect) l.place (map view (drop l.place l.values)))

@@ -4,7 +4,7 @@ use Rattle.etcs_document.specs.Document.{each_from, group_at}
 use Rattle.etcs_document.proofs.DocumentLemmas.{with_front}
 use Rattle.etcs_document.proofs.document_groups.read_each.Given as goal
 
--- what was read, and then what is read of the values that are left
+-- what was read, and then what is read from the remaining values
 abbrev pub invariant-groups : goal.invariant-groups
 invariant-groups l =
     with_front l.groups.items (each_from group_at l.place (map view (drop l.place l.values)))

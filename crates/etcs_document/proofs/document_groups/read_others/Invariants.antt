@@ -5,7 +5,7 @@ use Rattle.etcs_document.proofs.DocumentLemmas.{with_front}
 use Rattle.std.specs.Prelude.{Some}
 use Rattle.etcs_document.proofs.document_groups.read_others.Given as goal
 
--- what was read, and then what is read of the values that are left
+-- what was read, and then what is read from the remaining values
 abbrev pub invariant-aspects : goal.invariant-aspects
 invariant-aspects l =
     with_front l.aspects.items (each_from (λ a. aspect_at l.group (Some l.count) (Some a)) (l.index + 1) (map view (drop l.index l.values)))

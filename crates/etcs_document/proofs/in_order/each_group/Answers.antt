@@ -14,7 +14,7 @@ groups-smaller c =
     let one = c.next_group.ensures (search rules) in
     omega (arith, ap length c.groups-test.ensures, first_shorter IsGroup _ _ _ _ one.1)
 
--- one more was read, and handed to the checker
+-- one more was read, and passed to the checker
 pub groups-preserved : goal.groups-preserved
 groups-preserved c =
     let one = c.next_group.ensures (search rules) in

@@ -14,7 +14,7 @@ messages-smaller c =
     let one = c.next_message.ensures (search rules) in
     omega (arith, ap length c.messages-test.ensures, first_shorter IsMessage _ _ _ _ one.1)
 
--- one more was read, and handed to the checker
+-- one more was read, and passed to the checker
 pub messages-preserved : goal.messages-preserved
 messages-preserved c =
     let one = c.next_message.ensures (search rules) in

@@ -3,7 +3,7 @@ use Rattle.etcs_check.specs.LineChecker.{TakesMessages}
 use Rattle.etcs_document.specs.DocumentTokens.{AreFirst, AreTaken, IsMessage}
 use Rattle.etcs_document.proofs.in_order.each_message.Given as goal
 
--- the messages so far were read, and handed to the checker
+-- the messages so far were read, and passed to the checker
 abbrev pub invariant-messages : goal.invariant-messages
 invariant-messages l =
     AreTaken (λ xs. AreFirst IsMessage l.depth l.initial.reader xs l.reader) TakesMessages l.initial.checker l.checker

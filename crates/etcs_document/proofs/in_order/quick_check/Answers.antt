@@ -4,7 +4,7 @@ use Rattle.etcs_document.proofs.InOrderLemmas.{text_taken}
 use Rattle.etcs_document.proofs.TokenLemmas.{if_some}
 use Rattle.etcs_document.proofs.in_order.quick_check.Goals as goal
 
--- nothing follows the document, and all of it was handed to the checker
+-- nothing follows the document, and all of it was passed to the checker
 pub returns : goal.returns
 returns c = if_some _ _ c.found_by.result c.found_by.ensures (λ x told.
     let begins = c.new-reader.ensures ∙ ap tokens (c.as_bytes.ensures.value ∙ c.in-Ok.ensures.cases.0) in

@@ -2,6 +2,6 @@ use Rattle.std.proofs.Common.{◌≡◌, string_bytes, take}
 use Rattle.etcs_document.specs.ReportText.{findings_words}
 use Rattle.etcs_document.proofs.report_text.findings_text.Given as goal
 
--- the findings so far stand in the text
+-- the findings so far are in the text
 abbrev pub invariant-findings : goal.invariant-findings
 invariant-findings l = string_bytes l.text ≡ findings_words (take l.finding-index l.findings)

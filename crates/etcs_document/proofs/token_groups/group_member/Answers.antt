@@ -7,7 +7,7 @@ use Rattle.etcs_document.proofs.token_groups.group_member.Goals as goal
 pub returns-then-pass_key : goal.returns-then-pass_key
 returns-then-pass_key c = if_some _ _ c.only_aspect.result c.only_aspect.ensures (λ x e. only_member _ _ c.pass_key.new.self _ x _ (c.pass_key.ensures.yes (search rules)) refl e)
 
--- the first key was not passed
+-- the first key is not the next one
 pub returns-then-pass_key-2 : goal.returns-then-pass_key-2
 returns-then-pass_key-2 c =
     let named = ap read_key (sym (c.pass_key.ensures.no (search rules))) ∙ c.pass_key-2.ensures.yes (search rules) in

@@ -2,7 +2,7 @@ use Rattle.etcs_document.proofs.DocumentTokenLemmas.{message_taken}
 use Rattle.etcs_document.proofs.PlainLemmas.{message_plain}
 use Rattle.etcs_document.proofs.token_groups.message.Goals as goal
 
--- the text of a message is one of digits
+-- the text of a message has only digits
 pub returns-in-Ok : goal.returns-in-Ok
 returns-in-Ok c =
     let is = c.in-Ok.ensures.exact in

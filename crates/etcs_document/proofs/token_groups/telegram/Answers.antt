@@ -2,7 +2,7 @@ use Rattle.etcs_document.proofs.DocumentTokenLemmas.{telegram_taken}
 use Rattle.etcs_document.proofs.PlainLemmas.{telegram_plain}
 use Rattle.etcs_document.proofs.token_groups.telegram.Goals as goal
 
--- the text of a telegram is one of digits
+-- the text of a telegram has only digits
 pub returns-in-Ok : goal.returns-in-Ok
 returns-in-Ok c =
     let is = c.in-Ok.ensures.exact in

@@ -2,7 +2,7 @@ use Rattle.std.proofs.Common.{rules, arith, ◌∙◌}
 use Rattle.etcs_document.proofs.TokenReaderLemmas.{blank_at}
 use Rattle.etcs_document.proofs.token_reader.pass_blanks.Goals as goal
 
--- one blank more
+-- one more blank
 pub blanks-preserved : goal.blanks-preserved
 blanks-preserved c = (
   omega arith,

@@ -4,7 +4,7 @@ use Rattle.etcs_document.proofs.TokenLemmas.{if_some}
 use Rattle.etcs_document.proofs.TokenReaderLemmas.{name_passed}
 use Rattle.etcs_document.proofs.token_reader.pass_name.Goals as goal
 
--- the quote, the key, the quote behind it and the colon
+-- the quote, the key, the quote after it and the colon
 pub returns : goal.returns
 returns c = if_some _ _ c.pass_byte-2.result c.pass_byte-2.ensures (λ rest ends.
     let found = c.in_ok-ended.ensures.cases in
