@@ -1,4 +1,4 @@
-//! Advice for a person whose words are no command, besides the usage line.
+//! Advice for a person whose words are not a command, in addition to the usage line.
 
 /// The advice for the words of a command line, if they are a usual mistake. The first word is the
 /// program's name.

@@ -25,7 +25,7 @@ exit status:
 
 The manual page balisecheck(1) describes the formats.";
 
-/// What the words of a command line ask for, if they are no command: help or the version. The first word
+/// The help or the version, if the words of a command line request it. The first word
 /// is the program's name.
 pub fn help_for(words: &[&str]) -> Option<&'static str> {
     match words {

@@ -1,6 +1,6 @@
 //! `balisecheck`: [`run`] of `etcs_run`, from standard input to standard output.
 //!
-//! The contract of [`run`] says what is written for every input. This crate adds the arguments, standard
+//! The contract of [`run`] states what is written for every input. This crate adds the arguments, standard
 //! input and standard output, which no contract can describe, and help and advice on standard error.
 #![tactic(auto)]
 
@@ -16,7 +16,7 @@ use std::cell::RefCell;
 use std::io::{self, BufWriter, Write};
 use std::process::ExitCode;
 
-/// How many bytes of output are gathered before they are written, unless more input is waited for.
+/// The number of bytes of output that are buffered, unless the program waits for more input.
 const ROOM: usize = 65_536;
 
 /// The exit status of a run that stopped without a status.
@@ -34,7 +34,7 @@ fn arguments(rt: &HostRuntime) -> Result<Vec<String>, RunError> {
     }
 }
 
-// Why there are no arguments: memory ran out, or one of them is no text.
+// Why there are no arguments: memory ran out, or one of them is not text.
 fn run_error(error: &io::Error) -> RunError {
     match error.kind() {
         io::ErrorKind::OutOfMemory => RunError::Memory,
@@ -78,7 +78,7 @@ fn run_words(rt: &HostRuntime, words: &[String]) -> Result<Status, RunError> {
 }
 
 /// The exit status is 0 for done, 1 for findings and 2 for refused words or input. It is 3, with a
-/// line on standard error, if memory was refused or a device failed.
+/// line on standard error, if an allocation or a device failed.
 fn main(rt: HostRuntime) -> ExitCode {
     let answer = match arguments(&rt) {
         Ok(words) => run_words(&rt, words.as_slice()),

@@ -1,23 +1,23 @@
-//! Standard input and output that know of each other: what is answered is written before the program waits for
-//! more input. So whoever sends a line and waits for its answer gets it.
+//! Connects standard input and output: the output is flushed before the program waits for more input, so that
+//! a user who sends a line and waits for its answer gets it.
 
 use std::cell::RefCell;
 use std::io::{Error, Read, Result, Write};
 
-/// A writer that is held in two places.
+/// A writer with two owners.
 #[derive(Drop)]
 pub struct Shared<'a, W> {
     output: &'a RefCell<W>,
 }
 
 impl<'a, W> Shared<'a, W> {
-    /// One of the places.
+    /// One of the owners.
     pub fn new(output: &'a RefCell<W>) -> Shared<'a, W> {
         Shared { output }
     }
 }
 
-// No two calls of it are ever under way at once.
+// Never happens: calls do not overlap.
 fn in_use() -> Error {
     Error::other("the output is in use")
 }
@@ -38,7 +38,7 @@ impl<W: Write> Write for Shared<'_, W> {
     }
 }
 
-/// A reader that has the output flushed before each of its reads. A flush that fails is a read that fails.
+/// A reader that flushes the output before each of its reads. If the flush fails, the read fails.
 #[derive(Drop)]
 pub struct Prompt<'a, R, W> {
     input: R,

@@ -36,7 +36,7 @@ pub begins_refused : (n : ℕ) (words : List ℕ) {bytes : List ℕ} → bytes �
     → (rest : Output) → (more : List ℕ) × ((answered n (Err words) rest).0 ≡ bytes ++ more)
 begins_refused n words {bytes} is rest = ([], sym is ∙ sym (append-nil bytes))
 
--- the turn of a command that carries nothing from line to line
+-- the answer of a command that carries nothing from line to line
 pub turn_taken : {old new : Option (List ℕ)} (meaning : Meaning) (number : ℕ) (line : List ℕ) (result : Result Turn RunError)
     → Turns old new (after_line meaning number (trimmed line)) result
     → TakesTurn old new (answers meaning) (answers meaning) number line result

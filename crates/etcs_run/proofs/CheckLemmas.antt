@@ -1,4 +1,4 @@
--- How the refusal of a document is that of its fault.
+-- The refusal of a document is the refusal of its fault.
 use Rattle.std.proofs.Common.{◌≡◌, ◌≢◌, ◌∙◌, ℕ, List, Result, Ok, Err, IfOk, refl, sym, ap}
 use Rattle.etcs_document.specs.DocumentFault.{DocumentFault, Fails}
 use Rattle.etcs_document.specs.Refusal.{document_words, refusal_words}
@@ -50,7 +50,7 @@ pub is_refused : (why : LineError) (document : List ℕ) → why ≢ errors.Memo
 unfolding check_output
 is_refused why document other fails = sym (document_refused why (summary_of_text document) other fails)
 
--- what was made is an output, and so it is an equal one
+-- what was made is an output, and therefore an equal output
 pub made_as : {X E : Type 0} (result : Result X E) (view : X → Output) {output other : Output}
     → output ≡ other → IfOk result (λ x. view x ≡ output) → IfOk result (λ x. view x ≡ other)
 made_as (Ok x) view same made = made ∙ same

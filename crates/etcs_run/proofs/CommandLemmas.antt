@@ -35,7 +35,7 @@ is_command p words is none found entry =
     entry ∙ ap entered (found ∙ ap (λ (a : App). subcommand_of a words) is)
     ∙ unless_none (sym (ap (λ (a : App). fault_of a words) is) ∙ none)
 
--- words with a fault are no command
+-- words with a fault are not a command
 pub no_command : (p : App) (words : List Text) (kind : ErrorKind) → p ≡ command_line
     → IsAmong kind (fault_of p words) → None ≡ command_of words
 unfolding command_of

@@ -1,4 +1,4 @@
--- How the search for the end of a line goes on, block by block.
+-- The search for the end of a line, block by block.
 use Rattle.std.proofs.Common.{◌≡◌, ◌++◌, ◌==◌, ◌↔◌, ℕ, Bool, true, false, not, List, [], ◌∷◌, length, Option, Some, None, Ok, IfSome, refl, sym, ap, ◌∙◌, append_assoc, arith}
 use Rattle.std.proofs.lemmas.List.{append-nil}
 use Rattle.std.proofs.lemmas.Bool.Decides.{nat_tests}
@@ -9,8 +9,8 @@ use Rattle.etcs_run.specs.declared.text_lines.TextLines.{TextLines}
 use Rattle.etcs_run.proofs.LineLemmas.{IsLine-append, lines_of-last, lines_of-line, no_first}
 use Rattle.etcs_run.proofs.StreamLemmas.{Consumes-then}
 
--- The state while a line is looked for. These bytes were read, none if the end was met before. The
--- bytes held at the start and these bytes are the line so far and what is held.
+-- The state while a line is searched. These bytes were read, none if the end was reached before. The
+-- bytes held at the start and these bytes are the line so far and the held bytes.
 pub record Filling (remaining_old remaining_new : Option (List ℕ)) (had_ended : Bool)
     (start line held : List ℕ) : Type 0 where
   pub bytes : List ℕ
@@ -44,7 +44,7 @@ Filling-filled {a} {b} {c} {start} {line} {more} filling none read = record {
   plain = filling.plain;
 }
 
--- a `\n` was held, so the line is whole
+-- a `\n` was held, so the line is complete
 pub Filling-cut : {a b : Option (List ℕ)} {had_ended : Bool} {start line held now rest : List ℕ}
     {ended : Bool} (front : List ℕ) → Filling a b had_ended start line held → now ≡ line ++ front
     → IsLine front → held ≡ front ++ 10 ∷ rest
@@ -73,7 +73,7 @@ last_gives (x ∷ line) bytes ended found is same plain end = rw (is ∙ is_long
     let nothing : t ≡ [] = may end in
     rw (nothing, same, append-nil) (lines_of-last x line plain))
 
--- the end was met, and nothing is held
+-- the end was reached, and nothing is held
 pub Filling-end : {a b : Option (List ℕ)} {had_ended : Bool} {start line held : List ℕ}
     {ended found : Bool} → Filling a b had_ended start line held → held ≡ [] → ended ≡ true
     → found ≡ not (length line == 0) → Reads a b had_ended start line held ended (Ok found)
@@ -101,14 +101,14 @@ pub nil_from_none : (xs : List ℕ) → length xs ≡ 0 → xs ≡ []
 nil_from_none [] none = refl
 nil_from_none (x ∷ xs) none = absurd (omega arith)
 
--- where there is no line, the line is empty
+-- if there is no line, the line is empty
 pub empty_unless_found : (line : List ℕ) (empty : Bool) → empty ≡ (length line == 0)
     → not empty ≡ false → line ≡ []
 empty_unless_found [] empty is none = refl
 empty_unless_found (x ∷ line) empty is none =
     let found : not empty ≡ true = ap not is ∙ is_long x line in cc
 
--- where the bytes left are known, there is no line exactly if no byte is held or left
+-- if the remaining bytes are known, there is no line if and only if no byte is held or remains
 pub found_exactly : (remaining after : Option (List ℕ)) {had_ended ended : Bool} {held line now : List ℕ}
     (found : Bool) → Reads remaining after had_ended held line now ended (Ok found)
     → (ended ≡ true → IsAtEnd after) → IfSome remaining (λ left. (found ≡ false) ↔ (held ++ left ≡ []))

@@ -39,7 +39,7 @@ text_refused texts.WrongSize meaning other fails = ap line_for fails
 text_refused texts.PadBits meaning other fails = ap line_for fails
 text_refused (texts.Fault f) meaning other fails = ap line_for fails
 
--- a reason that is found before any packet is read is the one that is answered
+-- a reason that is found before any packet is read is the one that is reported
 pub refused_early : (result : Result Telegram TextError) (text : List ℕ) (why : TextError) → IsEarly why text
     → (IsErrOf result texts.NotHex ↔ (IsHexadecimal text → ⊥))
     → (IsErrOf result texts.WrongSize ↔ IsReasonDecoded texts.WrongSize text)
@@ -70,7 +70,7 @@ value_read line d utf8 is =
     ap (λ (b : Bool). if b then or_no_json (read line) else Err (line_words Json)) (is_utf8-from_IsUtf8 line utf8)
     ∙ ap or_no_json is
 
--- the line's record is that of the value that the text is
+-- the line's record is the record of the text's value
 pub text_read : {X : Type 0} (shape : Shape X) (line text : List ℕ) (d found : Data) → text ≡ line → IsUtf8 line → read text ≡ Some d → found ≡ d → record_in shape line ≡ or_fault (shape.of found)
 text_read shape line text d found same utf8 is shown =
     ap (λ value. value then λ e. or_fault (shape.of e)) (value_read line d utf8 (ap read (sym same) ∙ is)) ∙ ap (λ e. or_fault (shape.of e)) (sym shown)
@@ -85,7 +85,7 @@ pub no_value : (line : List ℕ) → (IsUtf8 line → read line ≡ None) → va
 unfolding value_in
 no_value line none = no_value_by line (is_utf8 line) refl none
 
--- a line that is no JSON has no record
+-- a line that is not JSON has no record
 pub no_record : {X : Type 0} (shape : Shape X) (line : List ℕ) → (IsUtf8 line → read line ≡ None) → record_in shape line ≡ Err (line_words Json)
 no_record shape line none = ap (λ value. value then λ e. or_fault (shape.of e)) (no_value line none)
 
@@ -116,7 +116,7 @@ not_above_by bits false above none = ltb-false 8184 bits above
 not_above : (bits : ℕ) → (8184 < bits → ⊥) → bits ≤ 8184
 not_above bits none = not_above_by bits (nat_lt 8184 bits) refl none
 
--- a message that 1,023 bytes hold has its canonical text
+-- a message that fits in 1,023 bytes has its canonical text
 pub message_written : (m : Message) (text line : List ℕ) → IsMessageText m text → line ≡ text ++ codes "\n"
     → message_line m ≡ Ok line
 unfolding message_line

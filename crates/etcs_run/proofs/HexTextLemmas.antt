@@ -33,7 +33,7 @@ canonical_telegram t text x =
     let bits = x.padded ∙ ap (λ bits. bits ++ no_pads t.size) x.encoding.canonical in
     x.written ∙ ap encode_lower (sym (bytes_again x.bytes x.in_range) ∙ ap bytes_of_bits bits)
 
--- as few bytes as hold the bits
+-- the least number of bytes for the bits
 fewest : (bits n : ℕ) → bits ≤ 8 * n → 8 * n < bits + 8 → n ≡ bytes_for bits
 fewest bits n enough few = omega arith
 

@@ -1,4 +1,4 @@
--- Where the first line of a text ends.
+-- The end of the first line of a text.
 use Rattle.std.proofs.Common.{◌≡◌, ◌<◌, ◌≤◌, ◌+◌, ◌-◌, ◌==◌, ◌++◌, ℕ, zero, suc, Bool, true, false, List, [], ◌∷◌, length, take, drop, slice_index, refl, sym, ap, ◌∙◌, arith, length-take, subst}
 use Rattle.std.proofs.lemmas.List.{drop-take, drop-drop}
 use Rattle.std.proofs.Math.Seq.{take-length}
@@ -92,7 +92,7 @@ unfolding lines_of
 lines_of-last x [] plain = rw plain.0 refl
 lines_of-last x (y ∷ a) plain = rw plain.0 (ap (onto_first x) (lines_of-last y a plain.1))
 
--- bytes without a `\n` have no whole line
+-- bytes without a `\n` have no complete line
 no_line_end : (front rest : List ℕ) → IsLine (front ++ 10 ∷ rest) → ⊥
 no_line_end [] rest plain = cc plain.0
 no_line_end (x ∷ front) rest plain = no_line_end front rest plain.1

@@ -1,5 +1,5 @@
--- How the bytes of a stream of radio messages are answered, message by message. `all` is what has to
--- be written for all bytes of a line, and `left` for the bytes that are left.
+-- How the bytes of a stream of radio messages are answered, message by message. `all` is what must be
+-- written for all bytes of a line, and `left` for the remaining bytes.
 use Rattle.std.proofs.Common.{◌≡◌, ◌≢◌, ◌≤◌, ◌+◌, ◌-◌, ◌++◌, ℕ, Bool, true, false, if◌then◌else◌, List, [], ◌∷◌, length, Option, Result, Ok, Err, refl, sym, ap, ◌∙◌, append_assoc, take, drop, arith, length-append, length-drop, length-take, drop-drop, subst, OnOk, ◌⊎◌, inl, inr}
 use Rattle.std.proofs.lemmas.List.{take_all}
 use Rattle.std.specs.Io.BufRead.{ends_with_byte}
@@ -31,7 +31,7 @@ use Rattle.etcs_run.specs.declared.turn.Turn.{Turn}
 use Rattle.etcs_run.specs.declared.turn.Turn.TheVariants.{Next, Stop}
 use Rattle.etcs_run.proofs.StreamLemmas.{Appends-none, Appends-then}
 
--- ---- what one call of the splitter leaves to write
+-- ---- what remains to be written after one call of the splitter
 
 -- a message came out
 pub fed_ready : (n : ℕ) (held piece whole rest : List ℕ)
@@ -53,12 +53,12 @@ pub fed_failed : (n : ℕ) (held piece after : List ℕ) → cut_from held piece
 fed_failed n held piece after is failed onwards =
     ap (λ (cut : Cut). cut_output n cut onwards) is ∙ rw failed refl
 
--- One call of the splitter: it takes some of the bytes that are left, and holds them behind the others.
+-- One call of the splitter: it takes some of the remaining bytes, and appends them to the held bytes.
 pub record Takes (held bytes now : List ℕ) (at used : ℕ) : Type 0 where
   pub taken : IsTaken held (drop at bytes) used
   pub grown : now ≡ held ++ take used (drop at bytes)
 
--- one call of the splitter, of a piece that is the bytes that are left
+-- one call of the splitter, for the piece of all remaining bytes
 pub takes_of : {held now piece : List ℕ} {used : ℕ} (bytes : List ℕ) (at : ℕ) → piece ≡ drop at bytes
     → IsTaken held piece used → now ≡ held ++ take used piece → Takes held bytes now at used
 takes_of {held} {now} {piece} {used} bytes at is taken grown =
@@ -68,7 +68,7 @@ takes_of {held} {now} {piece} {used} bytes at is taken grown =
     }
 
 module _ {held bytes now : List ℕ} {at used : ℕ} (call : Takes held bytes now at used) where
-  -- it takes no more than are left, and holds as many more
+  -- it takes at most the remaining bytes, and holds as many more
   pub takes_few : used ≤ length bytes - at
   takes_few = omega (arith, call.taken.within, length-drop at bytes)
 
@@ -82,7 +82,7 @@ module _ {held bytes now : List ℕ} {at used : ℕ} (call : Takes held bytes no
     call.taken.within,
   )
 
-  -- a whole message has three bytes at least
+  -- a complete message has at least three bytes
   pub takes_three : state_of now ≡ Ready → 3 ≤ length now
   takes_three ready = (ready-whole now ready).three
 
@@ -98,7 +98,8 @@ module _ {held bytes now : List ℕ} {at used : ℕ} (call : Takes held bytes no
       ∙ ap (λ whole. after_message whole (cut_from [] (drop used (drop at bytes)))) (sym call.grown)
       ∙ ap (λ rest. after_message now (cut_from [] rest)) (drop-drop used at bytes)
 
-  -- what the call leaves to write: all of it later, the refusal, or the message and the bytes after it
+  -- what remains to be written after the call: all of it later, the refusal, or the message and the bytes
+  -- after it
   pub left_more : (n : ℕ) → state_of now ≡ More → (onwards : Onwards)
       → bytes_output n held (drop at bytes) onwards ≡ onwards n now
   left_more n waits =
@@ -178,7 +179,7 @@ Feeds-more n held feeding is = record {
 
 -- ---- refusals
 
--- a text was written whole
+-- a text was written completely
 pub written_whole : {c c1 : Option (List ℕ)} {bytes line : List ℕ} {status : Status} {u : Unit {0}}
     → WritesBytes c c1 bytes (Ok u) → bytes ≡ line → Writes c c1 (line, status) (Ok status)
 written_whole {bytes} {line} {status} written is = record {
@@ -190,7 +191,7 @@ written_whole {bytes} {line} {status} written is = record {
       ap (λ s. (s, status)) (sym whole);
 }
 
--- what is the whole output ends the run, whatever would follow
+-- the complete output ends the run, whatever would follow
 pub turn_of_output : {c c1 : Option (List ℕ)} {output : Output} {status : Status}
     → Writes c c1 output (Ok status) → Turns c c1 (λ _. output) (Ok (Stop status))
 turn_of_output writes = record { text = writes.text; appended = writes.appended; says = λ rest. writes.says }
@@ -200,7 +201,7 @@ pub turn_of_beginning : {c c1 : Option (List ℕ)} {output : Output} {e : RunErr
     → Writes c c1 output (Err e) → Turns c c1 (λ _. output) (Err x)
 turn_of_beginning x writes = record { text = writes.text; appended = writes.appended; says = λ rest. writes.says }
 
--- a turn whose answer is equal
+-- a line whose answer is equal
 pub Turns-as : {c c1 : Option (List ℕ)} {after other : Output → Output} (result : Result Turn RunError)
     → ((rest : Output) → other rest ≡ after rest) → Turns c c1 after result → Turns c c1 other result
 Turns-as (Ok Next) same turn = record { text = turn.text; appended = turn.appended; says = λ rest. same rest ∙ turn.says rest }
@@ -229,7 +230,7 @@ pub not_read : {text other : List ℕ} {why : FromHexError} → other ≡ text �
 not_read same some (inl memory) = absurd (some memory)
 not_read same some (inr is) = ap decode_of (sym same) ∙ is
 
--- a line that is no hexadecimal text was refused
+-- a line that is not hexadecimal text was refused
 pub line_refused : {c c1 : Option (List ℕ)} (n : ℕ) (held : List ℕ) (later : ℕ) (kept : List ℕ)
     (number : ℕ) (line : List ℕ) (why : FromHexError) (result : Result Turn RunError)
     → decode_of (trimmed line) ≡ Err why
@@ -251,7 +252,7 @@ line_unread {c} before after number line e = record {
 
 -- ---- counting
 
--- what is cut off at the end makes a line no longer
+-- cutting off the end does not make a line longer
 cut_shorter : (cut : Bool) (line : List ℕ)
     → length (if cut then take (length line - 1) line else line) ≤ length line
 cut_shorter true line = omega (arith, length-take (length line - 1) line)
@@ -260,14 +261,14 @@ cut_shorter false line = omega arith
 trimmed_shorter : (line : List ℕ) → length (trimmed line) ≤ length line
 trimmed_shorter line = cut_shorter (ends_with_byte 13 line) line
 
--- a line has no fewer bytes of text than bytes that it spells
+-- a line has at least as many bytes of text as bytes that it spells
 pub bytes_spelled : (line bytes : List ℕ) → decode_of (trimmed line) ≡ Ok bytes
     → length bytes ≤ length line
 bytes_spelled line bytes is =
     let twice = (decode_of-ok (trimmed line) bytes is).2 in
     omega (arith, twice, trimmed_shorter line)
 
--- what is paid by fewer bytes is paid by more
+-- a cost that is covered by fewer bytes is covered by more
 pub pays_more : (a b m n : ℕ) (result : Result Turn RunError) → OnOk result (a ≤ b + m) → m ≤ n
     → OnOk result (a ≤ b + n)
 pays_more a b m n (Ok turn) bounded few = omega (arith, bounded, few)

@@ -1,5 +1,5 @@
--- How a run over lines goes on, and how it ends. `output` is what the run has to write for an
--- input, and `left` is what is left to write.
+-- How a run over lines continues, and how it ends. `output` is what the run must write for an
+-- input, and `left` is what remains to be written.
 use Rattle.std.proofs.Common.{◌≡◌, ◌+◌, ◌++◌, ℕ, Bool, true, false, List, [], ◌∷◌, Option, Some, None, IfSome, Result, Ok, Err, inr, refl, sym, ap, ◌∙◌, append_assoc, take, drop, subst, arith}
 use Rattle.std.proofs.lemmas.List.{append-nil, take_all, take-append-drop}
 use Rattle.std.specs.Io.KnownBytes.{Appends, Consumes, IsAtEnd, Keeps}
@@ -15,7 +15,7 @@ use Rattle.etcs_run.specs.declared.status.Status.{Status}
 use Rattle.etcs_run.specs.declared.turn.Turn.TheVariants.{Next, Stop}
 use Rattle.etcs_run.proofs.StreamLemmas.{Appends-kept, Appends-none, Appends-then, Consumes-none, Consumes-then}
 
--- The state while lines are read: what was read and written so far, and what is left to write for
+-- The state while lines are read: what was read and written so far, and what remains to be written for
 -- the held bytes and for what follows.
 pub record Running (remaining_old remaining_new contents_old contents_new : Option (List ℕ))
     (ended : Bool) (output : List ℕ → Output) (left : List ℕ → Output) : Type 0 where
@@ -30,11 +30,11 @@ pub record Running (remaining_old remaining_new contents_old contents_new : Opti
 abbrev pub Answers : Type 0
 Answers = ℕ → List (List ℕ) → Output
 
--- what is left to write after n lines
+-- what remains to be written after n lines
 abbrev pub left_of : Answers → ℕ → List ℕ → List ℕ → Output
 left_of answers n held rest = answers (n + 1) (lines_of (held ++ rest))
 
--- nothing is read yet, and all is left
+-- nothing is read yet, and everything remains to be written
 pub Running-start : {r c : Option (List ℕ)} {ended : Bool} {held : List ℕ} (answers : Answers)
     → held ≡ [] → Running r r c c ended (line_by_line answers) (left_of answers 0 held)
 Running-start {r} {c} answers none = record {
@@ -72,7 +72,7 @@ module _ {r0 r r1 c0 c : Option (List ℕ)} {before after : Bool} {output : List
         ∙ ap (λ ls. prepend run.text (answers (n + 1) ls)) lines;
   }
 
-  -- no line is left
+  -- there is no further line
   pub Running-end : (answers : Answers) (n : ℕ) → Running r0 r c0 c before output (left_of answers n held)
       → Reads r r1 before held line now after (Ok false) → (before ≡ true → after ≡ true)
       → Running r0 r1 c0 c after output (λ _. answers (n + 1) [])
@@ -90,7 +90,7 @@ module _ {r0 r r1 c0 c : Option (List ℕ)} {before after : Bool} {output : List
         ∙ ap (λ s. prepend run.text (answers (n + 1) (lines_of s))) nothing_left;
   }
 
-  -- a read failed, or the line was longer than memory
+  -- a read failed, or the line did not fit in memory
   pub Running-failed : {left : List ℕ → Output} {e : RunError} (x : RunError)
       → Running r0 r c0 c before output left → Reads r r1 before held line now after (Err e)
       → (before ≡ true → after ≡ true) → (after ≡ true → IsAtEnd r1) → Ran r0 r1 c0 c output (Err x)
@@ -220,7 +220,7 @@ Ran-nothing {r} {c} {output} e = record {
   says = λ rest may. ((output rest).0, refl);
 }
 
--- nothing was read, and what was written is the same whatever the input
+-- nothing was read, and what was written is the same for every input
 pub Ran-unread : {r c c1 : Option (List ℕ)} {output : Output} {result : Result Status RunError}
     → Writes c c1 output result → Ran r r c c1 (λ _. output) result
 Ran-unread {r} writes = record {
@@ -263,7 +263,7 @@ Ran-known (Some input) {r = Some rest} {output} {result} ran = record {
       subst P (sym ran.consumed) (ran.says rest ran.met);
 }
 
--- one line was written whole
+-- one line was written completely
 pub Writes-whole : {c c1 c2 : Option (List ℕ)} {bytes line : List ℕ} {status : Status} {u : Unit {0}}
     → WritesBytes c c1 bytes (Ok u) → bytes ≡ line → Keeps c1 c2 → Writes c c2 (line, status) (Ok status)
 Writes-whole {c} {c1} {c2} {bytes} {line} {status} written is keeps = record {
@@ -294,7 +294,7 @@ Writes-failed e writes = record {
   says = ([], ap (λ o. o.0) writes.says ∙ sym (append-nil writes.text));
 }
 
--- the device that failed is the writer, since the reader was not called
+-- the device that failed is the writer, because the reader was not called
 pub counts_at_writer : {R W X : Type 0} (result : Result X RunError) (reader : Counted R)
     (old new : Counted W) → CountsDevice result old new
     → CountsOneDevice result reader reader old new

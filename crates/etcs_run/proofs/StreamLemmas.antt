@@ -38,7 +38,7 @@ Appends-kept None b kept = tt
 Appends-kept (Some x) None kept = kept
 Appends-kept (Some x) (Some y) kept = kept ∙ sym (append-nil x)
 
--- the first `count` bytes, and then the next n of the others
+-- the first `count` bytes, and then the next n bytes
 pub Appends-more : (a b c : Option (List ℕ)) (bytes : List ℕ) (count n : ℕ)
     → Appends a b (take count bytes)
     → Appends b c (take n (take (length bytes - count) (drop count bytes)))

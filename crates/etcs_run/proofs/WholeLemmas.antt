@@ -1,4 +1,4 @@
--- How an input is read to its end, and what is written for it then.
+-- Reading an input to its end, and what is then written for it.
 use Rattle.std.proofs.Common.{◌≡◌, ◌∙◌, ◌++◌, ℕ, true, false, List, [], Option, Result, Ok, Err, IfErr, OnErr, OnOk, refl, sym, ap, subst, arith}
 use Rattle.std.proofs.lemmas.List.{append-nil}
 use Rattle.std.specs.Io.KnownBytes.{Consumes}
@@ -13,7 +13,7 @@ use Rattle.etcs_run.specs.declared.error.RunError.TheVariants.{Memory, Device}
 use Rattle.etcs_run.specs.declared.status.Status.{Status}
 use Rattle.etcs_run.proofs.StreamLemmas.{Appends-none, Consumes-then}
 
--- a read failed, or the input was longer than memory
+-- a read failed, or the input did not fit in memory
 pub Whole-failed : {X : Type 0} {items : X → List ℕ} {r0 r r1 : Option (List ℕ)} {input now : List ℕ}
     {e : RunError} (x : RunError) → Consumes r0 r input → ReadsMore r r1 input now (Err e)
     → ReadsAllInput items r0 r1 (Err x)
@@ -59,7 +59,7 @@ pub on_ok_anyway : {X E P : Type 0} (result : Result X E) → P → OnOk result 
 on_ok_anyway (Ok x) holds = holds
 on_ok_anyway (Err e) holds = tt
 
--- where only a device fails, and it was not counted, nothing has failed
+-- if only a device can fail, and no failure was counted, nothing has failed
 pub not_failed : {X T : Type 0} (P : Type 0) (result : Result X RunError) (old new : Counted T)
     → IfErr result (λ e. e ≡ Device) → CountsDevice result old new → OnErr result (CountsNone old new → P)
 not_failed P (Ok x) old new device counts = tt

@@ -1,5 +1,5 @@
 -- What `check` writes for the document of a railway line: the report on the line, or why the bytes are
--- no document.
+-- not a document.
 use Rattle.std.specs.Prelude.{◌++◌, ℕ, List, [], ◌∷◌, codes, Some, None, Result, Ok, Err}
 use Rattle.etcs_check.specs.declared.finding.Finding.{Finding}
 use Rattle.etcs_document.specs.DocumentFault.{DocumentFault, bad_aspects, bad_count, bad_form, bad_message, bad_telegram, no_json}
@@ -30,7 +30,7 @@ refusal_for (bad_message m why) = refusal_words (Document (errors.Message m why)
 abbrev pub refused_as : LineError → Answer
 refused_as why = (refusal_words (Document why), Refused)
 
--- the status of a check: everything is done where nothing is found
+-- the status of a check: Done if there are no findings
 abbrev pub status_for : List Finding → Status
 status_for [] = Done
 status_for (_ ∷ _) = Findings

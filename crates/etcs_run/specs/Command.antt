@@ -1,5 +1,5 @@
 -- The command that the words of a command line give. The library `clap` defines which faults the
--- words have, which subcommand it finds and which flags it has. Words with a fault are no command. A
+-- words have, and which subcommand and flags they contain. Words with a fault are not a command. A
 -- request for help is one of the faults.
 use Rattle.std.specs.Prelude.{List, [], ◌∷◌, codes, Bool, false, Option, Some, None, if◌then◌else◌}
 use Rattle.std.specs.Option.{option_map_or}

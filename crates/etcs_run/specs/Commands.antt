@@ -1,4 +1,4 @@
--- What each command writes for an input, and what words that are no command write.
+-- What each command writes for an input, and what is written for words that are not a command.
 use Rattle.std.specs.Prelude.{ℕ, List, [], codes, Option, Some, None}
 use Rattle.etcs_run.specs.Checking.{check_output}
 use Rattle.etcs_run.specs.Command.{command_of}
@@ -10,7 +10,7 @@ use Rattle.etcs_run.specs.declared.command.Command.{Command}
 use Rattle.etcs_run.specs.declared.command.Command.TheVariants.{Check, Decode, DecodeRadio, Encode, EncodeRadio}
 use Rattle.etcs_run.specs.declared.status.Status.TheVariants.{Refused}
 
--- the line that is written if the words are no command
+-- the line that is written if the words are not a command
 unfoldable pub usage_line : List ℕ
 usage_line = codes "refused: usage is balisecheck check, decode [--radio] or encode [--radio]\n"
 
@@ -23,6 +23,6 @@ of_command (Some Encode) input = each_text_line telegram_encoded input
 of_command (Some EncodeRadio) input = each_text_line message_encoded input
 of_command None input = (usage_line, Refused)
 
--- what the words write for an input
+-- what is written for some words and an input
 unfoldable pub output_of : List (List ℕ) → List ℕ → Output
 output_of words input = of_command (command_of words) input

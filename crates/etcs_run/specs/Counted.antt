@@ -1,18 +1,18 @@
--- A reader or writer whose failed calls and flushes are counted: what it shows, and what each call does
--- to its counts and to its budget. A read counts as failed if the budget does not suffice for it. A write
--- counts as failed if it takes none of what it was handed.
+-- A reader or writer whose failed calls and flushes are counted: its counts and its budget, and what each
+-- call does to them. A read counts as failed if the budget does not suffice for it. A write counts as failed
+-- if it takes none of the bytes that it was given.
 use Rattle.std.specs.Prelude.{◌≡◌, ◌<◌, ◌+◌, ◌-◌, ◌^◌, ℕ, Bool, min, Result, MatchResult}
 use Rattle.etcs_run.specs.declared.counted.Counted.{Counted}
 
--- how many calls have failed
+-- the number of failed calls
 abbrev pub failures_of : {T : Type 0} → Counted T → ℕ
 failures_of counted = counted.failures
 
--- what is left of the budget, in bytes of room that reads may offer
+-- the remaining budget, in bytes of the buffers that are passed to reads
 abbrev pub budget_of : {T : Type 0} → Counted T → ℕ
 budget_of counted = counted.budget
 
--- how many flushes were answered as done
+-- the number of flushes that succeeded
 abbrev pub flushes_of : {T : Type 0} → Counted T → ℕ
 flushes_of counted = counted.flushes
 
@@ -41,7 +41,7 @@ abbrev pub CountsFailure : {X E : Type 0} → ℕ → ℕ → Result X E → Typ
 CountsFailure old new result =
     MatchResult result (λ _. new ≡ old) (λ _. new ≡ min (old + 1) (2 ^ 64 - 1))
 
--- a flush that is done adds one, up to the type's greatest value, and a failed one adds none
+-- a flush that succeeds adds one, up to the type's greatest value, and a failed one adds none
 abbrev pub CountsFlush : {X E : Type 0} → ℕ → ℕ → Result X E → Type 0
 CountsFlush old new result =
     MatchResult result (λ _. new ≡ min (old + 1) (2 ^ 64 - 1)) (λ _. new ≡ old)

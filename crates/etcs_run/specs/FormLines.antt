@@ -18,7 +18,7 @@ use Rattle.etcs_document.specs.declared.refusal.LineFault.TheVariants.{Json, Too
 use Rattle.etcs_run.specs.HexText.{message_text, telegram_text}
 use Rattle.etcs_run.specs.TextLineMeaning.{Meaning}
 
--- the next step, of what a step gave; a reason to refuse is passed on
+-- the next step, applied to the result of a step; a reason to refuse is passed on
 infixl 10 ◌then◌
 abbrev pub ◌then◌ : {X Y : Type 0} → Result X (List ℕ) → (X → Result Y (List ℕ)) → Result Y (List ℕ)
 (Ok x) then next = next x
@@ -29,16 +29,16 @@ abbrev pub or_no_json : Option Data → Result Data (List ℕ)
 or_no_json (Some d) = Ok d
 or_no_json None = Err (line_words Json)
 
--- the JSON value that bytes are: exactly one, in UTF-8
+-- the JSON value of the bytes: exactly one, in UTF-8
 unfoldable pub value_in : List ℕ → Result Data (List ℕ)
 value_in bytes = if is_utf8 bytes then or_no_json (read bytes) else Err (line_words Json)
 
--- the record that was read of a form, or the form's first fault in words
+-- the record that was read from a form, or the form's first fault in words
 abbrev pub or_fault : {X : Type 0} → Result X Fault → Result X (List ℕ)
 or_fault (Ok x) = Ok x
 or_fault (Err f) = Err (form_fault_words f)
 
--- the record of which the line is the form, or the reason why it is none
+-- the record whose form the line is, or the reason why there is none
 abbrev pub record_in : {X : Type 0} → Shape X → List ℕ → Result X (List ℕ)
 record_in shape line = value_in line then λ d. or_fault (shape.of d)
 

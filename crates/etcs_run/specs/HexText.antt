@@ -23,7 +23,7 @@ digits_of_bits bits = encode_lower (bytes_of_bits bits)
 unfoldable pub telegram_text : Telegram → List ℕ
 telegram_text t = digits_of_bits (canonical_bits t ++ no_pads t.size)
 
--- how many whole bytes hold this number of bits
+-- the number of bytes for this number of bits
 abbrev pub bytes_for : ℕ → ℕ
 bytes_for bits = (bits + 7) / 8
 
@@ -31,6 +31,6 @@ bytes_for bits = (bits + 7) / 8
 abbrev pub message_bits_in : ℕ → Message → List Bool
 message_bits_in n m = join (message_rows n m) ++ replicate (8 * n - message_bits m) false
 
--- the text of a message, in as few bytes as hold it
+-- the text of a message, in the least number of bytes
 unfoldable pub message_text : Message → List ℕ
 message_text m = digits_of_bits (message_bits_in (bytes_for (message_bits m)) m)

@@ -1,6 +1,6 @@
--- Reading line by line. Bytes come from the reader in blocks that are cut anywhere. Some are held
--- until their line is whole. Once the end of the input was met nothing more is read, since a reader
--- such as a terminal may give more after an end.
+-- Reading line by line. The reader gives blocks of bytes, which are cut anywhere. Bytes are held until their
+-- line is complete. After the end of the input was reached nothing more is read, because a reader such as a
+-- terminal may give more bytes after an end.
 use Rattle.std.specs.Prelude.{◌≡◌, ◌++◌, ◌-◌, ℕ, Bool, true, false, List, [], ◌∷◌, take, drop, Option, Result, Ok, Err}
 use Rattle.std.specs.Io.KnownBytes.{Consumes, IsAtEnd}
 use Rattle.etcs_run.specs.Counted.{CountsNone, CountsOne, inner_of}
@@ -11,19 +11,19 @@ use Rattle.etcs_run.specs.declared.error.RunError.{RunError}
 use Rattle.etcs_run.specs.declared.error.RunError.TheVariants.{Memory, Device}
 use Rattle.etcs_run.specs.declared.text_lines.TextLines.{TextLines}
 
--- the bytes that were read but belong to no line yet
+-- the bytes that were read and belong to no line yet
 abbrev pub held_of : TextLines → List ℕ
 held_of lines = take (lines.to - lines.from) (drop lines.from lines.block.items)
 
--- the line that was found last
+-- the last line
 abbrev pub line_of : TextLines → List ℕ
 line_of lines = lines.line.items
 
--- whether the end of the input was met
+-- whether the end of the input was reached
 abbrev pub has_ended : TextLines → Bool
 has_ended lines = lines.has_ended
 
--- if the end was met and the reader's bytes are known, none of them is left
+-- if the end was reached and the reader's bytes are known, none of them remains
 abbrev pub IsEndMet : {R : Type 0} → (R → Option (List ℕ)) → Bool → Counted R → Type 0
 IsEndMet remaining ended reader = ended ≡ true → IsAtEnd (remaining (inner_of reader))
 
@@ -33,7 +33,7 @@ CountsDevice (Ok _) old new = CountsNone old new
 CountsDevice (Err Memory) old new = CountsNone old new
 CountsDevice (Err Device) old new = CountsOne old new
 
--- the line has grown by these bytes, of which none is a `\n`
+-- the line has grown by these bytes, which contain no `\n`
 pub record Grows (old new : TextLines) (front : List ℕ) : Type 0 where
   pub line : line_of new ≡ line_of old ++ front
   pub plain : IsLine front
@@ -45,8 +45,8 @@ MovesTo (Ok true) old new =
     (front : List ℕ) × Grows old new front × (held_of old ≡ front ++ 10 ∷ held_of new)
 MovesTo (Ok false) old new = Grows old new (held_of old) × (held_of new ≡ [])
 
--- The line is the first one of the bytes held and read, whatever may follow them. Or there is no
--- line: the end was met, and no byte is left.
+-- The line is the first one of the bytes held and read, whatever follows them. Or there is no
+-- line: the end was reached, and no byte remains.
 abbrev pub GivesLine : Result Bool RunError → List ℕ → List ℕ → List ℕ → Bool → Type 0
 GivesLine (Err _) bytes line held ended = Unit {0}
 GivesLine (Ok true) bytes line held ended =
@@ -54,7 +54,7 @@ GivesLine (Ok true) bytes line held ended =
     → lines_of (bytes ++ rest) ≡ line ∷ lines_of (held ++ rest)
 GivesLine (Ok false) bytes line held ended = (ended ≡ true) × (bytes ≡ []) × (held ≡ [])
 
--- These bytes were read, none if the end was met before. Together with the bytes held before, they
+-- These bytes were read, none if the end was reached before. Together with the bytes held before, they
 -- give a line.
 pub record Reads (remaining_old remaining_new : Option (List ℕ)) (had_ended : Bool)
     (held line now : List ℕ) (ended : Bool) (result : Result Bool RunError) : Type 0 where

@@ -35,6 +35,6 @@ answers meaning number (line ∷ lines) =
 abbrev pub line_by_line : (ℕ → List (List ℕ) → Output) → List ℕ → Output
 line_by_line answers input = answers 1 (lines_of input)
 
--- what is written for an input of which each line is answered by itself
+-- what is written for an input whose lines are answered one by one
 abbrev pub each_text_line : Meaning → List ℕ → Output
 each_text_line meaning = line_by_line (answers meaning)

@@ -1,4 +1,4 @@
--- What the decoding of a stream carries from one line to the next, and what it writes for some bytes.
+-- The state that the decoding of a stream carries from line to line, and what it writes for some bytes.
 use Rattle.std.specs.Prelude.{◌≡◌, ◌++◌, ◌+◌, ℕ, List, length, Option, Result, Ok, Err}
 use Rattle.std.specs.Io.KnownBytes.{Appends}
 use Rattle.etcs_run.specs.Output.{Output, prepend}
@@ -8,7 +8,7 @@ use Rattle.etcs_run.specs.declared.radio_decoding.RadioDecoding.{RadioDecoding}
 use Rattle.etcs_run.specs.declared.turn.Turn.{Turn}
 use Rattle.etcs_run.specs.declared.turn.Turn.TheVariants.{Next, Stop}
 
--- how many messages were written, which is the number of the next one
+-- the number of messages that were written, which is the number of the next one
 abbrev pub messages_written : RadioDecoding → ℕ
 messages_written d = d.number
 
@@ -20,7 +20,7 @@ kept_by d = d.splitter
 abbrev pub least_read : RadioDecoding → ℕ
 least_read d = messages_written d + length (kept_by d)
 
--- What is written for some bytes and later: this text and then what is written later, this text and
+-- What is written for some bytes and later: this text and then the later output, this text and
 -- the end, or more than this text.
 abbrev pub IsFedSoFar : Result Turn RunError → List ℕ → (Onwards → Output) → ℕ → List ℕ → Type 0
 IsFedSoFar (Ok Next) text output number held =
@@ -29,7 +29,7 @@ IsFedSoFar (Ok (Stop status)) text output number held = (rest : Onwards) → out
 IsFedSoFar (Err _) text output number held =
     (rest : Onwards) → (more : List ℕ) × ((output rest).0 ≡ text ++ more)
 
--- This text was written, and it is what is written for some bytes, or a beginning of it.
+-- This text was written: what is written for some bytes, or a beginning of it.
 pub record Feeds (old new : Option (List ℕ)) (output : Onwards → Output) (number : ℕ) (held : List ℕ)
     (result : Result Turn RunError) : Type 0 where
   pub text : List ℕ

@@ -1,5 +1,5 @@
 -- What is written for a stream of radio messages in lines of hexadecimal text (SUBSET-026, 8.4.4). A
--- line may hold a part of a message, or several messages. Each whole message becomes one JSON line.
+-- line may contain a part of a message, or several messages. Each complete message becomes one JSON line.
 -- The first message or line that is refused ends the run. Messages count from 0, over all lines.
 use Rattle.std.specs.Prelude.{◌+◌, ℕ, List, [], ◌∷◌, Result, Ok, Err}
 use Rattle.hex.specs.Hex.{decode_of}
@@ -67,7 +67,7 @@ bytes_output number held bytes rest = cut_output number (cut_from held bytes) re
 
 -- ---- the lines
 
--- what is written for the bytes of a line, or the refusal of a line that is no hexadecimal text
+-- what is written for the bytes of a line, or the refusal of a line that is not hexadecimal text
 abbrev pub after_bytes : ℕ → Result (List ℕ) FromHexError → (List ℕ → Output) → Output
 after_bytes line (Ok bytes) rest = rest bytes
 after_bytes line (Err why) rest = (refusal_of line (line_words (Text NotHex)), Refused)
@@ -77,8 +77,8 @@ abbrev pub at_end : ℕ → List ℕ → Output
 at_end number [] = ([], Done)
 at_end number (byte ∷ held) = refused_message number CutOff
 
--- what is written for the lines, the first of which has the number `line`: `number` messages came
--- before them, and `held` is what has begun of the next one
+-- what is written for the lines, the first of which has the number `line`; `number` is the number of messages
+-- before them, and `held` is the beginning of the next message
 unfoldable pub stream_answers : ℕ → List ℕ → ℕ → List (List ℕ) → Output
 stream_answers number held line [] = at_end number held
 stream_answers number held line (text ∷ lines) =

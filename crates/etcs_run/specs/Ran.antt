@@ -1,9 +1,10 @@
--- What a run promises. With a status, the text written and the status are the output for every
--- input that begins with what was read. Without one, the text written is a beginning of the text of
--- each such output. The end of the input, once met, counts as read. Nothing is promised of a reader
--- whose bytes are not known. For a writer whose contents are not known, only the status is
--- promised. If the whole input is known, the promise is simpler: the text written and the status
--- are the output of that input.
+-- What a run promises, in four cases:
+-- - It returned a status: the text written and the status are the output of every input that begins with what
+--   was read. Reaching the end of the input counts as reading it.
+-- - It returned no status: the text written is a beginning of the output of each such input.
+-- - The whole input is known: the text written and the status are the output of that input.
+-- - The reader's bytes or the writer's contents are not known: nothing is promised for such a reader, and only
+--   the status for such a writer.
 use Rattle.std.specs.Prelude.{◌≡◌, ◌≤◌, ◌+◌, ◌++◌, ◌⊎◌, ℕ, Bool, true, List, [], ◌∷◌, take, length, Option, Result, Ok, Err, IfSome, OnOk}
 use Rattle.std.specs.Io.KnownBytes.{Appends, Consumes, IsAtEnd}
 use Rattle.etcs_run.specs.Counted.{CountsFlush, CountsNone, CountsOne, flushes_of, inner_of, is_flushed}
@@ -15,7 +16,7 @@ use Rattle.etcs_run.specs.declared.status.Status.{Status}
 use Rattle.etcs_run.specs.declared.turn.Turn.{Turn}
 use Rattle.etcs_run.specs.declared.turn.Turn.TheVariants.{Next, Stop}
 
--- `rest` may follow what was read: anything may before the end was met, and nothing after it
+-- `rest` may follow what was read: anything before the end was reached, and nothing after it
 abbrev pub MayFollow : Bool → List ℕ → Type 0
 MayFollow ended rest = ended ≡ true → rest ≡ []
 
@@ -26,7 +27,7 @@ IsOutputSoFar (Err _) text output = (more : List ℕ) × (output.0 ≡ text ++ m
 
 -- These bytes were read, perhaps up to the end of the input, and this text was written. The text is
 -- the output, or a beginning of it, for each input that begins with these bytes. If the end was
--- met, that is only the input of just these bytes. An end can be met only if no byte is left.
+-- reached, the only such input is these bytes. An end can be reached only if no byte remains.
 pub record Ran (remaining_old remaining_new contents_old contents_new : Option (List ℕ))
     (output : List ℕ → Output) (result : Result Status RunError) : Type 0 where
   pub bytes : List ℕ
@@ -58,12 +59,12 @@ Answers remaining contents reader writer_old writer_new output result =
     IfSome (remaining (inner_of reader)) (λ input.
     Writes (contents (inner_of writer_old)) (contents (inner_of writer_new)) (output input) result)
 
--- a status is returned only once everything written is flushed, by the only flush that is done
+-- a status is returned only after everything written was flushed, by the only flush of the run
 abbrev pub EndsFlushed : {X W : Type 0} → Result X RunError → Counted W → Counted W → Type 0
 EndsFlushed result old new =
     OnOk result (is_flushed new ≡ true) × CountsFlush (flushes_of old) (flushes_of new) result
 
--- a device that failed is counted once, at the reader or at the writer, and nothing else is counted
+-- a failed device is counted once, at the reader or at the writer, and nothing else is counted
 abbrev pub CountsOneDevice : {R W X : Type 0} → Result X RunError → Counted R → Counted R
     → Counted W → Counted W → Type 0
 CountsOneDevice (Err Device) reader_old reader_new writer_old writer_new =
@@ -102,7 +103,6 @@ IsTurnSoFar (Ok (Stop status)) text now later = now ≡ (text, status)
 IsTurnSoFar (Err _) text now later = (more : List ℕ) × (now.0 ≡ text ++ more)
 
 -- This text was written, and it is the answer to the line, or a beginning of it, whatever lines
--- follow. `before` and `after` are what is written from a line onwards, before the answer and
 -- after it.
 pub record TakesTurn (old new : Option (List ℕ)) (before after : ℕ → List (List ℕ) → Output)
     (number : ℕ) (line : List ℕ) (result : Result Turn RunError) : Type 0 where

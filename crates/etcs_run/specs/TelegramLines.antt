@@ -1,5 +1,5 @@
 -- A telegram as a line of text. A text that is accepted becomes one JSON object. A text that is
--- refused becomes the reason, in words and numbers.
+-- refused becomes the reason, in words.
 use Rattle.std.specs.Prelude.{ℕ, List, Result, Ok, Err}
 use Rattle.etcs_telegram.specs.Text.{HasHeaderFault, IsHexadecimal, IsReasonDecoded}
 use Rattle.etcs_telegram.specs.TextMeaning.{telegram_of_text}

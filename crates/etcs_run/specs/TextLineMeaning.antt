@@ -13,7 +13,7 @@ Meaning = List ℕ → Result (List ℕ) (List ℕ)
 unfoldable pub refusal_of : ℕ → List ℕ → List ℕ
 refusal_of number words = codes "refused: line " ++ (decimal number ++ (codes ": " ++ (words ++ codes "\n")))
 
--- What a call returned, seen by `view`, is what the line means, unless memory ran out. The words of a
+-- What a call returned, seen through `view`, is what the line means, unless memory ran out. The words of a
 -- refusal's reason are the words of the meaning.
 abbrev pub Gives : {X Y : Type 0} → (X → Y) → Result X Unwritten → Result Y (List ℕ) → Type 0
 Gives view (Ok x) meaning = meaning ≡ Ok (view x)

@@ -1,4 +1,4 @@
-//! How a command answers a whole input.
+//! Runs a command over a whole input.
 
 ghost use Rattle.std.specs.Prelude.{◌≡◌, [], false};
 ghost use Rattle.etcs_run.specs.Counted.{CanCount, FlushesNone};
@@ -16,7 +16,7 @@ use crate::turn::Turn;
 use std::alloc::Global;
 use std::io::{Read, Write};
 
-// Writes the answer to each line, up to one at which the run stops, and to the end of the input.
+// Writes the answer to each line, up to the line at which the run stops, and to the end of the input.
 fn answer_lines<C: TextLineCommand, R: Read, W: Write>(
     alloc: Global,
     command: &mut C,
@@ -33,7 +33,7 @@ fn answer_lines<C: TextLineCommand, R: Read, W: Write>(
     ensures counts { CountsOneDevice result reader.old reader.new writer.old writer.new }
     ensures unflushed { FlushesNone writer.old writer.new }
 {
-    // For the proof alone: the budget has a range, which bounds the number of lines.
+    // Only for the proof: the budget has a range, which bounds the number of lines.
     let _ = reader.budget();
     let mut number = 0;
     'lines: while lines.next(reader)? {
@@ -48,10 +48,10 @@ fn answer_lines<C: TextLineCommand, R: Read, W: Write>(
 /// Writes the command's answer to each line of the input, and to its end. Then it flushes the
 /// writer.
 ///
-/// `Memory`: a request for memory was refused, and no count has risen. `Device`: a read, a write or a
-/// flush failed, the count of that reader or writer has risen by 1, and the other has not. In both
-/// cases what was read is gone from the reader, which may be more than was answered. The text written
-/// is a beginning of the answer, perhaps not flushed.
+/// `Memory`: an allocation failed, and no count has risen. `Device`: a read, a write or a flush failed; the
+/// count of that reader or writer has risen by 1, and the other has not. In both cases what was read is gone
+/// from the reader, and may be more than was answered. The text written is a beginning of the answer, perhaps
+/// not flushed.
 pub fn answer_input<C: TextLineCommand, R: Read, W: Write>(
     alloc: Global,
     command: C,

@@ -1,4 +1,4 @@
-//! `check`: the document of a railway line, to the report on it.
+//! `check`: from the document of a railway line to the report on it.
 
 ghost use Rattle.std.specs.Prelude.{◌≡◌, string_bytes, IfOk, OnErr, OnOk};
 ghost use Rattle.std.specs.Io.KnownBytes.{IsAtEnd};
@@ -62,12 +62,12 @@ fn answer_document(alloc: Global, document: &[u8]) -> Result<(String, Status), M
 
 /// Reads the document of a line to the end of the input, and writes the report on the line, or why
 /// the document is refused. Then it flushes the writer. Nothing is written before the end of the
-/// input was met.
+/// input was reached.
 ///
-/// `Memory`: a request for memory was refused, and no count has risen. `Device`: a read, a write or a
-/// flush failed, the count of that reader or writer has risen by 1, and the other has not. In both
-/// cases what was read is gone from the reader. If the writer has failed, the text written is a
-/// beginning of the report or of the refusal, perhaps not flushed. Else the writer is as it was.
+/// `Memory`: an allocation failed, and no count has risen. `Device`: a read, a write or a flush failed; the
+/// count of that reader or writer has risen by 1, and the other has not. In both cases what was read is gone
+/// from the reader. If the writer has failed, the text written is a beginning of the report or of the
+/// refusal, perhaps not flushed. Otherwise the writer is unchanged.
 pub fn check_input<R: Read, W: Write>(
     alloc: Global,
     reader: &mut Counted<R>,
@@ -80,7 +80,7 @@ pub fn check_input<R: Read, W: Write>(
     ensures flushed { EndsFlushed result writer.old writer.new }
     ensures counts { CountsOneDevice result reader.old reader.new writer.old writer.new }
 
-    // The writer is called only once the end of the input was met.
+    // The writer is called only after the end of the input was reached.
     ensures to_end { OnOk result (IsAtEnd (R.remaining (inner_of reader.new))) }
     ensures cut_off { CountsOne writer.old writer.new → IsAtEnd (R.remaining (inner_of reader.new)) }
     ensures unwritten { OnErr result (CountsNone writer.old writer.new → writer.new ≡ writer.old) }

@@ -1,4 +1,4 @@
-//! `Command`: what the words of a command line ask for.
+//! `Command`: what the words of a command line request.
 
 ghost use Rattle.std.specs.Prelude.{◌≡◌, false, IfOk, map};
 ghost use Rattle.clap.specs.declared.builder.command.Command.TheViews.{out-Command};
@@ -9,7 +9,7 @@ use clap::error::ErrorKind;
 use clap::{Arg, ArgAction, ArgMatches, Command as CommandLine};
 use std::alloc::{AllocError, Global};
 
-/// What the program is asked to do.
+/// A command of the program.
 #[derive(Clone, Copy, Debug, PartialEq, Eq)]
 pub enum Command {
     /// Check the document of a railway line.
@@ -97,11 +97,11 @@ fn entered_command(matches: &ArgMatches<'_>) -> Option<Command>
     }
 }
 
-/// The command that the words of a command line give, or `None` if they are no command. The first
+/// The command that the words of a command line give, or `None` if they are not a command. The first
 /// word is the program's name.
 ///
-/// A request for help is no command, so the texts of `clap` are never printed. The only error is that
-/// memory runs out; then no command is returned.
+/// A request for help is not a command, so the texts of `clap` are never printed. Fails only if memory runs
+/// out; then no command is returned.
 pub fn read_command<'a>(alloc: Global, words: &'a [&'a str]) -> Result<Option<Command>, AllocError>
     ensures { IfOk result (λ c. c ≡ command_of (map (λ w. w.now) words.entry.now)) }
 {

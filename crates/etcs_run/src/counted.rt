@@ -10,11 +10,11 @@ use std::io::{Error, ErrorKind, Read, Result, Write};
 
 /// A reader or writer with a count of its failed calls.
 ///
-/// It starts with a budget of 2^64 - 1 bytes to be read. Each read lowers the budget by the length
-/// of its buffer, or by 1 if the buffer is empty. A read fails if the budget does not suffice for
-/// it. So a loop that reads as long as bytes come ends on every reader.
+/// It starts with a budget of 2^64 - 1 bytes to read. Each read lowers the budget by the length of its
+/// buffer, or by 1 if the buffer is empty. A read fails if the budget does not suffice. So a loop that reads
+/// until the reader gives no more bytes ends for every reader.
 ///
-/// A writer also counts the flushes that were done, and records whether everything written through it
+/// A writer also counts the flushes that succeeded, and records whether everything written through it
 /// has been flushed.
 ///
 /// After an error no byte was given or taken, and the count of failures has risen by 1. Each count stops
@@ -29,8 +29,8 @@ pub struct Counted<T> {
 }
 
 impl<T> Counted<T> {
-    /// Wraps a reader or writer. No call of it has failed yet, and none of the budget is spent. It
-    /// counts as not flushed, since it may hold back what was written to it before.
+    /// Wraps a reader or writer, without failures and with the full budget. It counts as not flushed, because
+    /// it may still buffer what was written to it before.
     #[inline]
     pub fn new(inner: T) -> Counted<T>
         ensures inner { inner_of result ≡ inner }
@@ -57,7 +57,7 @@ impl<T> Counted<T> {
         self.failures
     }
 
-    /// What is left of the budget, in bytes of buffer that reads may offer.
+    /// The remaining budget, in bytes of the buffers that are passed to reads.
     #[inline]
     pub(crate) fn budget(&self) -> u64
         ensures { result ≡ budget_of self.now }
@@ -77,8 +77,8 @@ impl<T> Counted<T> {
 impl<R: Read> Read for Counted<R> {
     ghost remaining = { λ c. R.remaining (inner_of c) };
 
-    /// Reads once. If the budget does not suffice, the read fails and the reader is not called. Any
-    /// other read that fails is paid for as well.
+    /// Reads once. If the budget does not suffice, the read fails and the reader is not called. Every
+    /// other failed read lowers the budget too.
     #[inline]
     fn read(&mut self, buf: &mut [u8]) -> Result<usize>
         ensures bound { ReadsAtMost result buf.new }
@@ -139,8 +139,8 @@ impl<W: Write> Write for Counted<W> {
         }
     }
 
-    /// Passes on what the writer holds back. After an error the writer counts as not flushed, and
-    /// what was written stands.
+    /// Flushes the writer. After an error the writer counts as not flushed, and what was written remains
+    /// written.
     #[inline]
     fn flush(&mut self) -> Result<()>
         ensures bytes { Keeps (W.contents (inner_of self.old)) (W.contents (inner_of self.new)) }

@@ -1,4 +1,4 @@
-//! `EachTextLine`: a command that answers each line by what the line means.
+//! `EachTextLine`: a command that answers each line by its meaning.
 
 ghost use Rattle.std.specs.Prelude.{◌≡◌, [], Err, IfOk, string_bytes};
 ghost use Rattle.etcs_document.specs.Refusal.{line_words};
@@ -63,7 +63,7 @@ pub(crate) fn refuse_line<W: Write>(
     }
 }
 
-// Writes the text of a line, or its refusal. The room is that of an earlier text.
+// Writes the text of a line, or its refusal. `room` is the buffer of an earlier text.
 fn answer_line<M: TextLineMeaning, W: Write>(
     alloc: Global,
     meaning: &mut M,
@@ -90,7 +90,7 @@ fn answer_line<M: TextLineMeaning, W: Write>(
     }
 }
 
-// Writes the answer to a line. An empty line is skipped: it asks for nothing.
+// Writes the answer to a line. An empty line is skipped.
 fn take_turn<M: TextLineMeaning, W: Write>(
     alloc: Global,
     meaning: &mut M,
@@ -114,17 +114,17 @@ fn take_turn<M: TextLineMeaning, W: Write>(
     }
 }
 
-/// A command that answers each line by itself. Each line becomes its text, up to the first that has
-/// none. That one becomes its refusal, which ends the run.
+/// A command that answers each line by itself. Each line becomes its text, up to the first line without a
+/// text, which becomes its refusal and ends the run.
 #[derive(Drop)]
 pub struct EachTextLine<M> {
     meaning: M,
-    // The last text. The next one is made in its room.
+    // The last text. Its buffer is reused for the next one.
     room: Vec<u8>,
 }
 
 impl<M: TextLineMeaning> EachTextLine<M> {
-    /// The command, before its first line. It takes no memory yet.
+    /// The command, before its first line. Allocates nothing yet.
     pub fn new(alloc: Global, meaning: M) -> EachTextLine<M> {
         EachTextLine {
             meaning,
@@ -140,10 +140,10 @@ impl<M: TextLineMeaning> TextLineCommand for EachTextLine<M> {
 
     ghost count_bound = { λ _. 0 };
 
-    /// Writes the text of the line, or its refusal. An empty line leaves the writer as it was, and
-    /// never fails. A line with a `\r` alone is empty.
+    /// Writes the text of the line, or its refusal. An empty line leaves the writer unchanged and
+    /// never fails. A line with only a `\r` is empty.
     ///
-    /// `Memory`: a request for memory was refused. `Device`: a write failed, and the writer's count of
+    /// `Memory`: an allocation failed. `Device`: a write failed, and the writer's count of
     /// failures has risen by 1. In both cases what was written is a beginning of the text or of the
     /// refusal.
     fn answer<W: Write>(

@@ -18,7 +18,7 @@ use serde_json::Value;
 use serde_json::error::Category;
 use std::alloc::Global;
 
-// The JSON value that a line is.
+// The JSON value of a line.
 fn value_of(alloc: Global, line: &[u8]) -> Result<Value, Unwritten>
     ensures { Gives view result (value_in line.now) }
 {
@@ -31,7 +31,7 @@ fn value_of(alloc: Global, line: &[u8]) -> Result<Value, Unwritten>
     }
 }
 
-// The record of which a JSON value is the form.
+// The record whose form the JSON value is.
 fn record_of<T: Form, N: Node>(alloc: Global, node: &N) -> Result<T, Unwritten>
     ensures { Gives (λ x. x) result (or_fault (T.shape.of (N.shows node.now))) }
 {
@@ -44,7 +44,7 @@ fn record_of<T: Form, N: Node>(alloc: Global, node: &N) -> Result<T, Unwritten>
     }
 }
 
-// The record of which a line is the form, where the line is too long for a tape.
+// The record whose form the line is, if the line is too long for a tape.
 fn record_of_value<T: Form>(alloc: Global, line: &[u8]) -> Result<T, Unwritten>
     ensures { Gives (λ x. x) result (record_in T.shape line.now) }
 {
@@ -52,7 +52,7 @@ fn record_of_value<T: Form>(alloc: Global, line: &[u8]) -> Result<T, Unwritten>
     record_of(alloc, &&value)
 }
 
-// The record of which a line is the form.
+// The record whose form the line is.
 fn record_in_line<T: Form>(
     alloc: Global,
     scratch: &mut Scratch,
@@ -71,7 +71,7 @@ fn record_in_line<T: Form>(
     }
 }
 
-// The digits with the end of the line, in the room of an earlier line.
+// The digits with the end of the line. `room` is the buffer of an earlier line.
 fn ended_line(room: Vec<u8>, digits: &str) -> Result<Vec<u8>, Memory>
     ensures { IfOk result (λ line. line.items ≡ digits.now ++ codes "\n") }
 {
@@ -82,7 +82,7 @@ fn ended_line(room: Vec<u8>, digits: &str) -> Result<Vec<u8>, Memory>
     Ok(line)
 }
 
-// The telegram's text as a line, in the room of an earlier line.
+// The telegram's text as a line. `room` is the buffer of an earlier line.
 fn telegram_text(alloc: Global, room: Vec<u8>, telegram: &Telegram) -> Result<Vec<u8>, Unwritten>
     ensures { Gives (λ line. line.items) result (telegram_line telegram.now) }
 {
@@ -93,7 +93,7 @@ fn telegram_text(alloc: Global, room: Vec<u8>, telegram: &Telegram) -> Result<Ve
     }
 }
 
-// The message's text as a line, in the room of an earlier line.
+// The message's text as a line. `room` is the buffer of an earlier line.
 fn message_text(alloc: Global, room: Vec<u8>, message: &Message) -> Result<Vec<u8>, Unwritten>
     ensures { Gives (λ line. line.items) result (message_line message.now) }
 {
@@ -104,8 +104,8 @@ fn message_text(alloc: Global, room: Vec<u8>, message: &Message) -> Result<Vec<u
     }
 }
 
-/// A line is the JSON form of a telegram, and becomes its canonical text. A line that is no JSON, no
-/// such form, or the form of a telegram with more bits than its size is refused.
+/// A line is the JSON form of a telegram, and becomes its canonical text. A line is refused if it is not
+/// JSON, not the form of a telegram, or the form of a telegram with more bits than its size.
 #[derive(Drop)]
 pub struct EncodingTelegrams {
     // Room for the strings of a line.
@@ -133,8 +133,8 @@ impl TextLineMeaning for EncodingTelegrams {
     }
 }
 
-/// A line is the JSON form of a radio message, and becomes its canonical text. A line that is no
-/// JSON, no such form, or the form of a message of more than 1,023 bytes is refused.
+/// A line is the JSON form of a radio message, and becomes its canonical text. A line is refused if it is not
+/// JSON, not the form of a message, or the form of a message of more than 1,023 bytes.
 #[derive(Drop)]
 pub struct EncodingMessages {
     // Room for the strings of a line.

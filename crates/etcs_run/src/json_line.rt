@@ -7,8 +7,8 @@ use etcs_bits::Memory;
 use etcs_digits::LineText;
 use etcs_json::InPieces;
 
-/// The JSON line of a value, with its `\n`, in the room of an earlier line, which is lost. The only error
-/// is that memory runs out; then the room is lost too.
+/// The JSON line of a value, with its `\n`, in the buffer `room`, whose content is lost. Fails only if memory
+/// runs out; then the buffer is dropped.
 pub fn json_line<T: InPieces>(room: Vec<u8>, value: &T) -> Result<Vec<u8>, Memory>
     ensures { IfOk result (λ line. line.items ≡ json_line_of T.shape value.now) }
 {

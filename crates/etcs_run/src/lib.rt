@@ -1,14 +1,15 @@
-//! The commands of `balisecheck`, from words and an input to a text and a status: the document of a
-//! railway line, to what is found about the line; lines of hexadecimal text, each a Eurobalise
-//! telegram, to lines of JSON, and back; and a stream of radio messages, to lines of JSON, and back.
+//! The commands of `balisecheck`, from words and an input to a text and a status: from the document of a
+//! railway line to the findings about the line; from lines of hexadecimal text, each a Eurobalise
+//! telegram, to lines of JSON, and back; and from a stream of radio messages to lines of JSON, and back.
 //!
-//! [`run`] answers the words of a command line, from a [`Counted`] reader to a [`Counted`] writer. Its
-//! contract says what is written for every input: `specs/Commands.antt` defines that text, and
-//! `specs/Ran.antt` what is promised of it. It answers a [`Status`], or a [`RunError`] if memory was
-//! refused or a device failed. Read `program.rt` first, then `answering.rt`, `text_line_command.rt`,
-//! `text_line_meaning.rt`, `each_text_line.rt` and `text_lines.rt`. What a line means is in `telegram_lines.rt`
-//! and `form_lines.rt`. A stream is answered in `radio_decoding.rt`, wherever its lines end. A document
-//! is answered as a whole, in `checking.rt`. The crate leaves out standard input and output.
+//! [`run`] executes the words of a command line, from a [`Counted`] reader to a [`Counted`] writer. Its
+//! contract states what is written for every input: `specs/Commands.antt` defines that text, and
+//! `specs/Ran.antt` what is promised about it. It returns a [`Status`], or a [`RunError`] if an allocation
+//! or a device failed. Read `program.rt` first, then `answering.rt`, `text_line_command.rt`,
+//! `text_line_meaning.rt`, `each_text_line.rt` and `text_lines.rt`. The meaning of a line is in
+//! `telegram_lines.rt` and `form_lines.rt`. A stream is decoded in `radio_decoding.rt`, independent of the
+//! ends of its lines. A document is checked as a whole, in `checking.rt`. Standard input and output are not
+//! part of the crate.
 #![tactic(auto)]
 
 mod answering;

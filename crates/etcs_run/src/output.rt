@@ -13,9 +13,9 @@ use std::io::Write;
 
 /// Writes the text.
 ///
-/// `Device`: a write failed, and the writer's count of failures has risen by 1. What it took before
+/// `Device`: a write failed, and the writer's count of failures has risen by 1. What was written before
 /// that is a beginning of the text.
-// This is not `write_all`: its contract does not say what was written before a failure.
+// Not `write_all`: its contract does not state what was written before a failure.
 pub fn put<W: Write>(writer: &mut Counted<W>, text: &[u8]) -> Result<(), RunError>
     requires { CanCount writer.old }
     ensures written { WritesBytes (W.contents (inner_of writer.old)) (W.contents (inner_of writer.new))
@@ -37,7 +37,7 @@ pub fn put<W: Write>(writer: &mut Counted<W>, text: &[u8]) -> Result<(), RunErro
 /// Flushes the writer at the end of a run.
 ///
 /// `Device`: the flush failed, and the writer's count of failures has risen by 1. What was written
-/// stands.
+/// remains written.
 pub fn finish<W: Write>(writer: &mut Counted<W>) -> Result<(), RunError>
     requires { CanCount writer.old }
     ensures kept { Keeps (W.contents (inner_of writer.old)) (W.contents (inner_of writer.new)) }

@@ -40,7 +40,7 @@ fn refuse_words<W: Write>(writer: &mut Counted<W>) -> Result<Status, RunError>
     Ok(Status::Refused)
 }
 
-// Answers each line by what it means.
+// Answers each line by its meaning.
 fn answer_each<M: TextLineMeaning, R: Read, W: Write>(
     alloc: Global,
     meaning: M,
@@ -89,18 +89,16 @@ fn obey<R: Read, W: Write>(
 }
 
 /// Runs the command that the words give, from the reader to the writer. The first word is the
-/// program's name. Words that are no command give the usage line, and then nothing is read. `check`
-/// gives a status only once the input was read to its end.
+/// program's name. Words that are not a command give the usage line, and then nothing is read. `check`
+/// gives a status only after the input was read to its end.
 ///
-/// On a known input, the text written and the status are the output of that input. They depend only
-/// on what was read, so they are the output of every input that begins with it. The end of the
-/// input, once met, counts as read. With a status, the writer was flushed once, and that was its last
-/// call. Else no flush was done.
+/// For a known input, the text written and the status are the output of that input. They depend only on what
+/// was read, so they are the output of every input that begins with it. Reaching the end of the input counts
+/// as reading it. With a status, the writer was flushed once, in its last call. Otherwise it was not flushed.
 ///
-/// `Memory`: a request for memory was refused, and no count has risen. `Device`: a read, a write or a
-/// flush failed, the count of that reader or writer has risen by 1, and the other has not. In both
-/// cases what was read is gone from the reader, and the text written is a beginning of the output,
-/// perhaps not flushed.
+/// `Memory`: an allocation failed, and no count has risen. `Device`: a read, a write or a flush failed; the
+/// count of that reader or writer has risen by 1, and the other has not. In both cases what was read is gone
+/// from the reader, and the text written is a beginning of the output, perhaps not flushed.
 pub fn run<'a, R: Read, W: Write>(
     alloc: Global,
     words: &'a [&'a str],
@@ -125,7 +123,7 @@ pub fn run<'a, R: Read, W: Write>(
         → OnOk result (IsAtEnd (R.remaining (inner_of reader.new))) }
     ensures flushed { EndsFlushed result writer.old writer.new }
 
-    // Only a device that failed is counted, and `Device` is never answered for anything else.
+    // Only a failed device is counted, and `Device` is never returned for anything else.
     ensures counts { CountsOneDevice result reader.old reader.new writer.old writer.new }
 {
     match read_command(alloc, words) {

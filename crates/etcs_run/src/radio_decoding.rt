@@ -49,7 +49,7 @@ fn refuse<W: Write>(
     }
 }
 
-// The JSON line of the message that these bytes are, in the room of an earlier line.
+// The JSON line of the message of these bytes. `room` is the buffer of an earlier line.
 fn message_line(alloc: Global, room: Vec<u8>, bytes: &[u8]) -> Result<Vec<u8>, DecodeError>
     ensures { Means (λ line. line.items) result (line_for (message_of bytes.now)) }
 {
@@ -60,8 +60,8 @@ fn message_line(alloc: Global, room: Vec<u8>, bytes: &[u8]) -> Result<Vec<u8>, D
     }
 }
 
-// Writes the JSON line of the message with this number, or its refusal. The room is that of an
-// earlier line.
+// Writes the JSON line of the message with this number, or its refusal. `room` is the buffer of an earlier
+// line.
 fn write_message<W: Write>(
     alloc: Global,
     number: u64,
@@ -90,20 +90,20 @@ fn write_message<W: Write>(
     }
 }
 
-/// A command that cuts the bytes of all lines into radio messages, wherever the lines end, and
-/// writes a JSON line for each. It holds one message at most, and writes its line before it looks at
-/// the next byte.
+/// A command that cuts the bytes of all lines into radio messages, independent of the ends of the lines, and
+/// writes a JSON line for each. It holds one message at most, and writes its line before it reads the next
+/// byte.
 #[derive(Drop)]
 pub struct RadioDecoding {
     splitter: Splitter,
     // The number of the next message.
     number: u64,
-    // The last JSON line. The next one is made in its room.
+    // The last JSON line. Its buffer is reused for the next one.
     room: Vec<u8>,
 }
 
 impl RadioDecoding {
-    /// The command, before its first line. It takes no memory yet.
+    /// The command, before its first line. Allocates nothing yet.
     pub fn new(alloc: Global) -> RadioDecoding
         ensures number { messages_written result ≡ 0 }
         ensures kept { kept_by result ≡ [] }
@@ -115,8 +115,8 @@ impl RadioDecoding {
         }
     }
 
-    // Writes the line of the message that is held, or its refusal. After the line the splitter is
-    // as new.
+    // Writes the line of the message that is held, or its refusal. After the line the splitter holds
+    // nothing.
     fn answer_message<W: Write>(
         &mut self,
         alloc: Global,
@@ -144,7 +144,7 @@ impl RadioDecoding {
         }
     }
 
-    // Feeds the bytes to the splitter, and answers each message as soon as it is whole.
+    // Feeds the bytes to the splitter, and answers each message as soon as it is complete.
     fn feed<W: Write>(
         &mut self,
         alloc: Global,

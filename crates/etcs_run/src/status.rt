@@ -5,7 +5,7 @@ ghost use Rattle.std.specs.Prelude.{◌≡◌};
 /// How a run ended.
 #[derive(Clone, Copy, Debug, PartialEq, Eq)]
 pub enum Status {
-    /// Everything asked for is done. For a check, the answer is yes.
+    /// Everything was done. For a check, the answer is yes.
     Done,
     /// A check has findings.
     Findings,
@@ -14,7 +14,7 @@ pub enum Status {
 }
 
 impl Status {
-    /// The exit status of a program whose run ended with this status. 3 is kept for a run that
+    /// The exit status of a program whose run ended with this status. 3 is reserved for a run that
     /// stopped without one.
     pub fn code(self) -> u8
         ensures done { self ≡ Status.Done → result ≡ 0 }

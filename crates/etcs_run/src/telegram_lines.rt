@@ -11,7 +11,7 @@ use etcs_document::LineFault;
 use etcs_telegram::{TextError, from_hex};
 use std::alloc::Global;
 
-/// A line is the hexadecimal text of a telegram, and becomes its JSON line. A line that is no
+/// A line is the hexadecimal text of a telegram, and becomes its JSON line. A line that is not a
 /// telegram is refused for the first reason.
 #[derive(Drop)]
 pub struct DecodingTelegrams;
@@ -22,10 +22,10 @@ impl TextLineMeaning for DecodingTelegrams {
 
     ghost meaning = { decoded_of };
 
-    /// The JSON line of a telegram, in the room of an earlier line.
+    /// The JSON line of a telegram. `room` is the buffer of an earlier line.
     ///
-    /// `Memory`: a request for memory was refused. Else the line is refused for the first reason. A
-    /// reason that is found before any packet is read is always answered: it needs no memory.
+    /// `Memory`: an allocation failed. Otherwise the line is refused for the first reason. A reason that is
+    /// found before any packet is read is always reported: it needs no memory.
     fn text(&mut self, alloc: Global, room: Vec<u8>, line: &[u8]) -> Result<Vec<u8>, Unwritten>
         ensures means { Gives (λ text. text.items) result (decoded_of line.now) }
         ensures early { (why : TextError) → IsEarly why line.now

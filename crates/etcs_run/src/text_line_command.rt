@@ -13,20 +13,20 @@ use crate::turn::Turn;
 use std::alloc::Global;
 use std::io::Write;
 
-/// A command that answers its input line by line. It may carry something from one line to the next.
+/// A command that answers its input line by line. It may carry state from one line to the next.
 pub trait TextLineCommand: Drop {
-    /// What is written from a line with this number onwards, for the lines that are left.
+    /// What is written from the line with this number on, for the remaining lines.
     ghost answers: { Self → ℕ → List (List ℕ) → Output };
 
-    /// A bound of what is counted. Each byte of a line raises it by one at most, so that no count can
+    /// A bound of what is counted. Each byte of a line raises it by at most one, so that no count can
     /// overflow.
     ghost count_bound: { Self → ℕ };
 
     /// Writes the answer to the line with this number.
     ///
-    /// `Memory`: a request for memory was refused. `Device`: a write failed, and the writer's count of
+    /// `Memory`: an allocation failed. `Device`: a write failed, and the writer's count of
     /// failures has risen by 1. In both cases what was written is a beginning of the answer, and the
-    /// command has no further use.
+    /// command is of no further use.
     fn answer<W: Write>(
         &mut self,
         alloc: Global,
@@ -42,10 +42,10 @@ pub trait TextLineCommand: Drop {
         ensures counts { CountsDevice result writer.old writer.new }
         ensures unflushed { FlushesNone writer.old writer.new };
 
-    /// Writes the answer to the end of the input. An answer without a text leaves the writer as it was,
+    /// Writes the answer to the end of the input. An answer without a text leaves the writer unchanged,
     /// and never fails.
     ///
-    /// `Memory`: a request for memory was refused. `Device`: a write failed, and the writer's count of
+    /// `Memory`: an allocation failed. `Device`: a write failed, and the writer's count of
     /// failures has risen by 1. In both cases what was written is a beginning of the answer. Nothing is
     /// flushed.
     fn end<W: Write>(&mut self, alloc: Global, writer: &mut Counted<W>) -> Result<Status, RunError>
@@ -55,7 +55,7 @@ pub trait TextLineCommand: Drop {
         ensures counts { CountsDevice result writer.old writer.new }
         ensures unflushed { FlushesNone writer.old writer.new }
 
-        // An answer without a text asks for nothing.
+        // Without a text, nothing can fail.
         ensures silent { (number : ℕ) → (answers self.old number []).0 ≡ []
             → (result ≡ Ok (answers self.old number []).1) × (writer.new ≡ writer.old) };
 }

@@ -7,10 +7,10 @@ use etcs_bits::Memory;
 use etcs_document::LineFault;
 use std::alloc::Global;
 
-/// Why no text was made for a line.
+/// Why there is no text for a line.
 #[derive(Debug, Drop)]
 pub enum Unwritten {
-    /// A request for memory was refused.
+    /// An allocation failed.
     Memory,
     /// The line is refused for this reason.
     Refused(LineFault),
@@ -26,16 +26,16 @@ impl From<Memory> for Unwritten {
     }
 }
 
-/// What each line of the input means to a command, whatever lines stand before it. A command may keep
-/// room from one line to the next, which has no part in the meaning.
+/// What each line of the input means to a command, independent of the lines before it. A command may keep
+/// a buffer from one line to the next, which does not affect the meaning.
 pub trait TextLineMeaning: Drop {
-    /// The text that is written for a line, or the words that say why the line is refused.
+    /// The text that is written for a line, or the reason why the line is refused, in words.
     ghost meaning: { Meaning };
 
-    /// The text of a line, with its `\n`. It is made in the room of an earlier text, which is lost.
+    /// The text of a line, with its `\n`, in the buffer `room`, whose content is lost.
     ///
-    /// `Memory`: a request for memory was refused. Else the line is refused for a reason. After either
-    /// error the room is lost.
+    /// `Memory`: an allocation failed. Otherwise the line is refused for a reason. After either error the
+    /// buffer is dropped.
     fn text(&mut self, alloc: Global, room: Vec<u8>, line: &[u8]) -> Result<Vec<u8>, Unwritten>
         ensures { Gives (λ text. text.items) result (meaning line.now) };
 }

@@ -7,21 +7,21 @@ use crate::error::RunError;
 use std::alloc::{AllocError, Global};
 use std::io::Read;
 
-/// How many bytes one read may give.
+/// The size of a read, in bytes.
 const ROOM: usize = 65_536;
 
-/// The line that was found last, and the bytes that were read but belong to no line yet.
+/// The last line, and the bytes that were read and belong to no line yet.
 ///
 /// A line ends at a `\n`, which is not part of it, or at the end of the input. Only memory limits
 /// its length.
 #[derive(Drop)]
 pub struct TextLines {
-    // What the last read gave. The bytes `from..to` belong to no line yet.
+    // The result of the last read. The bytes `from..to` belong to no line yet.
     block: Vec<u8>,
     from: usize,
     to: usize,
     line: Vec<u8>,
-    // Whether a read has met the end of the input.
+    // Whether a read has reached the end of the input.
     has_ended: bool,
     ghost ordered: { from ≤ to },
     ghost within: { to ≤ vec_len block },
@@ -36,7 +36,7 @@ impl TextLines {
     ghost use Rattle.etcs_run.specs.LineReading.{has_ended, held_of, line_of};
     ghost use Rattle.etcs_run.specs.TextLines.{HasLine};
 
-    /// The lines of an input of which nothing is read yet. The only error is that memory runs out; then
+    /// The lines of an input from which nothing was read yet. Fails only if memory runs out; then
     /// nothing is returned.
     pub fn new(alloc: Global) -> Result<TextLines, AllocError>
         ensures fresh { IfOk result (λ l. (held_of l ≡ []) × (has_ended l ≡ false)) }
@@ -51,7 +51,7 @@ impl TextLines {
         })
     }
 
-    /// The line that was found last, without its `\n`.
+    /// The last line, without its `\n`.
     #[inline]
     pub fn line(&self) -> &[u8]
         ensures { result.now ≡ line_of self.now }
@@ -85,7 +85,7 @@ impl TextLines {
         }
     }
 
-    // Reads more bytes in place of the held ones. Reads nothing once the end of the input was met.
+    // Replaces the held bytes by more bytes. Reads nothing after the end of the input was reached.
     fn refill<R: Read>(&mut self, reader: &mut Counted<R>) -> Result<usize, RunError>
         requires { CanCount reader.old }
         ensures line { line_of self.new ≡ line_of self.old }
@@ -103,7 +103,7 @@ impl TextLines {
         ensures device { IfErr result (λ e. e ≡ RunError.Device) }
         ensures counts { CountsDevice result reader.old reader.new }
 
-        // Only a reader that has no byte left meets its end.
+        // Only a reader without remaining bytes reaches its end.
         ensures quiet { has_ended self.old ≡ true → IfOk result (λ n. n ≡ 0) }
         ensures unread { has_ended self.old ≡ true → reader.new ≡ reader.old }
         ensures ended { has_ended self.old ≡ true → has_ended self.new ≡ true }
@@ -126,19 +126,19 @@ impl TextLines {
         }
     }
 
-    /// Looks for the next line, and returns whether there is one. If not, the line is empty. The reader
-    /// is not called if a whole line is held already, nor once the end of the input was met.
+    /// Finds the next line, and returns whether there is one. If not, the line is empty. The reader
+    /// is not called if a complete line is held already, nor after the end of the input was reached.
     ///
-    /// `Memory`: the line is longer than memory. `Device`: a read failed, and the reader's count of
+    /// `Memory`: the line does not fit in memory. `Device`: a read failed, and the reader's count of
     /// failures has risen by 1. In both cases the bytes that were read are gone from the reader, and
-    /// the lines have no further use.
+    /// the lines are of no further use.
     pub fn next<R: Read>(&mut self, reader: &mut Counted<R>) -> Result<bool, RunError>
         requires { CanCount reader.old }
         ensures reads { Reads (R.remaining (inner_of reader.old)) (R.remaining (inner_of reader.new))
             (has_ended self.old) (held_of self.old) (line_of self.new) (held_of self.new)
             (has_ended self.new) result }
 
-        // Where the reader's bytes are known, there is no line exactly if no byte is held or left.
+        // If the reader's bytes are known, there is no line if and only if no byte is held or remains.
         ensures no_line { IsEndMet R.remaining (has_ended self.old) reader.old
             → IfOk result (λ found. IfSome (R.remaining (inner_of reader.old))
             (λ left. (found ≡ false) ↔ (held_of self.old ++ left ≡ []))) }
@@ -152,12 +152,12 @@ impl TextLines {
         ensures met { IsEndMet R.remaining (has_ended self.old) reader.old
             → IsEndMet R.remaining (has_ended self.new) reader.new }
 
-        // A line that is found is paid for, by held bytes or by the budget.
+        // Each line costs held bytes or budget.
         ensures lowers_budget { IfOk result (λ found. found ≡ true
             → 1 + (length (held_of self.new) + budget_of reader.new)
             ≤ length (held_of self.old) + budget_of reader.old) }
 
-        // So is each byte of it.
+        // So does each byte of it.
         ensures bounded { OnOk result (length (line_of self.new)
             + (length (held_of self.new) + budget_of reader.new)
             ≤ length (held_of self.old) + budget_of reader.old) }

@@ -1,4 +1,4 @@
-//! `read_whole`: an input, read to its end.
+//! `read_whole`: reads an input to its end.
 
 ghost use Rattle.std.specs.Prelude.{◌≡◌, ◌<◌, true, length, vec_items, IfOk, IfErr};
 ghost use Rattle.etcs_run.specs.Counted.{CanCount, budget_of, inner_of};
@@ -10,10 +10,10 @@ use crate::error::RunError;
 use std::alloc::Global;
 use std::io::Read;
 
-/// How many bytes one read may give.
+/// The size of a read, in bytes.
 const ROOM: usize = 65_536;
 
-// Room for what one read gives.
+// A buffer for one read.
 fn new_block(alloc: Global) -> Result<Vec<u8>, RunError>
     ensures room { IfOk result (λ block. 0 < length block.items) }
     ensures memory { IfErr result (λ e. e ≡ RunError.Memory) }
@@ -24,7 +24,7 @@ fn new_block(alloc: Global) -> Result<Vec<u8>, RunError>
     }
 }
 
-// Appends what one read gives. Returns whether it gave anything; if not, the end was met.
+// Appends the result of one read. Returns whether it gave any bytes; if not, the end was reached.
 fn read_more<R: Read>(
     block: &mut [u8],
     input: &mut Vec<u8>,
@@ -36,7 +36,7 @@ fn read_more<R: Read>(
         input.old.items input.new.items result }
     ensures counts { CountsDevice result reader.old reader.new }
 
-    // Each read that gives something is paid for.
+    // Each read that gives bytes lowers the budget.
     ensures lowers_budget { IfOk result (λ more. more ≡ true → budget_of reader.new < budget_of reader.old) }
 {
     let count = match reader.read(block) {
@@ -51,7 +51,7 @@ fn read_more<R: Read>(
 
 /// Reads to the end of the input, and returns all its bytes.
 ///
-/// `Memory`: the input is longer than memory. `Device`: a read failed, and the reader's count of
+/// `Memory`: the input does not fit in memory. `Device`: a read failed, and the reader's count of
 /// failures has risen by 1. In both cases the bytes that were read are gone from the reader, and none
 /// of them is returned.
 pub fn read_whole<R: Read>(alloc: Global, reader: &mut Counted<R>) -> Result<Vec<u8>, RunError>

@@ -1,9 +1,9 @@
-//! The library calls that `refused_memory` tries, while there is memory: each answers, and answers well.
+//! The library calls of `refused_memory` with enough memory: each must give its usual result.
 
 use crate::refused_memory::{Answer, bits, cursors, lines, lists, packets, texts};
 use std::process::Abort;
 
-// Each of the answers is yes.
+// Requires that each of the answers is yes.
 fn expect_yes(rt: &impl Abort, answers: &[Answer]) {
     for (place, answer) in answers.iter().enumerate() {
         assert_eq!(rt; *answer, Ok(true), "{place}");

@@ -1,4 +1,4 @@
-//! Lists of telegrams and groups whose answers were worked out by hand, and the texts of refusals.
+//! Lists of telegrams and groups with results that were worked out by hand, and the texts of refusals.
 
 use crate::shared::{
     ALONE, FIRST, FIRST_7, SECOND, SECOND_8, WITH_GRADIENT, group, message, telegrams,
@@ -34,7 +34,7 @@ const PAIRS_AND_ONE: [&str; 9] = [
     "a10eff802000",
 ];
 
-// What is made of the telegrams that begin with these digits.
+// The message of the telegrams that begin with these digits.
 fn message_of(alloc: Global, run: Run, fronts: &[&str]) -> Result<String, Fail> {
     let telegrams = telegrams(alloc, fronts)?;
     let mut read = Vec::new(alloc);

@@ -1,4 +1,5 @@
-//! Groups and messages that are handed to a checker, and telegrams that are compared: what no document asks.
+//! Groups and messages that are passed to a checker, and telegrams that are compared: cases that no document
+//! reaches.
 
 use crate::halt::Halt;
 use crate::shared::{
@@ -21,7 +22,7 @@ type Fact = (Rule, Site, Option<usize>, Option<Run>, Option<usize>);
 
 const NOMINAL: Option<Run> = Some(Run::Nominal);
 
-/// The aspects of each group, the messages, and what is found.
+/// The aspects of each group, the messages, and the findings.
 const LINES: [(&[&[&[&str]]], &[&str], &[Fact]); 4] = [
     (&[&[&[ALONE]]], &[REPORT], &[]),
     (
@@ -54,7 +55,7 @@ const LINES: [(&[&[&[&str]]], &[&str], &[Fact]); 4] = [
     ),
 ];
 
-// Hands the groups to a checker.
+// Passes the groups to a checker.
 fn take_groups(
     alloc: Global,
     checker: &mut LineChecker,
@@ -66,7 +67,7 @@ fn take_groups(
     Ok(())
 }
 
-// Hands the messages to it.
+// Passes the messages to a checker.
 fn take_messages(alloc: Global, checker: &mut LineChecker, texts: &[&str]) -> Result<(), Halt> {
     'messages: for text in texts {
         checker.message(alloc, &from_hex(alloc, text.as_bytes())?)?;

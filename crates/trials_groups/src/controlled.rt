@@ -38,7 +38,7 @@ const ASPECTS: [&[&str]; 3] = [
     ],
 ];
 
-/// Aspects of groups, what their first four places show in nominal running, and what is made of it.
+/// Aspects of groups, what their first four places show in nominal running, and the result.
 const ROWS: [(&[&[&str]], [Option<usize>; 4], &str); 10] = [
     (
         &[SEVEN, EIGHT],
@@ -64,7 +64,7 @@ const ROWS: [(&[&[&str]], [Option<usize>; 4], &str); 10] = [
     (&ASPECTS, [Some(3), None, None, None], "does not fit"),
 ];
 
-// What is made of a mixture: the numbers of the packets, or why there is no message.
+// The message of a mixture: the numbers of the packets, or why there is no message.
 fn mixed(alloc: Global, group: &Controlled, mixture: &Mixture) -> Result<String, Halt> {
     if !group.fits(mixture) {
         return Ok(format!(in alloc; "does not fit")?);
@@ -119,7 +119,7 @@ fn shown_by(number: usize) -> [Option<usize>; 8] {
     shown
 }
 
-// Which of the two is there, if they do not differ.
+// The one that is there, if the two do not differ.
 fn agreed(first: Option<usize>, second: Option<usize>) -> Option<usize> {
     match (first, second) {
         (Some(one), Some(other)) if one != other => None,
@@ -128,7 +128,7 @@ fn agreed(first: Option<usize>, second: Option<usize>) -> Option<usize> {
     }
 }
 
-// The packet of the message that is promised of what is shown, if one is.
+// The packet of the message that is promised for what is shown, if one is.
 fn promised(shown: &[Option<usize>; 8]) -> Option<usize> {
     if shown[2].is_none() && shown[3].is_none() {
         return None;
@@ -136,7 +136,7 @@ fn promised(shown: &[Option<usize>; 8]) -> Option<usize> {
     Some(agreed(shown[0], shown[1])?.saturating_add(44))
 }
 
-// Whether each mixture in a running direction is what is promised of it.
+// Whether the result of each mixture in a running direction is as promised.
 fn are_as_promised(alloc: Global, group: &Controlled, run: Run) -> Result<bool, Halt> {
     'mixtures: for number in 0..256 {
         let shown = shown_by(number);
@@ -160,7 +160,7 @@ fn each_mixture_is_as_promised(rt: HostRuntime) -> Result<(), Fail> {
     Ok(())
 }
 
-// Whether a mixture is covered, as its missed places alone decide.
+// Whether the group reports correctly if a mixture is covered, which depends only on its missed places.
 fn is_covered_by(group: &Controlled, shown: &[Option<usize>; 8]) -> bool {
     let pairs = shown[0].or(shown[1]).is_some() && shown[2].or(shown[3]).is_some();
     let mixture = Mixture {

@@ -1,9 +1,9 @@
-//! Tests of groups and of checkers of lines, from outside: `etcs_group` and `etcs_check`. Here is what code alone can
-//! ask. What the program can be asked is a case of `tests/cases/` at the top. Tests of forms and documents stand in
-//! `trials_lines`, since they wait for the proofs of more crates.
+//! Tests of groups and of checkers of lines, from outside: `etcs_group` and `etcs_check`. They test what only
+//! code can reach. Everything that the program can test is a case of `tests/cases/` at the top. Tests of
+//! forms and documents are in `trials_lines`, because they depend on the proofs of more crates.
 //!
-//! `shared.rt` has what several tests use: telegrams, groups and messages. `refused_memory.rt` is on all libraries up to
-//! `etcs_check`.
+//! `shared.rt` has what several tests use: telegrams, groups and messages. `refused_memory.rt` is on all
+//! libraries up to `etcs_check`.
 #![tactic(auto)]
 
 #[cfg(test)]

@@ -25,14 +25,14 @@ const PAIRS: [&str; 8] = [
 /// The place of the first balise of each pair, and the set of its two.
 const BOTH: [(usize, u8); 4] = [(0, 0x03), (2, 0x0c), (4, 0x30), (6, 0xc0)];
 
-// What a reading of a group turned out to be, held against what was missed.
+// The result of a reading of a group, compared with what was missed.
 #[derive(Clone, Copy, PartialEq, Eq)]
 enum Outcome {
-    // No pair is missed, and the packets are those of the full reading.
+    // No pair is missed, and the packets are the packets of the full reading.
     Same,
-    // A pair is missed, and the reading is refused as it has to be.
+    // A pair is missed, and the reading is refused for the right reason.
     Refused,
-    // It is neither.
+    // Anything else.
     Wrong,
 }
 
@@ -67,7 +67,7 @@ fn are_equal(these: &[&TrackPacket], those: &[&TrackPacket]) -> bool {
     these.len() == those.len()
 }
 
-// Holds the reading with these balises missed against the packets of the full one. `all` is the set
+// Compares the reading with these balises missed with the packets of the full reading. `all` is the set
 // of all balises.
 fn outcome_of(
     alloc: Global,
@@ -87,7 +87,7 @@ fn outcome_of(
     }
 }
 
-// How many sets of balises can be missed with the packets of the full reading, and how many are
+// The number of sets of missed balises with the packets of the full reading, and the number of sets that are
 // refused.
 fn counts(alloc: Global, group: &Group, run: Run, all: u8) -> Result<(u32, u32), Fail> {
     let full = message(alloc, group, run, 0)?;

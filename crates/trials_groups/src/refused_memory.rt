@@ -1,6 +1,7 @@
 //! Library calls whose requests for memory are refused. `tests/hostile` runs these tests with each request
-//! refused in turn, alone and with all later ones. Each call then answers as ever, or that memory ran out,
-//! and what it was lent is as it was. While no request is refused, `ample_memory` wants every answer.
+//! refused in turn, by itself and with all later ones. Each call then gives its usual result, or reports that
+//! memory ran out, and its borrowed arguments are unchanged. If no request is refused, `ample_memory`
+//! requires every result.
 
 pub mod assembly;
 pub mod bits;
@@ -24,10 +25,10 @@ pub const GRADIENT: [u8; 11] = [
 /// How many bits packet 21 has.
 pub const LENGTH: usize = 78;
 
-/// What calls came to: whether each answered as ever and left what it has to, or why not.
+/// The result of calls: whether each gave its usual result and left its arguments as required, or why not.
 pub type Answer = Result<bool, Halt>;
 
-/// The answer of calls some of which memory may have run out for.
+/// The result of calls for some of which memory may have run out.
 pub fn unless_cut(is_whole: bool) -> Answer {
     if is_whole {
         Ok(true)
@@ -49,7 +50,7 @@ pub fn at_packet() -> Cursor<'static> {
     Cursor::over(BitSlice::of_bytes(&GRADIENT, 86))
 }
 
-/// The bits of these digits. What is neither 0 nor 1 parts the fields.
+/// The bits of these digits. Any character but 0 and 1 separates fields.
 pub fn spelled(alloc: Global, digits: &str) -> Result<Bits, Memory> {
     let mut bits = Bits::new(alloc);
     'digits: for digit in digits.as_bytes() {
@@ -66,7 +67,7 @@ pub fn read_one<T: Layout>(alloc: Global, digits: &str) -> Result<T, Halt> {
     Ok(T::read(alloc, &mut Cursor::new(&bits))?)
 }
 
-// Whether the bits are this piece some times, and nothing else.
+// Whether the bits are only repetitions of this piece.
 fn are_pieces(bits: &Bits, piece: &BitSlice<'_>) -> bool {
     let mut cur = Cursor::new(bits);
     'pieces: for _ in 0..bits.len() {
@@ -82,7 +83,7 @@ fn are_pieces(bits: &Bits, piece: &BitSlice<'_>) -> bool {
     cur.left() == 0
 }
 
-/// Whether the bits are such pieces, one more than before if the call is done, and else as many.
+/// Whether the bits are such pieces: one more than before if the call succeeded, otherwise as many.
 pub fn is_appended(
     bits: &Bits,
     piece: &BitSlice<'_>,

@@ -1,5 +1,5 @@
-//! What several tests use: digits, what they spell, and what a train reads of it. No more memory is taken than the
-//! libraries take, but for lists and for texts of errors.
+//! What several tests use: digits, what they spell, and what a train reads of it. It allocates only what the
+//! libraries allocate, and lists and texts of errors.
 
 use crate::halt::Halt;
 use etcs_group::{Controlled, Group, assemble};
@@ -7,8 +7,8 @@ use etcs_packet::Run;
 use etcs_telegram::{Telegram, from_hex};
 use std::alloc::Global;
 
-/// The first digits of telegrams of one group, after which all bits are ones: a balise alone, and the two of a pair
-/// with counters 255, 7 and 8.
+/// The first digits of telegrams of one group, after which all bits are ones: a single balise, and the two of
+/// a pair with counters 255, 7 and 8.
 pub const ALONE: &str = "a1007f802000";
 
 pub const FIRST: &str = "a102ff802000";
@@ -43,8 +43,8 @@ fn begin(text: &mut [u8], front: &str) {
     }
 }
 
-/// The telegram that begins with these digits, after which all bits are ones: a short one if it has room for them,
-/// else a long one.
+/// The telegram that begins with these digits, after which all bits are ones: a short one if the digits fit,
+/// otherwise a long one.
 pub fn telegram(alloc: Global, front: &str) -> Result<Telegram, Halt> {
     if front.len() <= 52 {
         let mut text = [b'f'; 54];
@@ -88,7 +88,7 @@ pub fn controlled(alloc: Global, aspects: &[&[&str]]) -> Result<Controlled, Halt
     Controlled::new(groups(alloc, aspects)?).map_err(|_| Halt::Other)
 }
 
-/// What is made of the telegrams that a train read: `ok` and the numbers of the packets, or why there is no message.
+/// The message of the telegrams that a train read: `ok` and the numbers of the packets, or why there is none.
 pub fn message(alloc: Global, run: Run, read: &[&Telegram]) -> Result<String, Halt> {
     match assemble(alloc, run, read) {
         Ok(packets) => {

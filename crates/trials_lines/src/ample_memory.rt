@@ -1,4 +1,4 @@
-//! The library calls that `refused_memory` tries, while there is memory: each answers, and answers well.
+//! The library calls of `refused_memory` with enough memory: each must give its usual result.
 
 use crate::refused_memory::documents;
 use std::process::Abort;

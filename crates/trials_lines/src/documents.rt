@@ -5,8 +5,8 @@ use etcs_form::{check_in_order, check_text, read_line, report, report_counts};
 use etcs_packet::Run;
 use std::test::Fail;
 
-/// A pair in two aspects, with counters 7 and 8, and a balise alone, whose mark names a next one; and a message with an
-/// authority and no profile.
+/// A pair in two aspects, with counters 7 and 8, and a single balise whose duplicate flag names a next one;
+/// and a message with an authority and no profile.
 const LINE: &str = "{\"groups\":[{\"aspects\":[\
 {\"balises\":[\"a10283802000ffffffffffffffffffffffffffffffffffffffffc0\",\
 \"a11303802000ffffffffffffffffffffffffffffffffffffffffc0\"]},\
@@ -15,8 +15,8 @@ const LINE: &str = "{\"groups\":[{\"aspects\":[\
 {\"balises\":[\"a100ff802001ffffffffffffffffffffffffffffffffffffffffc0\"]}],\
 \"messages\":[\"03048000001900080021e810901ff801f400\"]}";
 
-/// Documents, and the report of each: a second group with the identity of one with two aspects, and one aspect, whose
-/// findings name none.
+/// Documents, and the report of each: a second group with the identity of one with two aspects, and one
+/// aspect, whose findings name none.
 const REPORTED: [(&str, &str); 3] = [
     (
         "{\"groups\":[{\"aspects\":[\

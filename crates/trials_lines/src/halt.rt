@@ -1,15 +1,15 @@
-//! Why calls came to no answer. A test of refused memory has to distinguish want of memory from anything else.
+//! Why calls gave no result. A test of refused memory must distinguish lack of memory from any other cause.
 
 use etcs_bits::Memory;
 use etcs_form::{FormError, LineError};
 use std::alloc::AllocError;
 
-/// Why calls came to no answer.
+/// Why calls gave no result.
 #[derive(Clone, Copy, Debug, PartialEq, Eq)]
 pub enum Halt {
     /// Memory ran out.
     Memory,
-    /// Something else, for which there is no cause.
+    /// Anything else, which must not happen.
     Other,
 }
 

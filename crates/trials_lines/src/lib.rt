@@ -1,8 +1,9 @@
-//! Tests of the crates of forms and of documents of lines, from outside: `etcs_json` and `etcs_form`. Here is what code
-//! alone can ask. What the program can be asked is a case of `tests/cases/` at the top. Tests of groups and of checkers,
-//! which need none of these crates, stand in `trials_groups`.
+//! Tests of the crates of forms and of documents of lines, from outside: `etcs_json` and `etcs_form`. They
+//! test what only code can reach. Everything that the program can test is a case of `tests/cases/` at the
+//! top. Tests of groups and of checkers, which need none of these crates, are in `trials_groups`.
 //!
-//! `shared.rt` has what several tests use: what is read of tapes. `refused_memory.rt` is on documents and forms.
+//! `shared.rt` has what several tests use: what is read of tapes. `refused_memory.rt` is on documents and
+//! forms.
 #![tactic(auto)]
 
 #[cfg(test)]

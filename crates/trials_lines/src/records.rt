@@ -1,4 +1,4 @@
-//! Forms that no telegram and no message has room for, and records that are read of the forms of others.
+//! Forms that fit in no telegram and no message, and records that are read from the forms of others.
 
 use crate::halt::Halt;
 use crate::token_messages::REPORTS;
@@ -17,7 +17,7 @@ fn value_of(alloc: Global, text: &str) -> Result<Value, Halt> {
     Value::from_str(alloc, text).map_err(|_| Halt::Other)
 }
 
-// Whether the text is the form of a record, which is written as this text again: as a value, and piece by piece.
+// Whether the text is the form of a record that is written as this text again: as a value, and in pieces.
 fn comes_back<T: InPieces>(alloc: Global, text: &str) -> Result<bool, Halt> {
     let record = T::of_form(alloc, &value_of(alloc, text)?)?;
     let form = record.to_form(alloc)?;
@@ -64,7 +64,7 @@ fn listed(
     Ok(text)
 }
 
-// The greatest list of each packet: what stands before it, an item, how many there are, and what follows.
+// The longest list of each packet: the text before it, an item, the number of items, and the text after it.
 const GREATEST: [(&str, &str, u32, &str); 6] = [
     (
         "{\"links\":",
@@ -117,7 +117,7 @@ fn the_greatest_lists_are_read_and_written(rt: HostRuntime) -> Result<(), Fail> 
     Ok(())
 }
 
-// Whether it is said of the form that its packet's number is not one of the record's.
+// Whether the fault of the form is that its packet's number is not one of the record's.
 fn has_other_number<T: Form>(alloc: Global, text: &str) -> Result<bool, Halt> {
     match T::of_form(alloc, &value_of(alloc, text)?) {
         Err(FormError::Range(path)) => Ok(path.as_slice() == [Step::Key("nid_packet")].as_slice()),
@@ -189,7 +189,8 @@ fn each_report_is_written_as_a_value(rt: HostRuntime) -> Result<(), Fail> {
     Ok(())
 }
 
-// Whether this is wrong with the text as a form of the record, at this key, or with the whole if the key is empty.
+// Whether this is the fault of the text as a form of the record, at this key, or at the whole if the key is
+// empty.
 fn has_fault<T: Form>(
     alloc: Global,
     text: &str,

@@ -1,13 +1,14 @@
-//! Calls on documents and forms whose requests for memory are refused. `tests/hostile` runs these tests with each
-//! request refused in turn, alone and with all later ones. Each call then answers as ever, or that memory ran out.
-//! While no request is refused, `ample_memory` wants every answer. Calls of the crates below are in `trials_groups`.
+//! Calls on documents and forms whose requests for memory are refused. `tests/hostile` runs these tests with
+//! each request refused in turn, by itself and with all later ones. Each call then gives its usual result, or
+//! reports that memory ran out. If no request is refused, `ample_memory` requires every result. Calls of the
+//! crates below are in `trials_groups`.
 
 pub mod documents;
 
 use crate::halt::Halt;
 use std::process::Abort;
 
-/// What calls came to: whether each answered as ever, or why not.
+/// The result of calls: whether each gave its usual result, or why not.
 pub type Answer = Result<bool, Halt>;
 
 /// Each of the answers is yes, or memory ran out.

@@ -1,4 +1,4 @@
-//! What several tests use: what is read of the tape of a text.
+//! What several tests use: reading the tape of a text.
 
 use etcs_form::{FormError, InPieces, JsonError, JsonText};
 use json::{Scratch, Writer};
@@ -6,7 +6,7 @@ use serde_json::Value;
 use std::alloc::Global;
 use std::test::Fail;
 
-// What was read of a form: the text that is sent of the record, or the fault.
+// The result of reading a form: the text that is written for the record, or the fault.
 fn told<T: InPieces>(alloc: Global, read: Result<T, FormError>) -> Result<String, Fail> {
     let record = match read {
         Ok(record) => record,
@@ -20,8 +20,8 @@ fn told<T: InPieces>(alloc: Global, read: Result<T, FormError>) -> Result<String
     }
 }
 
-/// What the tape of a text is read as: the text that is sent of the record, the fault of the form, or that the text is
-/// no JSON. A JSON value of the text is read as the text is.
+/// The result of reading the tape of a text: the text that is written for the record, the fault of the form,
+/// or that the text is not JSON. Reading a JSON value of the text gives the same result.
 pub fn read_of_tape<T: InPieces>(alloc: Global, text: &str) -> Result<String, Fail> {
     let mut scratch = Scratch::new(alloc);
     let of_tape = match JsonText::read(text, &mut scratch, Vec::new(alloc)) {

@@ -23,7 +23,7 @@ fn tells(alloc: Global, error: LineError, text: &str) -> Result<bool, Halt> {
     Ok(is_said && told.as_str() == line.as_str())
 }
 
-// The way to the first packet.
+// The path to the first packet.
 fn way(alloc: Global) -> Result<Vec<Step>, AllocError> {
     Vec::from_slice(alloc, &[Step::Key("packets"), Step::Place(0)])
 }

@@ -5,7 +5,7 @@ use etcs_radio::Message;
 use std::alloc::Global;
 use std::test::Fail;
 
-/// Packet 15 with no part that may be left out.
+/// Packet 15 without optional parts.
 const AUTHORITY: &str = "{\"end_speed\":0,\"end_timeout\":1023,\"l_endsection\":1000,\
 \"nid_packet\":15,\"q_dir\":1,\"q_scale\":1,\"sections\":[]}";
 
@@ -77,7 +77,7 @@ fn each_position_report_is_read_as_it_is_written(rt: HostRuntime) -> Result<(), 
     Ok(())
 }
 
-// Packet 0 of a train with these members behind the doubts, and with this Q_LENGTH.
+// Packet 0 of a train with these members after the doubts, and with this Q_LENGTH.
 fn report_with(alloc: Global, members: &str, length: u32) -> Result<String, Fail> {
     Ok(format!(in alloc;
         "{{\"d_lrbg\":1,\"l_doubtover\":1,\"l_doubtunder\":1,{members},\"q_dirlrbg\":1,\

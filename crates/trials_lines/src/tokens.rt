@@ -5,7 +5,7 @@ use etcs_telegram::Telegram;
 use std::alloc::Global;
 use std::test::Fail;
 
-/// A packet of each kind with each part that may be left out, and then without.
+/// A packet of each kind with each optional part, and then without.
 pub const PACKETS: [&str; 14] = [
     "{\"nid_packet\":0,\"nid_vbcmk\":63}",
     "{\"nid_packet\":0,\"nid_vbcmk\":0}",
@@ -84,7 +84,7 @@ fn all_packets_together_are_read(rt: HostRuntime) -> Result<(), Fail> {
     Ok(())
 }
 
-/// Packets that are no forms, and the text of each one's fault.
+/// Packets that are not forms, and the text of each one's fault.
 const NO_FORMS: [(&str, &str); 16] = [
     ("1", "form kind at /packets/0"),
     ("{}", "form missing key at /packets/0/nid_packet"),

@@ -1,5 +1,5 @@
 //! Each command: its answer, flushed once, and a device that fails or is interrupted at each call in turn.
-//! From outside an interrupted call may be made again. A `Counted` reader or writer has failed by it.
+//! A caller may repeat an interrupted call. A `Counted` reader or writer counts it as failed.
 
 use crate::devices::{Device, Outcome, Wrong, run_between};
 use etcs_run::{RunError, Status};
@@ -45,7 +45,7 @@ const CASES: [Case; 9] = [
         text: "yes: groups 0, messages 0\n",
         status: Status::Done,
     },
-    // A balise alone, whose mark names a next one.
+    // A single balise, whose duplicate flag names a next one.
     Case {
         words: CHECK,
         input: "{\"groups\":[{\"balises\":\
@@ -111,7 +111,7 @@ fn run_case(alloc: Global, case: &Case, from: Device, to: Device) -> Outcome {
     run_between(alloc, case.words, case.input.as_bytes(), from, to)
 }
 
-/// Wants this status and text, no failed call, and a flush once, at the end.
+/// Requires this status and text, no failed call, and one flush, at the end.
 pub fn expect(rt: &impl Abort, outcome: &Outcome, status: Status, text: &str) {
     assert_eq!(rt; outcome.answer, Ok(status), "{text}");
     assert!(rt; outcome.text.as_slice() == text.as_bytes(), "{text}");
@@ -120,14 +120,14 @@ pub fn expect(rt: &impl Abort, outcome: &Outcome, status: Status, text: &str) {
     assert!(rt; outcome.ends_flushed);
 }
 
-/// Wants these counts of failed reads and writes, and a beginning of `text`.
+/// Requires these counts of failed reads and writes, and a beginning of `text`.
 pub fn expect_device(rt: &impl Abort, outcome: &Outcome, text: &str, failed: (u64, u64)) {
     assert_eq!(rt; outcome.answer, Err(RunError::Device));
     assert!(rt; text.as_bytes().starts_with(outcome.text.as_slice()));
     assert_eq!(rt; (outcome.failed_reads, outcome.failed_writes), failed);
 }
 
-// The reader does this wrong at this call, which is then its last one, and nothing is flushed.
+// The reader fails like this at this call, which is then its last one, and nothing is flushed.
 fn expect_failed_read(alloc: Global, rt: &impl Abort, case: &Case, wrong: Wrong, call: u64) {
     let from = Device::failing(GIVEN, wrong, call);
     let outcome = run_case(alloc, case, from, Device::sound());
@@ -136,7 +136,7 @@ fn expect_failed_read(alloc: Global, rt: &impl Abort, case: &Case, wrong: Wrong,
     assert_eq!(rt; outcome.flushes, 0);
 }
 
-// The writer does this wrong at this call, which is then its last one.
+// The writer fails like this at this call, which is then its last one.
 fn expect_failed_write(alloc: Global, rt: &impl Abort, case: &Case, wrong: Wrong, call: u64) {
     let to = Device::failing(TAKEN, wrong, call);
     let outcome = run_case(alloc, case, Device::sound(), to);

@@ -6,7 +6,7 @@ use etcs_run::{Counted, RunError, Status, run};
 use std::alloc::Global;
 use std::io::{self, Read, Write};
 
-/// What a device does wrong at a call.
+/// How a device fails at a call.
 #[derive(Clone, Copy, Debug, PartialEq, Eq)]
 pub enum Wrong {
     Error,
@@ -14,7 +14,7 @@ pub enum Wrong {
     MovesNothing,
 }
 
-/// Moves at most `piece` bytes a call. At one call, counted from 0, it may do something wrong.
+/// Moves at most `piece` bytes a call, and may fail at one call, counted from 0.
 #[derive(Drop)]
 pub struct Device {
     piece: usize,
@@ -39,7 +39,7 @@ impl Device {
         }
     }
 
-    /// Moves all that it is asked to.
+    /// A device that moves all bytes of each call.
     pub fn sound() -> Device {
         Device::new(usize::MAX)
     }
@@ -126,7 +126,7 @@ impl Write for Sink {
     }
 }
 
-/// How a run went: its answer, what was written, and the calls on either side, all and failed.
+/// The outcome of a run: its answer, what was written, and the calls on either side, all and failed.
 #[derive(Drop)]
 pub struct Outcome {
     pub answer: Result<Status, RunError>,

@@ -1,6 +1,5 @@
 //! Tests of `run` between devices, which only code can make: what is read before what is written, and
-//! a device that fails at each call in turn. What is written for an input are cases of `tests/` at the
-//! top.
+//! a device that fails at each call in turn. The outputs for inputs are cases of `tests/` at the top.
 #![tactic(auto)]
 
 #[cfg(test)]

@@ -1,4 +1,4 @@
-//! What is read before what is written, and what is read no more. And `Counted` itself.
+//! What is read before what is written, and what is not read any more. And `Counted` itself.
 
 use crate::commands::{
     CHECK, DECODE, DECODE_RADIO, JSON, MESSAGE_JSON, TELEGRAM, expect, expect_device,
@@ -56,7 +56,7 @@ fn a_document_is_read_to_its_end_before_it_is_answered(rt: HostRuntime) {
     let outcome = run_between(rt.alloc(), CHECK, b"]]", from, Device::sound());
     expect(&rt, &outcome, Status::Refused, "refused: not JSON\n");
     assert_eq!(rt; outcome.reads, 3);
-    // The two bytes are no JSON, whatever follows them. The third read fails.
+    // The two bytes are not JSON, whatever follows them. The third read fails.
     let from = Device::failing(1, Wrong::Error, 2);
     let outcome = run_between(rt.alloc(), CHECK, b"]]", from, Device::sound());
     expect_device(&rt, &outcome, "", (1, 0));

@@ -1,4 +1,4 @@
-//! Telegrams that make no message. None of this takes memory.
+//! Telegrams that make no message. Refusing them allocates nothing.
 
 use crate::shared::{ALONE, FIRST, FIRST_7, SECOND, SECOND_8, telegram};
 use etcs_group::{Refused, assemble};
@@ -6,10 +6,10 @@ use etcs_packet::Run;
 use etcs_telegram::Telegram;
 use std::alloc::Global;
 
-/// The first balise of two, without a mark.
+/// The first balise of two, without a duplicate flag.
 const UNMARKED: &str = "a1027f802000";
 
-// Whether the telegrams are refused for this reason, whatever memory there is.
+// Whether the telegrams are refused for this reason, even without memory.
 fn are_refused(alloc: Global, telegrams: &[&Telegram], reason: Refused) -> bool {
     match assemble(alloc, Run::Nominal, telegrams) {
         Ok(_) => false,

@@ -1,4 +1,4 @@
-//! Cursors: after a call that reads they stand past what was read, or where they stood.
+//! Cursors: after a call that reads they are after what was read, or where they were.
 
 use super::{Answer, LENGTH, at_packet, expect_answers};
 use crate::halt::Halt;
@@ -9,7 +9,7 @@ use std::alloc::Global;
 /// A bit, and the packet after it: 79 bits.
 const BEHIND_A_BIT: [u8; 10] = [0x8a, 0xa0, 0x4e, 0x41, 0xf4, 0x41, 0x42, 0x00, 0x28, 0x06];
 
-// Whether the cursor stands past what was read. After want of memory it has to stand at its beginning.
+// Whether the cursor is after what was read. After lack of memory it must be at its beginning.
 fn stands<T>(read: &Result<T, DecodeError>, cur: &Cursor<'_>, end: usize) -> Answer {
     match read {
         Ok(_) => Ok(cur.at() == end),

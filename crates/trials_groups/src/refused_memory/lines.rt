@@ -1,4 +1,4 @@
-//! Lines, groups and messages: checks that find nothing ask for no memory, and what a train reads.
+//! Lines, groups and messages: checks without findings do not allocate; and what a train reads.
 
 use super::{Answer, expect_answers};
 use crate::halt::Halt;
@@ -38,7 +38,7 @@ fn sound_line(alloc: Global) -> Answer {
     are_found(check(alloc, &line), 0)
 }
 
-// A line of a pair, whose check asks for no memory.
+// A line of a pair, whose check does not allocate.
 fn sound_pair(alloc: Global) -> Answer {
     let mut groups = Vec::new(alloc);
     groups.push(controlled(alloc, &[&[FIRST, SECOND]])?)?;
@@ -51,7 +51,8 @@ fn repeated_group(alloc: Global) -> Answer {
     are_found(check(alloc, &line), 1)
 }
 
-// Whether a checker has `count` findings. None of them are about groups, or none about messages: no memory is due.
+// Whether a checker has `count` findings, all about groups or all about messages, so that nothing is
+// allocated.
 fn has_found(checker: LineChecker, count: usize) -> Answer {
     match checker.finish() {
         Ok(found) => Ok(found.len() == count),
@@ -59,8 +60,8 @@ fn has_found(checker: LineChecker, count: usize) -> Answer {
     }
 }
 
-// Whether `count` findings are made about a group that is handed over `times` times, once more where it was refused.
-// Each time memory is due: for its identity, or for the finding that it was used.
+// Whether there are `count` findings about a group that is passed `times` times, and again after each
+// refusal. Each time memory is needed: for its identity, or for the finding that it was used.
 fn is_found(alloc: Global, group: &Controlled, times: usize, count: usize) -> Answer {
     let mut checker = LineChecker::new(alloc);
     'times: for _ in 0..times {
@@ -87,7 +88,7 @@ fn used_group(alloc: Global) -> Answer {
     is_found(alloc, &alone, 2, 1)
 }
 
-// A message without findings asks for no memory.
+// A message without findings does not allocate.
 fn sound_message(alloc: Global) -> Answer {
     let message = from_hex(alloc, REPORT.as_bytes())?;
     let mut checker = LineChecker::new(alloc);
@@ -97,7 +98,7 @@ fn sound_message(alloc: Global) -> Answer {
     has_found(checker, 0)
 }
 
-// A message with findings, handed over once more where it was refused.
+// A message with findings, passed again after a refusal.
 fn unsound_message(alloc: Global) -> Answer {
     let message = from_hex(alloc, MESSAGE.as_bytes())?;
     let mut checker = LineChecker::new(alloc);
@@ -107,7 +108,7 @@ fn unsound_message(alloc: Global) -> Answer {
     has_found(checker, 2)
 }
 
-// Findings of both kinds are put together, which may take memory.
+// Findings of both kinds are joined, which may allocate.
 fn both_kinds(alloc: Global) -> Answer {
     let mut checker = LineChecker::new(alloc);
     checker.group(alloc, &controlled(alloc, &[&[SECOND]])?)?;
@@ -115,7 +116,7 @@ fn both_kinds(alloc: Global) -> Answer {
     are_found(checker.finish(), 5)
 }
 
-// What a train reads of a group, and the packets of it: an authority and both profiles.
+// What a train reads of a group, and its packets: an authority and both profiles.
 fn reading(alloc: Global) -> Answer {
     let group = group(alloc, &[WITH_AUTHORITY])?;
     let read = group.reading(alloc, Run::Nominal, Missed(0))?;

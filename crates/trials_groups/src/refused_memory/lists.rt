@@ -1,5 +1,5 @@
-//! Lists that are handed to constructors. One that makes no group, message or packet comes back; one that
-//! is too long for a packet is dropped. No constructor takes memory.
+//! Lists that are passed to constructors. A list that makes no group, message or packet is given back; a list
+//! that is too long for a packet is dropped. No constructor allocates.
 
 use super::{Answer, GRADIENT, at_packet, expect_answers, read_one, spelled};
 use crate::halt::Halt;

@@ -1,4 +1,4 @@
-//! Packets: they are written whole or not at all, and with the greatest lists they come back.
+//! Packets: they are written completely or not at all, and packets with the longest lists are read again.
 
 use super::{
     Answer, GRADIENT, LENGTH, at_packet, expect_answers, is_appended, spelled, unless_cut,
@@ -49,7 +49,7 @@ const LISTS_OF_31: [(&str, &str, &str); 7] = [
     ),
 ];
 
-// Whether the packet is allowed, and was written behind others whole or not at all.
+// Whether the packet is allowed, and was appended completely or not at all.
 fn is_written(packet: &TrackPacket, piece: &BitSlice<'_>, bits: &mut Bits) -> bool {
     let before = bits.len();
     if !packet.is_allowed() {
@@ -59,7 +59,7 @@ fn is_written(packet: &TrackPacket, piece: &BitSlice<'_>, bits: &mut Bits) -> bo
     is_appended(bits, piece, before, &done)
 }
 
-// A packet behind others, 20 times.
+// A packet appended to others, 20 times.
 fn alone(alloc: Global) -> Answer {
     let packet = TrackPacket::read(alloc, &mut at_packet())?;
     let piece = BitSlice::of_bytes(&GRADIENT, LENGTH);
@@ -72,7 +72,7 @@ fn alone(alloc: Global) -> Answer {
     unless_cut(bits.len() == 20 * LENGTH)
 }
 
-// A list of packets behind others, 20 times.
+// A list of packets appended to others, 20 times.
 fn lists(alloc: Global) -> Answer {
     let packets = read_packets(alloc, &mut at_packet(), Stop::Telegram)?;
     let piece = BitSlice::of_bytes(&GRADIENT, LENGTH);
@@ -116,7 +116,7 @@ fn greatest(alloc: Global, head: &str, item: &str, tail: &str) -> Result<Bits, H
     Ok(bits)
 }
 
-// Whether the packet that the bits are is read, written, read and written again.
+// Whether the packet of the bits is read, written, read and written again.
 fn comes_back(alloc: Global, bits: &Bits) -> Answer {
     let packets = read_packets(alloc, &mut Cursor::new(bits), Stop::Message)?;
     let mut out = Bits::new(alloc);

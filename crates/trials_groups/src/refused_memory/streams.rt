@@ -1,4 +1,4 @@
-//! Streams of messages. A splitter takes no memory.
+//! Streams of messages. A splitter does not allocate.
 
 use etcs_radio::{Splitter, State};
 
@@ -8,7 +8,7 @@ const STREAM: [u8; 19] = [
     0xf4, 0x00, 0x03,
 ];
 
-// Whether the message is held whole once the two pieces were fed, and is then let go.
+// Whether the complete message is held after the two pieces were fed, and is then dropped.
 fn is_split(first: &[u8], second: &[u8]) -> bool {
     let mut splitter = Splitter::new();
     let one = splitter.feed(first);

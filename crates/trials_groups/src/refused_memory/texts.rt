@@ -24,7 +24,7 @@ a1007f802000c0250094025009402500940250094025009402500940250094025009402500940250
 0094025009402500940250094025009402500940250094025009402500940250094025009402500940250094025009402500\
 94025ffc";
 
-// The telegram of these bits, of which a short one has 210 and a long one 830.
+// The telegram of these bits: 210 for a short one, 830 for a long one.
 fn decoded(alloc: Global, bits: &Bits) -> Result<Telegram, Halt> {
     if bits.len() == 210 || bits.len() == 830 {
         Ok(etcs_telegram::decode(alloc, bits)?)
@@ -43,7 +43,7 @@ fn telegram(alloc: Global, text: &str) -> Answer {
     Ok(written.as_str() == text && text_again.as_str() == text)
 }
 
-// The telegram with 55 packets, and one more, for which it has no room.
+// The telegram with 55 packets, and one more packet, which does not fit.
 fn one_more(alloc: Global) -> Answer {
     let mut telegram = etcs_telegram::from_hex(alloc, COVERS.as_bytes())?;
     let has_all = telegram.packets.len() == 55;
@@ -63,7 +63,7 @@ fn message(alloc: Global, text: &str) -> Answer {
     Ok(written.as_str() == text && text_again.as_str() == text)
 }
 
-// Two digits, a letter that is none, and a digit. Memory is asked for twice: for the bytes that the table
+// Two digits, a letter that is no digit, and a digit. Memory is requested twice: for the bytes that the table
 // gives, and by `hex`.
 fn no_digits(alloc: Global) -> Answer {
     match etcs_digits::decode_to_vec(alloc, b"0ag9") {

@@ -1,4 +1,4 @@
-//! Documents of lines, and forms of records: they are answered as ever, or memory ran out.
+//! Documents of lines, and forms of records: their result is the usual one, or memory ran out.
 
 use super::{Answer, expect_answers};
 use crate::halt::Halt;
@@ -22,7 +22,7 @@ const MESSAGE_FORM: &str = "{\"m_ack\":0,\"nid_bg\":1,\"nid_c\":1,\"nid_message\
 \"packets\":[{\"end_speed\":0,\"end_timeout\":1023,\"l_endsection\":1000,\"nid_packet\":15,\
 \"q_dir\":1,\"q_scale\":1,\"sections\":[]}],\"t_train\":100}";
 
-/// Two groups with one identity, and a group with a text that is no telegram.
+/// Two groups with the same identity, and a group with a text that is not a telegram.
 const USED: &str = "{\"groups\":[\
 {\"balises\":[\"a1007f802000ffffffffffffffffffffffffffffffffffffffffc0\"]},\
 {\"balises\":[\"a1007f802000ffffffffffffffffffffffffffffffffffffffffc0\"]}],\"messages\":[]}";

@@ -42,7 +42,7 @@ returns-in_err-next-clause-ran g c =
     rw passed_on.1 (Running-failed passed_on.0 c.lines.invariant.running next.reads next.ended
     (next.met c.lines.invariant.met))
 
--- the line was not answered whole
+-- the line was not answered completely
 pub returns-in_err-status-clause-ran : goal.returns-in_err-status-clause-ran
 returns-in_err-status-clause-ran g c =
     let answers = g.C.TextLineCommand.answers in

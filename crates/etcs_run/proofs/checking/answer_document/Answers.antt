@@ -7,7 +7,7 @@ pub returns-in-Ok : goal.returns-in-Ok
 returns-in-Ok c =
     made_as c.report_on.result (λ a. (string_bytes a.0, a.1)) (is_reported _ c.in-Ok.ensures.exact) c.report_on.ensures
 
--- the document is refused, and not for want of memory
+-- the document is refused, and not for lack of memory
 pub returns-in_default : goal.returns-in_default
 returns-in_default c =
     made_as c.refuse.result (λ a. (string_bytes a.0, a.1)) (is_refused _ _ c.in_default.not-Memory c.in-Err.ensures.exact)

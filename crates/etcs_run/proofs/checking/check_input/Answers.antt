@@ -15,7 +15,7 @@ returns-in_err-document-clause-unwritten g c =
     let passed_on = err_from_is_err_and c.from_residual.result c.from_residual.ensures.1 in
     rw passed_on.1 (λ none. refl)
 
--- memory ran out before the answer was whole
+-- memory ran out before the answer was complete
 pub returns-in_default-clause-ran : goal.returns-in_default-clause-ran
 returns-in_default-clause-ran g c = Ran-unwritten _ c.in_ok-document.ensures.read
 
@@ -34,7 +34,7 @@ returns-clause-to_end g c = on_ok_anyway c.write_out.result c.in_ok-document.ens
 pub returns-clause-cut_off : goal.returns-clause-cut_off
 returns-clause-cut_off g c one = c.in_ok-document.ensures.read.whole.1
 
--- only the writer can fail by then
+-- then only the writer can fail
 pub returns-clause-unwritten : goal.returns-clause-unwritten
 returns-clause-unwritten g c =
     not_failed _ c.write_out.result _ _ c.write_out.ensures.device c.write_out.ensures.counts

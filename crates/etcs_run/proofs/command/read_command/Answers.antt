@@ -3,7 +3,7 @@ use Rattle.clap.specs.Words.{app_of, is_simple, is_simple_and_free}
 use Rattle.etcs_run.proofs.CommandLemmas.{command_line_is_simple, command_line_is_simple_and_free, is_command, no_command}
 use Rattle.etcs_run.proofs.command.read_command.Goals as goal
 
--- if `clap` answers `Ok`, the words have no fault
+-- if `clap` returns `Ok`, the words have no fault
 pub returns-in-Ok : goal.returns-in-Ok
 returns-in-Ok c =
     let app = app_of c.in_ok-grammar.grammar in
@@ -15,7 +15,7 @@ returns-in-Ok c =
     let found = (c.in-Ok.ensures.matches simple).1 in
     is_command app words is (c.in-Ok.ensures.kinds free) found c.entered_command.ensures
 
--- an error other than want of memory is a fault of the words
+-- an error other than lack of memory is a fault of the words
 pub returns : goal.returns
 returns c =
     let app = app_of c.in_ok-grammar.grammar in

@@ -7,13 +7,13 @@ use Rattle.etcs_run.proofs.form_lines.record_in_line.Goals as goal
 pub returns-in_default : goal.returns-in_default
 returns-in_default g c = no_record g.T.Form.shape c.args.line.now (λ utf8. absurd (c.in_default.ensures.cases.0 utf8))
 
--- the tape holds the value that the line is
+-- the tape has the value of the line
 pub returns-in-Ok-read : goal.returns-in-Ok-read
 returns-in-Ok-read g c =
     gives_same (λ x. x) _ _ _ c.record_of.ensures
     (text_read g.T.Form.shape c.args.line.now _ _ _ c.in-Ok.ensures.cases.0 c.in-Ok.ensures.cases.1 c.in-Ok-read.ensures.ok c.root.ensures)
 
--- the line is no JSON
+-- the line is not JSON
 pub returns-in-Err-NotJson : goal.returns-in-Err-NotJson
 returns-in-Err-NotJson g c =
     let none = c.in-Err-NotJson.ensures.not_json (ap Err c.in-Err-NotJson.field-0-is) in

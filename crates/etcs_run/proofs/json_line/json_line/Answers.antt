@@ -6,7 +6,7 @@ use Rattle.etcs_schema.specs.Sending.{tokens_of}
 use Rattle.etcs_run.specs.JsonLine.{json_line_of}
 use Rattle.etcs_run.proofs.json_line.json_line.Goals as goal
 
--- the value's form stands alone in the room, and then the end of the line
+-- the buffer has the value's form, and then the end of the line
 pub returns : goal.returns
 unfolding json_line_of
 returns g c =

@@ -3,7 +3,7 @@ use Rattle.etcs_run.specs.Commands.{of_command, output_of}
 use Rattle.etcs_run.proofs.RunLemmas.{Ran-as, Ran-known, Ran-nothing}
 use Rattle.etcs_run.proofs.program.run.Goals as goal
 
--- the command is that of the words
+-- the command is the command of the words
 pub returns-in-Ok-clause-ran : goal.returns-in-Ok-clause-ran
 unfolding output_of
 returns-in-Ok-clause-ran g c =

@@ -12,6 +12,6 @@ invariant-reading g l = record {
   room : 0 < length l.block.items;
 }
 
--- each read that gives something costs some of the budget
+-- each read that gives bytes lowers the budget
 abbrev pub decreases-reading : goal.decreases-reading
 decreases-reading g l = budget_of l.reader

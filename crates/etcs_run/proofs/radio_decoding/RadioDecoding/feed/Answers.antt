@@ -8,7 +8,7 @@ use Rattle.etcs_run.specs.RadioStream.{bytes_output, line_for, refused_message, 
 use Rattle.etcs_run.proofs.RadioLemmas.{Feeding-message, Feeds-cut, Feeds-more, Feeds-stopped, left_failed, left_more, left_ready, takes_few, takes_of, takes_so_many, takes_three, turn_of_beginning, turn_of_output}
 use Rattle.etcs_run.proofs.radio_decoding.RadioDecoding.feed.Goals as goal
 
--- all bytes were fed, and what is held waits for more
+-- all bytes were fed, and the splitter waits for more
 pub returns-in-More-clause-feeds : goal.returns-in-More-clause-feeds
 returns-in-More-clause-feeds g c =
     let call = takes_of c.args.bytes.now c.messages.at (take_rest c.args.bytes.now c.messages.at) c.feed-fed.ensures.used c.feed-fed.ensures.held in
@@ -39,14 +39,14 @@ returns-in-Failed-clause-feeds g c =
     Feeds-stopped c.messages.invariant.feeding (λ _. refused) (λ _. refused) (left_failed call n failed) turn n
     c.feed-fed.new.self
 
--- a message has three bytes at least, and they were paid for
+-- a message has at least three bytes, and they cover its cost
 pub answer_message-requires-clause-numbered : goal.answer_message-requires-clause-numbered
 answer_message-requires-clause-numbered g c =
     let call = takes_of c.args.bytes.now c.messages.at (take_rest c.args.bytes.now c.messages.at) c.feed-fed.ensures.used c.feed-fed.ensures.held in
     let ready = sym c.feed-fed.ensures.state ∙ c.in-Ready.is in
     omega (arith, c.requires.numbered, c.messages.invariant.paid, c.messages.invariant.within, takes_few call, takes_so_many call, takes_three call ready)
 
--- the message was not answered whole
+-- the message was not answered completely
 pub returns-in_err-status-in-Ready-clause-feeds : goal.returns-in_err-status-in-Ready-clause-feeds
 returns-in_err-status-in-Ready-clause-feeds g c =
     let call = takes_of c.args.bytes.now c.messages.at (take_rest c.args.bytes.now c.messages.at) c.feed-fed.ensures.used c.feed-fed.ensures.held in
@@ -83,7 +83,7 @@ messages-smaller g c =
     let cleared = c.in_ok-status-in-Ready.ensures.cleared (ap Ok c.in_default.is) in
     omega (arith, c.messages.invariant.paid, c.messages.invariant.within, takes_few call, takes_so_many call, takes_three call ready, ap length cleared)
 
--- its line was written, and the bytes after it are left
+-- its line was written, and the bytes after it remain
 pub messages-preserved : goal.messages-preserved
 messages-preserved g c =
     let call = takes_of c.args.bytes.now c.messages.at (take_rest c.args.bytes.now c.messages.at) c.feed-fed.ensures.used c.feed-fed.ensures.held in

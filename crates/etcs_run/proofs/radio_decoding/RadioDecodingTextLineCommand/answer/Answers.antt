@@ -29,7 +29,7 @@ returns-in-Ok-clause-bounded g c =
     ap decode_of (sym c.trim.ensures) ∙ c.in-Ok.ensures.ok ∙ ap Ok (sym c.as_slice.ensures.value) in
     pays_more _ _ _ _ c.feed.result c.feed.ensures.bounded (bytes_spelled c.args.line.now c.as_slice.result.now is)
 
--- the line is no hexadecimal text
+-- the line is not hexadecimal text
 pub returns-in_default-clause-turns : goal.returns-in_default-clause-turns
 returns-in_default-clause-turns g c =
     let old = c.args.self.now in

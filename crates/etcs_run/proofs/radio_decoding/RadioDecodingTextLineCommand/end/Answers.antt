@@ -23,7 +23,7 @@ returns-then-held-eq0-clause-silent g c number silent =
     let none = nil_from_length (kept_by c.args.self.now) (sym c.held.ensures.value ∙ c.if-held-eq0.true) in
     (ap Ok (sym (ends_silent (messages_written c.args.self.now) (kept_by c.args.self.now) number none)), refl)
 
--- a message that has begun is never passed over in silence
+-- a message that has begun is always reported
 pub returns-else-held-eq0-clause-silent : goal.returns-else-held-eq0-clause-silent
 returns-else-held-eq0-clause-silent g c number silent =
     let some : kept_by c.args.self.now ≢ [] =

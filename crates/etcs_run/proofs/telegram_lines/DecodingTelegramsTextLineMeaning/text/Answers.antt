@@ -19,7 +19,7 @@ returns-clause-early c why early =
     refused_early (Err c.in-Err.why) c.args.line.now why early said.not_hex said.wrong_size said.pad_bits
     said.header in cc
 
--- want of memory is no reason that is found before any packet is read
+-- lack of memory is not a reason that is found before any packet is read
 pub returns-in-Memory-clause-early : goal.returns-in-Memory-clause-early
 returns-in-Memory-clause-early c why early =
     let said = c.in-Err.ensures in

@@ -31,7 +31,7 @@ filling-preserved g c =
       ));
     }
 
--- nothing more came, so the end was met
+-- the read gave nothing, so the end was reached
 pub returns-then-branch-eq0-clause-reads : goal.returns-then-branch-eq0-clause-reads
 returns-then-branch-eq0-clause-reads g c =
     let moved = moved_on c.if-not-branch.true c.in_ok-move_line.ensures.moves in
@@ -52,7 +52,7 @@ returns-clause-reads g c =
     let moved = moved_cut c.if-not-branch.false c.in_ok-move_line.ensures.moves in
     Filling-cut _ c.filling.invariant.filling moved.1.line moved.1.plain moved.2
 
--- what was read is all that is known to be left
+-- what was read is all that is known to remain
 pub returns-then-branch-eq0-clause-no_line : goal.returns-then-branch-eq0-clause-no_line
 returns-then-branch-eq0-clause-no_line g c met =
     let same_end = c.in_ok-move_line.ensures.same_end in
@@ -70,7 +70,7 @@ returns-then-branch-eq0-clause-empty g c none =
     let empty : c.is_empty.result ≡ (length (line_of c.refill.new.self) == 0) = search rules in
     empty_unless_found _ _ empty none
 
--- the held bytes had no `\n`, so no whole line was held
+-- the held bytes had no `\n`, so no complete line was held
 pub returns-then-branch-eq0-clause-held : goal.returns-then-branch-eq0-clause-held
 returns-then-branch-eq0-clause-held g c has =
     let moved = moved_on c.if-not-branch.true c.in_ok-move_line.ensures.moves in
@@ -81,7 +81,7 @@ returns-in_err-refill-clause-held g c has =
     let moved = moved_on c.if-not-branch.true c.in_ok-move_line.ensures.moves in
     absurd (no_line_in has (c.filling.invariant.held has).1 moved.0.plain)
 
--- the end was met before, and no reader is called after it
+-- the end was reached before, and no reader is called after it
 pub returns-then-branch-eq0-clause-unread : goal.returns-then-branch-eq0-clause-unread
 returns-then-branch-eq0-clause-unread g c h =
     let same_end = c.in_ok-move_line.ensures.same_end in
