@@ -80,7 +80,8 @@ packet_fact speech rule run b k = false
 abbrev pub aspect_fact : Telegrams → Aspects → Telegrams → Rule → Option Run → Option ℕ → Option ℕ → Bool
 aspect_fact first before group rules.DuplicatesDiffer (Some run) (Some b) None =
     passes_at group b (λ t. pair_differs run t (slice_get group (b + 1)))
-aspect_fact first before group rule None (Some b) None = passes_at group b (balise_fact first before group rule b)
+aspect_fact first before group rule None (Some b) None =
+    passes_at group b (balise_fact first before group rule b)
 aspect_fact first before group rule run b k = packet_fact (speech_of group) rule run b k
 
 -- a fact about a group as a whole; `used` says whether an earlier group has its identity
@@ -100,7 +101,8 @@ fact_of_aspect aspects a rule run b k =
 abbrev pub group_fact : Bool → Aspects → Rule → Option ℕ → Option Run → Option ℕ → Option ℕ → Bool
 group_fact used aspects rule None run b k = whole_fact used aspects rule run b k
     || (not (nat_lt 1 (length aspects)) && fact_of_aspect aspects 0 rule run b k)
-group_fact used aspects rule (Some a) run b k = nat_lt 1 (length aspects) && fact_of_aspect aspects a rule run b k
+group_fact used aspects rule (Some a) run b k =
+    nat_lt 1 (length aspects) && fact_of_aspect aspects a rule run b k
 
 -- a fact about a message 3 is a fact about its packets; there are no facts about a message 136
 abbrev pub message_fact : Message → Rule → Option ℕ → Option Run → Option ℕ → Option ℕ → Bool

@@ -135,7 +135,8 @@ is_short reach packets p = option_map_or (λ r. list_any (goes_past r) packets) 
 
 -- F11 and F13: the speaker is not silent, the packet holds, and it is a profile that ends before a supervised
 -- location that is said
-abbrev pub is_said_and_short : (TrackPacket → Option Reach) → List TrackPacket → Run → Bool → TrackPacket → Bool
+abbrev pub is_said_and_short : (TrackPacket → Option Reach) → List TrackPacket → Run → Bool → TrackPacket
+    → Bool
 is_said_and_short reach said run silent p = not silent && (holds run p && is_short reach said p)
 
 -- ---- lists of findings

@@ -62,7 +62,8 @@ IsNotReached group run = AreReached (full_packets group run) → ⊥
 abbrev pub HurtsReadings : Telegrams → Rule → Option Run → Option ℕ → Type 0
 HurtsReadings group rules.CounterUnfit run b = IsNeverAccepted group
 HurtsReadings group rules.CountersDiffer run b = IsNeverAccepted group
-HurtsReadings group rules.DuplicatesDiffer (Some run) (Some b) = IsWellFormed group → DependsOnMissed group run b
+HurtsReadings group rules.DuplicatesDiffer (Some run) (Some b) =
+    IsWellFormed group → DependsOnMissed group run b
 HurtsReadings group rules.NoGradient (Some run) b = IsWellFormed group → IsNotReached group run
 HurtsReadings group rules.GradientShort (Some run) b = IsWellFormed group → IsNotReached group run
 HurtsReadings group rules.NoSpeed (Some run) b = IsWellFormed group → IsNotReached group run
@@ -126,8 +127,10 @@ AspectPart aspects a group rules.DuplicatesDiffer (Some run) (Some b) None =
 AspectPart aspects a group rules.NotModelled None (Some b) (Some k) =
     (t : Telegram) (p : TrackPacket) → At group b t → At t.packets k p → IsTrue (is_modelled p)
 -- one and each, of gradients and of speeds, in the message with nothing missed
-AspectPart aspects a group rules.NoGradient (Some run) None None = HasProfile gradient_reach (said_by run group)
-AspectPart aspects a group rules.GradientShort (Some run) (Some b) (Some k) = IsLongAt gradient_reach group run b k
+AspectPart aspects a group rules.NoGradient (Some run) None None =
+    HasProfile gradient_reach (said_by run group)
+AspectPart aspects a group rules.GradientShort (Some run) (Some b) (Some k) =
+    IsLongAt gradient_reach group run b k
 AspectPart aspects a group rules.NoSpeed (Some run) None None = HasProfile speed_reach (said_by run group)
 AspectPart aspects a group rules.SpeedShort (Some run) (Some b) (Some k) = IsLongAt speed_reach group run b k
 -- marks
@@ -152,12 +155,15 @@ GroupPart new aspects rule run b k = ⊤
 abbrev pub PacketsPart : List TrackPacket → Rule → Option Run → Option ℕ → Option ℕ → Type 0
 PacketsPart packets rules.NotModelled None None (Some k) =
     (p : TrackPacket) → At packets k p → IsTrue (is_modelled p)
-PacketsPart packets rules.NoGradient (Some run) None None = HasProfile gradient_reach (filter (holds run) packets)
+PacketsPart packets rules.NoGradient (Some run) None None =
+    HasProfile gradient_reach (filter (holds run) packets)
 PacketsPart packets rules.GradientShort (Some run) None (Some k) =
-    (p : TrackPacket) → At packets k p → IsTrue (holds run p) → IsLong gradient_reach (filter (holds run) packets) p
+    (p : TrackPacket) → At packets k p → IsTrue (holds run p) → IsLong gradient_reach (filter
+    (holds run) packets) p
 PacketsPart packets rules.NoSpeed (Some run) None None = HasProfile speed_reach (filter (holds run) packets)
 PacketsPart packets rules.SpeedShort (Some run) None (Some k) =
-    (p : TrackPacket) → At packets k p → IsTrue (holds run p) → IsLong speed_reach (filter (holds run) packets) p
+    (p : TrackPacket) → At packets k p → IsTrue (holds run p) → IsLong speed_reach (filter
+    (holds run) packets) p
 PacketsPart packets rule run b k = ⊤
 
 abbrev pub MessagePart : Message → Rule → Option Run → Option ℕ → Option ℕ → Type 0

@@ -114,4 +114,5 @@ SoundGroupsAreDecided = (group : Telegrams) (run : Run) (missed : ℕ → Bool)
 -- that it shows. Its message is then the message of this aspect with nothing missed.
 abbrev pub SoundMixturesAreDecided : Type 0
 SoundMixturesAreDecided = (run : Run) (aspects : Aspects) (shown : ℕ → Option ℕ)
-    → IsControlled aspects → IsSoundControlled aspects → Fits aspects shown → IsMixtureDecided run aspects shown
+    → IsControlled aspects → IsSoundControlled aspects → Fits aspects shown
+    → IsMixtureDecided run aspects shown

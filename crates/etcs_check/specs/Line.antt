@@ -45,7 +45,8 @@ cells_of spot group = cells_at spot (length group) (packets_at group)
 -- of a group: without an aspect, and with each aspect if there are two or more
 abbrev pub group_cells : Site → Aspects → List Finding
 group_cells site aspects = cells_of (site_spot site) (first_aspect aspects)
-    ++ for_each (if nat_lt 1 (length aspects) then aspects else []) (λ a group. cells_of (record { site = site; aspect = Some a }) group)
+    ++ for_each (if nat_lt 1 (length aspects) then aspects else [])
+    (λ a group. cells_of (record { site = site; aspect = Some a }) group)
 
 -- of a message 3: its packets, at no balise
 abbrev pub message_cells : Site → Message → List Finding
@@ -56,7 +57,8 @@ message_cells site (messages.Position m) = []
 -- that goals stay short.
 unfoldable pub group_findings : Site → Bool → Aspects → List Finding
 group_findings site used aspects =
-    by_rule (filter (λ f. group_fact used aspects f.rule f.aspect f.dir f.balise f.packet) (group_cells site aspects))
+    by_rule
+    (filter (λ f. group_fact used aspects f.rule f.aspect f.dir f.balise f.packet) (group_cells site aspects))
 
 unfoldable pub message_findings : Site → Message → List Finding
 message_findings site m =

@@ -35,7 +35,8 @@ Reaches (Ends n) limit = limit ≤ n
 Reaches Open limit = ⊤
 
 -- There is a profile of the kind among the packets, and each of them reaches the location.
-pub record HasProfiles (reach : TrackPacket → Option Reach) (packets : List TrackPacket) (limit : ℕ) : Type 0 where
+pub record HasProfiles (reach : TrackPacket → Option Reach) (packets : List TrackPacket)
+    (limit : ℕ) : Type 0 where
   pub one : (i : ℕ) × (p : TrackPacket) × At packets i p × IsTrue (is_some (reach p))
   pub each : (i : ℕ) (p : TrackPacket) (r : Reach) → At packets i p → reach p ≡ Some r → Reaches r limit
 

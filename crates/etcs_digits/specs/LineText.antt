@@ -10,7 +10,9 @@ pub record Line : Type 0 where
   pub after_value : Bool
 
 abbrev pub line_code : Coded Line
-line_code = code_by (List ℕ × Bool) (coded× (coded_list coded_ℕ) coded_bool) (λ l. (l.text, l.after_value)) (λ p. record { text = p.0; after_value = p.1 }) (λ _. refl)
+line_code =
+    code_by (List ℕ × Bool) (coded× (coded_list coded_ℕ) coded_bool) (λ l. (l.text, l.after_value))
+    (λ p. record { text = p.0; after_value = p.1 }) (λ _. refl)
 
 abbrev pub empty_line : Line
 empty_line = record { text = []; after_value = false }
@@ -29,7 +31,10 @@ comma_after after_value = cond after_value (44 ∷ []) []
 
 -- one token more; a closing bracket overwrites the comma
 abbrev pub put : Line → Token → Line
-put l t = record { text = cond (begins t) l.text (without l.after_value l.text) ++ (token_text t ++ comma_after (ends t)); after_value = ends t }
+put l t = record {
+  text = cond (begins t) l.text (without l.after_value l.text) ++ (token_text t ++ comma_after (ends t));
+  after_value = ends t;
+}
 
 abbrev pub puts : Line → List Token → Line
 puts = fold put

@@ -22,7 +22,8 @@ use Rattle.etcs_group.specs.Group.{Telegrams, Aspects}
 
 infixl 10 ◌then◌
 -- the result of the next step, unless there was a fault
-abbrev pub ◌then◌ : {A B : Type 0} → Result A DocumentFault → (A → Result B DocumentFault) → Result B DocumentFault
+abbrev pub ◌then◌ : {A B : Type 0} → Result A DocumentFault → (A → Result B DocumentFault)
+    → Result B DocumentFault
 (Ok x) then next = next x
 (Err f) then next = Err f
 
@@ -34,7 +35,8 @@ abbrev pub with_first : {A : Type 0} → A → Result (List A) DocumentFault →
 with_first x r = r then λ xs. Ok (x ∷ xs)
 
 -- the result of reading each value with its index; the first value has index i
-abbrev pub each_from : {A : Type 0} → (ℕ → Data → Result A DocumentFault) → ℕ → List Data → Result (List A) DocumentFault
+abbrev pub each_from : {A : Type 0} → (ℕ → Data → Result A DocumentFault) → ℕ → List Data
+    → Result (List A) DocumentFault
 each_from read i [] = Ok []
 each_from read i (d ∷ ds) = read i d then λ x. with_first x (each_from read (i + 1) ds)
 
@@ -43,8 +45,10 @@ unfoldable pub values_of : Data → Result (List Data) Fault
 values_of d = ok_or (option_map data_list (as_array d)) (here Kind)
 
 -- the result of reading the text at this path; `bad` makes the fault of its error
-abbrev pub text_or : {A E : Type 0} → List Step → (List ℕ → Result A E) → (E → DocumentFault) → Option (List ℕ) → Result A DocumentFault
-text_or path read bad o = ok_or o (bad_form (fault Kind path)) then λ text. result_map_both (λ x. x) bad (read text)
+abbrev pub text_or : {A E : Type 0} → List Step → (List ℕ → Result A E) → (E → DocumentFault)
+    → Option (List ℕ) → Result A DocumentFault
+text_or path read bad o =
+    ok_or o (bad_form (fault Kind path)) then λ text. result_map_both (λ x. x) bad (read text)
 
 -- the list at this key of an object without other keys
 unfoldable pub only_values : List ℕ → Data → Result (List Data) Fault
@@ -60,7 +64,8 @@ path_of g (Some a) = key (codes "groups") ∷ list_item g ∷ key (codes "aspect
 -- balise b of that group or aspect: the text of a telegram
 unfoldable pub telegram_at : ℕ → Option ℕ → ℕ → Data → Result Telegram DocumentFault
 telegram_at g a b d =
-    text_or (path_of g a ++ key (codes "balises") ∷ list_item b ∷ []) telegram_of_text (bad_telegram g a b) (as_str d)
+    text_or (path_of g a ++ key (codes "balises") ∷ list_item b ∷ []) telegram_of_text (bad_telegram g a b)
+    (as_str d)
 
 -- ---- aspects
 
@@ -89,7 +94,8 @@ others_of g count ds = each_from (λ a. aspect_at g (Some count) (Some a)) 1 ds
 -- the aspects of group g, one or more
 unfoldable pub aspects_of : ℕ → List Data → Result Aspects DocumentFault
 aspects_of g [] = Err (bad_aspects g)
-aspects_of g (d ∷ ds) = aspect_at g None (Some 0) d then λ first. with_first first (others_of g (length first) ds)
+aspects_of g (d ∷ ds) =
+    aspect_at g None (Some 0) d then λ first. with_first first (others_of g (length first) ds)
 
 -- ---- groups
 
@@ -109,7 +115,8 @@ group_at g d = if is_some (get (codes "aspects") d) then controlled_at g d else 
 
 -- message m: the text of a radio message
 unfoldable pub message_at : ℕ → Data → Result Message DocumentFault
-message_at m d = text_or (key (codes "messages") ∷ list_item m ∷ []) message_of_text (bad_message m) (as_str d)
+message_at m d =
+    text_or (key (codes "messages") ∷ list_item m ∷ []) message_of_text (bad_message m) (as_str d)
 
 -- ---- the document
 

@@ -50,7 +50,8 @@ IsGroup d aspects = (g : ℕ) → group_at g d ≡ Ok aspects
 -- ---- the first values of tokens
 
 -- the first value of the tokens is the value of x
-pub record IsFirst {X : Type 0} (Is : Data → X → Type 0) (depth : ℕ) (old : List Token) (x : X) (new : List Token) : Type 0 where
+pub record IsFirst {X : Type 0} (Is : Data → X → Type 0) (depth : ℕ) (old : List Token) (x : X)
+    (new : List Token) : Type 0 where
   pub found : Data
   pub stands : first_value depth old ≡ Some (found, new)
   pub is : Is found x
@@ -63,7 +64,8 @@ AreEach Is (d ∷ ds) [] = ⊥
 AreEach Is (d ∷ ds) (x ∷ xs) = Is d x × AreEach Is ds xs
 
 -- the first items of the tokens are the items of xs
-pub record AreFirst {X : Type 0} (Is : Data → X → Type 0) (depth : ℕ) (old : List Token) (xs : List X) (new : List Token) : Type 0 where
+pub record AreFirst {X : Type 0} (Is : Data → X → Type 0) (depth : ℕ) (old : List Token) (xs : List X)
+    (new : List Token) : Type 0 where
   pub found : List Data
   pub stand : HasItems depth found old new
   pub are : AreEach Is found xs
@@ -82,7 +84,8 @@ pub record HasGroup (depth : ℕ) (old : List Token) (aspects : Aspects) (new : 
 -- ---- what was passed to a checker
 
 -- Some items are read. A checker takes them, and its state changes from the first to the second.
-pub record AreTaken {X : Type 0} (AreRead : List X → Type 0) (Takes : CheckerState → List X → CheckerState → Type 0) (was is : CheckerState) : Type 0 where
+pub record AreTaken {X : Type 0} (AreRead : List X → Type 0)
+    (Takes : CheckerState → List X → CheckerState → Type 0) (was is : CheckerState) : Type 0 where
   pub items : List X
   pub read : AreRead items
   pub takes : Takes was items is

@@ -82,7 +82,10 @@ document_words (documents.AspectTelegram g a b why) =
 
 -- the text of a refusal
 unfoldable pub refusal_words : Refusal → List ℕ
-refusal_words refusals.Usage = codes "refused: usage is balisecheck check, decode [--radio] or encode [--radio]\n"
-refusal_words (refusals.Line n why) = codes "refused: line " ++ (decimal n ++ (codes ": " ++ (line_words why ++ codes "\n")))
-refusal_words (refusals.Message n why) = codes "refused: message " ++ (decimal n ++ (codes ": " ++ (stream_words why ++ codes "\n")))
+refusal_words refusals.Usage =
+    codes "refused: usage is balisecheck check, decode [--radio] or encode [--radio]\n"
+refusal_words (refusals.Line n why) =
+    codes "refused: line " ++ (decimal n ++ (codes ": " ++ (line_words why ++ codes "\n")))
+refusal_words (refusals.Message n why) =
+    codes "refused: message " ++ (decimal n ++ (codes ": " ++ (stream_words why ++ codes "\n")))
 refusal_words (refusals.Document why) = codes "refused: " ++ (document_words why ++ codes "\n")

@@ -32,4 +32,5 @@ items_after ds found = option_and_then (λ p. Some (items_onto ds p.0, p.1)) fou
 -- these values are the first items of the tokens
 pub record HasItems (depth : ℕ) (ds : List Data) (old new : List Token) : Type 0 where
   pub one_by_one : (turns : ℕ) → length old ≤ turns → (left : ℕ) × (length new ≤ left)
-      × (converted of_items (items (value depth) turns old) ≡ items_after ds (converted of_items (items (value depth) left new)))
+      × (converted of_items (items (value depth) turns old)
+      ≡ items_after ds (converted of_items (items (value depth) left new)))

@@ -45,7 +45,8 @@ cut_from held (byte ∷ bytes) = go_on (state_of held) held (λ before. cut_from
 -- what comes out of a splitter that holds some bytes and is fed one piece after the other
 unfoldable pub cut_pieces : List ℕ → List (List ℕ) → Cut
 cut_pieces held [] = cut_from held []
-cut_pieces held (piece ∷ pieces) = one_then (cut_from held piece) (cut_pieces (cut_from held piece).held pieces)
+cut_pieces held (piece ∷ pieces) =
+    one_then (cut_from held piece) (cut_pieces (cut_from held piece).held pieces)
 
 -- ---- a stream
 

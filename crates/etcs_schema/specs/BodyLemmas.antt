@@ -37,7 +37,8 @@ unfolding bytes_in bits_of_bytes
 bits_again zero bits none = sym (nil_from_length bits none)
 bits_again (suc n) bits count =
     let front : length (take 8 bits) ≡ 8 = length-take-le 8 bits (omega (arith, count)) in
-    let byte : num 8 (num_of_bits (take 8 bits)) ≡ take 8 bits = subst (λ k. num k (num_of_bits (take 8 bits)) ≡ take 8 bits) front (num-num_of_bits (take 8 bits)) in
+    let byte : num 8 (num_of_bits (take 8 bits)) ≡ take 8 bits =
+    subst (λ k. num k (num_of_bits (take 8 bits)) ≡ take 8 bits) front (num-num_of_bits (take 8 bits)) in
     let rest = bits_again n (drop 8 bits) (rw length-drop (omega (arith, count))) in
     ap₂ (λ x y. x ++ y) byte rest ∙ take-append-drop 8 bits
 
@@ -50,19 +51,23 @@ filled_length bits = rw (length-append, length-replicate) (omega arith)
 pub body_bits : (body : List Bool) → bits_of_bytes (body_bytes body) ≡ filled_up body
 body_bits body = bits_again (bytes_for (length body)) (filled_up body) (filled_length body)
 
-zeros_padded : (count : ℕ) (body : List Bool) → length body ≡ count → are_padded count (body_bytes body) ≡ true
+zeros_padded : (count : ℕ) (body : List Bool) → length body ≡ count
+    → are_padded count (body_bytes body) ≡ true
 zeros_padded count body is =
     let k = 8 * bytes_for (length body) - length body in
-    let none : num_of_bits (replicate k false) ≡ 0 = ap num_of_bits (sym (zeros_are k)) ∙ num_of_bits-small k 0 (pow_pos k) in
+    let none : num_of_bits (replicate k false) ≡ 0 =
+    ap num_of_bits (sym (zeros_are k)) ∙ num_of_bits-small k 0 (pow_pos k) in
     ap (λ bits. num_of_bits (drop count bits) == 0) (body_bits body)
     ∙ ap (λ bits. num_of_bits bits == 0) (drop_at body (replicate k false) count is)
     ∙ ap (λ n. n == 0) none
 
 bits_first : (body : List Bool) → first_bits (length body) (body_bytes body) ≡ Ok body
 bits_first body =
-    let count : length (body_bytes body) ≡ bytes_for (length body) = length-bytes_in (bytes_for (length body)) (filled_up body) in
+    let count : length (body_bytes body) ≡ bytes_for (length body) =
+    length-bytes_in (bytes_for (length body)) (filled_up body) in
     let padded = zeros_padded (length body) body refl in
-    let same : take (length body) (bits_of_bytes (body_bytes body)) ≡ body = ap (take (length body)) (body_bits body) ∙ take_at body _ (length body) refl in
+    let same : take (length body) (bits_of_bytes (body_bytes body)) ≡ body =
+    ap (take (length body)) (body_bits body) ∙ take_at body _ (length body) refl in
     rw (count, eq-eqb (bytes_for (length body)) (bytes_for (length body)) refl, padded, same) refl
 
 -- the text of a body is read as the body

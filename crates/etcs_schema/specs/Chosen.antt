@@ -30,11 +30,13 @@ pub record BehindNumber (name : List ℕ) (k : ℕ) {X : Type 0} (rows : X → L
   pub part : Part rows
   pub apart : are_apart (name ∷ part.keys) ≡ true
 
-abbrev pub behind : {name : List ℕ} {k : ℕ} {X : Type 0} {rows : X → List Row} (part : Part rows) → are_apart (name ∷ part.keys) ≡ true → BehindNumber name k rows
+abbrev pub behind : {name : List ℕ} {k : ℕ} {X : Type 0} {rows : X → List Row} (part : Part rows)
+    → are_apart (name ∷ part.keys) ≡ true → BehindNumber name k rows
 behind part apart = record { part = part; apart = apart }
 
 -- the number, which must be k, and the members after it
-abbrev pub with_number : {name : List ℕ} {k : ℕ} {X : Type 0} {rows : X → List Row} → BehindNumber name k rows → ObjectOf rows
+abbrev pub with_number : {name : List ℕ} {k : ℕ} {X : Type 0} {rows : X → List Row} → BehindNumber name k rows
+    → ObjectOf rows
 with_number {name = name} {k = k} o = record {
   part = named (λ p. p.1) (λ x. (tt, x)) (λ _. refl) (fixed name k then o.part);
   apart = o.apart;
@@ -45,7 +47,9 @@ abbrev pub HasNumber : List ℕ → ℕ → Data → Type 0
 HasNumber name n d = (any_object d ≡ Ok tt) × (get name d ≡ Some (number_data n))
 
 -- the members of an object begin with this number
-pub begins_with : {X : Type 0} {rows : X → List Row} (name : List ℕ) (n : ℕ) (o : ObjectOf rows) (x : X) (rest : List Entry) → o.part.to x ≡ (name, Some (number_data n)) ∷ rest → HasNumber name n ((object o).to x)
+pub begins_with : {X : Type 0} {rows : X → List Row} (name : List ℕ) (n : ℕ) (o : ObjectOf rows) (x : X)
+    (rest : List Entry) → o.part.to x ≡ (name, Some (number_data n)) ∷ rest
+    → HasNumber name n ((object o).to x)
 unfolding any_object
 begins_with name n o x rest begins =
     let all = object_holds (o.part.to x) (ap are_apart (o.part.has_keys x) ∙ o.apart) in
@@ -68,7 +72,8 @@ pub record Choice (name : List ℕ) (x : Variable) (X : Type 0) : Type 0 where
   pub again : (v : X) → AreAllowed (alone x (number v) ++ rows v) → of (number v) (to v) ≡ Ok v
 
 -- only the number k
-abbrev pub last : {name : List ℕ} {x : Variable} {k : ℕ} {A : Type 0} {rows : A → List Row} → BehindNumber name k rows → Choice name x A
+abbrev pub last : {name : List ℕ} {x : Variable} {k : ℕ} {A : Type 0} {rows : A → List Row}
+    → BehindNumber name k rows → Choice name x A
 last {name = name} {x = x} {k = k} {rows = rows} o = record {
   allows = λ n. n == k;
   number = λ _. k;
@@ -77,7 +82,8 @@ last {name = name} {x = x} {k = k} {rows = rows} o = record {
   of = λ n d. if n == k then (object (with_number o)).of d else Err (at_once Range (key_step name));
   is_number = λ _. is_itself k;
   has_number = λ v. begins_with name k (with_number o) v (o.part.to v) refl;
-  again = λ v allowed. rw (is_itself k) ((object (with_number o)).again v (allowed_behind x k (rows v) allowed));
+  again =
+      λ v allowed. rw (is_itself k) ((object (with_number o)).again v (allowed_behind x k (rows v) allowed));
 }
 
 -- one of two functions, by the kind of the value
@@ -85,30 +91,39 @@ abbrev pub by_kind : {A B C : Type 0} → (A → C) → (B → C) → A ⊎ B �
 by_kind f g (inl x) = f x
 by_kind f g (inr y) = g y
 
-abbrev pub either_of : {A B : Type 0} → ℕ → (Data → Result A Fault) → (ℕ → Data → Result B Fault) → ℕ → Data → Result (A ⊎ B) Fault
+abbrev pub either_of : {A B : Type 0} → ℕ → (Data → Result A Fault) → (ℕ → Data → Result B Fault) → ℕ → Data
+    → Result (A ⊎ B) Fault
 either_of k read rest n d = if n == k then as_kind inl (read d) else as_kind inr (rest n d)
 
 is_another : (allows : ℕ → Bool) (k n : ℕ) → allows k ≡ false → allows n ≡ true → (n == k) ≡ false
 is_another allows k n fresh is = ne_eqb n k (λ same. true≢false (sym is ∙ ap allows same ∙ fresh))
 
-pub either_is_number : {name : List ℕ} {x : Variable} {A B : Type 0} (k : ℕ) (c : Choice name x B) → c.allows k ≡ false → (v : A ⊎ B) → either_allows k c.allows (either_number k c.number v) ≡ true
+pub either_is_number : {name : List ℕ} {x : Variable} {A B : Type 0} (k : ℕ) (c : Choice name x B)
+    → c.allows k ≡ false → (v : A ⊎ B) → either_allows k c.allows (either_number k c.number v) ≡ true
 either_is_number k c fresh (inl x) = rw (is_itself k) refl
-either_is_number k c fresh (inr y) = rw (is_another c.allows k (c.number y) fresh (c.is_number y)) (c.is_number y)
+either_is_number k c fresh (inr y) =
+    rw (is_another c.allows k (c.number y) fresh (c.is_number y)) (c.is_number y)
 
-pub either_has_number : {name : List ℕ} {x : Variable} {k : ℕ} {A B : Type 0} {rows : A → List Row} (o : BehindNumber name k rows) (c : Choice name x B) (v : A ⊎ B)
+pub either_has_number : {name : List ℕ} {x : Variable} {k : ℕ} {A B : Type 0} {rows : A → List Row}
+    (o : BehindNumber name k rows) (c : Choice name x B) (v : A ⊎ B)
     → HasNumber name (either_number k c.number v) (by_kind (object (with_number o)).to c.to v)
 either_has_number {name = name} {k = k} o c (inl x) = begins_with name k (with_number o) x (o.part.to x) refl
 either_has_number o c (inr y) = c.has_number y
 
-pub either_again : {name : List ℕ} {x : Variable} {k : ℕ} {A B : Type 0} {rows : A → List Row} (o : BehindNumber name k rows) (c : Choice name x B) → c.allows k ≡ false
+pub either_again : {name : List ℕ} {x : Variable} {k : ℕ} {A B : Type 0} {rows : A → List Row}
+    (o : BehindNumber name k rows) (c : Choice name x B) → c.allows k ≡ false
     → (v : A ⊎ B) → AreAllowed (alone x (either_number k c.number v) ++ either_rows rows c.rows v)
-    → either_of k (object (with_number o)).of c.of (either_number k c.number v) (by_kind (object (with_number o)).to c.to v) ≡ Ok v
+    → either_of k (object (with_number o)).of c.of (either_number k c.number v)
+    (by_kind (object (with_number o)).to c.to v) ≡ Ok v
 either_again {x = x} {k = k} {rows = rows} o c fresh (inl v) allowed =
-    rw (is_itself k) (ap (as_kind inl) ((object (with_number o)).again v (allowed_behind x k (rows v) allowed)))
-either_again {k = k} o c fresh (inr v) allowed = rw (is_another c.allows k (c.number v) fresh (c.is_number v)) (ap (as_kind inr) (c.again v allowed))
+    rw (is_itself k)
+    (ap (as_kind inl) ((object (with_number o)).again v (allowed_behind x k (rows v) allowed)))
+either_again {k = k} o c fresh (inr v) allowed =
+    rw (is_another c.allows k (c.number v) fresh (c.is_number v)) (ap (as_kind inr) (c.again v allowed))
 
 -- the number k, or one of other numbers
-abbrev pub either : {name : List ℕ} {x : Variable} {k : ℕ} {A B : Type 0} {rows : A → List Row} → BehindNumber name k rows → (c : Choice name x B) → c.allows k ≡ false
+abbrev pub either : {name : List ℕ} {x : Variable} {k : ℕ} {A B : Type 0} {rows : A → List Row}
+    → BehindNumber name k rows → (c : Choice name x B) → c.allows k ≡ false
     → Choice name x (A ⊎ B)
 either {k = k} {rows = rows} o c fresh = record {
   allows = either_allows k c.allows;
@@ -121,14 +136,17 @@ either {k = k} {rows = rows} o c fresh = record {
   again = either_again o c fresh;
 }
 
-pub as_other : (x y : Variable) (n : ℕ) (rows : List Row) → x.width ≡ y.width → y.allows n ≡ true → AreAllowed (alone x n ++ rows) → AreAllowed (alone y n ++ rows)
+pub as_other : (x y : Variable) (n : ℕ) (rows : List Row) → x.width ≡ y.width → y.allows n ≡ true
+    → AreAllowed (alone x n ++ rows) → AreAllowed (alone y n ++ rows)
 unfolding alone
 as_other x y n rows same is allowed = ((rw same at allowed.0.0, is), allowed.1)
 
 -- every number that the variable y allows; the number is a member of the object itself and a part of the
 -- value
-abbrev pub others : {name : List ℕ} {x : Variable} {X : Type 0} (y : Variable) (number : X → ℕ) (rows : X → List Row) (o : ObjectOf (λ v. alone y (number v) ++ rows v))
-    → x.width ≡ y.width → ((v : X) → y.allows (number v) ≡ true) → ((v : X) → HasNumber name (number v) ((object o).to v)) → Choice name x X
+abbrev pub others : {name : List ℕ} {x : Variable} {X : Type 0} (y : Variable) (number : X → ℕ)
+    (rows : X → List Row) (o : ObjectOf (λ v. alone y (number v) ++ rows v))
+    → x.width ≡ y.width → ((v : X) → y.allows (number v) ≡ true)
+    → ((v : X) → HasNumber name (number v) ((object o).to v)) → Choice name x X
 others {x = x} y number rows o same is_number has_number = record {
   allows = y.allows;
   number = number;
@@ -142,15 +160,18 @@ others {x = x} y number rows o same is_number has_number = record {
 
 -- ---- the number first, and then the form that it decides
 
-pub chosen_again : {X : Type 0} {x : Variable} (name : List ℕ) (test : ℕ → Bool) (c : Choice name x X) → ((v : X) → IsAllowed (row x (c.number v)) → test (c.number v) ≡ true)
-    → (v : X) → AreAllowed (alone x (c.number v) ++ c.rows v) → (first_at (allowed_number test) name (c.to v) >>= λ n. c.of n (c.to v)) ≡ Ok v
+pub chosen_again : {X : Type 0} {x : Variable} (name : List ℕ) (test : ℕ → Bool) (c : Choice name x X)
+    → ((v : X) → IsAllowed (row x (c.number v)) → test (c.number v) ≡ true)
+    → (v : X) → AreAllowed (alone x (c.number v) ++ c.rows v)
+    → (first_at (allowed_number test) name (c.to v) >>= λ n. c.of n (c.to v)) ≡ Ok v
 unfolding alone
 chosen_again name test c passes v allowed =
     let number = c.has_number v in
     rw (number.0, key_again number_data (allowed_number test) name (c.number v) (c.to v) (number_again test (c.number v) (passes v allowed.0)) (number.1, tt)) (c.again v allowed)
 
 -- an object whose number passes the test, as every number that is allowed in the bits does
-abbrev pub chosen : {X : Type 0} {x : Variable} (name : List ℕ) (test : ℕ → Bool) (c : Choice name x X) → ((v : X) → IsAllowed (row x (c.number v)) → test (c.number v) ≡ true) → Shape X
+abbrev pub chosen : {X : Type 0} {x : Variable} (name : List ℕ) (test : ℕ → Bool) (c : Choice name x X)
+    → ((v : X) → IsAllowed (row x (c.number v)) → test (c.number v) ≡ true) → Shape X
 chosen {x = x} name test c passes = record {
   rows = λ v. alone x (c.number v) ++ c.rows v;
   to = c.to;

@@ -18,15 +18,18 @@ apart_sym xs ys other = false_from_ne_true _ (λ is. differ xs ys other (sym ((b
 
 -- ---- each entry is found
 
-here_after : (k : List ℕ) (o : Option Data) (ms : Members) → get_member k ms ≡ None → get_member k (put_or k o ms) ≡ o
+here_after : (k : List ℕ) (o : Option Data) (ms : Members) → get_member k ms ≡ None
+    → get_member k (put_or k o ms) ≡ o
 here_after k None ms none = none
 here_after k (Some d) ms none = get_member-put k d ms
 
-other_after : (q k : List ℕ) (o : Option Data) (ms : Members) → bytes_eq q k ≡ false → get_member q (put_or k o ms) ≡ get_member q ms
+other_after : (q k : List ℕ) (o : Option Data) (ms : Members) → bytes_eq q k ≡ false
+    → get_member q (put_or k o ms) ≡ get_member q ms
 other_after q k None ms other = refl
 other_after q k (Some d) ms other = get_member-put_other q k d ms (differ q k other)
 
-onto_other : (k : List ℕ) (ms : Members) (es : List Entry) → is_among k (keys_of es) ≡ false → get_member k (members_onto ms es) ≡ get_member k ms
+onto_other : (k : List ℕ) (ms : Members) (es : List Entry) → is_among k (keys_of es) ≡ false
+    → get_member k (members_onto ms es) ≡ get_member k ms
 onto_other k ms [] none = refl
 onto_other k ms (e ∷ es) none =
     let both = or_parts _ _ none in
@@ -42,14 +45,16 @@ unfolding AreFree
 free_at_first [] = tt
 free_at_first (e ∷ es) = (refl, free_at_first es)
 
-still_free : (e : Entry) (es : List Entry) (ms : Members) → is_among e.0 (keys_of es) ≡ false → AreFree es ms → AreFree es (put_or e.0 e.1 ms)
+still_free : (e : Entry) (es : List Entry) (ms : Members) → is_among e.0 (keys_of es) ≡ false → AreFree es ms
+    → AreFree es (put_or e.0 e.1 ms)
 unfolding AreFree
 still_free e [] ms none free = tt
 still_free e (f ∷ fs) ms none free =
     let both = or_parts _ _ none in
     (other_after f.0 e.0 e.1 ms (apart_sym e.0 f.0 both.0) ∙ free.0, still_free e fs ms both.1 free.1)
 
-onto_holds : (ms : Members) (es : List Entry) → are_apart (keys_of es) ≡ true → AreFree es ms → Holds es (object (members_onto ms es))
+onto_holds : (ms : Members) (es : List Entry) → are_apart (keys_of es) ≡ true → AreFree es ms
+    → Holds es (object (members_onto ms es))
 unfolding AreFree
 onto_holds ms [] apart free = tt
 onto_holds ms (e ∷ es) apart free =
@@ -84,28 +89,35 @@ among_more k keys (e ∷ es) h = (or_right _ _ h.0, among_more k keys es h.1)
 among_own : (es : List Entry) → AreAmong (keys_of es) es
 unfolding AreAmong
 among_own [] = tt
-among_own (e ∷ es) = (or_left _ _ ((bytes_eq-Decides e.0 e.0).1 refl), among_more e.0 (keys_of es) es (among_own es))
+among_own (e ∷ es) =
+    (or_left _ _ ((bytes_eq-Decides e.0 e.0).1 refl), among_more e.0 (keys_of es) es (among_own es))
 
-put_known_at : (o : Ordering) (keys : List (List ℕ)) (k l : List ℕ) (d e : Data) (ms : Members) → is_among k keys ≡ true → are_known keys (member l e ms) ≡ true
+put_known_at : (o : Ordering) (keys : List (List ℕ)) (k l : List ℕ) (d e : Data) (ms : Members)
+    → is_among k keys ≡ true → are_known keys (member l e ms) ≡ true
     → are_known keys (put k d ms) ≡ true → are_known keys (match_ordering o (member k d (member l e ms)) (member l d ms) (member l e (put k d ms))) ≡ true
 put_known_at Less keys k l d e ms is known later = and_from _ _ is known
 put_known_at Equal keys k l d e ms is known later = known
-put_known_at Greater keys k l d e ms is known later = let both = and_parts _ _ known in and_from _ _ both.0 later
+put_known_at Greater keys k l d e ms is known later =
+    let both = and_parts _ _ known in and_from _ _ both.0 later
 
-put_known : (keys : List (List ℕ)) (k : List ℕ) (d : Data) (ms : Members) → is_among k keys ≡ true → are_known keys ms ≡ true → are_known keys (put k d ms) ≡ true
+put_known : (keys : List (List ℕ)) (k : List ℕ) (d : Data) (ms : Members) → is_among k keys ≡ true
+    → are_known keys ms ≡ true → are_known keys (put k d ms) ≡ true
 put_known keys k d no_members is known = and_from _ _ is refl
 put_known keys k d (member l e ms) is known =
     let both = and_parts (is_among l keys) (are_known keys ms) known in
     put_known_at (slice_cmp nat_cmp k l) keys k l d e ms is known (put_known keys k d ms is both.1)
 
-put_or_known : (keys : List (List ℕ)) (k : List ℕ) (o : Option Data) (ms : Members) → is_among k keys ≡ true → are_known keys ms ≡ true → are_known keys (put_or k o ms) ≡ true
+put_or_known : (keys : List (List ℕ)) (k : List ℕ) (o : Option Data) (ms : Members) → is_among k keys ≡ true
+    → are_known keys ms ≡ true → are_known keys (put_or k o ms) ≡ true
 put_or_known keys k None ms is known = known
 put_or_known keys k (Some d) ms is known = put_known keys k d ms is known
 
-onto_known : (keys : List (List ℕ)) (ms : Members) (es : List Entry) → are_known keys ms ≡ true → AreAmong keys es → are_known keys (members_onto ms es) ≡ true
+onto_known : (keys : List (List ℕ)) (ms : Members) (es : List Entry) → are_known keys ms ≡ true
+    → AreAmong keys es → are_known keys (members_onto ms es) ≡ true
 unfolding AreAmong
 onto_known keys ms [] known h = known
-onto_known keys ms (e ∷ es) known h = onto_known keys (put_or e.0 e.1 ms) es (put_or_known keys e.0 e.1 ms h.0 known) h.1
+onto_known keys ms (e ∷ es) known h =
+    onto_known keys (put_or e.0 e.1 ms) es (put_or_known keys e.0 e.1 ms h.0 known) h.1
 
 -- an object has only the keys of its entries
 pub object_known : (es : List Entry) → are_known (keys_of es) (members_onto no_members es) ≡ true

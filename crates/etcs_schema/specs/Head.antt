@@ -12,7 +12,8 @@ abbrev pub Packet : ℕ → {X : Type 0} → (X → List Row) → Type 0
 Packet k rows = BehindNumber (codes "nid_packet") k rows
 
 -- Q_DIR, and then the packet's other members; the bits have L_PACKET in between
-abbrev pub headed : {X : Type 0} {rows : X → List Row} → Part rows → Part (pair_rows q_dir.rows (body_rows 10 rows))
+abbrev pub headed : {X : Type 0} {rows : X → List Row} → Part rows
+    → Part (pair_rows q_dir.rows (body_rows 10 rows))
 headed rest = key (codes "q_dir") direction then sized 10 rest
 
 -- Q_SCALE, and then the members with distances
@@ -20,7 +21,8 @@ abbrev pub scaled : {X : Type 0} {rows : X → List Row} → Part rows → Part 
 scaled rest = key (codes "q_scale") scale then rest
 
 -- the number, and what follows it
-abbrev pub numbered : {k : ℕ} {X : Type 0} {rows : X → List Row} → Packet k rows → Part (λ x. alone (only 8 k Spare) k ++ rows x)
+abbrev pub numbered : {k : ℕ} {X : Type 0} {rows : X → List Row} → Packet k rows
+    → Part (λ x. alone (only 8 k Spare) k ++ rows x)
 numbered {k = k} p = unstated (only 8 k Spare) k (with_number p).part
 
 -- a packet by itself

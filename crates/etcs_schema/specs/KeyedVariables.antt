@@ -21,7 +21,9 @@ members_at (k ∷ ks) rows = (k, optional number_data (number_in 0 rows)) ∷ me
 abbrev pub rows_read : Fields → List (List ℕ) → Data → Result (List Row) Fault
 rows_read nothing [] d = Ok []
 rows_read nothing (k ∷ ks) d = no_key k d >>= λ u. rows_read nothing ks d
-rows_read (field x next) (k ∷ ks) d = at_key (allowed_number (is_allowed x)) k d >>= λ n. rows_read (next n) ks d >>= λ rows. Ok (row x n ∷ rows)
+rows_read (field x next) (k ∷ ks) d =
+    at_key (allowed_number (is_allowed x)) k d >>= λ n. rows_read (next n) ks d
+    >>= λ rows. Ok (row x n ∷ rows)
 rows_read other ks d = Err (here Range)
 
 -- there is a key for each variable, whatever the numbers are
@@ -31,7 +33,8 @@ HasKeys (field x next) (k ∷ ks) = (n : ℕ) → HasKeys (next n) ks
 HasKeys other ks = ⊥
 
 -- the fields after a number have keys if the fields of both branches have keys
-pub keys_by : (a b : Fields) (ks : List (List ℕ)) (is : Bool) → HasKeys a ks → HasKeys b ks → HasKeys (if is then a else b) ks
+pub keys_by : (a b : Fields) (ks : List (List ℕ)) (is : Bool) → HasKeys a ks → HasKeys b ks
+    → HasKeys (if is then a else b) ks
 keys_by a b ks true one other = one
 keys_by a b ks false one other = other
 
@@ -39,7 +42,8 @@ pub keys_at : (ks : List (List ℕ)) (rows : List Row) → keys_of (members_at k
 keys_at [] rows = refl
 keys_at (k ∷ ks) rows = ap (λ ls. k ∷ ls) (keys_at ks (drop 1 rows))
 
-pub rows_again : (fields : Fields) (ks : List (List ℕ)) → HasKeys fields ks → (rows : List Row) → AreRowsOf fields rows → AreAllowed rows
+pub rows_again : (fields : Fields) (ks : List (List ℕ)) → HasKeys fields ks → (rows : List Row)
+    → AreRowsOf fields rows → AreAllowed rows
     → (d : Data) → Holds (members_at ks rows) d → rows_read fields ks d ≡ Ok rows
 unfolding no_key
 rows_again nothing [] has rows are allowed d holds = ap Ok (sym are)
@@ -55,12 +59,15 @@ rows_again (a ▹ b) ks has rows are allowed d holds = absurd has
 rows_again (sized before body) ks has rows are allowed d holds = absurd has
 
 -- the variables of a layout, each at its key
-abbrev pub variables_at : {X : Type 0} (ks : List (List ℕ)) (layout : Format X) → HasKeys layout.fields ks → Part layout.rows
+abbrev pub variables_at : {X : Type 0} (ks : List (List ℕ)) (layout : Format X) → HasKeys layout.fields ks
+    → Part layout.rows
 variables_at ks layout has = record {
   keys = ks;
   to = λ x. members_at ks (layout.rows x);
   of = λ d. rows_read layout.fields ks d >>= λ rows. Ok (layout.of rows);
   has_keys = λ x. keys_at ks (layout.rows x);
   again = λ x d allowed holds.
-      ap (λ r. r >>= λ rows. Ok (layout.of rows)) (rows_again layout.fields ks has (layout.rows x) (layout.laid.are_rows x) allowed d holds) ∙ ap Ok (layout.laid.is_record x);
+      ap (λ r. r >>= λ rows. Ok (layout.of rows))
+      (rows_again layout.fields ks has (layout.rows x) (layout.laid.are_rows x) allowed d holds) ∙ ap Ok
+      (layout.laid.is_record x);
 }

@@ -16,7 +16,8 @@ items_or read (Some ds) = items_at read 0 (data_list ds)
 unfoldable pub all_of : {A : Type 0} → (Data → Result A Fault) → Data → Result (List A) Fault
 all_of read d = items_or read (as_array d)
 
-pub listed_again : {X : Type 0} (s : Shape X) (xs : List X) → AreAllowed (flat_map s.rows xs) → all_of s.of (array (items_of s.to xs)) ≡ Ok xs
+pub listed_again : {X : Type 0} (s : Shape X) (xs : List X) → AreAllowed (flat_map s.rows xs)
+    → all_of s.of (array (items_of s.to xs)) ≡ Ok xs
 unfolding all_of
 listed_again s xs allowed = items_again s 0 xs allowed
 
@@ -33,13 +34,17 @@ listed s = record {
 
 -- a row of no bits, allowed if the condition holds, and then the other rows of a record
 abbrev pub rows_holding : {X : Type 0} → (X → Bool) → (X → List Row) → X → List Row
-rows_holding holds rows x = alone (record { width = 0; allows = λ _. holds x; refusal = Spare; closes = false }) 0 ++ rows x
+rows_holding holds rows x =
+    alone (record { width = 0; allows = λ _. holds x; refusal = Spare; closes = false }) 0 ++ rows x
 
-pub held : {X : Type 0} (holds : X → Bool) (rows : X → List Row) (x : X) → AreAllowed (rows_holding holds rows x) → (holds x ≡ true) × AreAllowed (rows x)
+pub held : {X : Type 0} (holds : X → Bool) (rows : X → List Row) (x : X)
+    → AreAllowed (rows_holding holds rows x) → (holds x ≡ true) × AreAllowed (rows x)
 unfolding alone
 held holds rows x allowed = (allowed.0.1, allowed.1)
 
 -- the members of records that must meet a condition; a record that does not meet it has the fault
-abbrev pub holding : {X : Type 0} {rows : X → List Row} → Fault → (holds : X → Bool) → Part rows → Part (rows_holding holds rows)
+abbrev pub holding : {X : Type 0} {rows : X → List Row} → Fault → (holds : X → Bool) → Part rows
+    → Part (rows_holding holds rows)
 holding {rows = rows} fault holds a =
-    within fault holds (λ x allowed. (held holds rows x allowed).0) (with_bits (rows_holding holds rows) (λ x allowed. (held holds rows x allowed).1) a)
+    within fault holds (λ x allowed. (held holds rows x allowed).0)
+    (with_bits (rows_holding holds rows) (λ x allowed. (held holds rows x allowed).1) a)

@@ -16,7 +16,9 @@ is_length head l = ltb l (2 ^ 13) && nat_le head l
 
 -- L_PACKET, and then the body that it counts after the head
 abbrev pub measured_of : ℕ → Data → Result (List Bool) Fault
-measured_of head d = at_key (allowed_number (is_length head)) (codes "l_packet") d >>= λ l. at_key (body_of (l - head)) (codes "body") d
+measured_of head d =
+    at_key (allowed_number (is_length head)) (codes "l_packet") d
+    >>= λ l. at_key (body_of (l - head)) (codes "body") d
 
 -- ---- reading what was written
 
@@ -32,7 +34,9 @@ measured_again before body d allowed holds =
 abbrev pub measured : (before : ℕ) → Part (kept_bits before).rows
 measured before = record {
   keys = codes "l_packet" ∷ codes "body" ∷ [];
-  to = λ body. (codes "l_packet", Some (number_data (before + 13 + length body))) ∷ (codes "body", Some (string (body_text body))) ∷ [];
+  to =
+      λ body. (codes "l_packet", Some (number_data (before + 13 + length body))) ∷
+      (codes "body", Some (string (body_text body))) ∷ [];
   of = measured_of (before + 13);
   has_keys = λ body. refl;
   again = measured_again before;

@@ -40,7 +40,8 @@ data_list (item d ds) = d ∷ data_list ds
 abbrev pub counts_between : ℕ → ℕ → List Data → Bool
 counts_between low high ds = nat_le low (length ds) && nat_le (length ds) high
 
-abbrev pub bounded_list_or : {A : Type 0} → (Data → Result A Fault) → ℕ → ℕ → Option Items → Result (List A) Fault
+abbrev pub bounded_list_or : {A : Type 0} → (Data → Result A Fault) → ℕ → ℕ → Option Items
+    → Result (List A) Fault
 bounded_list_or read low high None = Err (here Kind)
 bounded_list_or read low high (Some ds) =
     if counts_between low high (data_list ds) then items_at read 0 (data_list ds) else Err (here Range)

@@ -19,13 +19,15 @@ is_allowed x n = ltb n (2 ^ x.width) && x.allows n
 pub number_allowed : (x : Variable) (n : ℕ) → IsAllowed (row x n) → is_allowed x n ≡ true
 number_allowed x n allowed = and_from _ _ (lt-ltb n (2 ^ x.width) allowed.0) allowed.1
 
-pub variable_again : (x : Variable) (n : ℕ) → AreAllowed (alone x n) → allowed_number (is_allowed x) (number_data n) ≡ Ok n
+pub variable_again : (x : Variable) (n : ℕ) → AreAllowed (alone x n)
+    → allowed_number (is_allowed x) (number_data n) ≡ Ok n
 unfolding alone
 variable_again x n allowed = number_again (is_allowed x) n (number_allowed x n allowed.0)
 
 -- a variable as its number
 abbrev pub variable : Variable → Shape ℕ
-variable x = record { rows = alone x; to = number_data; of = allowed_number (is_allowed x); again = variable_again x }
+variable x =
+    record { rows = alone x; to = number_data; of = allowed_number (is_allowed x); again = variable_again x }
 
 -- the first variable of some fields; without fields, a variable that allows no number
 abbrev pub variable_of : Fields → Variable
@@ -36,7 +38,8 @@ abbrev pub number : Fields → Shape ℕ
 number f = variable (variable_of f)
 
 -- a variable whose numbers have names in an enum
-abbrev pub named_numbers : {X : Type 0} (x : Variable) (tag : X → ℕ) (of : ℕ → X) → AreNames x tag of → Shape X
+abbrev pub named_numbers : {X : Type 0} (x : Variable) (tag : X → ℕ) (of : ℕ → X) → AreNames x tag of
+    → Shape X
 named_numbers x tag of are = renamed of tag (λ v. (are v).0) (variable x)
 
 pub flag_names : AreNames (plain 1) worth flag_of

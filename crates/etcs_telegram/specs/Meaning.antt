@@ -25,4 +25,5 @@ telegram_by n (Err f) = Err f
 -- what 210 or 830 bits mean: their telegram, or their first fault
 unfoldable pub telegram_of : List Bool → Result Telegram Fault
 telegram_of bits =
-    telegram_by (length bits) (whole_of stops.Telegram header.fields header.of track_packet.fields track_packet.of bits)
+    telegram_by (length bits)
+    (whole_of stops.Telegram header.fields header.of track_packet.fields track_packet.of bits)
