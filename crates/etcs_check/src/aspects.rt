@@ -10,7 +10,7 @@ ghost use Rattle.etcs_check.specs.Soundness.{first_aspect};
 ghost use Rattle.etcs_check.specs.Walk.{ambiguous_at, is_taken};
 
 use crate::duplicates::same_telegram;
-use crate::finding::{Finding, Rule, Site, Spot, note};
+use crate::finding::{Finding, Rule, Site, Spot, push_if};
 use crate::identities::{is_marked, mark};
 use etcs_bits::Memory;
 use etcs_group::Group;
@@ -89,7 +89,7 @@ fn is_ambiguous(aspects: &[Group], place: usize, wanted: &Telegram) -> bool
 }
 
 // Appends a finding for each place whose counters do not distinguish the aspects.
-pub(crate) fn note_ambiguous(
+pub(crate) fn push_ambiguous(
     found: &mut Vec<Finding>,
     site: Site,
     aspects: &[Group],
@@ -104,7 +104,7 @@ pub(crate) fn note_ambiguous(
     let spot = site_spot(site);
     'places: for place in 0..first.len() {
         let fact = is_ambiguous(aspects, place, &first[place]);
-        note(
+        push_if(
             found,
             fact,
             Rule::NotToldApart,

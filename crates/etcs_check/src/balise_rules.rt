@@ -8,7 +8,7 @@ ghost use Rattle.etcs_check.specs.Walk.{alone_found, balise_found, balise_test, 
 ghost use Rattle.etcs_check.specs.declared.finding.Spot.{Spot as SomeSpot};
 
 use crate::aspects::is_taken;
-use crate::finding::{Finding, Rule, Spot, note};
+use crate::finding::{Finding, Rule, Spot, push_if};
 use crate::said::packets;
 use etcs_bits::{Dup, Memory};
 use etcs_packet::TrackPacket;
@@ -220,7 +220,7 @@ fn has_alone(
 }
 
 // Appends a finding for each rule about single balises that the balise breaks.
-fn note_alone(
+fn push_alone(
     found: &mut Vec<Finding>,
     spot: Spot,
     first: &[Telegram],
@@ -241,7 +241,7 @@ fn note_alone(
     }
     'rules: for rule in &ALONE {
         let fact = balise_test(first, table, group, *rule, place, telegram);
-        note(found, fact, *rule, spot, None, Some(place), None)?;
+        push_if(found, fact, *rule, spot, None, Some(place), None)?;
     }
     Ok(())
 }
@@ -258,7 +258,7 @@ fn is_unmodelled(packet: &TrackPacket) -> bool
 }
 
 // Appends a finding for each packet of a balise, or of a message, that is not modelled.
-pub(crate) fn note_unmodelled(
+pub(crate) fn push_unmodelled(
     found: &mut Vec<Finding>,
     spot: Spot,
     balise: Option<usize>,
@@ -269,7 +269,7 @@ pub(crate) fn note_unmodelled(
 {
     'places: for place in 0..packets.len() {
         let fact = is_unmodelled(&packets[place]);
-        note(
+        push_if(
             found,
             fact,
             Rule::NotModelled,
@@ -283,7 +283,7 @@ pub(crate) fn note_unmodelled(
 }
 
 // Appends the findings about the balise at this place, and about its packets.
-pub(crate) fn note_balise(
+pub(crate) fn push_balise(
     found: &mut Vec<Finding>,
     spot: Spot,
     first: &[Telegram],
@@ -299,6 +299,6 @@ pub(crate) fn note_balise(
         ≡ found.old.items ++ balise_found first.now table.now spot group.now place telegram.now) }
     ensures memory { OnErr result (balise_found first.now table.now spot group.now place telegram.now ≢ []) }
 {
-    note_alone(found, spot, first, table, group, place, telegram)?;
-    note_unmodelled(found, spot, Some(place), packets(telegram))
+    push_alone(found, spot, first, table, group, place, telegram)?;
+    push_unmodelled(found, spot, Some(place), packets(telegram))
 }

@@ -87,7 +87,7 @@ pub struct Finding {
 }
 
 // Appends the finding of these parts if `fact` holds, and allocates only then. All findings are made here.
-pub(crate) fn note(
+pub(crate) fn push_if(
     found: &mut Vec<Finding>,
     fact: bool,
     rule: Rule,

@@ -40,7 +40,7 @@ pub struct Line {
 
 // Appends the findings about the group at this place. With `again`, its identity counts as used if it is in
 // `kept`, and is kept. Without, nothing is kept, and the call allocates only if there is a finding.
-fn note_next(
+fn push_next(
     alloc: Global,
     found: &mut Vec<Finding>,
     kept: &mut BTreeSet<u32>,
@@ -64,7 +64,7 @@ fn note_next(
 }
 
 // Appends the findings about the groups.
-fn note_groups(alloc: Global, found: &mut Vec<Finding>, groups: &[Controlled]) -> Result<(), Memory>
+fn push_groups(alloc: Global, found: &mut Vec<Finding>, groups: &[Controlled]) -> Result<(), Memory>
     ensures ok { OnOk result (found.new.items ≡ found.old.items ++ group_list groups.now) }
     ensures memory { OnErr result (group_list groups.now ≢ []) }
     ensures controlled { OnOk result (AreControlled groups.now) }
@@ -72,7 +72,7 @@ fn note_groups(alloc: Global, found: &mut Vec<Finding>, groups: &[Controlled]) -
     let again = has_repeat(groups);
     let mut kept = BTreeSet::new(alloc);
     'places: for place in 0..groups.len() {
-        note_next(
+        push_next(
             alloc,
             found,
             &mut kept,
@@ -85,7 +85,7 @@ fn note_groups(alloc: Global, found: &mut Vec<Finding>, groups: &[Controlled]) -
 }
 
 // Appends the findings about the messages.
-fn note_messages(
+fn push_messages(
     alloc: Global,
     found: &mut Vec<Finding>,
     messages: &[Message],
@@ -152,7 +152,7 @@ pub fn check(alloc: Global, line: &Line) -> Result<Vec<Finding>, Memory>
         → IsMixtureDecided run aspects shown) }
 {
     let mut found = Vec::new(alloc);
-    note_groups(alloc, &mut found, &line.groups)?;
-    note_messages(alloc, &mut found, &line.messages)?;
+    push_groups(alloc, &mut found, &line.groups)?;
+    push_messages(alloc, &mut found, &line.messages)?;
     Ok(found)
 }

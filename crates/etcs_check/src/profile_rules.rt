@@ -4,7 +4,7 @@ ghost use Rattle.std.specs.Prelude.{◌≡◌, ◌≢◌, ◌<◌, ◌++◌, [],
 ghost use Rattle.etcs_check.specs.Findings.{lies_past};
 ghost use Rattle.etcs_check.specs.Walk.{lacks_found, short_at_packet, short_by_balise, short_found};
 
-use crate::finding::{Finding, Rule, Spot, note};
+use crate::finding::{Finding, Rule, Spot, push_if};
 use crate::said::{Said, is_silent, packets};
 use etcs_bits::Memory;
 use etcs_packet::{Run, TrackPacket};
@@ -12,7 +12,7 @@ use etcs_profile::Reach;
 use etcs_telegram::Telegram;
 
 // Appends a finding for each kind of profile that the packets lack, if they have an authority.
-pub(crate) fn note_lacks(
+pub(crate) fn push_lacks(
     found: &mut Vec<Finding>,
     spot: Spot,
     run: Run,
@@ -22,7 +22,7 @@ pub(crate) fn note_lacks(
     ensures memory { OnErr result (lacks_found spot run said ≢ []) }
 {
     let gradient = said.limit.is_some() && !said.has_gradient;
-    note(
+    push_if(
         found,
         gradient,
         Rule::NoGradient,
@@ -32,7 +32,7 @@ pub(crate) fn note_lacks(
         None,
     )?;
     let speed = said.limit.is_some() && !said.has_speed;
-    note(found, speed, Rule::NoSpeed, spot, Some(run), None, None)
+    push_if(found, speed, Rule::NoSpeed, spot, Some(run), None, None)
 }
 
 // Whether a profile of this reach ends before the location.
@@ -47,7 +47,7 @@ fn ends_before(reach: Reach, limit: u64) -> bool
 
 // Appends the finding about a packet, if it is a profile that holds and ends before the location.
 #[inline(always)]
-fn note_early(
+fn push_early(
     found: &mut Vec<Finding>,
     spot: Spot,
     run: Run,
@@ -62,7 +62,7 @@ fn note_early(
     match packet {
         TrackPacket::Gradient(profile) => {
             let fact = ends_before(profile.reach(), limit) && packet.holds_in(run);
-            note(
+            push_if(
                 found,
                 fact,
                 Rule::GradientShort,
@@ -74,7 +74,7 @@ fn note_early(
         }
         TrackPacket::Speed(profile) => {
             let fact = ends_before(profile.reach(), limit) && packet.holds_in(run);
-            note(
+            push_if(
                 found,
                 fact,
                 Rule::SpeedShort,
@@ -90,7 +90,7 @@ fn note_early(
 
 // Appends a finding for each profile that holds and ends before the location.
 #[inline(always)]
-pub(crate) fn note_short(
+pub(crate) fn push_short(
     found: &mut Vec<Finding>,
     spot: Spot,
     run: Run,
@@ -102,7 +102,7 @@ pub(crate) fn note_short(
     ensures memory { OnErr result (short_found spot run (Some limit) balise packets.now ≢ []) }
 {
     'places: for place in 0..packets.len() {
-        note_early(found, spot, run, limit, balise, place, &packets[place])?;
+        push_early(found, spot, run, limit, balise, place, &packets[place])?;
     }
     Ok(())
 }
@@ -110,7 +110,7 @@ pub(crate) fn note_short(
 // Appends the findings about the profiles of the balise at this place, unless it is silent or there is no
 // authority.
 #[inline(always)]
-pub(crate) fn note_short_by(
+pub(crate) fn push_short_by(
     found: &mut Vec<Finding>,
     spot: Spot,
     group: &[Telegram],
@@ -127,7 +127,7 @@ pub(crate) fn note_short_by(
         return Ok(());
     }
     match limit {
-        Some(limit) => note_short(found, spot, run, limit, Some(place), packets(telegram)),
+        Some(limit) => push_short(found, spot, run, limit, Some(place), packets(telegram)),
         None => Ok(()),
     }
 }

@@ -9,39 +9,39 @@ use Rattle.etcs_check.proofs.line.check.Goals as goal
 -- The list is empty if and only if the line is sound.
 pub returns-clause-sound : goal.returns-clause-sound
 returns-clause-sound c =
-    let is : c.note_messages.new.found.items ≡ findings c.args.line.now.groups.items c.args.line.now.messages.items =
-    findings_noted _ _ _ _ _ _ _ c.new-found.ensures.items c.in_ok-note_groups.ensures.ok c.in_ok-note_messages.ensures.ok c.deref.ensures.value c.deref-2.ensures.value in
-    found_sound _ _ _ is (subst AreControlled c.deref.ensures.value c.in_ok-note_groups.ensures.controlled)
+    let is : c.push_messages.new.found.items ≡ findings c.args.line.now.groups.items c.args.line.now.messages.items =
+    findings_noted _ _ _ _ _ _ _ c.new-found.ensures.items c.in_ok-push_groups.ensures.ok c.in_ok-push_messages.ensures.ok c.deref.ensures.value c.deref-2.ensures.value in
+    found_sound _ _ _ is (subst AreControlled c.deref.ensures.value c.in_ok-push_groups.ensures.controlled)
 
 -- Each finding is a violation.
 pub returns-clause-hurts : goal.returns-clause-hurts
 returns-clause-hurts c =
-    let is : c.note_messages.new.found.items ≡ findings c.args.line.now.groups.items c.args.line.now.messages.items =
-    findings_noted _ _ _ _ _ _ _ c.new-found.ensures.items c.in_ok-note_groups.ensures.ok c.in_ok-note_messages.ensures.ok c.deref.ensures.value c.deref-2.ensures.value in
-    found_hurts _ _ _ is (subst AreControlled c.deref.ensures.value c.in_ok-note_groups.ensures.controlled)
+    let is : c.push_messages.new.found.items ≡ findings c.args.line.now.groups.items c.args.line.now.messages.items =
+    findings_noted _ _ _ _ _ _ _ c.new-found.ensures.items c.in_ok-push_groups.ensures.ok c.in_ok-push_messages.ensures.ok c.deref.ensures.value c.deref-2.ensures.value in
+    found_hurts _ _ _ is (subst AreControlled c.deref.ensures.value c.in_ok-push_groups.ensures.controlled)
 
 -- Each fact has its finding, in order.
 pub returns-clause-list : goal.returns-clause-list
 returns-clause-list c =
-    let is : c.note_messages.new.found.items ≡ findings c.args.line.now.groups.items c.args.line.now.messages.items =
-    findings_noted _ _ _ _ _ _ _ c.new-found.ensures.items c.in_ok-note_groups.ensures.ok c.in_ok-note_messages.ensures.ok c.deref.ensures.value c.deref-2.ensures.value in
+    let is : c.push_messages.new.found.items ≡ findings c.args.line.now.groups.items c.args.line.now.messages.items =
+    findings_noted _ _ _ _ _ _ _ c.new-found.ensures.items c.in_ok-push_groups.ensures.ok c.in_ok-push_messages.ensures.ok c.deref.ensures.value c.deref-2.ensures.value in
     found_list _ _ _ is
 
 -- Each finding names its group or its message.
 pub returns-clause-unnamed : goal.returns-clause-unnamed
 returns-clause-unnamed c =
-    let is : c.note_messages.new.found.items ≡ findings c.args.line.now.groups.items c.args.line.now.messages.items =
-    findings_noted _ _ _ _ _ _ _ c.new-found.ensures.items c.in_ok-note_groups.ensures.ok c.in_ok-note_messages.ensures.ok c.deref.ensures.value c.deref-2.ensures.value in
-    found_unnamed _ _ _ is (subst AreControlled c.deref.ensures.value c.in_ok-note_groups.ensures.controlled)
+    let is : c.push_messages.new.found.items ≡ findings c.args.line.now.groups.items c.args.line.now.messages.items =
+    findings_noted _ _ _ _ _ _ _ c.new-found.ensures.items c.in_ok-push_groups.ensures.ok c.in_ok-push_messages.ensures.ok c.deref.ensures.value c.deref-2.ensures.value in
+    found_unnamed _ _ _ is (subst AreControlled c.deref.ensures.value c.in_ok-push_groups.ensures.controlled)
 
 -- A group that is sound has balises.
 pub returns-clause-decided : goal.returns-clause-decided
 returns-clause-decided c = λ g a aspects group run missed at at' sound set.
-    let some = subst AreControlled c.deref.ensures.value c.in_ok-note_groups.ensures.controlled in
+    let some = subst AreControlled c.deref.ensures.value c.in_ok-push_groups.ensures.controlled in
     sound_groups_are_decided group run missed sound (aspect_long aspects (some g aspects at) a group at') set
 
 -- The counters distinguish the aspects of a sound group.
 pub returns-clause-mixtures : goal.returns-clause-mixtures
 returns-clause-mixtures c = λ g aspects run shown at sound fits.
-    let some = subst AreControlled c.deref.ensures.value c.in_ok-note_groups.ensures.controlled in
+    let some = subst AreControlled c.deref.ensures.value c.in_ok-push_groups.ensures.controlled in
     sound_mixtures_are_decided run aspects shown (some g aspects at) sound fits

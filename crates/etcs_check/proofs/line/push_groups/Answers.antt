@@ -1,0 +1,47 @@
+use Rattle.std.proofs.Common.{◌++◌, ap, refl, ◌∙◌, arith}
+use Rattle.std.specs.BTreeSet.{contains}
+use Rattle.std.specs.List.{list_any}
+use Rattle.std.specs.Ordering.{is_eq, nat_cmp}
+use Rattle.std.proofs.lemmas.Option.{slice_get_within}
+use Rattle.etcs_group.specs.Controlled.{IsControlled}
+use Rattle.etcs_check.specs.Identities.{HasIdentity}
+use Rattle.etcs_check.specs.Line.{group_at, group_findings}
+use Rattle.etcs_check.specs.declared.finding.Site.TheVariants as sites
+use Rattle.etcs_check.proofs.IdentityLemmas.{kept_more, next_stands, numbered_before, used_told}
+use Rattle.etcs_check.proofs.NoteLemmas.{each_more, each_pushed, index_at, on_err}
+use Rattle.etcs_check.proofs.line.push_groups.Goals as goal
+
+-- An identity is kept only if one is used twice, which is a finding. Otherwise the call allocated for this
+-- group.
+pub returns-in_err-push_next-clause-memory : goal.returns-in_err-push_next-clause-memory
+returns-in_err-push_next-clause-memory c =
+    let at = index_at c.args.groups.now c.places.place _ c.aspects.result.now c.places-test.true (c.aspects.ensures.value ∙ c.index-groups-place.is) in
+    on_err _ _ (next_stands c.args.groups.now c.places.place c.aspects.result.now c.has_repeat-again.result at c.in_err-push_next.ensures.numbered c.has_repeat-again.ensures.found c.has_repeat-again.ensures.none c.in_err-push_next.ensures.memory)
+
+pub places-init : goal.places-init
+places-init c = record {
+  all = refl;
+  controlled = λ k g lt. absurd (omega arith);
+  numbered = λ k g lt. absurd (omega arith);
+  kept = λ again n. ap (λ ks. list_any (λ k. is_eq (nat_cmp n k)) ks) c.new-kept.ensures.empty;
+}
+
+-- The findings of this group were appended, and its identity was kept.
+pub places-preserved : goal.places-preserved
+places-preserved c =
+    let at = index_at c.args.groups.now c.places.place _ c.aspects.result.now c.places-test.true (c.aspects.ensures.value ∙ c.index-groups-place.is) in
+    let used = used_told c.args.groups.now c.places.place c.aspects.result.now c.has_repeat-again.result (contains nat_cmp c.places.kept) at c.in_ok-push_next.ensures.numbered (numbered_before c.args.groups.now c.places.place c.places.invariant.numbered) c.has_repeat-again.ensures.none c.places.invariant.kept in
+    record {
+      all = each_pushed (group_at c.args.groups.now) c.args.groups.now c.places.place c.aspects.result.now c.places.found.items _ _ at
+          (c.in_ok-push_next.ensures.ok ∙ ap (λ u. c.places.found.items ++ group_findings (sites.Group c.places.place) u c.aspects.result.now) used)
+          c.places.invariant.all;
+      controlled = each_more (λ _. IsControlled) c.args.groups.now c.places.place c.aspects.result.now at c.places.invariant.controlled c.aspects.ensures.controlled;
+      numbered = each_more (λ _. HasIdentity) c.args.groups.now c.places.place c.aspects.result.now at c.places.invariant.numbered c.in_ok-push_next.ensures.numbered;
+      kept = λ again. kept_more c.args.groups.now c.places.place c.aspects.result.now (contains nat_cmp c.places.kept) _ at (c.in_ok-push_next.ensures.kept again) (c.places.invariant.kept again);
+    }
+
+pub returns-clause-controlled : goal.returns-clause-controlled
+returns-clause-controlled c = λ k g at.
+    let lt = slice_get_within c.args.groups.now k g at in
+    let all = c.places-test.false in
+    c.places.invariant.controlled k g (omega arith) at
