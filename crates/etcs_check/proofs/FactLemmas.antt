@@ -13,7 +13,7 @@ use Rattle.etcs_group.specs.Packets.{is_silent, said_by}
 use Rattle.etcs_group.specs.Places.{At}
 use Rattle.etcs_check.specs.Facts.{passes_at, packets_at, speech_of, is_short_profile, aspect_fact, whole_fact, fact_of_aspect, group_fact}
 use Rattle.etcs_check.specs.Findings.{is_said_and_short}
-use Rattle.etcs_check.specs.Harm.{NamesAspect}
+use Rattle.etcs_check.specs.Violation.{NamesAspect}
 use Rattle.etcs_check.specs.Soundness.{first_aspect}
 use Rattle.etcs_check.specs.declared.finding.Rule.{Rule}
 

@@ -16,7 +16,7 @@ use Rattle.etcs_group.proofs.MarkLemmas.{partner-says, partner-is}
 use Rattle.etcs_check.specs.Duplicates.{same_identity}
 use Rattle.etcs_check.specs.Findings.{header_differs, is_outside, differs_from, is_unanswered, first_counter, counter_differs}
 use Rattle.etcs_check.proofs.NumberLemmas.{version_same, same_identity-says, same_identity-is}
-use Rattle.etcs_check.specs.Harm.{IsFirstCounted}
+use Rattle.etcs_check.specs.Violation.{IsFirstCounted}
 
 -- ---- equal headers
 

@@ -8,7 +8,7 @@ pub mod SoundLemmas
 pub mod AspectLemmas
 pub mod CounterLemmas
 pub mod LineLemmas
-pub mod HarmLemmas
+pub mod ViolationLemmas
 pub mod PartLemmas
 pub mod OrderLemmas
 pub mod NamedLemmas

@@ -20,7 +20,7 @@ use Rattle.etcs_group.specs.Controlled.{IsControlled}
 use Rattle.etcs_check.specs.Aspects.{is_used}
 use Rattle.etcs_check.specs.Facts.{aspect_fact, whole_fact, group_fact, message_fact, fact_at}
 use Rattle.etcs_check.specs.Findings.{each_from}
-use Rattle.etcs_check.specs.Harm.{IsLong, IsNew, GroupPart, PacketsPart, MessagePart, NamesAspect}
+use Rattle.etcs_check.specs.Violation.{IsLong, IsNew, GroupPart, PacketsPart, MessagePart, NamesAspect}
 use Rattle.etcs_check.specs.Laws.{AreControlled, NoFindingMeansSoundLine}
 use Rattle.etcs_check.specs.Line.{group_findings, group_at, group_list, message_at, message_list, findings}
 use Rattle.etcs_check.specs.Profiles.{gradient_reach, speed_reach}

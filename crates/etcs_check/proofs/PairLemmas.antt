@@ -9,7 +9,7 @@ use Rattle.etcs_group.specs.Group.{partner_of, IsWellFormed}
 use Rattle.etcs_group.specs.Missed.{IsCovered, none_missed}
 use Rattle.etcs_group.specs.Reading.{reading_of}
 use Rattle.etcs_group.specs.Packets.{held_by, packets_of}
-use Rattle.etcs_check.specs.Harm.{only, passed_first}
+use Rattle.etcs_check.specs.Violation.{only, passed_first}
 use Rattle.etcs_packet.specs.declared.run.Run.{Run}
 use Rattle.etcs_packet.specs.declared.run.Run.TheVariants as runs
 use Rattle.etcs_bits.specs.declared.variables.duplicate.Dup.{Dup}

@@ -18,7 +18,7 @@ use Rattle.etcs_check.specs.Soundness.{first_aspect}
 use Rattle.etcs_check.specs.Findings.{header_differs, mark_differs, balise_fact, pair_differs, is_unmodelled}
 use Rattle.etcs_check.specs.Aspects.{is_ambiguous}
 use Rattle.etcs_check.specs.Facts.{passes_at, packets_at, speech_of, speech_in, is_short_profile, packet_fact, aspect_fact, whole_fact, message_fact}
-use Rattle.etcs_check.specs.Harm.{AspectPart, GroupPart, PacketsPart, MessagePart, IsLongAt}
+use Rattle.etcs_check.specs.Violation.{AspectPart, GroupPart, PacketsPart, MessagePart, IsLongAt}
 use Rattle.etcs_check.specs.declared.finding.Rule.{Rule}
 use Rattle.etcs_check.specs.declared.finding.Rule.TheVariants as rules
 use Rattle.etcs_check.proofs.FactLemmas.{passes_as, failing, packet_stands, packet_as, profile_as, none_short}

@@ -16,7 +16,7 @@ use Rattle.etcs_group.proofs.PlaceLemmas.{at_list_any, list_any-at, list_any-non
 use Rattle.etcs_packet.specs.Track.{track_number}
 use Rattle.etcs_packet.specs.declared.track.TrackPacket.TheVariants as packets
 use Rattle.etcs_check.specs.Profiles.{gradient_reach, speed_reach, limit_of, Reaches, HasProfiles}
-use Rattle.etcs_check.specs.Harm.{HasProfile, IsLong, IsLongAt}
+use Rattle.etcs_check.specs.Violation.{HasProfile, IsLong, IsLongAt}
 use Rattle.etcs_check.specs.Findings.{lacks, lies_past, goes_past, is_short, is_said_and_short}
 use Rattle.etcs_check.proofs.MemberLemmas.{said-site, site-said}
 

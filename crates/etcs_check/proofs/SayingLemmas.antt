@@ -4,7 +4,7 @@ use Rattle.std.specs.Prelude.{◌↔◌}
 use Rattle.etcs_radio.specs.declared.message.Message.{Message}
 use Rattle.etcs_telegram.specs.Record.{Telegram}
 use Rattle.etcs_group.specs.Places.{At}
-use Rattle.etcs_check.specs.Harm.{Hurts}
+use Rattle.etcs_check.specs.Violation.{Violates}
 use Rattle.etcs_check.specs.Laws.{AreControlled, NamesTheUnsound}
 use Rattle.etcs_check.specs.Line.{findings, group_list, message_list}
 use Rattle.etcs_check.specs.Order.{IsListOf}
@@ -12,7 +12,7 @@ use Rattle.etcs_check.specs.Soundness.{IsSoundLine}
 use Rattle.etcs_check.specs.declared.finding.Finding.{Finding}
 use Rattle.etcs_check.proofs.LineLemmas.{no_finding_means_sound_line}
 use Rattle.etcs_check.proofs.CellLemmas.{findings_are_the_facts_in_order}
-use Rattle.etcs_check.proofs.HarmLemmas.{findings_are_facts}
+use Rattle.etcs_check.proofs.ViolationLemmas.{findings_are_facts}
 use Rattle.etcs_check.proofs.NamedLemmas.{unnamed_means_sound}
 
 -- the findings about the groups were appended to none, and then the findings about the messages
@@ -32,8 +32,8 @@ module _ (groups : List (List (List Telegram))) (messages : List Message) (found
     found_sound = let law = no_finding_means_sound_line groups messages controlled in (λ none. law.0 (sym is ∙ none), λ sound. is ∙ law.1 sound)
 
     -- each finding is a violation
-    pub found_hurts : (i : ℕ) (f : Finding) → At found i f → Hurts groups messages f
-    found_hurts i f at = (findings_are_facts groups messages i f (subst (λ l. At l i f) is at)).1 controlled
+    pub found_violates : (i : ℕ) (f : Finding) → At found i f → Violates groups messages f
+    found_violates i f at = (findings_are_facts groups messages i f (subst (λ l. At l i f) is at)).1 controlled
 
     -- each names its group or its message
     pub found_unnamed : NamesTheUnsound groups messages found

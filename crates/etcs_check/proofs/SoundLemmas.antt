@@ -23,7 +23,7 @@ use Rattle.etcs_group.proofs.SaidLemmas.{said-packets}
 use Rattle.etcs_check.specs.Profiles.{gradient_reach, speed_reach, AreReached}
 use Rattle.etcs_check.specs.Soundness.{IsSoundReading, IsSoundGroup, first_aspect}
 use Rattle.etcs_check.specs.Findings.{are_pair, pair_differs}
-use Rattle.etcs_check.specs.Harm.{only, passed_first, AspectPart}
+use Rattle.etcs_check.specs.Violation.{only, passed_first, AspectPart}
 use Rattle.etcs_check.specs.declared.finding.Rule.{Rule}
 use Rattle.etcs_check.specs.declared.finding.Rule.TheVariants as rules
 use Rattle.etcs_check.specs.Duplicates.{same_held}

@@ -19,7 +19,7 @@ use Rattle.etcs_check.specs.Aspects.{is_used}
 use Rattle.etcs_check.specs.Line.{findings}
 use Rattle.etcs_check.specs.Facts.{group_fact, StatesFact}
 use Rattle.etcs_check.specs.Order.{IsListOf}
-use Rattle.etcs_check.specs.Harm.{HasParts, Hurts, IsNew}
+use Rattle.etcs_check.specs.Violation.{HasParts, Violates, IsNew}
 use Rattle.etcs_check.specs.declared.finding.Finding.{Finding}
 use Rattle.etcs_check.specs.declared.finding.Rule.{Rule}
 use Rattle.etcs_check.specs.declared.finding.Site.{Site}
@@ -80,7 +80,7 @@ UnnamedMeansSound = (groups : List Aspects) (messages : List Message) → AreCon
 abbrev pub FindingsAreFacts : Type 0
 FindingsAreFacts = (groups : List Aspects) (messages : List Message) (i : ℕ) (f : Finding)
     → At (findings groups messages) i f
-    → StatesFact groups messages f × (AreControlled groups → Hurts groups messages f)
+    → StatesFact groups messages f × (AreControlled groups → Violates groups messages f)
 
 -- Wherever a rule has no finding, its part of soundness holds.
 abbrev pub PartsHoldUnlessFound : Type 0
@@ -88,10 +88,10 @@ PartsHoldUnlessFound = (groups : List Aspects) (messages : List Message) (f : Fi
     → AreControlled groups → ((i : ℕ) → At (findings groups messages) i f → ⊥) → HasParts groups messages f
 
 -- In a sound line each part of soundness holds everywhere, so there can be no violation.
-abbrev pub NothingHurtsASoundLine : Type 0
-NothingHurtsASoundLine = (groups : List Aspects) (messages : List Message) (f : Finding)
+abbrev pub ASoundLineHasNoViolation : Type 0
+ASoundLineHasNoViolation = (groups : List Aspects) (messages : List Message) (f : Finding)
     → AreControlled groups → IsSoundLine groups messages
-    → HasParts groups messages f × (Hurts groups messages f → ⊥)
+    → HasParts groups messages f × (Violates groups messages f → ⊥)
 
 -- Each fact has its finding.
 abbrev pub FactsAreFindings : Type 0

@@ -7,7 +7,7 @@ pub mod Line
 pub mod Identities
 pub mod LineChecker
 pub mod Order
-pub mod Harm
+pub mod Violation
 pub mod Laws
 pub mod Facts
 pub mod Said

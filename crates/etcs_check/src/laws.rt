@@ -1,7 +1,7 @@
 //! Laws of findings and soundness, for users. Each law is the contract of a function that does
 //! nothing.
 
-ghost use Rattle.etcs_check.specs.Laws.{FactsAreFindings, FindingsAreFacts, FindingsAreTheFactsInOrder, NoFindingMeansSoundGroup, NoFindingMeansSoundLine, NothingHurtsASoundLine, PacketsAreTheirNumbers, PartsHoldUnlessFound, ProfilesAreTheirPackets, SoundGroupsAreDecided, SoundMixturesAreDecided, TelegramsAreTheirParts, UnnamedMeansSound};
+ghost use Rattle.etcs_check.specs.Laws.{FactsAreFindings, FindingsAreFacts, FindingsAreTheFactsInOrder, NoFindingMeansSoundGroup, NoFindingMeansSoundLine, ASoundLineHasNoViolation, PacketsAreTheirNumbers, PartsHoldUnlessFound, ProfilesAreTheirPackets, SoundGroupsAreDecided, SoundMixturesAreDecided, TelegramsAreTheirParts, UnnamedMeansSound};
 
 /// Two packets are equal if and only if the numbers in the rows of their tables are equal.
 pub fn packets_are_their_numbers()
@@ -53,8 +53,8 @@ pub fn parts_hold_unless_found()
 
 /// In a sound line each part of soundness that a rule requires holds everywhere, so there can be no
 /// violation.
-pub fn nothing_hurts_a_sound_line()
-    ensures { NothingHurtsASoundLine }
+pub fn a_sound_line_has_no_violation()
+    ensures { ASoundLineHasNoViolation }
 {}
 
 /// Each fact against a line has its finding.

@@ -10,7 +10,7 @@ ghost use Rattle.etcs_group.specs.Reading.{reading_of};
 ghost use Rattle.etcs_group.specs.Laws.{IsDecided, IsMixtureDecided};
 ghost use Rattle.etcs_group.specs.Mixture.{Fits};
 ghost use Rattle.etcs_group.specs.Group.{Telegrams, Aspects};
-ghost use Rattle.etcs_check.specs.Harm.{Hurts};
+ghost use Rattle.etcs_check.specs.Violation.{Violates};
 ghost use Rattle.etcs_check.specs.Identities.{HasIdentity, identity_number};
 ghost use Rattle.etcs_check.specs.Laws.{AreControlled, NamesTheUnsound};
 ghost use Rattle.etcs_check.specs.Line.{findings, group_findings, group_list, message_list};
@@ -136,8 +136,8 @@ pub fn check(alloc: Global, line: &Line) -> Result<Vec<Finding>, Memory>
         (λ found. IsListOf line.now.groups.items line.now.messages.items found.items) }
 
     // The part of soundness that the rule of a finding requires does not hold at its location.
-    ensures hurts { IfOk result (λ found. (i : ℕ) (f : Finding) → At found.items i f
-        → Hurts line.now.groups.items line.now.messages.items f) }
+    ensures violates { IfOk result (λ found. (i : ℕ) (f : Finding) → At found.items i f
+        → Violates line.now.groups.items line.now.messages.items f) }
 
     // Only what was missed decides whether a reading of a sound aspect is accepted. This clause and the
     // next one are laws of the line, whatever is found.

@@ -4,7 +4,7 @@ ghost use Rattle.std.specs.Prelude.{◌≡◌, ◌≢◌, ◌↔◌, ◌∷◌, 
 ghost use Rattle.etcs_radio.specs.declared.message.Message.{Message as SomeMessage};
 ghost use Rattle.etcs_group.specs.Places.{At};
 ghost use Rattle.etcs_group.specs.Group.{Aspects};
-ghost use Rattle.etcs_check.specs.Harm.{Hurts};
+ghost use Rattle.etcs_check.specs.Violation.{Violates};
 ghost use Rattle.etcs_check.specs.Laws.{NamesTheUnsound};
 ghost use Rattle.etcs_check.specs.Line.{findings};
 ghost use Rattle.etcs_check.specs.LineChecker.{HasChecked, HasStill, TakesGroups, TakesMessages};
@@ -169,8 +169,8 @@ impl LineChecker {
             → HasChecked self gs ms → IsListOf gs ms found.items) }
 
         // The part of soundness that the rule of a finding requires does not hold at its location.
-        ensures hurts { IfOk result (λ found. (gs : List Aspects) (ms : List SomeMessage)
-            → HasChecked self gs ms → (i : ℕ) (f : SomeFinding) → At found.items i f → Hurts gs ms f) }
+        ensures violates { IfOk result (λ found. (gs : List Aspects) (ms : List SomeMessage)
+            → HasChecked self gs ms → (i : ℕ) (f : SomeFinding) → At found.items i f → Violates gs ms f) }
     {
         let LineChecker {
             mut about_groups,

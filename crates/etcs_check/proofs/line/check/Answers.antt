@@ -3,7 +3,7 @@ use Rattle.etcs_check.specs.Laws.{AreControlled}
 use Rattle.etcs_check.specs.Line.{findings}
 use Rattle.etcs_check.proofs.AspectLemmas.{aspect_long, sound_mixtures_are_decided}
 use Rattle.etcs_check.proofs.SoundLemmas.{sound_groups_are_decided}
-use Rattle.etcs_check.proofs.SayingLemmas.{findings_noted, found_hurts, found_list, found_sound, found_unnamed}
+use Rattle.etcs_check.proofs.SayingLemmas.{findings_noted, found_violates, found_list, found_sound, found_unnamed}
 use Rattle.etcs_check.proofs.line.check.Goals as goal
 
 -- The list is empty if and only if the line is sound.
@@ -14,11 +14,11 @@ returns-clause-sound c =
     found_sound _ _ _ is (subst AreControlled c.deref.ensures.value c.in_ok-push_groups.ensures.controlled)
 
 -- Each finding is a violation.
-pub returns-clause-hurts : goal.returns-clause-hurts
-returns-clause-hurts c =
+pub returns-clause-violates : goal.returns-clause-violates
+returns-clause-violates c =
     let is : c.push_messages.new.found.items ≡ findings c.args.line.now.groups.items c.args.line.now.messages.items =
     findings_noted _ _ _ _ _ _ _ c.new-found.ensures.items c.in_ok-push_groups.ensures.ok c.in_ok-push_messages.ensures.ok c.deref.ensures.value c.deref-2.ensures.value in
-    found_hurts _ _ _ is (subst AreControlled c.deref.ensures.value c.in_ok-push_groups.ensures.controlled)
+    found_violates _ _ _ is (subst AreControlled c.deref.ensures.value c.in_ok-push_groups.ensures.controlled)
 
 -- Each fact has its finding, in order.
 pub returns-clause-list : goal.returns-clause-list

@@ -1,5 +1,5 @@
 use Rattle.etcs_check.proofs.CheckerLemmas.{held_findings}
-use Rattle.etcs_check.proofs.SayingLemmas.{found_hurts, found_list, found_sound, found_unnamed}
+use Rattle.etcs_check.proofs.SayingLemmas.{found_violates, found_list, found_sound, found_unnamed}
 use Rattle.etcs_check.proofs.line_checker.LineChecker.finish.Goals as goal
 
 -- The list has the findings of the line that was taken.
@@ -21,6 +21,6 @@ pub returns-clause-list : goal.returns-clause-list
 returns-clause-list c = λ gs ms was. found_list gs ms _ (held_findings _ _ _ gs ms c.self.view_is c.in_ok-append.ensures.ok was)
 
 -- Each finding is a violation.
-pub returns-clause-hurts : goal.returns-clause-hurts
-returns-clause-hurts c = λ gs ms was.
-    found_hurts gs ms _ (held_findings _ _ _ gs ms c.self.view_is c.in_ok-append.ensures.ok was) was.controlled
+pub returns-clause-violates : goal.returns-clause-violates
+returns-clause-violates c = λ gs ms was.
+    found_violates gs ms _ (held_findings _ _ _ gs ms c.self.view_is c.in_ok-append.ensures.ok was) was.controlled

@@ -17,8 +17,8 @@ use Rattle.etcs_group.proofs.SaidLemmas.{said-packets}
 use Rattle.etcs_check.specs.Aspects.{is_used}
 use Rattle.etcs_check.specs.Facts.{aspect_fact, whole_fact, group_fact, message_fact, fact_at}
 use Rattle.etcs_check.specs.Findings.{pair_differs}
-use Rattle.etcs_check.specs.Harm.{full_packets, HurtsReadings, DependsOnMissed, HurtsGroup, IsNew, HurtsSite, HasPartsAt}
-use Rattle.etcs_check.specs.Laws.{AreControlled, FindingsAreFacts, PartsHoldUnlessFound, NothingHurtsASoundLine}
+use Rattle.etcs_check.specs.Violation.{full_packets, AffectsReadings, DependsOnMissed, ViolatesGroup, IsNew, ViolatesSite, HasPartsAt}
+use Rattle.etcs_check.specs.Laws.{AreControlled, FindingsAreFacts, PartsHoldUnlessFound, ASoundLineHasNoViolation}
 use Rattle.etcs_check.specs.Line.{findings}
 use Rattle.etcs_check.specs.Profiles.{gradient_reach, speed_reach}
 use Rattle.etcs_check.specs.Soundness.{first_aspect}
@@ -41,52 +41,52 @@ use Rattle.etcs_check.proofs.SoundLemmas.{fitting-from_accepted, pair-says}
 of_said : (reach : TrackPacket → Option Reach) (group : List Telegram) (run : Run) → IsWellFormed group → HaveProfiles reach (full_packets group run) → HaveProfiles reach (said_by run group)
 of_said reach group run formed h = subst (HaveProfiles reach) (sym (said-packets group formed run)) h
 
-pair_hurts : (group : List Telegram) (run : Run) (b : ℕ) (t : Telegram) → At group b t → pair_differs run t (slice_get group (b + 1)) ≡ true → IsWellFormed group → DependsOnMissed group run b
-pair_hurts group run b t at differs formed =
+pair_affects : (group : List Telegram) (run : Run) (b : ℕ) (t : Telegram) → At group b t → pair_differs run t (slice_get group (b + 1)) ≡ true → IsWellFormed group → DependsOnMissed group run b
+pair_affects group run b t at differs formed =
     let p = pair-says run t (slice_get group (b + 1)) differs in
     let one : b + 1 ≡ suc b = omega arith in
     (only-covered group run b t formed at p.2, λ same. p.4 (duplicates-equal group run b t p.0 formed at (ap (slice_get group) (sym one) ∙ p.1) p.2 p.3 same))
 
 module _ (aspects : List (List Telegram)) (a : ℕ) (group : List Telegram) where
-  readings_hurt : (rule : Rule) (run : Option Run) (b k : Option ℕ) → aspect_fact (first_aspect aspects) (take a aspects) group rule run b k ≡ true → HurtsReadings group rule run b
-  readings_hurt rules.CounterUnfit None (Some b) None h = λ run accepted.
+  readings_affected : (rule : Rule) (run : Option Run) (b k : Option ℕ) → aspect_fact (first_aspect aspects) (take a aspects) group rule run b k ≡ true → AffectsReadings group rule run b
+  readings_affected rules.CounterUnfit None (Some b) None h = λ run accepted.
       both_ways _ (aspect_unbroken aspects a group rules.CounterUnfit None (Some b) None ((fitting-from_accepted group run accepted).agrees b)) h
-  readings_hurt rules.CountersDiffer None (Some b) None h = λ run accepted.
+  readings_affected rules.CountersDiffer None (Some b) None h = λ run accepted.
       let one = fitting-from_accepted group run accepted in
       both_ways _ (aspect_unbroken aspects a group rules.CountersDiffer None (Some b) None (λ j t u at low first. one.equal b j t u at first.0 low first.1)) h
-  readings_hurt rules.DuplicatesDiffer (Some run) (Some b) None h =
+  readings_affected rules.DuplicatesDiffer (Some run) (Some b) None h =
       let r = passed group b (λ t. pair_differs run t (slice_get group (b + 1))) h in
-      pair_hurts group run b r.0 r.1 r.2
-  readings_hurt rules.NoGradient (Some run) None None h = λ formed reached.
+      pair_affects group run b r.0 r.1 r.2
+  readings_affected rules.NoGradient (Some run) None None h = λ formed reached.
       let said = of_said gradient_reach group run formed (λ i p limit at is. (reached i p limit at is).0) in
       both_ways _ (aspect_unbroken aspects a group rules.NoGradient (Some run) None None (profiles-one gradient_reach (said_by run group) said)) h
-  readings_hurt rules.GradientShort (Some run) (Some b) (Some k) h = λ formed reached.
+  readings_affected rules.GradientShort (Some run) (Some b) (Some k) h = λ formed reached.
       let said = of_said gradient_reach group run formed (λ i p limit at is. (reached i p limit at is).0) in
       both_ways _ (aspect_unbroken aspects a group rules.GradientShort (Some run) (Some b) (Some k) (long-said gradient_reach group run said b k)) h
-  readings_hurt rules.NoSpeed (Some run) None None h = λ formed reached.
+  readings_affected rules.NoSpeed (Some run) None None h = λ formed reached.
       let said = of_said speed_reach group run formed (λ i p limit at is. (reached i p limit at is).1) in
       both_ways _ (aspect_unbroken aspects a group rules.NoSpeed (Some run) None None (profiles-one speed_reach (said_by run group) said)) h
-  readings_hurt rules.SpeedShort (Some run) (Some b) (Some k) h = λ formed reached.
+  readings_affected rules.SpeedShort (Some run) (Some b) (Some k) h = λ formed reached.
       let said = of_said speed_reach group run formed (λ i p limit at is. (reached i p limit at is).1) in
       both_ways _ (aspect_unbroken aspects a group rules.SpeedShort (Some run) (Some b) (Some k) (long-said speed_reach group run said b k)) h
-  readings_hurt rules.GradientShort (Some run) None (Some k) h = absurd (both_ways false refl h)
-  readings_hurt rules.SpeedShort (Some run) None (Some k) h = absurd (both_ways false refl h)
-  readings_hurt rule run b k h = first_of (search, cc)
+  readings_affected rules.GradientShort (Some run) None (Some k) h = absurd (both_ways false refl h)
+  readings_affected rules.SpeedShort (Some run) None (Some k) h = absurd (both_ways false refl h)
+  readings_affected rule run b k h = first_of (search, cc)
 
-group_hurts : (new : Type 0) (used : Bool) (aspects : List (List Telegram)) → IsControlled aspects → (new → used ≡ false) → (rule : Rule) (aspect : Option ℕ) (run : Option Run) (b k : Option ℕ) → group_fact used aspects rule aspect run b k ≡ true → HurtsGroup new aspects rule aspect run b k
-group_hurts new used aspects controlled unused rule aspect run b k fact = elim (group_means used aspects rule aspect run b k fact) [
+group_violates : (new : Type 0) (used : Bool) (aspects : List (List Telegram)) → IsControlled aspects → (new → used ≡ false) → (rule : Rule) (aspect : Option ℕ) (run : Option Run) (b k : Option ℕ) → group_fact used aspects rule aspect run b k ≡ true → ViolatesGroup new aspects rule aspect run b k
+group_violates new used aspects controlled unused rule aspect run b k fact = elim (group_means used aspects rule aspect run b k fact) [
   | inl w ↦ inl (w.0, λ part. both_ways _ (whole_unbroken new used aspects controlled unused rule run b k part) w.1)
-  | inr r ↦ inr (r.0, r.1, r.2, r.3, λ part. both_ways _ (aspect_unbroken aspects r.0 r.1 rule run b k part) r.4, readings_hurt aspects r.0 r.1 rule run b k r.4)
+  | inr r ↦ inr (r.0, r.1, r.2, r.3, λ part. both_ways _ (aspect_unbroken aspects r.0 r.1 rule run b k part) r.4, readings_affected aspects r.0 r.1 rule run b k r.4)
 ]
 
 -- ---- findings
 
 module _ (groups : List (List (List Telegram))) (messages : List Message) (f : Finding) (controlled : AreControlled groups) where
-  facts_hurt : (s : Site) → fact_at groups messages s f ≡ true → HurtsSite groups messages f s
-  facts_hurt (sites.Group g) h =
+  facts_violate : (s : Site) → fact_at groups messages s f ≡ true → ViolatesSite groups messages f s
+  facts_violate (sites.Group g) h =
       let r = passed groups g (λ aspects. group_fact (is_used (take g groups) aspects) aspects f.rule f.aspect f.dir f.balise f.packet) h in
-      (r.0, r.1, group_hurts (IsNew groups g r.0) (is_used (take g groups) r.0) r.0 (controlled g r.0 r.1) (new-is groups g r.0) f.rule f.aspect f.dir f.balise f.packet r.2)
-  facts_hurt (sites.Message i) h =
+      (r.0, r.1, group_violates (IsNew groups g r.0) (is_used (take g groups) r.0) r.0 (controlled g r.0 r.1) (new-is groups g r.0) f.rule f.aspect f.dir f.balise f.packet r.2)
+  facts_violate (sites.Message i) h =
       let r = passed messages i (λ m. message_fact m f.rule f.aspect f.dir f.balise f.packet) h in
       let whole = message_whole r.0 f.rule f.aspect f.dir f.balise f.packet r.2 in
       (r.0, r.1, whole, λ part. both_ways _ (message_unbroken r.0 f.rule f.dir f.balise f.packet part) (subst (λ o. message_fact r.0 f.rule o f.dir f.balise f.packet ≡ true) whole r.2))
@@ -107,7 +107,7 @@ module _ (groups : List (List (List Telegram))) (messages : List Message) (f : F
 pub findings_are_facts : FindingsAreFacts
 findings_are_facts groups messages i f h =
     let states = findings_state groups messages i f h in
-    (states, λ controlled. facts_hurt groups messages f controlled f.site states)
+    (states, λ controlled. facts_violate groups messages f controlled f.site states)
 
 pub parts_hold_unless_found : PartsHoldUnlessFound
 parts_hold_unless_found groups messages f controlled none = parts_hold groups messages f controlled f.site (false_from_ne_true _ (λ h.
@@ -115,17 +115,17 @@ parts_hold_unless_found groups messages f controlled none = parts_hold groups me
     none l.0 l.1))
 
 -- a violation has a part that does not hold
-hurt_parts : (groups : List (List (List Telegram))) (messages : List Message) (f : Finding) (s : Site) → HasPartsAt groups messages f s → HurtsSite groups messages f s → ⊥
-hurt_parts groups messages f (sites.Group g) parts h =
+violation_parts : (groups : List (List (List Telegram))) (messages : List Message) (f : Finding) (s : Site) → HasPartsAt groups messages f s → ViolatesSite groups messages f s → ⊥
+violation_parts groups messages f (sites.Group g) parts h =
     let p = parts h.0 h.1 in
     elim h.2 [
       | inl w ↦ w.1 (p.0 w.0)
       | inr r ↦ r.4 (p.1 r.0 r.1 r.2 r.3)
     ]
-hurt_parts groups messages f (sites.Message i) parts h = h.3 (parts h.0 h.1 h.2)
+violation_parts groups messages f (sites.Message i) parts h = h.3 (parts h.0 h.1 h.2)
 
-pub nothing_hurts_a_sound_line : NothingHurtsASoundLine
-nothing_hurts_a_sound_line groups messages f controlled sound =
+pub a_sound_line_has_no_violation : ASoundLineHasNoViolation
+a_sound_line_has_no_violation groups messages f controlled sound =
     let empty : findings groups messages ≡ [] = (no_finding_means_sound_line groups messages controlled).1 sound in
     let parts = parts_hold_unless_found groups messages f controlled (λ i at. none-some f (subst (λ l. At l i f) empty at)) in
-    (parts, hurt_parts groups messages f f.site parts)
+    (parts, violation_parts groups messages f f.site parts)

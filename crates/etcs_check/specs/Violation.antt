@@ -1,6 +1,6 @@
 -- What a finding means: which part of soundness does not hold at its location, and what follows for the
 -- readings of its group. Each part is named as in IsWellFormed, HasOneCounter, HasEqualPairs, HasProfiles,
--- AreOneGroup, IsSoundMessage or IsSoundLine. It holds in each sound line (nothing_hurts_a_sound_line), and
+-- AreOneGroup, IsSoundMessage or IsSoundLine. It holds in each sound line (a_sound_line_has_no_violation), and
 -- wherever its rule has no finding (parts_hold_unless_found).
 use Rattle.std.specs.Prelude.{◌≡◌, ◌≢◌, ℕ, suc, ◌+◌, ◌<◌, ◌≤◌, ◌==◌, Bool, List, length, filter, Option, Some, None, is_some, IsSome, IsTrue, IsFalse, ⊤, ◌⊎◌}
 use Rattle.etcs_bits.specs.declared.variables.duplicate.Dup.TheVariants as dups
@@ -59,17 +59,17 @@ IsNotReached group run = AreReached (full_packets group run) → ⊥
 
 -- What a finding of a rule means for the readings of its aspect. For F8 and F10 to F13 this is defined only
 -- for well-formed aspects.
-abbrev pub HurtsReadings : Telegrams → Rule → Option Run → Option ℕ → Type 0
-HurtsReadings group rules.CounterUnfit run b = IsNeverAccepted group
-HurtsReadings group rules.CountersDiffer run b = IsNeverAccepted group
-HurtsReadings group rules.DuplicatesDiffer (Some run) (Some b) =
+abbrev pub AffectsReadings : Telegrams → Rule → Option Run → Option ℕ → Type 0
+AffectsReadings group rules.CounterUnfit run b = IsNeverAccepted group
+AffectsReadings group rules.CountersDiffer run b = IsNeverAccepted group
+AffectsReadings group rules.DuplicatesDiffer (Some run) (Some b) =
     IsWellFormed group → DependsOnMissed group run b
-HurtsReadings group rules.NoGradient (Some run) b = IsWellFormed group → IsNotReached group run
-HurtsReadings group rules.GradientShort (Some run) b = IsWellFormed group → IsNotReached group run
-HurtsReadings group rules.NoSpeed (Some run) b = IsWellFormed group → IsNotReached group run
-HurtsReadings group rules.SpeedShort (Some run) b = IsWellFormed group → IsNotReached group run
+AffectsReadings group rules.NoGradient (Some run) b = IsWellFormed group → IsNotReached group run
+AffectsReadings group rules.GradientShort (Some run) b = IsWellFormed group → IsNotReached group run
+AffectsReadings group rules.NoSpeed (Some run) b = IsWellFormed group → IsNotReached group run
+AffectsReadings group rules.SpeedShort (Some run) b = IsWellFormed group → IsNotReached group run
 -- the other rules state nothing about readings
-HurtsReadings group rule run b = ⊤
+AffectsReadings group rule run b = ⊤
 
 -- ---- the part of soundness that a rule requires at a location
 
@@ -178,31 +178,31 @@ NamesAspect aspects a named = (1 < length aspects → named ≡ Some a) × (leng
 
 -- A finding about a controlled group: the part of the group as a whole does not hold; or the part of the
 -- named aspect does not hold, and its readings have the stated consequence.
-abbrev pub HurtsGroup : Type 0 → Aspects → Rule → Option ℕ → Option Run → Option ℕ → Option ℕ → Type 0
-HurtsGroup new aspects rule aspect run b k =
+abbrev pub ViolatesGroup : Type 0 → Aspects → Rule → Option ℕ → Option Run → Option ℕ → Option ℕ → Type 0
+ViolatesGroup new aspects rule aspect run b k =
     ((aspect ≡ None) × (GroupPart new aspects rule run b k → ⊥))
     ⊎ ((a : ℕ) × (group : Telegrams) × At aspects a group × NamesAspect aspects a aspect
-    × (AspectPart aspects a group rule run b k → ⊥) × HurtsReadings group rule run b)
+    × (AspectPart aspects a group rule run b k → ⊥) × AffectsReadings group rule run b)
 
 -- a finding about a message: its part does not hold
-abbrev pub HurtsMessage : Message → Rule → Option Run → Option ℕ → Option ℕ → Type 0
-HurtsMessage m rule run b k = MessagePart m rule run b k → ⊥
+abbrev pub ViolatesMessage : Message → Rule → Option Run → Option ℕ → Option ℕ → Type 0
+ViolatesMessage m rule run b k = MessagePart m rule run b k → ⊥
 
 -- no earlier group has the identity of the group at place g
 abbrev pub IsNew : List Aspects → ℕ → Aspects → Type 0
 IsNew groups g aspects = (i : ℕ) (h : Aspects) → i < g → At groups i h
     → group_identity h ≢ group_identity aspects
 
-abbrev pub HurtsSite : List Aspects → List Message → Finding → Site → Type 0
-HurtsSite groups messages f (sites.Group g) =
+abbrev pub ViolatesSite : List Aspects → List Message → Finding → Site → Type 0
+ViolatesSite groups messages f (sites.Group g) =
     (aspects : Aspects) × At groups g aspects
-    × HurtsGroup (IsNew groups g aspects) aspects f.rule f.aspect f.dir f.balise f.packet
-HurtsSite groups messages f (sites.Message i) =
-    (m : Message) × At messages i m × (f.aspect ≡ None) × HurtsMessage m f.rule f.dir f.balise f.packet
+    × ViolatesGroup (IsNew groups g aspects) aspects f.rule f.aspect f.dir f.balise f.packet
+ViolatesSite groups messages f (sites.Message i) =
+    (m : Message) × At messages i m × (f.aspect ≡ None) × ViolatesMessage m f.rule f.dir f.balise f.packet
 
 -- what a finding means at its site
-abbrev pub Hurts : List Aspects → List Message → Finding → Type 0
-Hurts groups messages f = HurtsSite groups messages f f.site
+abbrev pub Violates : List Aspects → List Message → Finding → Type 0
+Violates groups messages f = ViolatesSite groups messages f f.site
 
 -- ---- what no finding means
 
