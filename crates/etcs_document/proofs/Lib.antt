@@ -1,7 +1,7 @@
 pub mod TokenLemmas
 pub mod TokenReaderLemmas
 pub mod DocumentTokenLemmas
-pub mod InOrderLemmas
+pub mod StreamingLemmas
 pub mod ResultLemmas
 pub mod DocumentLemmas
 pub mod EmptyLemmas

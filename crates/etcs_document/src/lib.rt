@@ -3,30 +3,30 @@
 //! [`read_line`] reads the document, and [`check_text`] finds all facts against the line. Read `document.rt`
 //! first, with `specs/Document.antt`, and then `specs/Verdict.antt`, which defines what a yes states.
 //! [`check_in_order`] checks a document group by group, and builds no JSON value. It gives the same answer as
-//! [`check_text`], and calls it for what it cannot decide (`in_order.rt`, `specs/DocumentTokens.antt`).
+//! [`check_text`], and calls it for what it cannot decide (`streaming.rt`, `specs/DocumentTokens.antt`).
 //! [`report`] writes the findings of a line, and [`refusal_text`] why an input is refused. `etcs_form`
 //! exports the names of this crate and of `etcs_json`.
 #![tactic(auto)]
 
+mod check;
 mod document;
 mod document_aspects;
 mod document_groups;
 mod document_messages;
 mod document_values;
-mod in_order;
-mod judging;
 pub mod laws;
 mod line_error;
 mod refusal;
 mod report_text;
+mod streaming;
 mod token_groups;
 mod token_reader;
 mod verdict;
 
+pub use check::check_text;
 pub use document::read_line;
-pub use in_order::{Checked, check_in_order};
-pub use judging::check_text;
 pub use line_error::LineError;
 pub use refusal::{LineFault, Refusal, StreamFault, refusal_text};
 pub use report_text::{report, report_counts};
+pub use streaming::{Checked, check_in_order};
 pub use verdict::Verdict;

@@ -1,7 +1,7 @@
 use Rattle.std.proofs.Common.{length}
 use Rattle.etcs_check.specs.LineChecker.{TakesMessages}
 use Rattle.etcs_document.specs.DocumentTokens.{AreFirst, AreTaken, IsMessage}
-use Rattle.etcs_document.proofs.in_order.each_message.Given as goal
+use Rattle.etcs_document.proofs.streaming.each_message.Given as goal
 
 -- the messages so far were read, and passed to the checker
 abbrev pub invariant-messages : goal.invariant-messages

@@ -1,6 +1,6 @@
 use Rattle.std.proofs.Common.{rules}
-use Rattle.etcs_document.proofs.InOrderLemmas.{messages_then}
-use Rattle.etcs_document.proofs.in_order.messages_first.Goals as goal
+use Rattle.etcs_document.proofs.StreamingLemmas.{messages_then}
+use Rattle.etcs_document.proofs.streaming.messages_first.Goals as goal
 
 -- the messages, and then the groups
 pub returns : goal.returns

@@ -1,7 +1,7 @@
 use Rattle.std.proofs.Common.{length}
 use Rattle.etcs_check.specs.LineChecker.{TakesGroups}
 use Rattle.etcs_document.specs.DocumentTokens.{AreFirst, AreTaken, IsGroup}
-use Rattle.etcs_document.proofs.in_order.each_group.Given as goal
+use Rattle.etcs_document.proofs.streaming.each_group.Given as goal
 
 -- the groups so far were read, and passed to the checker
 abbrev pub invariant-groups : goal.invariant-groups

@@ -1,6 +1,6 @@
 use Rattle.std.proofs.Common.{rules}
-use Rattle.etcs_document.proofs.InOrderLemmas.{groups_then}
-use Rattle.etcs_document.proofs.in_order.groups_first.Goals as goal
+use Rattle.etcs_document.proofs.StreamingLemmas.{groups_then}
+use Rattle.etcs_document.proofs.streaming.groups_first.Goals as goal
 
 -- the groups, and then the messages
 pub returns : goal.returns

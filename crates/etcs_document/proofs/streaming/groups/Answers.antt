@@ -1,8 +1,8 @@
 use Rattle.std.proofs.Common.{◌<◌, rules, arith}
 use Rattle.etcs_check.specs.LineChecker.{TakesGroups}
-use Rattle.etcs_document.proofs.InOrderLemmas.{all_taken}
+use Rattle.etcs_document.proofs.StreamingLemmas.{all_taken}
 use Rattle.etcs_document.specs.DocumentTokens.{IsGroup}
-use Rattle.etcs_document.proofs.in_order.groups.Goals as goal
+use Rattle.etcs_document.proofs.streaming.groups.Goals as goal
 
 pub returns : goal.returns
 returns c = λ yes.

@@ -1,8 +1,8 @@
 use Rattle.std.proofs.Common.{◌<◌, rules, arith}
 use Rattle.etcs_check.specs.LineChecker.{TakesMessages}
-use Rattle.etcs_document.proofs.InOrderLemmas.{all_taken}
+use Rattle.etcs_document.proofs.StreamingLemmas.{all_taken}
 use Rattle.etcs_document.specs.DocumentTokens.{IsMessage}
-use Rattle.etcs_document.proofs.in_order.messages.Goals as goal
+use Rattle.etcs_document.proofs.streaming.messages.Goals as goal
 
 pub returns : goal.returns
 returns c = λ yes.

@@ -1,6 +1,6 @@
 use Rattle.std.proofs.Common.{rules, ap, sym, ◌∙◌}
 use Rattle.json.specs.Json.{read_key}
-use Rattle.etcs_document.proofs.in_order.members.Goals as goal
+use Rattle.etcs_document.proofs.streaming.members.Goals as goal
 
 pub returns-then-pass_key : goal.returns-then-pass_key
 returns-then-pass_key c = λ yes empty. c.groups_first.ensures yes empty c.args.reader.now (c.pass_key.ensures.yes (search rules))

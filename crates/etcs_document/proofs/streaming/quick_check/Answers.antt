@@ -1,8 +1,8 @@
 use Rattle.std.proofs.Common.{rules, ap, ◌∙◌}
 use Rattle.json.specs.Lex.{tokens}
-use Rattle.etcs_document.proofs.InOrderLemmas.{text_taken}
+use Rattle.etcs_document.proofs.StreamingLemmas.{text_taken}
 use Rattle.etcs_document.proofs.TokenLemmas.{if_some}
-use Rattle.etcs_document.proofs.in_order.quick_check.Goals as goal
+use Rattle.etcs_document.proofs.streaming.quick_check.Goals as goal
 
 -- nothing follows the document, and all of it was passed to the checker
 pub returns : goal.returns

@@ -1,5 +1,5 @@
 use Rattle.etcs_document.proofs.YesLemmas.{aspects_decided, judged_unnamed, mixtures_decided, sound_says_yes}
-use Rattle.etcs_document.proofs.judging.check_text.Goals as goal
+use Rattle.etcs_document.proofs.check.check_text.Goals as goal
 
 -- without a finding the line is sound
 pub returns-clause-says : goal.returns-clause-says

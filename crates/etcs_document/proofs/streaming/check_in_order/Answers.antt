@@ -3,7 +3,7 @@ use Rattle.etcs_document.specs.Document.{◌then◌}
 use Rattle.etcs_document.specs.Verdict.{summary}
 use Rattle.etcs_document.proofs.EmptyLemmas.{none_counted, unreadable_counted}
 use Rattle.etcs_document.proofs.YesLemmas.{counted_none, counted_unnamed, no_finding_says_yes, text_says_yes}
-use Rattle.etcs_document.proofs.in_order.check_in_order.Goals as goal
+use Rattle.etcs_document.proofs.streaming.check_in_order.Goals as goal
 
 -- what was found group by group is what the bytes mean
 pub returns-in-Some-clause-says : goal.returns-in-Some-clause-says

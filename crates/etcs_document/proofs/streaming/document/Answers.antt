@@ -1,6 +1,6 @@
 use Rattle.std.proofs.Common.{◌<◌, rules, arith}
-use Rattle.etcs_document.proofs.InOrderLemmas.{document_taken}
-use Rattle.etcs_document.proofs.in_order.document.Goals as goal
+use Rattle.etcs_document.proofs.StreamingLemmas.{document_taken}
+use Rattle.etcs_document.proofs.streaming.document.Goals as goal
 
 pub returns-then-members : goal.returns-then-members
 returns-then-members c = λ ends empty.

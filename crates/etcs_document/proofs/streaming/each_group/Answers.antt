@@ -3,8 +3,8 @@ use Rattle.etcs_check.specs.LineChecker.{TakesGroups}
 use Rattle.etcs_check.proofs.CheckerLemmas.{more_groups, no_groups}
 use Rattle.etcs_document.specs.DocumentTokens.{IsGroup}
 use Rattle.etcs_document.proofs.DocumentTokenLemmas.{first_shorter}
-use Rattle.etcs_document.proofs.InOrderLemmas.{none_taken, one_taken}
-use Rattle.etcs_document.proofs.in_order.each_group.Goals as goal
+use Rattle.etcs_document.proofs.StreamingLemmas.{none_taken, one_taken}
+use Rattle.etcs_document.proofs.streaming.each_group.Goals as goal
 
 pub groups-init : goal.groups-init
 groups-init c = none_taken IsGroup TakesGroups _ _ _ (no_groups _)

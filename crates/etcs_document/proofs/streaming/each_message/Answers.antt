@@ -3,8 +3,8 @@ use Rattle.etcs_check.specs.LineChecker.{TakesMessages}
 use Rattle.etcs_check.proofs.CheckerLemmas.{more_messages, no_messages}
 use Rattle.etcs_document.specs.DocumentTokens.{IsMessage}
 use Rattle.etcs_document.proofs.DocumentTokenLemmas.{first_shorter}
-use Rattle.etcs_document.proofs.InOrderLemmas.{none_taken, one_taken}
-use Rattle.etcs_document.proofs.in_order.each_message.Goals as goal
+use Rattle.etcs_document.proofs.StreamingLemmas.{none_taken, one_taken}
+use Rattle.etcs_document.proofs.streaming.each_message.Goals as goal
 
 pub messages-init : goal.messages-init
 messages-init c = none_taken IsMessage TakesMessages _ _ _ (no_messages _)

@@ -12,7 +12,7 @@ ghost use Rattle.etcs_document.specs.Verdict.{NamesTheUnsoundIn, TextSaysYes, su
 ghost use Rattle.etcs_radio.specs.declared.message.Message.{Message as SomeMessage};
 ghost use Rattle.etcs_group.specs.Group.{Aspects};
 
-use crate::judging::check_text;
+use crate::check::check_text;
 use crate::line_error::LineError;
 use crate::token_groups::{group, message};
 use crate::token_reader::TokenReader;
