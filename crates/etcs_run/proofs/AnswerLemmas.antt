@@ -6,8 +6,8 @@ use Rattle.etcs_run.specs.Output.{Output, after_line, answered, answers}
 use Rattle.etcs_run.specs.Ran.{TakesTurn, Turns, WritesBytes}
 use Rattle.etcs_run.specs.TextLines.{trimmed}
 use Rattle.etcs_run.specs.declared.error.RunError.{RunError}
-use Rattle.etcs_run.specs.declared.turn.Turn.{Turn}
-use Rattle.etcs_run.specs.declared.turn.Turn.TheVariants.{Next, Stop}
+use Rattle.etcs_run.specs.declared.control_flow.ControlFlow.{ControlFlow}
+use Rattle.etcs_run.specs.declared.control_flow.ControlFlow.TheVariants.{Next, Stop}
 
 -- The text to be written is a beginning of the answer. So is the part of it that was written.
 pub put_failed : {old new : Option (List ℕ)} {bytes : List ℕ} {after : Output → Output}
@@ -37,7 +37,7 @@ pub begins_refused : (n : ℕ) (words : List ℕ) {bytes : List ℕ} → bytes �
 begins_refused n words {bytes} is rest = ([], sym is ∙ sym (append-nil bytes))
 
 -- the answer of a command that carries nothing from line to line
-pub turn_taken : {old new : Option (List ℕ)} (meaning : Meaning) (number : ℕ) (line : List ℕ) (result : Result Turn RunError)
+pub turn_taken : {old new : Option (List ℕ)} (meaning : Meaning) (number : ℕ) (line : List ℕ) (result : Result ControlFlow RunError)
     → Turns old new (after_line meaning number (trimmed line)) result
     → TakesTurn old new (answers meaning) (answers meaning) number line result
 unfolding answers

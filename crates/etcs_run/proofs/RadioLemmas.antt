@@ -21,37 +21,37 @@ use Rattle.etcs_document.specs.declared.refusal.StreamFault.TheVariants.{BelowTh
 use Rattle.etcs_telegram.specs.declared.error.TextError.TheVariants.{NotHex}
 use Rattle.etcs_run.specs.Output.{Output, answered, prepend}
 use Rattle.etcs_run.specs.RadioHeld.{Feeds}
-use Rattle.etcs_run.specs.RadioStream.{Onwards, bytes_output, line_for, refused_message, stream_answers, message_output, cut_output}
+use Rattle.etcs_run.specs.RadioStream.{Continuation, bytes_output, line_for, refused_message, stream_answers, message_output, cut_output}
 use Rattle.etcs_run.specs.Ran.{TakesTurn, Turns, Writes, WritesBytes}
 use Rattle.etcs_run.specs.TextLines.{trimmed}
 use Rattle.etcs_run.specs.declared.error.RunError.{RunError}
 use Rattle.etcs_run.specs.declared.status.Status.{Status}
 use Rattle.etcs_run.specs.declared.status.Status.TheVariants.{Done}
-use Rattle.etcs_run.specs.declared.turn.Turn.{Turn}
-use Rattle.etcs_run.specs.declared.turn.Turn.TheVariants.{Next, Stop}
+use Rattle.etcs_run.specs.declared.control_flow.ControlFlow.{ControlFlow}
+use Rattle.etcs_run.specs.declared.control_flow.ControlFlow.TheVariants.{Next, Stop}
 use Rattle.etcs_run.proofs.StreamLemmas.{Appends-none, Appends-then}
 
 -- ---- what remains to be written after one call of the splitter
 
 -- a message came out
 pub fed_ready : (n : ℕ) (held piece whole rest : List ℕ)
-    → cut_from held piece ≡ after_message whole (cut_from [] rest) → (onwards : Onwards)
-    → bytes_output n held piece onwards ≡ message_output n (line_for (message_of whole)) (bytes_output (n + 1) [] rest onwards)
-fed_ready n held piece whole rest is onwards = ap (λ (cut : Cut). cut_output n cut onwards) is
+    → cut_from held piece ≡ after_message whole (cut_from [] rest) → (continuation : Continuation)
+    → bytes_output n held piece continuation ≡ message_output n (line_for (message_of whole)) (bytes_output (n + 1) [] rest continuation)
+fed_ready n held piece whole rest is continuation = ap (λ (cut : Cut). cut_output n cut continuation) is
 
 -- the splitter waits for more bytes
 pub fed_more : (n : ℕ) (held piece after : List ℕ) → cut_from held piece ≡ none_with after
-    → state_of after ≡ More → (onwards : Onwards) → bytes_output n held piece onwards ≡ onwards n after
-fed_more n held piece after is waits onwards = ap (λ (cut : Cut). cut_output n cut onwards) is ∙ rw waits refl
+    → state_of after ≡ More → (continuation : Continuation) → bytes_output n held piece continuation ≡ continuation n after
+fed_more n held piece after is waits continuation = ap (λ (cut : Cut). cut_output n cut continuation) is ∙ rw waits refl
 
 ready_is_not_failed : Ready ≢ Failed
 ready_is_not_failed e = grind arith
 
 -- no message begins with the bytes that are held
 pub fed_failed : (n : ℕ) (held piece after : List ℕ) → cut_from held piece ≡ none_with after
-    → state_of after ≡ Failed → (onwards : Onwards) → bytes_output n held piece onwards ≡ refused_message n BelowThree
-fed_failed n held piece after is failed onwards =
-    ap (λ (cut : Cut). cut_output n cut onwards) is ∙ rw failed refl
+    → state_of after ≡ Failed → (continuation : Continuation) → bytes_output n held piece continuation ≡ refused_message n BelowThree
+fed_failed n held piece after is failed continuation =
+    ap (λ (cut : Cut). cut_output n cut continuation) is ∙ rw failed refl
 
 -- One call of the splitter: it takes some of the remaining bytes, and appends them to the held bytes.
 pub record Takes (held bytes now : List ℕ) (at used : ℕ) : Type 0 where
@@ -100,81 +100,81 @@ module _ {held bytes now : List ℕ} {at used : ℕ} (call : Takes held bytes no
 
   -- what remains to be written after the call: all of it later, the refusal, or the message and the bytes
   -- after it
-  pub left_more : (n : ℕ) → state_of now ≡ More → (onwards : Onwards)
-      → bytes_output n held (drop at bytes) onwards ≡ onwards n now
+  pub left_more : (n : ℕ) → state_of now ≡ More → (continuation : Continuation)
+      → bytes_output n held (drop at bytes) continuation ≡ continuation n now
   left_more n waits =
       fed_more n held (drop at bytes) now (none_came (λ ready. ready_is_not_more (sym ready ∙ waits))) waits
 
-  pub left_failed : (n : ℕ) → state_of now ≡ Failed → (onwards : Onwards)
-      → bytes_output n held (drop at bytes) onwards ≡ refused_message n BelowThree
+  pub left_failed : (n : ℕ) → state_of now ≡ Failed → (continuation : Continuation)
+      → bytes_output n held (drop at bytes) continuation ≡ refused_message n BelowThree
   left_failed n failed =
       fed_failed n held (drop at bytes) now (none_came (λ ready. ready_is_not_failed (sym ready ∙ failed))) failed
 
-  pub left_ready : (n : ℕ) → state_of now ≡ Ready → (onwards : Onwards)
-      → bytes_output n held (drop at bytes) onwards
-      ≡ message_output n (line_for (message_of now)) (bytes_output (n + 1) [] (drop (at + used) bytes) onwards)
+  pub left_ready : (n : ℕ) → state_of now ≡ Ready → (continuation : Continuation)
+      → bytes_output n held (drop at bytes) continuation
+      ≡ message_output n (line_for (message_of now)) (bytes_output (n + 1) [] (drop (at + used) bytes) continuation)
   left_ready n ready = fed_ready n held (drop at bytes) now (drop (at + used) bytes) (one_came ready)
 
 -- ---- what was written so far
 
 -- this text was written, and the rest is left
-pub record Feeding (old new : Option (List ℕ)) (all left : Onwards → Output) : Type 0 where
+pub record Feeding (old new : Option (List ℕ)) (all left : Continuation → Output) : Type 0 where
   pub text : List ℕ
   pub appended : Appends old new text
-  pub says : (onwards : Onwards) → all onwards ≡ prepend text (left onwards)
+  pub says : (continuation : Continuation) → all continuation ≡ prepend text (left continuation)
 
 -- nothing is written yet
-pub Feeding-start : {c : Option (List ℕ)} (all : Onwards → Output) → Feeding c c all all
-Feeding-start {c} all = record { text = []; appended = Appends-none c; says = λ onwards. refl }
+pub Feeding-start : {c : Option (List ℕ)} (all : Continuation → Output) → Feeding c c all all
+Feeding-start {c} all = record { text = []; appended = Appends-none c; says = λ continuation. refl }
 
-module _ {c0 c c1 : Option (List ℕ)} {all left : Onwards → Output} (feeding : Feeding c0 c all left) where
+module _ {c0 c c1 : Option (List ℕ)} {all left : Continuation → Output} (feeding : Feeding c0 c all left) where
   -- a message was answered, and the rest is left
-  pub Feeding-message : (later : Onwards → Output) (after : Output → Output)
-      → ((onwards : Onwards) → left onwards ≡ after (later onwards)) → Turns c c1 after (Ok Next)
+  pub Feeding-message : (later : Continuation → Output) (after : Output → Output)
+      → ((continuation : Continuation) → left continuation ≡ after (later continuation)) → Turns c c1 after (Ok Next)
       → Feeding c0 c1 all later
   Feeding-message later after is turn = record {
     text = feeding.text ++ turn.text;
     appended = Appends-then c0 c c1 _ _ feeding.appended turn.appended;
-    says = λ onwards.
-        feeding.says onwards ∙ ap (prepend feeding.text) (is onwards ∙ turn.says (later onwards))
-        ∙ ap (λ s. (s, (later onwards).1)) (sym (append_assoc feeding.text turn.text (later onwards).0));
+    says = λ continuation.
+        feeding.says continuation ∙ ap (prepend feeding.text) (is continuation ∙ turn.says (later continuation))
+        ∙ ap (λ s. (s, (later continuation).1)) (sym (append_assoc feeding.text turn.text (later continuation).0));
   }
 
   -- the run stops at a message
-  pub Feeds-stopped : (later : Onwards → Output) (after : Output → Output)
-      → ((onwards : Onwards) → left onwards ≡ after (later onwards)) → {status : Status}
+  pub Feeds-stopped : (later : Continuation → Output) (after : Output → Output)
+      → ((continuation : Continuation) → left continuation ≡ after (later continuation)) → {status : Status}
       → Turns c c1 after (Ok (Stop status)) → (n : ℕ) (held : List ℕ)
       → Feeds c0 c1 all n held (Ok (Stop status))
   Feeds-stopped later after is turn n held = record {
     text = feeding.text ++ turn.text;
     appended = Appends-then c0 c c1 _ _ feeding.appended turn.appended;
-    says = λ onwards. feeding.says onwards ∙ ap (prepend feeding.text) (is onwards ∙ turn.says (later onwards));
+    says = λ continuation. feeding.says continuation ∙ ap (prepend feeding.text) (is continuation ∙ turn.says (later continuation));
   }
 
   -- a write failed, or memory ran out
-  pub Feeds-cut : (later : Onwards → Output) (after : Output → Output)
-      → ((onwards : Onwards) → left onwards ≡ after (later onwards)) → {e : RunError} (x : RunError)
+  pub Feeds-cut : (later : Continuation → Output) (after : Output → Output)
+      → ((continuation : Continuation) → left continuation ≡ after (later continuation)) → {e : RunError} (x : RunError)
       → Turns c c1 after (Err e) → (n : ℕ) (held : List ℕ) → Feeds c0 c1 all n held (Err x)
   Feeds-cut later after is x turn n held = record {
     text = feeding.text ++ turn.text;
     appended = Appends-then c0 c c1 _ _ feeding.appended turn.appended;
-    says = λ onwards.
-        let cut = turn.says (later onwards) in (
+    says = λ continuation.
+        let cut = turn.says (later continuation) in (
           cut.0,
-          ap (λ o. o.0) (feeding.says onwards ∙ ap (prepend feeding.text) (is onwards))
+          ap (λ o. o.0) (feeding.says continuation ∙ ap (prepend feeding.text) (is continuation))
               ∙ ap (λ s. feeding.text ++ s) cut.1
               ∙ sym (append_assoc feeding.text turn.text cut.0),
         );
   }
 
 -- all bytes were fed
-pub Feeds-more : {c0 c : Option (List ℕ)} {all left : Onwards → Output} (n : ℕ) (held : List ℕ)
-    → Feeding c0 c all left → ((onwards : Onwards) → left onwards ≡ onwards n held)
+pub Feeds-more : {c0 c : Option (List ℕ)} {all left : Continuation → Output} (n : ℕ) (held : List ℕ)
+    → Feeding c0 c all left → ((continuation : Continuation) → left continuation ≡ continuation n held)
     → Feeds c0 c all n held (Ok Next)
 Feeds-more n held feeding is = record {
   text = feeding.text;
   appended = feeding.appended;
-  says = λ onwards. feeding.says onwards ∙ ap (prepend feeding.text) (is onwards);
+  says = λ continuation. feeding.says continuation ∙ ap (prepend feeding.text) (is continuation);
 }
 
 -- ---- refusals
@@ -202,7 +202,7 @@ pub turn_of_beginning : {c c1 : Option (List ℕ)} {output : Output} {e : RunErr
 turn_of_beginning x writes = record { text = writes.text; appended = writes.appended; says = λ rest. writes.says }
 
 -- a line whose answer is equal
-pub Turns-as : {c c1 : Option (List ℕ)} {after other : Output → Output} (result : Result Turn RunError)
+pub Turns-as : {c c1 : Option (List ℕ)} {after other : Output → Output} (result : Result ControlFlow RunError)
     → ((rest : Output) → other rest ≡ after rest) → Turns c c1 after result → Turns c c1 other result
 Turns-as (Ok Next) same turn = record { text = turn.text; appended = turn.appended; says = λ rest. same rest ∙ turn.says rest }
 Turns-as (Ok (Stop status)) same turn = record { text = turn.text; appended = turn.appended; says = λ rest. same rest ∙ turn.says rest }
@@ -216,7 +216,7 @@ Turns-as (Err e) same turn = record {
 
 -- the bytes of a line were fed
 pub line_fed : {c c1 : Option (List ℕ)} (n : ℕ) (held : List ℕ) (later : ℕ) (kept : List ℕ)
-    (number : ℕ) (line bytes : List ℕ) (result : Result Turn RunError)
+    (number : ℕ) (line bytes : List ℕ) (result : Result ControlFlow RunError)
     → decode_of (trimmed line) ≡ Ok bytes → Feeds c c1 (bytes_output n held bytes) later kept result
     → TakesTurn c c1 (stream_answers n held) (stream_answers later kept) number line result
 unfolding stream_answers
@@ -232,7 +232,7 @@ not_read same some (inr is) = ap decode_of (sym same) ∙ is
 
 -- a line that is not hexadecimal text was refused
 pub line_refused : {c c1 : Option (List ℕ)} (n : ℕ) (held : List ℕ) (later : ℕ) (kept : List ℕ)
-    (number : ℕ) (line : List ℕ) (why : FromHexError) (result : Result Turn RunError)
+    (number : ℕ) (line : List ℕ) (why : FromHexError) (result : Result ControlFlow RunError)
     → decode_of (trimmed line) ≡ Err why
     → Turns c c1 (answered number (Err (line_words (Text NotHex)))) result
     → TakesTurn c c1 (stream_answers n held) (stream_answers later kept) number line result
@@ -269,7 +269,7 @@ bytes_spelled line bytes is =
     omega (arith, twice, trimmed_shorter line)
 
 -- a cost that is covered by fewer bytes is covered by more
-pub pays_more : (a b m n : ℕ) (result : Result Turn RunError) → OnOk result (a ≤ b + m) → m ≤ n
+pub pays_more : (a b m n : ℕ) (result : Result ControlFlow RunError) → OnOk result (a ≤ b + m) → m ≤ n
     → OnOk result (a ≤ b + n)
 pays_more a b m n (Ok turn) bounded few = omega (arith, bounded, few)
 pays_more a b m n (Err e) bounded few = tt

@@ -12,7 +12,7 @@ use Rattle.etcs_run.specs.declared.counted.Counted.{Counted}
 use Rattle.etcs_run.specs.declared.error.RunError.{RunError}
 use Rattle.etcs_run.specs.declared.error.RunError.TheVariants.{Memory, Device}
 use Rattle.etcs_run.specs.declared.status.Status.{Status}
-use Rattle.etcs_run.specs.declared.turn.Turn.TheVariants.{Next, Stop}
+use Rattle.etcs_run.specs.declared.control_flow.ControlFlow.TheVariants.{Next, Stop}
 use Rattle.etcs_run.proofs.StreamLemmas.{Appends-kept, Appends-none, Appends-then, Consumes-none, Consumes-then}
 
 -- The state while lines are read: what was read and written so far, and what remains to be written for

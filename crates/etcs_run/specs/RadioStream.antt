@@ -43,26 +43,26 @@ message_output number (Err fault) rest = refused_message number (Fault fault)
 -- ---- the bytes of one line
 
 -- what is written later, for the number of the next message and the bytes that are held
-abbrev pub Onwards : Type 0
-Onwards = ℕ → List ℕ → Output
+abbrev pub Continuation : Type 0
+Continuation = ℕ → List ℕ → Output
 
 -- what is written later, unless no message begins with the bytes that are held
-abbrev pub unless_failed : State → ℕ → List ℕ → Onwards → Output
+abbrev pub unless_failed : State → ℕ → List ℕ → Continuation → Output
 unless_failed Failed number held rest = refused_message number BelowThree
 unless_failed _ number held rest = rest number held
 
 -- the messages that came out of the splitter, in order, and then what is written later
-abbrev pub messages_output : ℕ → List (List ℕ) → List ℕ → Onwards → Output
+abbrev pub messages_output : ℕ → List (List ℕ) → List ℕ → Continuation → Output
 messages_output number [] held rest = unless_failed (state_of held) number held rest
 messages_output number (bytes ∷ messages) held rest =
     message_output number (line_for (message_of bytes)) (messages_output (number + 1) messages held rest)
 
 -- what came out of the splitter, its messages in order, and then what is written later
-abbrev pub cut_output : ℕ → Cut → Onwards → Output
+abbrev pub cut_output : ℕ → Cut → Continuation → Output
 cut_output number cut rest = messages_output number cut.messages cut.held rest
 
 -- what is written for bytes of the stream, with these bytes held before, and then later
-abbrev pub bytes_output : ℕ → List ℕ → List ℕ → Onwards → Output
+abbrev pub bytes_output : ℕ → List ℕ → List ℕ → Continuation → Output
 bytes_output number held bytes rest = cut_output number (cut_from held bytes) rest
 
 -- ---- the lines

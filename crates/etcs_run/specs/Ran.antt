@@ -13,8 +13,8 @@ use Rattle.etcs_run.specs.declared.counted.Counted.{Counted}
 use Rattle.etcs_run.specs.declared.error.RunError.{RunError}
 use Rattle.etcs_run.specs.declared.error.RunError.TheVariants.{Device}
 use Rattle.etcs_run.specs.declared.status.Status.{Status}
-use Rattle.etcs_run.specs.declared.turn.Turn.{Turn}
-use Rattle.etcs_run.specs.declared.turn.Turn.TheVariants.{Next, Stop}
+use Rattle.etcs_run.specs.declared.control_flow.ControlFlow.{ControlFlow}
+use Rattle.etcs_run.specs.declared.control_flow.ControlFlow.TheVariants.{Next, Stop}
 
 -- `rest` may follow what was read: anything before the end was reached, and nothing after it
 abbrev pub MayFollow : Bool → List ℕ → Type 0
@@ -83,21 +83,21 @@ pub record WritesBytes (old new : Option (List ℕ)) (bytes : List ℕ)
 
 -- The output from a line onwards: this text and then the rest, this text and the end, or more than
 -- this text.
-abbrev pub IsAnswerSoFar : Result Turn RunError → List ℕ → (Output → Output) → Type 0
+abbrev pub IsAnswerSoFar : Result ControlFlow RunError → List ℕ → (Output → Output) → Type 0
 IsAnswerSoFar (Ok Next) text after = (rest : Output) → after rest ≡ prepend text rest
 IsAnswerSoFar (Ok (Stop status)) text after = (rest : Output) → after rest ≡ (text, status)
 IsAnswerSoFar (Err _) text after = (rest : Output) → (more : List ℕ) × ((after rest).0 ≡ text ++ more)
 
 -- this text was written, and it is the answer to the line, or a beginning of it
 pub record Turns (old new : Option (List ℕ)) (after : Output → Output)
-    (result : Result Turn RunError) : Type 0 where
+    (result : Result ControlFlow RunError) : Type 0 where
   pub text : List ℕ
   pub appended : Appends old new text
   pub says : IsAnswerSoFar result text after
 
 -- What is written from a line onwards: this text and then what is written from the next line
 -- onwards, this text and the end, or more than this text.
-abbrev pub IsTurnSoFar : Result Turn RunError → List ℕ → Output → Output → Type 0
+abbrev pub IsTurnSoFar : Result ControlFlow RunError → List ℕ → Output → Output → Type 0
 IsTurnSoFar (Ok Next) text now later = now ≡ prepend text later
 IsTurnSoFar (Ok (Stop status)) text now later = now ≡ (text, status)
 IsTurnSoFar (Err _) text now later = (more : List ℕ) × (now.0 ≡ text ++ more)
@@ -105,7 +105,7 @@ IsTurnSoFar (Err _) text now later = (more : List ℕ) × (now.0 ≡ text ++ mor
 -- This text was written, and it is the answer to the line, or a beginning of it, whatever lines
 -- after it.
 pub record TakesTurn (old new : Option (List ℕ)) (before after : ℕ → List (List ℕ) → Output)
-    (number : ℕ) (line : List ℕ) (result : Result Turn RunError) : Type 0 where
+    (number : ℕ) (line : List ℕ) (result : Result ControlFlow RunError) : Type 0 where
   pub text : List ℕ
   pub appended : Appends old new text
   pub says : (lines : List (List ℕ))

@@ -6,13 +6,13 @@ ghost use Rattle.etcs_run.specs.LineReading.{has_ended, held_of};
 ghost use Rattle.etcs_run.specs.Output.{line_by_line};
 ghost use Rattle.etcs_run.specs.Ran.{CountsOneDevice, EndsFlushed, Runs};
 
+use crate::control_flow::ControlFlow;
 use crate::counted::Counted;
 use crate::error::RunError;
 use crate::output::finish;
 use crate::status::Status;
 use crate::text_line_command::TextLineCommand;
 use crate::text_lines::TextLines;
-use crate::turn::Turn;
 use std::alloc::Global;
 use std::io::{Read, Write};
 
@@ -38,7 +38,7 @@ fn answer_lines<C: TextLineCommand, R: Read, W: Write>(
     let mut number = 0;
     'lines: while lines.next(reader)? {
         number += 1;
-        if let Turn::Stop(status) = command.answer(alloc, number, lines.line(), writer)? {
+        if let ControlFlow::Stop(status) = command.answer(alloc, number, lines.line(), writer)? {
             return Ok(status);
         }
     }

@@ -9,13 +9,13 @@ ghost use Rattle.etcs_run.specs.TextLines.{trimmed};
 ghost use Rattle.etcs_run.specs.Output.{after_line, answered};
 ghost use Rattle.etcs_run.specs.Ran.{TakesTurn, Turns};
 
+use crate::control_flow::ControlFlow;
 use crate::counted::Counted;
 use crate::error::RunError;
 use crate::output::put;
 use crate::status::Status;
 use crate::text_line_command::TextLineCommand;
 use crate::text_line_meaning::{TextLineMeaning, Unwritten};
-use crate::turn::Turn;
 use etcs_bits::Memory;
 use etcs_document::{LineFault, Refusal, refusal_text};
 use std::alloc::Global;
@@ -47,7 +47,7 @@ pub(crate) fn refuse_line<W: Write>(
     number: u64,
     why: LineFault,
     writer: &mut Counted<W>,
-) -> Result<Turn, RunError>
+) -> Result<ControlFlow, RunError>
     requires { CanCount writer.old }
     ensures turns { Turns (W.contents (inner_of writer.old)) (W.contents (inner_of writer.new))
         (answered number (Err (line_words why))) result }
@@ -57,7 +57,7 @@ pub(crate) fn refuse_line<W: Write>(
     match refusal(alloc, number, why) {
         Ok(text) => {
             put(writer, text.as_bytes())?;
-            Ok(Turn::Stop(Status::Refused))
+            Ok(ControlFlow::Stop(Status::Refused))
         }
         Err(_) => Err(RunError::Memory),
     }
@@ -71,7 +71,7 @@ fn answer_line<M: TextLineMeaning, W: Write>(
     line: &[u8],
     room: &mut Vec<u8>,
     writer: &mut Counted<W>,
-) -> Result<Turn, RunError>
+) -> Result<ControlFlow, RunError>
     requires { CanCount writer.old }
     ensures turns { Turns (W.contents (inner_of writer.old)) (W.contents (inner_of writer.new))
         (answered number (M.meaning line.now)) result }
@@ -83,7 +83,7 @@ fn answer_line<M: TextLineMeaning, W: Write>(
         Ok(text) => {
             put(writer, text.as_slice())?;
             *room = text;
-            Ok(Turn::Next)
+            Ok(ControlFlow::Next)
         }
         Err(Unwritten::Memory) => Err(RunError::Memory),
         Err(Unwritten::Refused(why)) => refuse_line(alloc, number, why, writer),
@@ -98,17 +98,17 @@ fn take_turn<M: TextLineMeaning, W: Write>(
     line: &[u8],
     room: &mut Vec<u8>,
     writer: &mut Counted<W>,
-) -> Result<Turn, RunError>
+) -> Result<ControlFlow, RunError>
     requires { CanCount writer.old }
     ensures turns { Turns (W.contents (inner_of writer.old)) (W.contents (inner_of writer.new))
         (after_line M.meaning number (trimmed line.now)) result }
     ensures counts { CountsDevice result writer.old writer.new }
     ensures unflushed { FlushesNone writer.old writer.new }
-    ensures empty { trimmed line.now ≡ [] → (result ≡ Ok Turn.Next) × (writer.new ≡ writer.old) }
+    ensures empty { trimmed line.now ≡ [] → (result ≡ Ok ControlFlow.Next) × (writer.new ≡ writer.old) }
 {
     let line = trim(line);
     if line.is_empty() {
-        Ok(Turn::Next)
+        Ok(ControlFlow::Next)
     } else {
         answer_line(alloc, meaning, number, line, room, writer)
     }
@@ -152,13 +152,13 @@ impl<M: TextLineMeaning> TextLineCommand for EachTextLine<M> {
         number: u64,
         line: &[u8],
         writer: &mut Counted<W>,
-    ) -> Result<Turn, RunError>
+    ) -> Result<ControlFlow, RunError>
         requires { CanCount writer.old }
         ensures turns { TakesTurn (W.contents (inner_of writer.old)) (W.contents (inner_of writer.new))
             (answers M.meaning) (answers M.meaning) number line.now result }
         ensures counts { CountsDevice result writer.old writer.new }
         ensures unflushed { FlushesNone writer.old writer.new }
-        ensures empty { trimmed line.now ≡ [] → (result ≡ Ok Turn.Next) × (writer.new ≡ writer.old) }
+        ensures empty { trimmed line.now ≡ [] → (result ≡ Ok ControlFlow.Next) × (writer.new ≡ writer.old) }
     {
         let EachTextLine { meaning, room } = self;
         take_turn(alloc, meaning, number, line, room, writer)

@@ -15,6 +15,7 @@
 mod answering;
 mod checking;
 mod command;
+mod control_flow;
 mod counted;
 mod each_text_line;
 mod error;
@@ -28,7 +29,6 @@ mod telegram_lines;
 mod text_line_command;
 mod text_line_meaning;
 mod text_lines;
-mod turn;
 mod whole_input;
 
 pub use counted::Counted;

@@ -58,7 +58,7 @@ fn answer_each<M: TextLineMeaning, R: Read, W: Write>(
 }
 
 // Runs the command, or writes the usage line if there is none.
-fn obey<R: Read, W: Write>(
+fn dispatch<R: Read, W: Write>(
     alloc: Global,
     command: Option<Command>,
     reader: &mut Counted<R>,
@@ -127,7 +127,7 @@ pub fn run<'a, R: Read, W: Write>(
     ensures counts { CountsOneDevice result reader.old reader.new writer.old writer.new }
 {
     match read_command(alloc, words) {
-        Ok(command) => obey(alloc, command, reader, writer),
+        Ok(command) => dispatch(alloc, command, reader, writer),
         Err(_) => Err(RunError::Memory),
     }
 }

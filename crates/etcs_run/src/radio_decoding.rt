@@ -10,6 +10,7 @@ ghost use Rattle.etcs_run.specs.RadioHeld.{Feeds, least_read, kept_by, messages_
 ghost use Rattle.etcs_run.specs.RadioStream.{bytes_output, line_for, refused_message, message_output};
 ghost use Rattle.etcs_run.specs.Ran.{Turns, Writes};
 
+use crate::control_flow::ControlFlow;
 use crate::counted::Counted;
 use crate::each_text_line::{refuse_line, trim};
 use crate::error::RunError;
@@ -17,7 +18,6 @@ use crate::json_line::json_line;
 use crate::output::put;
 use crate::status::Status;
 use crate::text_line_command::TextLineCommand;
-use crate::turn::Turn;
 use etcs_bits::DecodeError;
 use etcs_document::{LineFault, Refusal, StreamFault, refusal_text};
 use etcs_radio::{Splitter, State, decode};
@@ -68,7 +68,7 @@ fn write_message<W: Write>(
     bytes: &[u8],
     room: &mut Vec<u8>,
     writer: &mut Counted<W>,
-) -> Result<Turn, RunError>
+) -> Result<ControlFlow, RunError>
     requires { CanCount writer.old }
     ensures turns { Turns (W.contents (inner_of writer.old)) (W.contents (inner_of writer.new))
         (message_output number (line_for (message_of bytes.now))) result }
@@ -80,12 +80,12 @@ fn write_message<W: Write>(
         Ok(line) => {
             put(writer, line.as_slice())?;
             *room = line;
-            Ok(Turn::Next)
+            Ok(ControlFlow::Next)
         }
         Err(DecodeError::Memory) => Err(RunError::Memory),
         Err(DecodeError::Fault(fault)) => {
             let status = refuse(alloc, number, StreamFault::Fault(fault), writer)?;
-            Ok(Turn::Stop(status))
+            Ok(ControlFlow::Stop(status))
         }
     }
 }
@@ -121,26 +121,26 @@ impl RadioDecoding {
         &mut self,
         alloc: Global,
         writer: &mut Counted<W>,
-    ) -> Result<Turn, RunError>
+    ) -> Result<ControlFlow, RunError>
         requires ready { state_of (kept_by self.old) ≡ State.Ready }
         requires numbered { messages_written self.old + 1 < 2 ^ 64 }
         requires writes { CanCount writer.old }
         ensures turns { Turns (W.contents (inner_of writer.old)) (W.contents (inner_of writer.new))
             (message_output (messages_written self.old) (line_for (message_of (kept_by self.old)))) result }
-        ensures next { result ≡ Ok Turn.Next → messages_written self.new ≡ messages_written self.old + 1 }
-        ensures cleared { result ≡ Ok Turn.Next → kept_by self.new ≡ [] }
+        ensures next { result ≡ Ok ControlFlow.Next → messages_written self.new ≡ messages_written self.old + 1 }
+        ensures cleared { result ≡ Ok ControlFlow.Next → kept_by self.new ≡ [] }
         ensures bounded { OnOk result (least_read self.new ≤ least_read self.old) }
         ensures counts { CountsDevice result writer.old writer.new }
         ensures unflushed { FlushesNone writer.old writer.new }
     {
         let bytes = self.splitter.message();
         match write_message(alloc, self.number, bytes, &mut self.room, writer)? {
-            Turn::Next => {
+            ControlFlow::Next => {
                 self.splitter.clear();
                 self.number += 1;
-                Ok(Turn::Next)
+                Ok(ControlFlow::Next)
             }
-            Turn::Stop(status) => Ok(Turn::Stop(status)),
+            ControlFlow::Stop(status) => Ok(ControlFlow::Stop(status)),
         }
     }
 
@@ -150,7 +150,7 @@ impl RadioDecoding {
         alloc: Global,
         bytes: &[u8],
         writer: &mut Counted<W>,
-    ) -> Result<Turn, RunError>
+    ) -> Result<ControlFlow, RunError>
         requires numbered { least_read self.old + length bytes.now < 2 ^ 64 }
         requires writes { CanCount writer.old }
         ensures feeds { Feeds (W.contents (inner_of writer.old)) (W.contents (inner_of writer.new))
@@ -165,14 +165,14 @@ impl RadioDecoding {
             let fed = self.splitter.feed(&bytes[at..]);
             at += fed.used;
             match fed.state {
-                State::More => return Ok(Turn::Next),
+                State::More => return Ok(ControlFlow::Next),
                 State::Failed => {
                     let status = refuse(alloc, self.number, StreamFault::BelowThree, writer)?;
-                    return Ok(Turn::Stop(status));
+                    return Ok(ControlFlow::Stop(status));
                 }
                 State::Ready => {
-                    if let Turn::Stop(status) = self.answer_message(alloc, writer)? {
-                        return Ok(Turn::Stop(status));
+                    if let ControlFlow::Stop(status) = self.answer_message(alloc, writer)? {
+                        return Ok(ControlFlow::Stop(status));
                     }
                 }
             }
@@ -193,7 +193,7 @@ impl TextLineCommand for RadioDecoding {
         number: u64,
         line: &[u8],
         writer: &mut Counted<W>,
-    ) -> Result<Turn, RunError> {
+    ) -> Result<ControlFlow, RunError> {
         match etcs_digits::decode_to_vec(alloc, trim(line)) {
             Ok(bytes) => self.feed(alloc, bytes.as_slice(), writer),
             Err(why) => match why {

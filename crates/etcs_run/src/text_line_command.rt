@@ -6,10 +6,10 @@ ghost use Rattle.etcs_run.specs.LineReading.{CountsDevice};
 ghost use Rattle.etcs_run.specs.Output.{Output};
 ghost use Rattle.etcs_run.specs.Ran.{TakesTurn, Writes};
 
+use crate::control_flow::ControlFlow;
 use crate::counted::Counted;
 use crate::error::RunError;
 use crate::status::Status;
-use crate::turn::Turn;
 use std::alloc::Global;
 use std::io::Write;
 
@@ -33,7 +33,7 @@ pub trait TextLineCommand: Drop {
         number: u64,
         line: &[u8],
         writer: &mut Counted<W>,
-    ) -> Result<Turn, RunError>
+    ) -> Result<ControlFlow, RunError>
         requires numbered { count_bound self.old + length line.now < 2 ^ 64 }
         requires writes { CanCount writer.old }
         ensures turns { TakesTurn (W.contents (inner_of writer.old)) (W.contents (inner_of writer.new))

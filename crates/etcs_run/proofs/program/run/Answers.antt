@@ -7,12 +7,12 @@ use Rattle.etcs_run.proofs.program.run.Goals as goal
 pub returns-in-Ok-clause-ran : goal.returns-in-Ok-clause-ran
 unfolding output_of
 returns-in-Ok-clause-ran g c =
-    Ran-as (λ s. ap (λ o. of_command o s) (sym c.in-Ok.ensures)) c.obey.ensures.ran
+    Ran-as (λ s. ap (λ o. of_command o s) (sym c.in-Ok.ensures)) c.dispatch.ensures.ran
 
 pub returns-in-Ok-clause-known : goal.returns-in-Ok-clause-known
 unfolding output_of
 returns-in-Ok-clause-known g c = Ran-known _ (
-    Ran-as (λ s. ap (λ o. of_command o s) (sym c.in-Ok.ensures)) c.obey.ensures.ran
+    Ran-as (λ s. ap (λ o. of_command o s) (sym c.in-Ok.ensures)) c.dispatch.ensures.ran
     )
 
 -- memory ran out before anything was read

@@ -1,10 +1,10 @@
-//! `Turn`: what follows a line.
+//! `ControlFlow`: what follows a line.
 
 use crate::status::Status;
 
 /// What follows a line.
 #[derive(Clone, Copy, Debug, PartialEq, Eq)]
-pub enum Turn {
+pub enum ControlFlow {
     /// The next line.
     Next,
     /// The end of the run, with its status.

@@ -1,7 +1,7 @@
 use Rattle.std.proofs.Common.{ap}
 use Rattle.etcs_run.specs.Commands.{of_command}
 use Rattle.etcs_run.proofs.RunLemmas.{Ran-as, Ran-unread, counts_at_writer}
-use Rattle.etcs_run.proofs.program.obey.Goals as goal
+use Rattle.etcs_run.proofs.program.dispatch.Goals as goal
 
 -- without a command the usage line is written
 pub returns-in-None-clause-ran : goal.returns-in-None-clause-ran
