@@ -9,7 +9,7 @@ use Rattle.etcs_packet.specs.declared.track.TrackPacket.{TrackPacket}
 use Rattle.etcs_profile.specs.declared.reach.Reach.{Reach}
 use Rattle.etcs_telegram.specs.Record.{Telegram}
 use Rattle.etcs_group.specs.Group.{Telegrams, Aspects}
-use Rattle.etcs_group.specs.Packets.{is_silent, said_by}
+use Rattle.etcs_group.specs.Packets.{is_silent, group_message}
 use Rattle.etcs_group.specs.Places.{At}
 use Rattle.etcs_check.specs.Facts.{passes_at, packets_at, speech_of, is_short_profile, aspect_fact, whole_fact, fact_of_aspect, group_fact}
 use Rattle.etcs_check.specs.Findings.{is_said_and_short}
@@ -54,15 +54,15 @@ pub packet_as : (group : Telegrams) (b k : ℕ) (test : TrackPacket → Bool) (t
 packet_as group b k test t p at at' = ap (λ l. passes_at l k test) (packets_as group b t at) ∙ passes_as t.packets k test p at'
 
 module _ (reach : TrackPacket → Option Reach) (group : Telegrams) (run : Run) (b : ℕ) where
-  short_as : (t : Telegram) (p : TrackPacket) → At group b t → is_short_profile reach (speech_of group) run (Some b) p ≡ is_said_and_short reach (said_by run group) run (is_silent run t.header.dup (length group) b) p
+  short_as : (t : Telegram) (p : TrackPacket) → At group b t → is_short_profile reach (speech_of group) run (Some b) p ≡ is_said_and_short reach (group_message run group) run (is_silent run t.header.dup (length group) b) p
   short_as t p at =
-      ap (λ q. is_said_and_short reach (said_by run group) run q p) (passes_as group b (λ (t : Telegram). is_silent run t.header.dup (length group) b) t at)
+      ap (λ q. is_said_and_short reach (group_message run group) run q p) (passes_as group b (λ (t : Telegram). is_silent run t.header.dup (length group) b) t at)
 
   pub profile_as : (k : ℕ) (t : Telegram) (p : TrackPacket) → At group b t → At t.packets k p
-      → passes_at (packets_at group (Some b)) k (is_short_profile reach (speech_of group) run (Some b)) ≡ is_said_and_short reach (said_by run group) run (is_silent run t.header.dup (length group) b) p
+      → passes_at (packets_at group (Some b)) k (is_short_profile reach (speech_of group) run (Some b)) ≡ is_said_and_short reach (group_message run group) run (is_silent run t.header.dup (length group) b) p
   profile_as k t p at at' = packet_as group b k (is_short_profile reach (speech_of group) run (Some b)) t p at at' ∙ short_as t p at
 
-  pub none_short : (k : ℕ) → ((t : Telegram) (p : TrackPacket) → At group b t → At t.packets k p → is_said_and_short reach (said_by run group) run (is_silent run t.header.dup (length group) b) p ≡ false)
+  pub none_short : (k : ℕ) → ((t : Telegram) (p : TrackPacket) → At group b t → At t.packets k p → is_said_and_short reach (group_message run group) run (is_silent run t.header.dup (length group) b) p ≡ false)
       → passes_at (packets_at group (Some b)) k (is_short_profile reach (speech_of group) run (Some b)) ≡ false
   none_short k h = failing (packets_at group (Some b)) k (is_short_profile reach (speech_of group) run (Some b)) (λ p at.
       let s = packet_stands group b k p at in

@@ -7,7 +7,7 @@ use mathlib.Core.Logic.{◌⊎◌, inl, inr}
 use Rattle.etcs_group.specs.Places.{At}
 use Rattle.etcs_packet.specs.Track.{holds}
 use Rattle.etcs_group.specs.Reading.{in_passing_order}
-use Rattle.etcs_group.specs.Packets.{held_by, is_silent, said_at, said_by}
+use Rattle.etcs_group.specs.Packets.{held_packets, is_silent, balise_packets, group_message}
 use Rattle.etcs_packet.specs.declared.run.Run.{Run}
 use Rattle.etcs_packet.specs.declared.run.Run.TheVariants as runs
 use Rattle.etcs_packet.specs.declared.track.TrackPacket.{TrackPacket}
@@ -115,24 +115,24 @@ made_of f spot e g = ap (λ z. finding_of f.rule (record { site = z; aspect = sp
 -- ---- the message of a group
 
 -- a packet of the message is in a balise that is not silent, and holds
-pub said-site : (run : Run) (group : List Telegram) (i : ℕ) (p : TrackPacket) → At (said_by run group) i p → (b : ℕ) × (t : Telegram) × (k : ℕ) × At group b t × At t.packets k p × (is_silent run t.header.dup (length group) b ≡ false) × (holds run p ≡ true)
+pub said-site : (run : Run) (group : List Telegram) (i : ℕ) (p : TrackPacket) → At (group_message run group) i p → (b : ℕ) × (t : Telegram) × (k : ℕ) × At group b t × At t.packets k p × (is_silent run t.header.dup (length group) b ≡ false) × (holds run p ≡ true)
 said-site run group i p h =
-    let r = flat_map-at (λ (e : ℕ × Telegram). said_at run (length group) e.0 e.1) (in_passing_order run (enumerate_from 0 group)) i p h in
+    let r = flat_map-at (λ (e : ℕ × Telegram). balise_packets run (length group) e.0 e.1) (in_passing_order run (enumerate_from 0 group)) i p h in
     let q = in_passing_order-at run (enumerate_from 0 group) r.0 r.1 r.3 in
     let e = enumerate-at 0 group q.0 r.1 q.1 in
     let s = spoken r.1.1 (is_silent run r.1.1.header.dup (length group) r.1.0) (is_silent run r.1.1.header.dup (length group) r.1.0) refl r.2 r.4 in
     let z : r.1.0 ≡ q.0 = (let f = e.0 in omega arith) in
     (q.0, r.1.1, s.0, e.1, s.1, ap (is_silent run r.1.1.header.dup (length group)) (sym z) ∙ s.3, s.2)
   where
-    spoken : (t : Telegram) (q : Bool) (m : Bool) → q ≡ m → (k : ℕ) → At (cond m [] (held_by run t)) k p → (j : ℕ) × At t.packets j p × (holds run p ≡ true) × (q ≡ false)
+    spoken : (t : Telegram) (q : Bool) (m : Bool) → q ≡ m → (k : ℕ) → At (cond m [] (held_packets run t)) k p → (j : ℕ) × At t.packets j p × (holds run p ≡ true) × (q ≡ false)
     spoken t q true e k h = absurd (none-some p h)
     spoken t q false e k h = let r = filter-at (holds run) t.packets k p h in (r.0, r.1, r.2, e)
 
-pub site-said : (run : Run) (group : List Telegram) (b : ℕ) (t : Telegram) (k : ℕ) (p : TrackPacket) → At group b t → At t.packets k p → is_silent run t.header.dup (length group) b ≡ false → holds run p ≡ true → (i : ℕ) × At (said_by run group) i p
+pub site-said : (run : Run) (group : List Telegram) (b : ℕ) (t : Telegram) (k : ℕ) (p : TrackPacket) → At group b t → At t.packets k p → is_silent run t.header.dup (length group) b ≡ false → holds run p ≡ true → (i : ℕ) × At (group_message run group) i p
 site-said run group b t k p at at' quiet for_run =
     let e = at-enumerate 0 group b t at in
     let o = at-in_passing_order run (enumerate_from 0 group) b (0 + b, t) e in
     let f = at-filter (holds run) t.packets k p at' for_run in
     let z : 0 + b ≡ b = omega arith in
-    let s : said_at run (length group) (0 + b) t ≡ held_by run t = rw (z, quiet) refl in
-    at-flat_map (λ (e : ℕ × Telegram). said_at run (length group) e.0 e.1) (in_passing_order run (enumerate_from 0 group)) o.0 (0 + b, t) f.0 p o.1 (subst (λ l. At l f.0 p) (sym s) f.1)
+    let s : balise_packets run (length group) (0 + b) t ≡ held_packets run t = rw (z, quiet) refl in
+    at-flat_map (λ (e : ℕ × Telegram). balise_packets run (length group) e.0 e.1) (in_passing_order run (enumerate_from 0 group)) o.0 (0 + b, t) f.0 p o.1 (subst (λ l. At l f.0 p) (sym s) f.1)

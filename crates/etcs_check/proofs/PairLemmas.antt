@@ -8,7 +8,7 @@ use Rattle.etcs_group.specs.Places.{At}
 use Rattle.etcs_group.specs.Group.{partner_of, IsWellFormed}
 use Rattle.etcs_group.specs.Missed.{IsCovered, none_missed}
 use Rattle.etcs_group.specs.Reading.{reading_of}
-use Rattle.etcs_group.specs.Packets.{held_by, packets_of}
+use Rattle.etcs_group.specs.Packets.{held_packets, packets_of}
 use Rattle.etcs_check.specs.Violation.{only, passed_first}
 use Rattle.etcs_packet.specs.declared.run.Run.{Run}
 use Rattle.etcs_packet.specs.declared.run.Run.TheVariants as runs
@@ -67,7 +67,7 @@ passed_cut run f g i (x ∷ xs) (suc k) t u a b other same =
 part_elsewhere : (run : Run) (b j : ℕ) (v : Telegram) → j ≢ b → j ≢ suc b → part run (only (passed_first run b)) j v ≡ part run none_missed j v
 part_elsewhere run b j v n m = go run v.header.dup j n m
   where
-    go : (run : Run) (mark : Dup) (j : ℕ) → j ≢ b → j ≢ suc b → cond (eqb j (passed_first run b)) [] (cond (is_quiet run (only (passed_first run b)) mark j) [] (held_by run v)) ≡ cond (is_quiet run none_missed mark j) [] (held_by run v)
+    go : (run : Run) (mark : Dup) (j : ℕ) → j ≢ b → j ≢ suc b → cond (eqb j (passed_first run b)) [] (cond (is_quiet run (only (passed_first run b)) mark j) [] (held_packets run v)) ≡ cond (is_quiet run none_missed mark j) [] (held_packets run v)
     go runs.Nominal dups.Single j n m = rw (ne_eqb j b n) refl
     go runs.Nominal dups.Next j n m = rw (ne_eqb j b n) refl
     go runs.Nominal dups.Previous zero n m = rw (ne_eqb 0 b n) refl
@@ -79,23 +79,23 @@ part_elsewhere run b j v n m = go run v.header.dup j n m
 
 pair_equal : (run : Run) (b : ℕ) (t u : Telegram) (rest : List TrackPacket) → t.header.dup ≡ dups.Next → u.header.dup ≡ dups.Previous
     → joined run (part run (only (passed_first run b)) b t) (joined run (part run (only (passed_first run b)) (suc b) u) rest) ≡ joined run (part run none_missed b t) (joined run (part run none_missed (suc b) u) rest)
-    → held_by run t ≡ held_by run u
+    → held_packets run t ≡ held_packets run u
 pair_equal runs.Nominal b t u rest e f same =
     let yes' = eq-eqb b b refl in
     let n : suc b ≢ b = omega arith in
     let no' = ne_eqb (suc b) b n in
-    let plain : held_by runs.Nominal u ++ rest ≡ held_by runs.Nominal t ++ rest = rw (e, f, yes', no') at same in
+    let plain : held_packets runs.Nominal u ++ rest ≡ held_packets runs.Nominal t ++ rest = rw (e, f, yes', no') at same in
     sym (append_cancel_right _ _ rest plain)
 pair_equal runs.Reverse b t u rest e f same =
     let yes' = eq-eqb (suc b) (suc b) refl in
     let n : b ≢ suc b = omega arith in
     let no' = ne_eqb b (suc b) n in
-    let plain : (rest ++ []) ++ held_by runs.Reverse t ≡ (rest ++ held_by runs.Reverse u) ++ [] = rw (e, f, yes', no') at same in
-    append_cancel_left rest _ _ (ap (λ l. l ++ held_by runs.Reverse t) (sym (append-nil rest)) ∙ plain ∙ append-nil (rest ++ held_by runs.Reverse u))
+    let plain : (rest ++ []) ++ held_packets runs.Reverse t ≡ (rest ++ held_packets runs.Reverse u) ++ [] = rw (e, f, yes', no') at same in
+    append_cancel_left rest _ _ (ap (λ l. l ++ held_packets runs.Reverse t) (sym (append-nil rest)) ∙ plain ∙ append-nil (rest ++ held_packets runs.Reverse u))
 
 pub duplicates-equal : (group : List Telegram) (run : Run) (b : ℕ) (t u : Telegram) → IsWellFormed group → At group b t → At group (suc b) u → t.header.dup ≡ dups.Next → u.header.dup ≡ dups.Previous
     → packets_of run (reading_of run (only (passed_first run b)) group) ≡ packets_of run (reading_of run none_missed group)
-    → held_by run t ≡ held_by run u
+    → held_packets run t ≡ held_packets run u
 duplicates-equal group run b t u formed at au e f same =
     let all : passed run (part run (only (passed_first run b))) 0 group ≡ passed run (part run none_missed) 0 group = sym (packets-passed group run (only (passed_first run b)) formed) ∙ same ∙ packets-passed group run none_missed formed in
     let r = passed_cut run (part run (only (passed_first run b))) (part run none_missed) 0 group b t u at au (λ j v _ n m. let z : j ≡ 0 + j = omega arith in subst (λ k. part run (only (passed_first run b)) k v ≡ part run none_missed k v) z (part_elsewhere run b j v n m)) all in

@@ -11,7 +11,7 @@ use Rattle.etcs_radio.specs.declared.message.Message.{Message}
 use Rattle.etcs_radio.specs.declared.message.Message.TheVariants as messages
 use Rattle.etcs_telegram.specs.Record.{Telegram}
 use Rattle.etcs_group.specs.Places.{At}
-use Rattle.etcs_group.specs.Packets.{is_silent, said_by}
+use Rattle.etcs_group.specs.Packets.{is_silent, group_message}
 use Rattle.etcs_group.specs.Controlled.{IsControlled}
 use Rattle.etcs_check.specs.Profiles.{gradient_reach, speed_reach}
 use Rattle.etcs_check.specs.Soundness.{first_aspect}
@@ -49,11 +49,11 @@ module _ (aspects : List (List Telegram)) (a : ℕ) (group : List Telegram) wher
 
   long_at : (reach : TrackPacket → Option Reach) (run : Run) (b k : ℕ) → passes_at (packets_at group (Some b)) k (is_short_profile reach (speech_of group) run (Some b)) ≡ false → IsLongAt reach group run b k
   long_at reach run b k none t p here there =
-      at-long reach (said_by run group) run (is_silent run t.header.dup (length group) b) p (sym (profile_as reach group run b k t p here there) ∙ none)
+      at-long reach (group_message run group) run (is_silent run t.header.dup (length group) b) p (sym (profile_as reach group run b k t p here there) ∙ none)
 
   none_short_at : (reach : TrackPacket → Option Reach) (run : Run) (b k : ℕ) → IsLongAt reach group run b k → passes_at (packets_at group (Some b)) k (is_short_profile reach (speech_of group) run (Some b)) ≡ false
   none_short_at reach run b k part = none_short reach group run b k (λ t p here there.
-      long-at reach (said_by run group) run (is_silent run t.header.dup (length group) b) p (part t p here there))
+      long-at reach (group_message run group) run (is_silent run t.header.dup (length group) b) p (part t p here there))
 
   pub aspect_holds : (rule : Rule) (run : Option Run) (b k : Option ℕ) → aspect_fact (first_aspect aspects) (take a aspects) group rule run b k ≡ false → AspectPart aspects a group rule run b k
   aspect_holds rules.PositionWrong None (Some b) None none = λ t here. eqb-true _ _ (not-false _ (at rules.PositionWrong b none t here))
@@ -67,9 +67,9 @@ module _ (aspects : List (List Telegram)) (a : ℕ) (group : List Telegram) wher
   aspect_holds rules.DuplicatesDiffer (Some run) (Some b) None none = λ t u here next.
       pair-equal run t u (ap (pair_differs run t) (sym next) ∙ sym (passes_as group b (λ t. pair_differs run t (slice_get group (b + 1))) t here) ∙ none)
   aspect_holds rules.NotModelled None (Some b) (Some k) none = λ t p here there. not-false _ (sym (packet_as group b k is_unmodelled t p here there) ∙ none)
-  aspect_holds rules.NoGradient (Some run) None None none = one-from_lacks gradient_reach (said_by run group) none
+  aspect_holds rules.NoGradient (Some run) None None none = one-from_lacks gradient_reach (group_message run group) none
   aspect_holds rules.GradientShort (Some run) (Some b) (Some k) none = long_at gradient_reach run b k none
-  aspect_holds rules.NoSpeed (Some run) None None none = one-from_lacks speed_reach (said_by run group) none
+  aspect_holds rules.NoSpeed (Some run) None None none = one-from_lacks speed_reach (group_message run group) none
   aspect_holds rules.SpeedShort (Some run) (Some b) (Some k) none = long_at speed_reach run b k none
   aspect_holds rules.MarksDiffer None (Some b) None none = λ t first here at_f. mark-says t first (ap (λ o. mark_differs o t) (sym at_f) ∙ at rules.MarksDiffer b none t here)
   aspect_holds rules.NotToldApart None (Some b) None none = λ c q t u lt here has low same.
@@ -90,9 +90,9 @@ module _ (aspects : List (List Telegram)) (a : ℕ) (group : List Telegram) wher
   aspect_unbroken rules.NotModelled None (Some b) (Some k) part = failing (packets_at group (Some b)) k is_unmodelled (λ p here.
       let s = packet_stands group b k p here in
       not_from_true _ (part s.0 p s.1 s.2))
-  aspect_unbroken rules.NoGradient (Some run) None None part = lacks-from_one gradient_reach (said_by run group) part
+  aspect_unbroken rules.NoGradient (Some run) None None part = lacks-from_one gradient_reach (group_message run group) part
   aspect_unbroken rules.GradientShort (Some run) (Some b) (Some k) part = none_short_at gradient_reach run b k part
-  aspect_unbroken rules.NoSpeed (Some run) None None part = lacks-from_one speed_reach (said_by run group) part
+  aspect_unbroken rules.NoSpeed (Some run) None None part = lacks-from_one speed_reach (group_message run group) part
   aspect_unbroken rules.SpeedShort (Some run) (Some b) (Some k) part = none_short_at speed_reach run b k part
   aspect_unbroken rules.MarksDiffer None (Some b) None part = none_at rules.MarksDiffer b (λ t here. marks-are (first_aspect aspects) b t (λ f at_f. part t f here at_f))
   aspect_unbroken rules.NotToldApart None (Some b) None part = none_at rules.NotToldApart b (λ t here. false_from_ne_true _ (λ taken.

@@ -11,7 +11,7 @@ use Rattle.etcs_packet.specs.declared.run.Run.TheVariants as runs
 use Rattle.etcs_packet.specs.declared.track.TrackPacket.{TrackPacket}
 use Rattle.etcs_telegram.specs.Record.{Telegram}
 use Rattle.etcs_group.specs.Group.{Telegrams, Aspects}
-use Rattle.etcs_group.specs.Packets.{is_silent, said_by}
+use Rattle.etcs_group.specs.Packets.{is_silent, group_message}
 use Rattle.etcs_group.specs.Places.{At}
 use Rattle.etcs_check.specs.Aspects.{is_ambiguous, site_spot}
 use Rattle.etcs_check.specs.Line.{none_and, directions, rules_at, cells_at, cells_of, group_cells}
@@ -151,7 +151,7 @@ module _ (first : Telegrams) (before : Aspects) (group : Telegrams) where
   says_packet b t k q at at' rules.NotModelled = packet_as group b k is_unmodelled t q at at'
   says_packet b t k q at at' rule = refl
 
-  pub says_said : (run : Run) (rule : Rule) → aspect_fact first before group rule (Some run) None None ≡ lack_test (said_by run group) rule
+  pub says_said : (run : Run) (rule : Rule) → aspect_fact first before group rule (Some run) None None ≡ lack_test (group_message run group) rule
   says_said run rules.NoGradient = refl
   says_said run rule = refl
 
@@ -164,7 +164,7 @@ module _ (first : Telegrams) (before : Aspects) (group : Telegrams) where
   says_pair run b t at rule = refl
 
   pub says_profile : (run : Run) (b : ℕ) (t : Telegram) (k : ℕ) (q : TrackPacket) → At group b t → At t.packets k q → (rule : Rule)
-      → aspect_fact first before group rule (Some run) (Some b) (Some k) ≡ short_test (said_by run group) run (is_silent run t.header.dup (length group) b) q rule
+      → aspect_fact first before group rule (Some run) (Some b) (Some k) ≡ short_test (group_message run group) run (is_silent run t.header.dup (length group) b) q rule
   says_profile run b t k q at at' rules.GradientShort = profile_as gradient_reach group run b k t q at at'
   says_profile run b t k q at at' rules.SpeedShort = profile_as speed_reach group run b k t q at at'
   says_profile run b t k q at at' rule = refl
@@ -182,15 +182,15 @@ module _ (first : Telegrams) (before : Aspects) (group : Telegrams) where
     lead = lead;
     own = λ b t. flat_map (λ rule. noted (balise_fact first before group rule b t) (finding_of rule spot None (Some b) None)) all_rules;
     packet = λ b k q. unmodelled_at spot (Some b) k q;
-    said = λ run. lacks_noted spot run (said_by run group);
+    said = λ run. lacks_noted spot run (group_message run group);
     pair = pair_at spot group;
-    profile = λ run b t k q. shorts_noted spot run (said_by run group) (is_silent run t.header.dup (length group) b) (Some b) k q;
+    profile = λ run b t k q. shorts_noted spot run (group_message run group) (is_silent run t.header.dup (length group) b) (Some b) k q;
     at_none = none;
     at_balise = λ b t at. filter-rules p (λ rule. finding_of rule spot None (Some b) None) (λ rule. balise_fact first before group rule b t) (λ rule. alone rule b None ∙ says_balise b t at rule) all_rules;
     at_packet = λ b t k q at at'. packet_leaf p spot (Some b) k q (λ rule. alone rule b (Some k) ∙ says_packet b t k q at at' rule);
-    at_said = λ run. said_leaf p spot run (said_by run group) (λ rule. directed rule run None None ∙ says_said run rule);
+    at_said = λ run. said_leaf p spot run (group_message run group) (λ rule. directed rule run None None ∙ says_said run rule);
     at_pair = λ run b t at. filter-rules p (λ rule. finding_of rule spot (Some run) (Some b) None) (pair_test run b t) (λ rule. directed rule run (Some b) None ∙ says_pair run b t at rule) all_rules ∙ append-nil _;
-    at_profile = λ run b t k q at at'. profile_leaf p spot run (said_by run group) (is_silent run t.header.dup (length group) b) (Some b) k q (λ rule. directed rule run (Some b) (Some k) ∙ says_profile run b t k q at at' rule);
+    at_profile = λ run b t k q at at'. profile_leaf p spot run (group_message run group) (is_silent run t.header.dup (length group) b) (Some b) k q (λ rule. directed rule run (Some b) (Some k) ∙ says_profile run b t k q at at' rule);
   }
 
 -- ---- a message

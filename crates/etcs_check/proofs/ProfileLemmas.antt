@@ -11,7 +11,7 @@ use Rattle.etcs_profile.specs.declared.reach.Reach.{Reach}
 use Rattle.etcs_profile.specs.declared.reach.Reach.TheVariants.{Ends, Open}
 use Rattle.etcs_telegram.specs.Record.{Telegram}
 use Rattle.etcs_group.specs.Places.{At}
-use Rattle.etcs_group.specs.Packets.{said_by}
+use Rattle.etcs_group.specs.Packets.{group_message}
 use Rattle.etcs_group.proofs.PlaceLemmas.{at_list_any, list_any-at, list_any-none}
 use Rattle.etcs_packet.specs.Track.{track_number}
 use Rattle.etcs_packet.specs.declared.track.TrackPacket.TheVariants as packets
@@ -114,12 +114,12 @@ long-at reach said run silent p long = elim (cases_Bool silent) [
 ]
 
 -- each profile in the message of a group is long
-pub long-said : (reach : TrackPacket → Option Reach) (group : List Telegram) (run : Run) → HaveProfiles reach (said_by run group) → (b k : ℕ) → IsLongAt reach group run b k
+pub long-said : (reach : TrackPacket → Option Reach) (group : List Telegram) (run : Run) → HaveProfiles reach (group_message run group) → (b k : ℕ) → IsLongAt reach group run b k
 long-said reach group run h b k t p at at' speaks held =
     let s = site-said run group b t k p at at' speaks held in
-    profiles-long reach (said_by run group) h s.0 p s.1
+    profiles-long reach (group_message run group) h s.0 p s.1
 
-pub said-long : (reach : TrackPacket → Option Reach) (group : List Telegram) (run : Run) → ((b k : ℕ) → IsLongAt reach group run b k) → (j : ℕ) (p : TrackPacket) → At (said_by run group) j p → IsLong reach (said_by run group) p
+pub said-long : (reach : TrackPacket → Option Reach) (group : List Telegram) (run : Run) → ((b k : ℕ) → IsLongAt reach group run b k) → (j : ℕ) (p : TrackPacket) → At (group_message run group) j p → IsLong reach (group_message run group) p
 said-long reach group run long j p at =
     let s = said-site run group j p at in
     long s.0 s.2 s.1 p s.3 s.4 s.5 s.6

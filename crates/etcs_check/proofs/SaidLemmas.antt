@@ -8,7 +8,7 @@ use Rattle.std.proofs.lemmas.List.{drop_all, append-nil, reverse-append}
 use Rattle.std.proofs.lemmas.List.Concat.{flat_map-append}
 use mathlib.Core.Logic.{inl, inr}
 use Rattle.etcs_group.specs.Places.{At}
-use Rattle.etcs_group.specs.Packets.{said_at, said_by}
+use Rattle.etcs_group.specs.Packets.{balise_packets, group_message}
 use Rattle.etcs_group.specs.Reading.{in_passing_order}
 use Rattle.etcs_packet.specs.declared.run.Run.{Run}
 use Rattle.etcs_packet.specs.declared.run.Run.TheVariants as runs
@@ -86,13 +86,13 @@ said-passing f runs.Reverse (x ∷ xs) =
 
 -- the packets that the balises from place i on add, in the order of their places
 abbrev pub said_from : Run → ℕ → ℕ → List Telegram → List TrackPacket
-said_from run n i group = flat_map (λ (e : ℕ × Telegram). said_at run n e.0 e.1) (enumerate_from i (drop i group))
+said_from run n i group = flat_map (λ (e : ℕ × Telegram). balise_packets run n e.0 e.1) (enumerate_from i (drop i group))
 
-pub said_rest : (run : Run) (n : ℕ) (group : List Telegram) (i : ℕ) (t : Telegram) → At group i t → said_from run n i group ≡ said_at run n i t ++ said_from run n (i + 1) group
-said_rest run n group i t at = ap (λ l. flat_map (λ (e : ℕ × Telegram). said_at run n e.0 e.1) (enumerate_from i l)) (drop_at group i t at)
+pub said_rest : (run : Run) (n : ℕ) (group : List Telegram) (i : ℕ) (t : Telegram) → At group i t → said_from run n i group ≡ balise_packets run n i t ++ said_from run n (i + 1) group
+said_rest run n group i t at = ap (λ l. flat_map (λ (e : ℕ × Telegram). balise_packets run n e.0 e.1) (enumerate_from i l)) (drop_at group i t at)
 
 pub said_end : (run : Run) (n : ℕ) (group : List Telegram) (i : ℕ) → length group ≤ i → said_from run n i group ≡ []
-said_end run n group i le = ap (λ l. flat_map (λ (e : ℕ × Telegram). said_at run n e.0 e.1) (enumerate_from i l)) (drop_all i group le)
+said_end run n group i le = ap (λ l. flat_map (λ (e : ℕ × Telegram). balise_packets run n e.0 e.1) (enumerate_from i l)) (drop_all i group le)
 
 pub said_here : (held : TrackPacket → Bool) (packets : List TrackPacket) (i : ℕ) (p : TrackPacket) → At packets i p
     → said_in (filter held (drop i packets)) ≡ both (if held p then by_one p else nothing) (said_in (filter held (drop (i + 1) packets)))
@@ -109,11 +109,11 @@ pub none_here : (held : TrackPacket → Bool) (packets : List TrackPacket) (i : 
 none_here held packets i le = ap (λ l. said_in (filter held l)) (drop_all i packets le)
 
 pub said_step : (run : Run) (n : ℕ) (group : List Telegram) (i : ℕ) (t : Telegram) → At group i t
-    → said_in (said_from run n i group) ≡ both (said_in (said_at run n i t)) (said_in (said_from run n (i + 1) group))
-said_step run n group i t at = ap said_in (said_rest run n group i t at) ∙ said-append (said_at run n i t) (said_from run n (i + 1) group)
+    → said_in (said_from run n i group) ≡ both (said_in (balise_packets run n i t)) (said_in (said_from run n (i + 1) group))
+said_step run n group i t at = ap said_in (said_rest run n group i t at) ∙ said-append (balise_packets run n i t) (said_from run n (i + 1) group)
 
-pub said_whole : (run : Run) (group : List Telegram) → said_in (said_from run (length group) 0 group) ≡ said_in (said_by run group)
-said_whole run group = sym (said-passing (λ (e : ℕ × Telegram). said_at run (length group) e.0 e.1) run (enumerate_from 0 group))
+pub said_whole : (run : Run) (group : List Telegram) → said_in (said_from run (length group) 0 group) ≡ said_in (group_message run group)
+said_whole run group = sym (said-passing (λ (e : ℕ × Telegram). balise_packets run (length group) e.0 e.1) run (enumerate_from 0 group))
 
 -- ---- some location lies past a reach if and only if the greatest one does
 

@@ -13,7 +13,7 @@ use Rattle.etcs_group.specs.Group.{is_modelled, named_by, AreAlike, IsWellFormed
 use Rattle.etcs_group.specs.Missed.{IsSetOf, IsCovered, none_missed}
 use Rattle.etcs_group.specs.Reading.{reading_of}
 use Rattle.etcs_group.specs.Assembly.{IsAccepted}
-use Rattle.etcs_group.specs.Packets.{held_by, packets_of, said_by, HasEqualPairs}
+use Rattle.etcs_group.specs.Packets.{held_packets, packets_of, group_message, HasEqualPairs}
 use Rattle.etcs_group.proofs.PlaceLemmas.{one_at, some_at}
 use Rattle.etcs_group.proofs.MarkLemmas.{partner-says, next-at, previous-at}
 use Rattle.etcs_group.proofs.ReadingLemmas.{at-reading}
@@ -43,25 +43,25 @@ are_pair-says dups.Single n h = absurd (both_ways _ refl h)
 are_pair-says dups.Previous n h = absurd (both_ways _ refl h)
 
 -- the second of a pair is after the first, and their packets differ
-pub pair-says : (run : Run) (t : Telegram) (o : Option Telegram) → pair_differs run t o ≡ true → (u : Telegram) × (o ≡ Some u) × (t.header.dup ≡ dups.Next) × (u.header.dup ≡ dups.Previous) × (held_by run t ≢ held_by run u)
+pub pair-says : (run : Run) (t : Telegram) (o : Option Telegram) → pair_differs run t o ≡ true → (u : Telegram) × (o ≡ Some u) × (t.header.dup ≡ dups.Next) × (u.header.dup ≡ dups.Previous) × (held_packets run t ≢ held_packets run u)
 pair-says run t None h = absurd (both_ways _ refl h)
 pair-says run t (Some u) h =
     let p = and_parts (are_pair t.header.dup u.header.dup) (not (same_held run t u)) h in
     let marks = are_pair-says t.header.dup u.header.dup p.0 in
-    (u, refl, marks.0, marks.1, λ same. both_ways _ (not_same p.1) ((Decides-same_packets (held_by run t) (held_by run u)).1 same))
+    (u, refl, marks.0, marks.1, λ same. both_ways _ (not_same p.1) ((Decides-same_packets (held_packets run t) (held_packets run u)).1 same))
   where
     not_same : not (same_held run t u) ≡ true → same_held run t u ≡ false
     not_same g = not-true _ g
 
 -- a pair that does not differ has equal packets
-pub pair-equal : (run : Run) (t u : Telegram) → pair_differs run t (Some u) ≡ false → t.header.dup ≡ dups.Next → u.header.dup ≡ dups.Previous → held_by run t ≡ held_by run u
+pub pair-equal : (run : Run) (t u : Telegram) → pair_differs run t (Some u) ≡ false → t.header.dup ≡ dups.Next → u.header.dup ≡ dups.Previous → held_packets run t ≡ held_packets run u
 pair-equal run t u h e f =
     let same : not (same_held run t u) ≡ false = rw (e, f) at h in
-    (Decides-same_packets (held_by run t) (held_by run u)).0 (not-false _ same)
+    (Decides-same_packets (held_packets run t) (held_packets run u)).0 (not-false _ same)
 
-module _ (group : List Telegram) (run : Run) (formed : IsWellFormed group) (equal : (b : ℕ) (t u : Telegram) → At group b t → At group (b + 1) u → t.header.dup ≡ dups.Next → u.header.dup ≡ dups.Previous → held_by run t ≡ held_by run u) where
+module _ (group : List Telegram) (run : Run) (formed : IsWellFormed group) (equal : (b : ℕ) (t u : Telegram) → At group b t → At group (b + 1) u → t.header.dup ≡ dups.Next → u.header.dup ≡ dups.Previous → held_packets run t ≡ held_packets run u) where
   -- the packets of a balise and of the one after it, which is its partner
-  next_equal : (b : ℕ) (t u : Telegram) → At group b t → At group (suc b) u → t.header.dup ≡ dups.Next → u.header.dup ≡ dups.Previous → held_by run t ≡ held_by run u
+  next_equal : (b : ℕ) (t u : Telegram) → At group b t → At group (suc b) u → t.header.dup ≡ dups.Next → u.header.dup ≡ dups.Previous → held_packets run t ≡ held_packets run u
   next_equal b t u at au e f =
       let one : b + 1 ≡ suc b = omega arith in
       equal b t u at (ap (slice_get group) one ∙ au) e f
@@ -71,20 +71,20 @@ module _ (group : List Telegram) (run : Run) (formed : IsWellFormed group) (equa
       let says = partner-says group b p partner in
       by_mark t.header.dup refl (subst (λ (x : Telegram). named_by x.header.dup b ≡ Some p) (one_at group b says.0 t says.1 at) says.2)
     where
-      by_next : p ≡ suc b → t.header.dup ≡ dups.Next → held_by run t ≡ held_by run u
+      by_next : p ≡ suc b → t.header.dup ≡ dups.Next → held_packets run t ≡ held_packets run u
       by_next is e =
           let n = next-at group formed b t at e in
           let au' = subst (λ k. At group k u) is au in
           let same = one_at group (suc b) n.1 u n.2 au' in
           next_equal b t u at au' e (ap (λ (x : Telegram). x.header.dup) (sym same) ∙ n.3)
 
-      by_previous : (a : ℕ) (v : Telegram) → b ≡ suc a → p ≡ a → At group a v → v.header.dup ≡ dups.Next → t.header.dup ≡ dups.Previous → held_by run t ≡ held_by run u
+      by_previous : (a : ℕ) (v : Telegram) → b ≡ suc a → p ≡ a → At group a v → v.header.dup ≡ dups.Next → t.header.dup ≡ dups.Previous → held_packets run t ≡ held_packets run u
       by_previous a v is there av f e =
           let au' = subst (λ k. At group k u) there au in
           let same = one_at group a v u av au' in
           sym (next_equal a u t au' (subst (λ k. At group k t) is at) (ap (λ (x : Telegram). x.header.dup) (sym same) ∙ f) e)
 
-      by_mark : (m : Dup) → t.header.dup ≡ m → named_by m b ≡ Some p → held_by run t ≡ held_by run u
+      by_mark : (m : Dup) → t.header.dup ≡ m → named_by m b ≡ Some p → held_packets run t ≡ held_packets run u
       by_mark dups.Single e n = absurd (none-some p n)
       by_mark dups.Next e n = let q = same_Some (b + 1) p n in by_next (omega arith) e
       by_mark dups.Previous e n =
@@ -131,13 +131,13 @@ module _ (aspects : List (List Telegram)) (a : ℕ) (group : List Telegram) (lon
         parts rules.CountersDiffer None (Some b) None r.0 t r.1 at m r.2 ∙ sym (parts rules.CountersDiffer None (Some c) None r.0 u r.1 au n r.2);
   }
 
-  reached_said : (run : Run) → AreReached (said_by run group)
+  reached_said : (run : Run) → AreReached (group_message run group)
   reached_said run i p limit at is = (
-    profiles-from gradient_reach (said_by run group) (parts rules.NoGradient (Some run) None None) (said-long gradient_reach group run (λ b k. parts rules.GradientShort (Some run) (Some b) (Some k))) i p limit at is,
-    profiles-from speed_reach (said_by run group) (parts rules.NoSpeed (Some run) None None) (said-long speed_reach group run (λ b k. parts rules.SpeedShort (Some run) (Some b) (Some k))) i p limit at is,
+    profiles-from gradient_reach (group_message run group) (parts rules.NoGradient (Some run) None None) (said-long gradient_reach group run (λ b k. parts rules.GradientShort (Some run) (Some b) (Some k))) i p limit at is,
+    profiles-from speed_reach (group_message run group) (parts rules.NoSpeed (Some run) None None) (said-long speed_reach group run (λ b k. parts rules.SpeedShort (Some run) (Some b) (Some k))) i p limit at is,
   )
 
-  says_said : (run : Run) (missed : ℕ → Bool) → IsCovered group missed → packets_of run (reading_of run missed group) ≡ said_by run group
+  says_said : (run : Run) (missed : ℕ → Bool) → IsCovered group missed → packets_of run (reading_of run missed group) ≡ group_message run group
   says_said run missed covered =
       (readings_say_the_same run group formed).covered (equal_pairs group run formed (λ b. parts rules.DuplicatesDiffer (Some run) (Some b) None)) missed covered
 
@@ -176,7 +176,7 @@ module _ (group : List Telegram) (sound : IsSoundGroup group) where
   pub fitting : HasOneCounter group
   fitting = fitting-from_accepted group runs.Nominal (full runs.Nominal).accepted
 
-  said_reached : (run : Run) → AreReached (said_by run group)
+  said_reached : (run : Run) → AreReached (group_message run group)
   said_reached run = subst AreReached (sym (said-packets group sound.formed run)) (full run).reached
 
   only_set : (run : Run) (b : ℕ) (t : Telegram) → At group b t → t.header.dup ≡ dups.Next → IsSetOf group (only (passed_first run b))
@@ -187,7 +187,7 @@ module _ (group : List Telegram) (sound : IsSoundGroup group) where
       let w = slice_get_within group (suc b) n.1 n.2 in
       omega arith
 
-  equal_next : (run : Run) (b : ℕ) (t u : Telegram) → At group b t → At group (b + 1) u → t.header.dup ≡ dups.Next → u.header.dup ≡ dups.Previous → held_by run t ≡ held_by run u
+  equal_next : (run : Run) (b : ℕ) (t u : Telegram) → At group b t → At group (b + 1) u → t.header.dup ≡ dups.Next → u.header.dup ≡ dups.Previous → held_packets run t ≡ held_packets run u
   equal_next run b t u at au e f =
       let one : b + 1 ≡ suc b = omega arith in
       duplicates-equal group run b t u sound.formed at (ap (slice_get group) (sym one) ∙ au) e f
@@ -198,10 +198,10 @@ module _ (group : List Telegram) (sound : IsSoundGroup group) where
       let lt = slice_get_within t.packets k p at' in
       subst (λ q. is_modelled q ≡ true) (get_or_from_slice_get t.packets k p p at') (sound.formed.modelled b t at k p lt)
 
-  gradients : (run : Run) → HaveProfiles gradient_reach (said_by run group)
+  gradients : (run : Run) → HaveProfiles gradient_reach (group_message run group)
   gradients run i p limit at is = (said_reached run i p limit at is).0
 
-  speeds : (run : Run) → HaveProfiles speed_reach (said_by run group)
+  speeds : (run : Run) → HaveProfiles speed_reach (group_message run group)
   speeds run i p limit at is = (said_reached run i p limit at is).1
 
   -- an aspect that is like aspect 0, and that its counters distinguish from the aspects before it
@@ -219,9 +219,9 @@ module _ (group : List Telegram) (sound : IsSoundGroup group) where
       go rules.CountersDiffer None (Some b) None = λ j t u at low first. fitting.equal b j t u at first.0 low first.1
       go rules.DuplicatesDiffer (Some run) (Some b) None = equal_next run b
       go rules.NotModelled None (Some b) (Some k) = all_modelled b k
-      go rules.NoGradient (Some run) None None = profiles-one gradient_reach (said_by run group) (gradients run)
+      go rules.NoGradient (Some run) None None = profiles-one gradient_reach (group_message run group) (gradients run)
       go rules.GradientShort (Some run) (Some b) (Some k) = long-said gradient_reach group run (gradients run) b k
-      go rules.NoSpeed (Some run) None None = profiles-one speed_reach (said_by run group) (speeds run)
+      go rules.NoSpeed (Some run) None None = profiles-one speed_reach (group_message run group) (speeds run)
       go rules.SpeedShort (Some run) (Some b) (Some k) = long-said speed_reach group run (speeds run) b k
       go rules.MarksDiffer None (Some b) None = marks b
       go rules.NotToldApart None (Some b) None = fresh b

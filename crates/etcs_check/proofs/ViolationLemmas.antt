@@ -12,7 +12,7 @@ use Rattle.etcs_telegram.specs.Record.{Telegram}
 use Rattle.etcs_group.specs.Places.{At}
 use Rattle.etcs_group.specs.Controlled.{IsControlled}
 use Rattle.etcs_group.specs.Group.{IsWellFormed}
-use Rattle.etcs_group.specs.Packets.{said_by}
+use Rattle.etcs_group.specs.Packets.{group_message}
 use Rattle.etcs_group.proofs.SaidLemmas.{said-packets}
 use Rattle.etcs_check.specs.Aspects.{is_used}
 use Rattle.etcs_check.specs.Facts.{aspect_fact, whole_fact, group_fact, message_fact, fact_at}
@@ -38,7 +38,7 @@ use Rattle.etcs_check.proofs.SoundLemmas.{fitting-from_accepted, pair-says}
 -- ---- readings
 
 -- the message is the packets of the reading with nothing missed
-of_said : (reach : TrackPacket → Option Reach) (group : List Telegram) (run : Run) → IsWellFormed group → HaveProfiles reach (full_packets group run) → HaveProfiles reach (said_by run group)
+of_said : (reach : TrackPacket → Option Reach) (group : List Telegram) (run : Run) → IsWellFormed group → HaveProfiles reach (full_packets group run) → HaveProfiles reach (group_message run group)
 of_said reach group run formed h = subst (HaveProfiles reach) (sym (said-packets group formed run)) h
 
 pair_affects : (group : List Telegram) (run : Run) (b : ℕ) (t : Telegram) → At group b t → pair_differs run t (slice_get group (b + 1)) ≡ true → IsWellFormed group → DependsOnMissed group run b
@@ -59,13 +59,13 @@ module _ (aspects : List (List Telegram)) (a : ℕ) (group : List Telegram) wher
       pair_affects group run b r.0 r.1 r.2
   readings_affected rules.NoGradient (Some run) None None h = λ formed reached.
       let said = of_said gradient_reach group run formed (λ i p limit at is. (reached i p limit at is).0) in
-      both_ways _ (aspect_unbroken aspects a group rules.NoGradient (Some run) None None (profiles-one gradient_reach (said_by run group) said)) h
+      both_ways _ (aspect_unbroken aspects a group rules.NoGradient (Some run) None None (profiles-one gradient_reach (group_message run group) said)) h
   readings_affected rules.GradientShort (Some run) (Some b) (Some k) h = λ formed reached.
       let said = of_said gradient_reach group run formed (λ i p limit at is. (reached i p limit at is).0) in
       both_ways _ (aspect_unbroken aspects a group rules.GradientShort (Some run) (Some b) (Some k) (long-said gradient_reach group run said b k)) h
   readings_affected rules.NoSpeed (Some run) None None h = λ formed reached.
       let said = of_said speed_reach group run formed (λ i p limit at is. (reached i p limit at is).1) in
-      both_ways _ (aspect_unbroken aspects a group rules.NoSpeed (Some run) None None (profiles-one speed_reach (said_by run group) said)) h
+      both_ways _ (aspect_unbroken aspects a group rules.NoSpeed (Some run) None None (profiles-one speed_reach (group_message run group) said)) h
   readings_affected rules.SpeedShort (Some run) (Some b) (Some k) h = λ formed reached.
       let said = of_said speed_reach group run formed (λ i p limit at is. (reached i p limit at is).1) in
       both_ways _ (aspect_unbroken aspects a group rules.SpeedShort (Some run) (Some b) (Some k) (long-said speed_reach group run said b k)) h

@@ -14,7 +14,7 @@ use Rattle.etcs_telegram.specs.Record.{Telegram}
 use Rattle.etcs_telegram.specs.declared.header.Header.{Header}
 use Rattle.etcs_telegram.specs.declared.size.Size.{Size}
 use Rattle.etcs_telegram.specs.declared.size.Size.TheVariants as sizes
-use Rattle.etcs_group.specs.Packets.{held_by}
+use Rattle.etcs_group.specs.Packets.{held_packets}
 
 -- the numbers in the rows of a packet
 abbrev pub packet_numbers : TrackPacket → List ℕ
@@ -31,7 +31,7 @@ same_packet p q = pointwise (λ m n. m == n) (packet_numbers p) (packet_numbers 
 
 -- whether two telegrams have equal lists of packets that hold in the running direction
 abbrev pub same_held : Run → Telegram → Telegram → Bool
-same_held run t u = pointwise same_packet (held_by run t) (held_by run u)
+same_held run t u = pointwise same_packet (held_packets run t) (held_packets run u)
 
 -- ---- sizes and headers
 

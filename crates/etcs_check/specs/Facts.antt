@@ -9,7 +9,7 @@ use Rattle.etcs_profile.specs.declared.reach.Reach.{Reach}
 use Rattle.etcs_radio.specs.declared.message.Message.{Message}
 use Rattle.etcs_radio.specs.declared.message.Message.TheVariants as messages
 use Rattle.etcs_group.specs.Group.{Telegrams, Aspects}
-use Rattle.etcs_group.specs.Packets.{is_silent, said_by}
+use Rattle.etcs_group.specs.Packets.{is_silent, group_message}
 use Rattle.etcs_check.specs.Aspects.{is_used, is_ambiguous}
 use Rattle.etcs_check.specs.Findings.{balise_fact, pair_differs, is_unmodelled, lacks, is_said_and_short}
 use Rattle.etcs_check.specs.Profiles.{gradient_reach, speed_reach}
@@ -46,7 +46,7 @@ abbrev pub speech_of : Telegrams → Speech
 speech_of group = record {
   packets = packets_at group;
   silent = is_silent_at group;
-  said = λ run. said_by run group;
+  said = λ run. group_message run group;
 }
 
 abbrev pub packets_alone : List TrackPacket → Option ℕ → List TrackPacket

@@ -17,7 +17,7 @@ use Rattle.etcs_group.specs.Group.{AreAlike, IsWellFormed, is_modelled, partner_
 use Rattle.etcs_group.specs.Missed.{IsCovered, none_missed}
 use Rattle.etcs_group.specs.Reading.{reading_of}
 use Rattle.etcs_group.specs.Assembly.{IsAccepted}
-use Rattle.etcs_group.specs.Packets.{held_by, is_silent, packets_of, said_by}
+use Rattle.etcs_group.specs.Packets.{held_packets, is_silent, packets_of, group_message}
 use Rattle.etcs_group.specs.Controlled.{HasAt, IsFixed, IsSwitched}
 use Rattle.etcs_check.specs.Profiles.{limit_of, gradient_reach, speed_reach, AreReached, Reaches}
 use Rattle.etcs_check.specs.Soundness.{first_aspect, group_identity}
@@ -88,7 +88,7 @@ IsLong reach packets p = (r : Reach) → reach p ≡ Some r
 abbrev pub IsLongAt : (TrackPacket → Option Reach) → Telegrams → Run → ℕ → ℕ → Type 0
 IsLongAt reach group run b k = (t : Telegram) (p : TrackPacket) → At group b t → At t.packets k p
     → IsFalse (is_silent run t.header.dup (length group) b) → IsTrue (holds run p)
-    → IsLong reach (said_by run group) p
+    → IsLong reach (group_message run group) p
 
 -- u, at place j, is the first telegram with a counter below 254
 abbrev pub IsFirstCounted : Telegrams → ℕ → Telegram → Type 0
@@ -122,16 +122,17 @@ AspectPart aspects a group rules.CountersDiffer None (Some b) None =
 -- equal pairs
 AspectPart aspects a group rules.DuplicatesDiffer (Some run) (Some b) None =
     (t u : Telegram) → At group b t → At group (b + 1) u
-    → t.header.dup ≡ dups.Next → u.header.dup ≡ dups.Previous → held_by run t ≡ held_by run u
+    → t.header.dup ≡ dups.Next → u.header.dup ≡ dups.Previous → held_packets run t ≡ held_packets run u
 -- modelled
 AspectPart aspects a group rules.NotModelled None (Some b) (Some k) =
     (t : Telegram) (p : TrackPacket) → At group b t → At t.packets k p → IsTrue (is_modelled p)
 -- one and each, of gradients and of speeds, in the message with nothing missed
 AspectPart aspects a group rules.NoGradient (Some run) None None =
-    HasProfile gradient_reach (said_by run group)
+    HasProfile gradient_reach (group_message run group)
 AspectPart aspects a group rules.GradientShort (Some run) (Some b) (Some k) =
     IsLongAt gradient_reach group run b k
-AspectPart aspects a group rules.NoSpeed (Some run) None None = HasProfile speed_reach (said_by run group)
+AspectPart aspects a group rules.NoSpeed (Some run) None None =
+    HasProfile speed_reach (group_message run group)
 AspectPart aspects a group rules.SpeedShort (Some run) (Some b) (Some k) = IsLongAt speed_reach group run b k
 -- marks
 AspectPart aspects a group rules.MarksDiffer None (Some b) None =

@@ -5,7 +5,7 @@ ghost use Rattle.std.specs.Cmp.Lexicographic.{pointwise};
 ghost use Rattle.etcs_packet.specs.Track.{holds};
 ghost use Rattle.etcs_packet.specs.declared.track.TrackPacket.{TrackPacket};
 ghost use Rattle.etcs_telegram.specs.Record.{Telegram as SomeTelegram};
-ghost use Rattle.etcs_group.specs.Packets.{held_by};
+ghost use Rattle.etcs_group.specs.Packets.{held_packets};
 ghost use Rattle.etcs_check.specs.Duplicates.{same_header, same_held, same_packet, same_size, same_telegram};
 ghost use Rattle.etcs_check.specs.Findings.{are_pair, pair_differs};
 ghost use Rattle.etcs_check.specs.Walk.{ArePairsAlike, are_same_pair};
@@ -107,7 +107,7 @@ pub(crate) fn same_telegram(this: &Telegram, that: &Telegram) -> bool
 /// Whether two telegrams have equal lists of packets that hold in the running direction, in the same
 /// order, as is required of the two balises of a pair of duplicates (SUBSET-026, 3.16.2). Allocates nothing.
 pub fn same_packets(this: &Telegram, that: &Telegram, run: Run) -> bool
-    ensures { IsTrue result ↔ (held_by run this.now ≡ held_by run that.now) }
+    ensures { IsTrue result ↔ (held_packets run this.now ≡ held_packets run that.now) }
 {
     same_held(this, that, run)
 }

@@ -4,7 +4,7 @@
 ghost use Rattle.std.specs.Prelude.{◌≡◌, ◌<◌, if◌then◌else◌, length, filter, slice_get, Some};
 ghost use Rattle.etcs_packet.specs.Track.{holds};
 ghost use Rattle.etcs_telegram.specs.Record.{Telegram as SomeTelegram};
-ghost use Rattle.etcs_group.specs.Packets.{is_silent, said_at, said_by};
+ghost use Rattle.etcs_group.specs.Packets.{is_silent, balise_packets, group_message};
 ghost use Rattle.etcs_check.specs.Said.{both, by_one, greater, nothing, said_in};
 
 use etcs_bits::Dup;
@@ -96,7 +96,7 @@ pub(crate) fn add_packets(so_far: Said, packets: &[TrackPacket], run: Run) -> Sa
 fn add_balise(so_far: Said, group: &[Telegram], run: Run, place: usize) -> Said
     requires { place < length group.now }
     ensures { (t : SomeTelegram) → slice_get group.now place ≡ Some t
-        → result ≡ both so_far (said_in (said_at run (length group.now) place t)) }
+        → result ≡ both so_far (said_in (balise_packets run (length group.now) place t)) }
 {
     let telegram = &group[place];
     if is_silent(run, telegram, group.len(), place) {
@@ -108,7 +108,7 @@ fn add_balise(so_far: Said, group: &[Telegram], run: Run, place: usize) -> Said
 
 // The summary of a group's message in a running direction.
 pub(crate) fn said_of(group: &[Telegram], run: Run) -> Said
-    ensures { result ≡ said_in (said_by run group.now) }
+    ensures { result ≡ said_in (group_message run group.now) }
 {
     let mut said = NOTHING;
     'places: for place in 0..group.len() {

@@ -14,7 +14,7 @@ use Rattle.etcs_group.specs.Places.{At}
 use Rattle.etcs_group.specs.Group.{IsWellFormed}
 use Rattle.etcs_group.specs.Missed.{IsCovered, none_missed}
 use Rattle.etcs_group.specs.Reading.{reading_of}
-use Rattle.etcs_group.specs.Packets.{held_by, packets_of, said_by, HasEqualPairs}
+use Rattle.etcs_group.specs.Packets.{held_packets, packets_of, group_message, HasEqualPairs}
 use Rattle.etcs_group.specs.Laws.{ReadingsSayTheSame}
 use Rattle.etcs_group.proofs.PlaceLemmas.{one_at}
 use Rattle.etcs_group.proofs.MarkLemmas.{next-at, previous-at, partner-single}
@@ -56,14 +56,14 @@ quiet_previous-is : (run : Run) (missed : ℕ → Bool) (i : ℕ) → is_quiet r
 quiet_previous-is runs.Nominal missed i = refl
 quiet_previous-is runs.Reverse missed i = refl
 
-pub pair-says : (run : Run) (missed : ℕ → Bool) (i : ℕ) (t u : Telegram) (rest : List TrackPacket) → t.header.dup ≡ dups.Next → u.header.dup ≡ dups.Previous → held_by run t ≡ held_by run u → OneReads missed i → joined run (part run missed i t) (joined run (part run missed (suc i) u) rest) ≡ joined run (held_by run t) rest
-pair-says run missed i t u rest e f same one = rw (e, f, ← same, quiet_next-is run missed i, quiet_previous-is run missed i) (one_speaks run (held_by run t) rest (missed i) (missed (suc i)) one)
+pub pair-says : (run : Run) (missed : ℕ → Bool) (i : ℕ) (t u : Telegram) (rest : List TrackPacket) → t.header.dup ≡ dups.Next → u.header.dup ≡ dups.Previous → held_packets run t ≡ held_packets run u → OneReads missed i → joined run (part run missed i t) (joined run (part run missed (suc i) u) rest) ≡ joined run (held_packets run t) rest
+pair-says run missed i t u rest e f same one = rw (e, f, ← same, quiet_next-is run missed i, quiet_previous-is run missed i) (one_speaks run (held_packets run t) rest (missed i) (missed (suc i)) one)
 
 -- a balise without a duplicate flag is never quiet
-pub alone-says : (run : Run) (missed : ℕ → Bool) (i : ℕ) (t : Telegram) → t.header.dup ≡ dups.Single → missed i ≡ false → part run missed i t ≡ held_by run t
+pub alone-says : (run : Run) (missed : ℕ → Bool) (i : ℕ) (t : Telegram) → t.header.dup ≡ dups.Single → missed i ≡ false → part run missed i t ≡ held_packets run t
 alone-says run missed i t e m = rw (e, m) (go run)
   where
-    go : (run : Run) → cond (is_quiet run missed dups.Single i) [] (held_by run t) ≡ held_by run t
+    go : (run : Run) → cond (is_quiet run missed dups.Single i) [] (held_packets run t) ≡ held_packets run t
     go runs.Nominal = refl
     go runs.Reverse = refl
 
@@ -135,9 +135,9 @@ module _ (group : List Telegram) (run : Run) (missed : ℕ → Bool) (formed : I
           let here = rest_head (suc i) u us rest in
           let f : u.header.dup ≡ dups.Previous = ap (λ (x : Telegram). x.header.dup) (one_at group (suc i) u n.1 here n.2) ∙ n.3 in
           let other : u.header.dup ≢ dups.Next = λ g. let h : dups.Previous ≡ dups.Next = sym f ∙ g in cc in
-          let same : held_by run t ≡ held_by run u = equal i (suc i) t u n.0 at here in
+          let same : held_packets run t ≡ held_packets run u = equal i (suc i) t u n.0 at here in
           pair-says run missed i t u (passed run (part run missed) (suc (suc i)) us) e f same (pair_read i t at e)
-          ∙ ap (joined run (held_by run t)) (ih (suc (suc i)) (rest_tail (suc i) u us rest) (not_previous (suc i) u us other rest))
+          ∙ ap (joined run (held_packets run t)) (ih (suc (suc i)) (rest_tail (suc i) u us rest) (not_previous (suc i) u us other rest))
           ∙ sym (pair-says run none_missed i t u (passed run (part run none_missed) (suc (suc i)) us) e f same (λ m. refl))
 
   pub passed-same : passed run (part run missed) 0 group ≡ passed run (part run none_missed) 0 group
@@ -145,7 +145,7 @@ module _ (group : List Telegram) (run : Run) (missed : ℕ → Bool) (formed : I
 
 -- ---- the law
 
-packets-same : (run : Run) (group : List Telegram) (missed : ℕ → Bool) → IsWellFormed group → IsCovered group missed → HasEqualPairs run group → packets_of run (reading_of run missed group) ≡ said_by run group
+packets-same : (run : Run) (group : List Telegram) (missed : ℕ → Bool) → IsWellFormed group → IsCovered group missed → HasEqualPairs run group → packets_of run (reading_of run missed group) ≡ group_message run group
 packets-same run group missed formed covered equal =
     packets-passed group run missed formed ∙ passed-same group run missed formed covered equal ∙ sym (said-passed group formed run)
 

@@ -15,7 +15,7 @@ use Rattle.etcs_group.specs.Group.{named_by, IsWellFormed}
 use Rattle.etcs_group.specs.Missed.{none_missed}
 use Rattle.etcs_group.specs.Reading.{reading_of}
 use Rattle.etcs_group.specs.Assembly.{names}
-use Rattle.etcs_group.specs.Packets.{held_by, given_at, packets_of, is_silent, said_at, said_by}
+use Rattle.etcs_group.specs.Packets.{held_packets, given_at, packets_of, is_silent, balise_packets, group_message}
 use Rattle.etcs_group.proofs.PlaceLemmas.{some_at, one_at, at_list_any, list_any-at, At-take, at_take}
 use Rattle.etcs_group.proofs.MarkLemmas.{named-from_test, test_from-named, named_within, next-at}
 use Rattle.etcs_group.proofs.ReadingLemmas.{kept, kept-is, reading-at, at-reading, reading-order, IsPassedBefore}
@@ -29,7 +29,7 @@ is_quiet run missed mark b = false
 
 -- what the balise at place b adds to the message
 abbrev pub part : Run → (ℕ → Bool) → ℕ → Telegram → List TrackPacket
-part run missed b t = cond (missed b) [] (cond (is_quiet run missed t.header.dup b) [] (held_by run t))
+part run missed b t = cond (missed b) [] (cond (is_quiet run missed t.header.dup b) [] (held_packets run t))
 
 same_bool : (a b : Bool) → (a ≡ true → b ≡ true) → (b ≡ true → a ≡ true) → a ≡ b
 same_bool true b f g = sym (f refl)
@@ -124,15 +124,15 @@ module _ (group : List Telegram) (run : Run) (missed : ℕ → Bool) (formed : I
       ∙ passed_kept run f missed 0 group
       ∙ passed-agree run (λ b t. cond (missed b) [] (f t)) (part run missed) 0 group (λ k t e.
       let z : 0 + k ≡ k = omega arith in
-      ap (λ c. cond (missed (0 + k)) [] (cond (is_quiet run missed t.header.dup c) [] (held_by run t))) (formed.placed k t e ∙ sym z))
+      ap (λ c. cond (missed (0 + k)) [] (cond (is_quiet run missed t.header.dup c) [] (held_packets run t))) (formed.placed k t e ∙ sym z))
     where
       f : Telegram → List TrackPacket
-      f t = cond (is_quiet run missed t.header.dup t.header.position) [] (held_by run t)
+      f t = cond (is_quiet run missed t.header.dup t.header.position) [] (held_packets run t)
 
       given : (k : ℕ) (t : Telegram) → At (reading_of run missed group) k t → given_at run (reading_of run missed group) (0 + k) t ≡ f t
       given k t e =
           let z : 0 + k ≡ k = omega arith in
-          ap (λ n. given_at run (reading_of run missed group) n t) z ∙ ap (λ b. cond b [] (held_by run t)) (quiet-read k t e)
+          ap (λ n. given_at run (reading_of run missed group) n t) z ∙ ap (λ b. cond b [] (held_packets run t)) (quiet-read k t e)
 
 -- ---- the message of a group, by its places
 
@@ -154,14 +154,14 @@ module _ (group : List Telegram) (formed : IsWellFormed group) where
       go runs.Reverse dups.Previous e zero at = refl
       go runs.Reverse dups.Previous e (suc b) at = refl
 
-  pub said-passed : (run : Run) → said_by run group ≡ passed run (part run none_missed) 0 group
+  pub said-passed : (run : Run) → group_message run group ≡ passed run (part run none_missed) 0 group
   said-passed run =
-      joined_by-is run (λ (e : ℕ × Telegram). said_at run (length group) e.0 e.1) (enumerate_from 0 group)
-      ∙ passed-is run (said_at run (length group)) 0 group
-      ∙ passed-agree run (said_at run (length group)) (part run none_missed) 0 group (λ k t e.
+      joined_by-is run (λ (e : ℕ × Telegram). balise_packets run (length group) e.0 e.1) (enumerate_from 0 group)
+      ∙ passed-is run (balise_packets run (length group)) 0 group
+      ∙ passed-agree run (balise_packets run (length group)) (part run none_missed) 0 group (λ k t e.
       let z : 0 + k ≡ k = omega arith in
-      ap (λ s. cond s [] (held_by run t)) (silent-quiet run (0 + k) t (subst (λ n. At group n t) (sym z) e)))
+      ap (λ s. cond s [] (held_packets run t)) (silent-quiet run (0 + k) t (subst (λ n. At group n t) (sym z) e)))
 
   -- with nothing missed the packets are the message of the group
-  pub said-packets : (run : Run) → said_by run group ≡ packets_of run (reading_of run none_missed group)
+  pub said-packets : (run : Run) → group_message run group ≡ packets_of run (reading_of run none_missed group)
   said-packets run = said-passed run ∙ sym (packets-passed group run none_missed formed)

@@ -10,7 +10,7 @@ use Rattle.etcs_telegram.specs.Record.{Telegram}
 use Rattle.etcs_group.specs.declared.refused.Refused.TheVariants as reasons
 use Rattle.etcs_group.specs.Places.{At, least}
 use Rattle.etcs_group.specs.Assembly.{comes_after, names, passes_at, disagrees_at, is_misplaced_at, is_absent, is_miscounted_at, positions_of, refusal_of}
-use Rattle.etcs_group.specs.Packets.{held_by, given_at}
+use Rattle.etcs_group.specs.Packets.{held_packets, given_at}
 use Rattle.etcs_group.proofs.RefusalLemmas.{refusal-some, passes-at, misplaces, miscounts}
 
 -- a fact that holds anyway holds of an error
@@ -63,16 +63,16 @@ packets_step run s i t at =
     ap (packets_from run s i) (drop_more s i t lt ∙ ap (λ x. x ∷ drop (i + 1) s) e)
 
 -- one more telegram that adds its packets, and one that is silent
-pub packets_more : (run : Run) (s : List Telegram) (i : ℕ) (t : Telegram) (xs ys all : List TrackPacket) → At s i t → xs ++ packets_from run s i (drop i s) ≡ all → list_any (λ u. names t u.header.position) (take i s) ≡ false → ys ≡ xs ++ held_by run t → ys ++ packets_from run s (i + 1) (drop (i + 1) s) ≡ all
+pub packets_more : (run : Run) (s : List Telegram) (i : ℕ) (t : Telegram) (xs ys all : List TrackPacket) → At s i t → xs ++ packets_from run s i (drop i s) ≡ all → list_any (λ u. names t u.header.position) (take i s) ≡ false → ys ≡ xs ++ held_packets run t → ys ++ packets_from run s (i + 1) (drop (i + 1) s) ≡ all
 packets_more run s i t xs ys all at h quiet e =
     let rest = packets_from run s (i + 1) (drop (i + 1) s) in
-    let step : packets_from run s i (drop i s) ≡ held_by run t ++ rest = packets_step run s i t at ∙ ap (λ b. cond b [] (held_by run t) ++ rest) quiet in
-    ap (λ l. l ++ rest) e ∙ append_assoc xs (held_by run t) rest ∙ ap (λ l. xs ++ l) (sym step) ∙ h
+    let step : packets_from run s i (drop i s) ≡ held_packets run t ++ rest = packets_step run s i t at ∙ ap (λ b. cond b [] (held_packets run t) ++ rest) quiet in
+    ap (λ l. l ++ rest) e ∙ append_assoc xs (held_packets run t) rest ∙ ap (λ l. xs ++ l) (sym step) ∙ h
 
 pub packets_same : (run : Run) (s : List Telegram) (i : ℕ) (t : Telegram) (xs all : List TrackPacket) → At s i t → xs ++ packets_from run s i (drop i s) ≡ all → list_any (λ u. names t u.header.position) (take i s) ≡ true → xs ++ packets_from run s (i + 1) (drop (i + 1) s) ≡ all
 packets_same run s i t xs all at h silent =
     let rest = packets_from run s (i + 1) (drop (i + 1) s) in
-    let step : packets_from run s i (drop i s) ≡ rest = packets_step run s i t at ∙ ap (λ b. cond b [] (held_by run t) ++ rest) silent in
+    let step : packets_from run s i (drop i s) ≡ rest = packets_step run s i t at ∙ ap (λ b. cond b [] (held_packets run t) ++ rest) silent in
     ap (λ l. xs ++ l) (sym step) ∙ h
 
 -- ---- if there is something to return, the call may allocate
@@ -97,8 +97,8 @@ nil_right [] ys e = e
 nil_right (x ∷ xs) ys e = absurd cc
 
 -- a telegram that is not silent and has packets
-pub packets_some : (run : Run) (s : List Telegram) (i : ℕ) (t : Telegram) (xs all : List TrackPacket) → At s i t → xs ++ packets_from run s i (drop i s) ≡ all → list_any (λ u. names t u.header.position) (take i s) ≡ false → held_by run t ≢ [] → all ≢ []
+pub packets_some : (run : Run) (s : List Telegram) (i : ℕ) (t : Telegram) (xs all : List TrackPacket) → At s i t → xs ++ packets_from run s i (drop i s) ≡ all → list_any (λ u. names t u.header.position) (take i s) ≡ false → held_packets run t ≢ [] → all ≢ []
 packets_some run s i t xs all at h quiet some none =
     let rest = packets_from run s (i + 1) (drop (i + 1) s) in
-    let step : packets_from run s i (drop i s) ≡ held_by run t ++ rest = packets_step run s i t at ∙ ap (λ b. cond b [] (held_by run t) ++ rest) quiet in
-    some (nil_left (held_by run t) rest (nil_right xs (held_by run t ++ rest) (ap (λ l. xs ++ l) (sym step) ∙ h ∙ none)))
+    let step : packets_from run s i (drop i s) ≡ held_packets run t ++ rest = packets_step run s i t at ∙ ap (λ b. cond b [] (held_packets run t) ++ rest) quiet in
+    some (nil_left (held_packets run t) rest (nil_right xs (held_packets run t ++ rest) (ap (λ l. xs ++ l) (sym step) ∙ h ∙ none)))

@@ -7,7 +7,7 @@ use Rattle.etcs_group.specs.Group.{IsWellFormed, HasOneCounter, Telegrams, Aspec
 use Rattle.etcs_group.specs.Missed.{IsSetOf, IsCovered, IsLost, none_missed}
 use Rattle.etcs_group.specs.Reading.{reading_of}
 use Rattle.etcs_group.specs.Assembly.{IsAccepted, refusal_of}
-use Rattle.etcs_group.specs.Packets.{packets_of, said_by, HasEqualPairs}
+use Rattle.etcs_group.specs.Packets.{packets_of, group_message, HasEqualPairs}
 use Rattle.etcs_group.specs.Controlled.{IsControlled, AreOneGroup}
 use Rattle.etcs_group.specs.Mixture.{Fits, Covers, mixed_of, HasAllShown}
 
@@ -32,9 +32,9 @@ ReadingsAreDecided = (run : Run) (group : Telegrams) (missed : ℕ → Bool)
 -- The message of a group is the message of its reading with nothing missed. If each balise and its partner
 -- have equal packets, it is the message of each covered reading too.
 pub record SaysTheSame (run : Run) (group : Telegrams) : Type 0 where
-  pub full : said_by run group ≡ packets_of run (reading_of run none_missed group)
+  pub full : group_message run group ≡ packets_of run (reading_of run none_missed group)
   pub covered : HasEqualPairs run group → (missed : ℕ → Bool) → IsCovered group missed
-      → packets_of run (reading_of run missed group) ≡ said_by run group
+      → packets_of run (reading_of run missed group) ≡ group_message run group
 
 -- Each well-formed group has the message of its reading with nothing missed, and the message of each covered
 -- reading if each balise and its partner have equal packets.

@@ -16,14 +16,14 @@ use Rattle.etcs_group.specs.Reading.{in_passing_order}
 use Rattle.etcs_group.specs.Assembly.{names}
 
 -- the packets of a telegram that hold in the running direction
-abbrev pub held_by : Run → Telegram → List TrackPacket
-held_by run t = filter (holds run) t.packets
+abbrev pub held_packets : Run → Telegram → List TrackPacket
+held_packets run t = filter (holds run) t.packets
 
 -- The packets that a train takes from the telegram at place i: none if it has already read the telegram
 -- that the mark of this one names.
 abbrev pub given_at : Run → Telegrams → ℕ → Telegram → List TrackPacket
 given_at run read i t =
-    if list_any (λ u. names t u.header.position) (take i read) then [] else held_by run t
+    if list_any (λ u. names t u.header.position) (take i read) then [] else held_packets run t
 
 -- the packets of a list of telegrams, in passing order
 abbrev pub packets_of : Run → Telegrams → List TrackPacket
@@ -38,15 +38,15 @@ is_silent runs.Reverse dups.Next n b = nat_lt (b + 1) n
 is_silent run mark n b = false
 
 -- the packets that the balise at place b of n adds to the message
-abbrev pub said_at : Run → ℕ → ℕ → Telegram → List TrackPacket
-said_at run n b t = if is_silent run t.header.dup n b then [] else held_by run t
+abbrev pub balise_packets : Run → ℕ → ℕ → Telegram → List TrackPacket
+balise_packets run n b t = if is_silent run t.header.dup n b then [] else held_packets run t
 
 -- the message of a group: the packets of the balises that are not silent, in passing order
-abbrev pub said_by : Run → Telegrams → List TrackPacket
-said_by run group =
-    flat_map (λ e. said_at run (length group) e.0 e.1) (in_passing_order run (enumerate_from 0 group))
+abbrev pub group_message : Run → Telegrams → List TrackPacket
+group_message run group =
+    flat_map (λ e. balise_packets run (length group) e.0 e.1) (in_passing_order run (enumerate_from 0 group))
 
 -- each balise and its partner have equal lists of packets that hold in the running direction
 abbrev pub HasEqualPairs : Run → Telegrams → Type 0
 HasEqualPairs run group = (b p : ℕ) (t u : Telegram) → partner_of group b ≡ Some p
-    → At group b t → At group p u → held_by run t ≡ held_by run u
+    → At group b t → At group p u → held_packets run t ≡ held_packets run u

@@ -5,7 +5,7 @@ ghost use Rattle.std.specs.List.{list_any};
 ghost use Rattle.etcs_group.specs.declared.refused.Refused.{Refused};
 ghost use Rattle.etcs_group.specs.Places.{pointed};
 ghost use Rattle.etcs_group.specs.Assembly.{IsAccepted, names, refusal_of};
-ghost use Rattle.etcs_group.specs.Packets.{held_by, packets_of};
+ghost use Rattle.etcs_group.specs.Packets.{held_packets, packets_of};
 
 use crate::header::{names, position};
 use crate::refusal::first_refusal;
@@ -33,8 +33,8 @@ fn push_held<'a>(
     run: Run,
     telegram: &'a Telegram,
 ) -> Result<(), Memory>
-    ensures ok { OnOk result (pointed packets.new.items ≡ pointed packets.old.items ++ held_by run telegram.now) }
-    ensures memory { OnErr result (held_by run telegram.now ≢ []) }
+    ensures ok { OnOk result (pointed packets.new.items ≡ pointed packets.old.items ++ held_packets run telegram.now) }
+    ensures memory { OnErr result (held_packets run telegram.now ≢ []) }
 {
     'packets: for packet in &telegram.packets {
         if packet.holds_in(run) {
