@@ -83,7 +83,7 @@ impl LineChecker {
     pub fn group(&mut self, alloc: Global, group: &Controlled) -> Result<(), CheckError>
         ensures ok { OnOk result (TakesGroups self.old (group.now ∷ []) self.new) }
 
-        // Found before memory is asked for.
+        // Found before allocating.
         ensures too_many { (gs : List Aspects) (ms : List SomeMessage) → HasChecked self.old gs ms
             → IsErrOf result CheckError.TooMany ↔ (length gs ≡ usize.MAX) }
 
@@ -112,7 +112,7 @@ impl LineChecker {
     pub fn message(&mut self, alloc: Global, message: &Message) -> Result<(), CheckError>
         ensures ok { OnOk result (TakesMessages self.old (message.now ∷ []) self.new) }
 
-        // Found before memory is asked for.
+        // Found before allocating.
         ensures too_many { (gs : List Aspects) (ms : List SomeMessage) → HasChecked self.old gs ms
             → IsErrOf result CheckError.TooMany ↔ (length ms ≡ usize.MAX) }
 

@@ -77,7 +77,7 @@ pub fn assemble<'a>(
     ensures ok { IfOk result (λ packets. pointed packets.items ≡ packets_of run (pointed read.now)) }
     ensures accepted { IfOk result (λ _. IsAccepted run (pointed read.now)) }
 
-    // Found before memory is asked for.
+    // Found before allocating.
     ensures refused { (why : Refused) → refusal_of run (pointed read.now) ≡ Some why → result ≡ Err why }
 
     // The only error of an accepted list is lack of memory, and only if the list has packets.

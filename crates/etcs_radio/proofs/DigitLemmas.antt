@@ -29,7 +29,7 @@ pairs_front (suc n) i (x ∷ y ∷ a) b all len read =
     let same : p.0 ∷ q.0 ≡ all = cc (q.2) in
     rw (p.1, rest) (ap (λ (bytes : List ℕ). Ok (take (suc n) bytes)) same)
 
--- what decoding into room gives, as the call returns it
+-- the result of decoding into a buffer, as the call returns it
 abbrev pub IsDecoded : Result (List ℕ) FromHexError → Bool → List ℕ → Type 0
 IsDecoded decoded result new = MatchResult decoded (λ bytes. (result ≡ true) × (new ≡ bytes)) (λ e. result ≡ false)
 

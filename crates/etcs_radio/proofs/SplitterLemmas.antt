@@ -31,7 +31,7 @@ taken_on held piece m n =
 pub length-taken : (held piece : List ℕ) (n : ℕ) → n ≤ length piece → length (held ++ take n piece) ≡ length held + n
 length-taken held piece n within = length-append held (take n piece) ∙ ap (λ k. length held + k) (length-take-le n piece within)
 
--- Bytes are taken up to the third, and then up to the length that the first three say.
+-- Bytes are taken up to the third, and then up to the length in the first three.
 module _ (held piece : List ℕ) (head wanted rest : ℕ) where
   -- what is held when the first step is done
   abbrev three : List ℕ

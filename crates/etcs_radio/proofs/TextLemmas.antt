@@ -45,7 +45,7 @@ pub not_hex_means : (text : List ℕ) → (IsHexadecimal text → ⊥) → messa
 unfolding message_of_text
 not_hex_means text not = not_hex text (decode_of text) refl not
 
--- ---- a text is a message exactly if it means it
+-- ---- a text is a message if and only if it means it
 
 pub text_meaning : (m : Message) (text : List ℕ) → IsMessageText m text → message_of_text text ≡ Ok m
 text_meaning m text x = text_means m text x.bytes x.decoded (message_meant m x.bytes x.message)

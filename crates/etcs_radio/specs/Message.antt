@@ -77,7 +77,7 @@ pub record IsLaterFault (bytes : List ℕ) (fault : Fault) : Type 0 where
   pub first : IsSpelled ((head (length bytes)).rows h) (beginning bytes) middle
   pub is_fault : IsPacketsFault h middle fault
 
--- the first fault of bytes: a fault of the head, or of the packets after a whole head
+-- the first fault of bytes: a fault of the head, or of the packets after a complete head
 abbrev pub IsMessageFault : List ℕ → Fault → Type 0
 IsMessageFault bytes f =
     IsFault (head (length bytes)).fields (beginning bytes) f ⊎ IsLaterFault bytes f

@@ -8,7 +8,7 @@ use Rattle.etcs_radio.specs.Stream.{message_length}
 -- ---- the state
 -- Pinned by the law states_are_meant.
 
--- The state of a splitter that holds these bytes. It is ready if they are a whole message, has
+-- The state of a splitter that holds these bytes. It is ready if they are a complete message, has
 -- failed if no message begins with them, and else waits for more.
 unfoldable pub state_of : List ℕ → State
 state_of bytes =
@@ -18,7 +18,7 @@ state_of bytes =
 -- ---- what is taken
 
 -- A splitter that holds these bytes takes `used` bytes from the front of the piece: the least number
--- after which it no longer waits, or else the whole piece.
+-- after which it no longer waits, otherwise the whole piece.
 pub record IsTaken (held piece : List ℕ) (used : ℕ) : Type 0 where
   pub within : used ≤ length piece
   pub waits_before : (n : ℕ) → n < used → state_of (held ++ take n piece) ≡ More

@@ -104,7 +104,7 @@ fn write(alloc: Global, message: &Message, count: usize) -> Result<Vec<u8>, Memo
 /// rule). There are at most 1,023 of them (SUBSET-026, 8.6 and 8.7).
 ///
 /// `TooBig`: the head and the packets have more bits than 1,023 bytes have. This is checked before the
-/// call asks for memory. After an error the record is as it was, and no byte is returned.
+/// call allocates. After an error the record is unchanged, and no byte is returned.
 pub fn encode(alloc: Global, message: &Message) -> Result<Vec<u8>, EncodeError>
     ensures ok { IfOk result (λ v. IsEncoding message.now v.items) }
     ensures too_big { IsErrOf result EncodeError.TooBig ↔ IsTooBig message.now }

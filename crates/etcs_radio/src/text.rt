@@ -82,7 +82,7 @@ pub fn from_hex(alloc: Global, text: &[u8]) -> Result<Message, RadioTextError>
 /// Writes the message's canonical text: its bytes in lower-case hexadecimal digits.
 ///
 /// `TooBig`: the head and the packets have more bits than 1,023 bytes have. This is checked before the
-/// call asks for memory. After an error the record is as it was, and no text is returned.
+/// call allocates. After an error the record is unchanged, and no text is returned.
 pub fn to_hex(alloc: Global, message: &Message) -> Result<String, EncodeError>
     ensures ok { IfOk result (λ s. IsCanonicalText message.now (string_bytes s)) }
     ensures too_big { IsErrOf result EncodeError.TooBig ↔ IsTooBig message.now }

@@ -16,12 +16,12 @@ pub record ReadsMore (remaining_old remaining_new : Option (List ℕ)) (before a
   pub consumed : Consumes remaining_old remaining_new bytes
   pub appended : IsAppended result before bytes after remaining_new
 
--- what was returned is the whole input: none of it is left
+-- what was returned is the whole input: none of it remains
 abbrev pub IsAllInput : {X : Type 0} → (X → List ℕ) → Result X RunError → List ℕ → Option (List ℕ) → Type 0
 IsAllInput items (Ok input) bytes remaining = (items input ≡ bytes) × IsAtEnd remaining
 IsAllInput items (Err _) bytes remaining = Unit {0}
 
--- These bytes were read. If all went well, they are the whole input.
+-- These bytes were read. Without an error they are the whole input.
 pub record ReadsAllInput {X : Type 0} (items : X → List ℕ) (remaining_old remaining_new : Option (List ℕ))
     (result : Result X RunError) : Type 0 where
   pub bytes : List ℕ

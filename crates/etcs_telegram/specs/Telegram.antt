@@ -23,7 +23,7 @@ pub record IsTelegram (t : Telegram) (bits : List Bool) : Type 0 where
   pub count : length bits ≡ user_bits t.size
   pub begins : BeginsWith stops.Telegram header.rows track_packet.rows t.header t.packets bits
 
--- The first fault of the bits: a fault of the header, or of the packets after a whole header.
+-- The first fault of the bits: a fault of the header, or of the packets after a complete header.
 abbrev pub IsTelegramFault : List Bool → Fault → Type 0
 IsTelegramFault bits f = IsWholeFault stops.Telegram header.fields track_packet.fields (start bits) f
 

@@ -48,7 +48,7 @@ fn write(alloc: Global, telegram: &Telegram) -> Result<Bits, Memory>
 /// (this project's rule).
 ///
 /// `TooBig`: the header, the packets and the end mark have more bits than the telegram's size. This
-/// is checked before the call asks for memory. After an error the record is as it was, and no bit is
+/// is checked before the call allocates. After an error the record is unchanged, and no bit is
 /// returned.
 pub fn encode(alloc: Global, telegram: &Telegram) -> Result<Bits, EncodeError>
     ensures ok { IfOk result (λ b. IsEncoding telegram.now b) }

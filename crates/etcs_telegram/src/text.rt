@@ -152,7 +152,7 @@ fn digits_of(alloc: Global, bytes: &[u8]) -> Result<String, EncodeError>
 /// in 54 or 208 lower-case hexadecimal digits.
 ///
 /// `TooBig`: the header, the packets and the end mark have more bits than the telegram's size. This
-/// is checked before the call asks for memory. After an error the record is as it was, and no text is
+/// is checked before the call allocates. After an error the record is unchanged, and no text is
 /// returned.
 pub fn to_hex(alloc: Global, telegram: &Telegram) -> Result<String, EncodeError>
     ensures ok { IfOk result (λ s. IsCanonicalText telegram.now (string_bytes s)) }

@@ -25,7 +25,7 @@ returns-then-not-is_hexadecimal-clause-front c = λ bytes read.
     let is : c.is_hexadecimal.result ≡ true = c.is_hexadecimal.ensures.1 (record { even = ok.0; digits = ok.1 }) in
     absurd cc (is, c.if-not-is_hexadecimal.true)
 
--- the digits of as many bytes as there is room for
+-- the digits of as many bytes as fit
 pub returns-clause-front : goal.returns-clause-front
 returns-clause-front c = λ bytes read.
     let text = c.args.text.now in

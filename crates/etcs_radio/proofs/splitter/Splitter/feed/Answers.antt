@@ -1,4 +1,4 @@
--- Bytes are taken up to the third, and then up to the length that the first three say.
+-- Bytes are taken up to the third, and then up to the length in the first three.
 use Rattle.std.proofs.Common.{◌≡◌, ◌+◌, ◌<◌, ◌≤◌, ◌++◌, length, max, refl, ap, ◌∙◌, subst, take}
 use Rattle.etcs_radio.specs.Stream.{message_length}
 use Rattle.etcs_radio.specs.Splitter.{IsTaken}

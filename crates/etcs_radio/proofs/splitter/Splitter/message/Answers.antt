@@ -1,4 +1,4 @@
--- What is ready is whole.
+-- A splitter that is ready has a complete message.
 use Rattle.std.proofs.Common.{◌∙◌, ap}
 use Rattle.etcs_radio.specs.Splitter.{state_of}
 use Rattle.etcs_radio.proofs.StateLemmas.{ready-whole}
