@@ -3,7 +3,7 @@ use Rattle.std.proofs.Common.{◌≡◌, ◌+◌, ◌++◌, ℕ, List, [], take,
 use Rattle.std.proofs.lemmas.List.{append-nil, take-append-drop}
 use Rattle.etcs_run.specs.TextLineMeaning.{Meaning, refusal_of}
 use Rattle.etcs_run.specs.Output.{Output, after_line, answered, answers}
-use Rattle.etcs_run.specs.Ran.{TakesTurn, Turns, WritesBytes}
+use Rattle.etcs_run.specs.Ran.{AnswersNextLine, AnswersLine, WritesBytes}
 use Rattle.etcs_run.specs.TextLines.{trimmed}
 use Rattle.etcs_run.specs.declared.error.RunError.{RunError}
 use Rattle.etcs_run.specs.declared.control_flow.ControlFlow.{ControlFlow}
@@ -13,7 +13,7 @@ use Rattle.etcs_run.specs.declared.control_flow.ControlFlow.TheVariants.{Next, S
 pub put_failed : {old new : Option (List ℕ)} {bytes : List ℕ} {after : Output → Output}
     {result : Result (Unit {0}) RunError} (e : RunError) → WritesBytes old new bytes result
     → ((rest : Output) → (more : List ℕ) × ((after rest).0 ≡ bytes ++ more))
-    → Turns old new after (Err e)
+    → AnswersLine old new after (Err e)
 put_failed {bytes} e written begins = record {
   text = take written.count bytes;
   appended = written.appended;
@@ -37,10 +37,10 @@ pub begins_refused : (n : ℕ) (words : List ℕ) {bytes : List ℕ} → bytes �
 begins_refused n words {bytes} is rest = ([], sym is ∙ sym (append-nil bytes))
 
 -- the answer of a command that carries nothing from line to line
-pub turn_taken : {old new : Option (List ℕ)} (meaning : Meaning) (number : ℕ) (line : List ℕ) (result : Result ControlFlow RunError)
-    → Turns old new (after_line meaning number (trimmed line)) result
-    → TakesTurn old new (answers meaning) (answers meaning) number line result
+pub next_answer_of : {old new : Option (List ℕ)} (meaning : Meaning) (number : ℕ) (line : List ℕ) (result : Result ControlFlow RunError)
+    → AnswersLine old new (after_line meaning number (trimmed line)) result
+    → AnswersNextLine old new (answers meaning) (answers meaning) number line result
 unfolding answers
-turn_taken meaning number line (Ok Next) turn = record { text = turn.text; appended = turn.appended; says = λ lines. turn.says (answers meaning (number + 1) lines) }
-turn_taken meaning number line (Ok (Stop status)) turn = record { text = turn.text; appended = turn.appended; says = λ lines. turn.says (answers meaning (number + 1) lines) }
-turn_taken meaning number line (Err e) turn = record { text = turn.text; appended = turn.appended; says = λ lines. turn.says (answers meaning (number + 1) lines) }
+next_answer_of meaning number line (Ok Next) line_answer = record { text = line_answer.text; appended = line_answer.appended; says = λ lines. line_answer.says (answers meaning (number + 1) lines) }
+next_answer_of meaning number line (Ok (Stop status)) line_answer = record { text = line_answer.text; appended = line_answer.appended; says = λ lines. line_answer.says (answers meaning (number + 1) lines) }
+next_answer_of meaning number line (Err e) line_answer = record { text = line_answer.text; appended = line_answer.appended; says = λ lines. line_answer.says (answers meaning (number + 1) lines) }

@@ -22,7 +22,7 @@ use Rattle.etcs_telegram.specs.declared.error.TextError.TheVariants.{NotHex}
 use Rattle.etcs_run.specs.Output.{Output, answered, prepend}
 use Rattle.etcs_run.specs.RadioHeld.{Feeds}
 use Rattle.etcs_run.specs.RadioStream.{Continuation, bytes_output, line_for, refused_message, stream_answers, message_output, cut_output}
-use Rattle.etcs_run.specs.Ran.{TakesTurn, Turns, Writes, WritesBytes}
+use Rattle.etcs_run.specs.Ran.{AnswersNextLine, AnswersLine, Writes, WritesBytes}
 use Rattle.etcs_run.specs.TextLines.{trimmed}
 use Rattle.etcs_run.specs.declared.error.RunError.{RunError}
 use Rattle.etcs_run.specs.declared.status.Status.{Status}
@@ -130,40 +130,40 @@ Feeding-start {c} all = record { text = []; appended = Appends-none c; says = λ
 module _ {c0 c c1 : Option (List ℕ)} {all left : Continuation → Output} (feeding : Feeding c0 c all left) where
   -- a message was answered, and the rest is left
   pub Feeding-message : (later : Continuation → Output) (after : Output → Output)
-      → ((continuation : Continuation) → left continuation ≡ after (later continuation)) → Turns c c1 after (Ok Next)
+      → ((continuation : Continuation) → left continuation ≡ after (later continuation)) → AnswersLine c c1 after (Ok Next)
       → Feeding c0 c1 all later
-  Feeding-message later after is turn = record {
-    text = feeding.text ++ turn.text;
-    appended = Appends-then c0 c c1 _ _ feeding.appended turn.appended;
+  Feeding-message later after is line_answer = record {
+    text = feeding.text ++ line_answer.text;
+    appended = Appends-then c0 c c1 _ _ feeding.appended line_answer.appended;
     says = λ continuation.
-        feeding.says continuation ∙ ap (prepend feeding.text) (is continuation ∙ turn.says (later continuation))
-        ∙ ap (λ s. (s, (later continuation).1)) (sym (append_assoc feeding.text turn.text (later continuation).0));
+        feeding.says continuation ∙ ap (prepend feeding.text) (is continuation ∙ line_answer.says (later continuation))
+        ∙ ap (λ s. (s, (later continuation).1)) (sym (append_assoc feeding.text line_answer.text (later continuation).0));
   }
 
   -- the run stops at a message
   pub Feeds-stopped : (later : Continuation → Output) (after : Output → Output)
       → ((continuation : Continuation) → left continuation ≡ after (later continuation)) → {status : Status}
-      → Turns c c1 after (Ok (Stop status)) → (n : ℕ) (held : List ℕ)
+      → AnswersLine c c1 after (Ok (Stop status)) → (n : ℕ) (held : List ℕ)
       → Feeds c0 c1 all n held (Ok (Stop status))
-  Feeds-stopped later after is turn n held = record {
-    text = feeding.text ++ turn.text;
-    appended = Appends-then c0 c c1 _ _ feeding.appended turn.appended;
-    says = λ continuation. feeding.says continuation ∙ ap (prepend feeding.text) (is continuation ∙ turn.says (later continuation));
+  Feeds-stopped later after is line_answer n held = record {
+    text = feeding.text ++ line_answer.text;
+    appended = Appends-then c0 c c1 _ _ feeding.appended line_answer.appended;
+    says = λ continuation. feeding.says continuation ∙ ap (prepend feeding.text) (is continuation ∙ line_answer.says (later continuation));
   }
 
   -- a write failed, or memory ran out
   pub Feeds-cut : (later : Continuation → Output) (after : Output → Output)
       → ((continuation : Continuation) → left continuation ≡ after (later continuation)) → {e : RunError} (x : RunError)
-      → Turns c c1 after (Err e) → (n : ℕ) (held : List ℕ) → Feeds c0 c1 all n held (Err x)
-  Feeds-cut later after is x turn n held = record {
-    text = feeding.text ++ turn.text;
-    appended = Appends-then c0 c c1 _ _ feeding.appended turn.appended;
+      → AnswersLine c c1 after (Err e) → (n : ℕ) (held : List ℕ) → Feeds c0 c1 all n held (Err x)
+  Feeds-cut later after is x line_answer n held = record {
+    text = feeding.text ++ line_answer.text;
+    appended = Appends-then c0 c c1 _ _ feeding.appended line_answer.appended;
     says = λ continuation.
-        let cut = turn.says (later continuation) in (
+        let cut = line_answer.says (later continuation) in (
           cut.0,
           ap (λ o. o.0) (feeding.says continuation ∙ ap (prepend feeding.text) (is continuation))
               ∙ ap (λ s. feeding.text ++ s) cut.1
-              ∙ sym (append_assoc feeding.text turn.text cut.0),
+              ∙ sym (append_assoc feeding.text line_answer.text cut.0),
         );
   }
 
@@ -192,24 +192,24 @@ written_whole {bytes} {line} {status} written is = record {
 }
 
 -- the complete output ends the run, whatever would follow
-pub turn_of_output : {c c1 : Option (List ℕ)} {output : Output} {status : Status}
-    → Writes c c1 output (Ok status) → Turns c c1 (λ _. output) (Ok (Stop status))
-turn_of_output writes = record { text = writes.text; appended = writes.appended; says = λ rest. writes.says }
+pub answer_of_output : {c c1 : Option (List ℕ)} {output : Output} {status : Status}
+    → Writes c c1 output (Ok status) → AnswersLine c c1 (λ _. output) (Ok (Stop status))
+answer_of_output writes = record { text = writes.text; appended = writes.appended; says = λ rest. writes.says }
 
 -- a beginning of the output
-pub turn_of_beginning : {c c1 : Option (List ℕ)} {output : Output} {e : RunError} (x : RunError)
-    → Writes c c1 output (Err e) → Turns c c1 (λ _. output) (Err x)
-turn_of_beginning x writes = record { text = writes.text; appended = writes.appended; says = λ rest. writes.says }
+pub answer_of_beginning : {c c1 : Option (List ℕ)} {output : Output} {e : RunError} (x : RunError)
+    → Writes c c1 output (Err e) → AnswersLine c c1 (λ _. output) (Err x)
+answer_of_beginning x writes = record { text = writes.text; appended = writes.appended; says = λ rest. writes.says }
 
 -- a line whose answer is equal
-pub Turns-as : {c c1 : Option (List ℕ)} {after other : Output → Output} (result : Result ControlFlow RunError)
-    → ((rest : Output) → other rest ≡ after rest) → Turns c c1 after result → Turns c c1 other result
-Turns-as (Ok Next) same turn = record { text = turn.text; appended = turn.appended; says = λ rest. same rest ∙ turn.says rest }
-Turns-as (Ok (Stop status)) same turn = record { text = turn.text; appended = turn.appended; says = λ rest. same rest ∙ turn.says rest }
-Turns-as (Err e) same turn = record {
-  text = turn.text;
-  appended = turn.appended;
-  says = λ rest. let cut = turn.says rest in (cut.0, ap (λ o. o.0) (same rest) ∙ cut.1);
+pub AnswersLine-as : {c c1 : Option (List ℕ)} {after other : Output → Output} (result : Result ControlFlow RunError)
+    → ((rest : Output) → other rest ≡ after rest) → AnswersLine c c1 after result → AnswersLine c c1 other result
+AnswersLine-as (Ok Next) same line_answer = record { text = line_answer.text; appended = line_answer.appended; says = λ rest. same rest ∙ line_answer.says rest }
+AnswersLine-as (Ok (Stop status)) same line_answer = record { text = line_answer.text; appended = line_answer.appended; says = λ rest. same rest ∙ line_answer.says rest }
+AnswersLine-as (Err e) same line_answer = record {
+  text = line_answer.text;
+  appended = line_answer.appended;
+  says = λ rest. let cut = line_answer.says rest in (cut.0, ap (λ o. o.0) (same rest) ∙ cut.1);
 }
 
 -- ---- lines
@@ -218,7 +218,7 @@ Turns-as (Err e) same turn = record {
 pub line_fed : {c c1 : Option (List ℕ)} (n : ℕ) (held : List ℕ) (later : ℕ) (kept : List ℕ)
     (number : ℕ) (line bytes : List ℕ) (result : Result ControlFlow RunError)
     → decode_of (trimmed line) ≡ Ok bytes → Feeds c c1 (bytes_output n held bytes) later kept result
-    → TakesTurn c c1 (stream_answers n held) (stream_answers later kept) number line result
+    → AnswersNextLine c c1 (stream_answers n held) (stream_answers later kept) number line result
 unfolding stream_answers
 line_fed n held later kept number line bytes (Ok Next) is feeds = record { text = feeds.text; appended = feeds.appended; says = λ lines. rw is (feeds.says (λ m h. stream_answers m h (number + 1) lines)) }
 line_fed n held later kept number line bytes (Ok (Stop status)) is feeds = record { text = feeds.text; appended = feeds.appended; says = λ lines. rw is (feeds.says (λ m h. stream_answers m h (number + 1) lines)) }
@@ -234,16 +234,16 @@ not_read same some (inr is) = ap decode_of (sym same) ∙ is
 pub line_refused : {c c1 : Option (List ℕ)} (n : ℕ) (held : List ℕ) (later : ℕ) (kept : List ℕ)
     (number : ℕ) (line : List ℕ) (why : FromHexError) (result : Result ControlFlow RunError)
     → decode_of (trimmed line) ≡ Err why
-    → Turns c c1 (answered number (Err (line_words (Text NotHex)))) result
-    → TakesTurn c c1 (stream_answers n held) (stream_answers later kept) number line result
+    → AnswersLine c c1 (answered number (Err (line_words (Text NotHex)))) result
+    → AnswersNextLine c c1 (stream_answers n held) (stream_answers later kept) number line result
 unfolding stream_answers
-line_refused n held later kept number line why (Ok Next) is turn = record { text = turn.text; appended = turn.appended; says = λ lines. rw is (turn.says (stream_answers later kept (number + 1) lines)) }
-line_refused n held later kept number line why (Ok (Stop status)) is turn = record { text = turn.text; appended = turn.appended; says = λ lines. rw is (turn.says (stream_answers later kept (number + 1) lines)) }
-line_refused n held later kept number line why (Err e) is turn = record { text = turn.text; appended = turn.appended; says = λ lines. rw is (turn.says (stream_answers later kept (number + 1) lines)) }
+line_refused n held later kept number line why (Ok Next) is line_answer = record { text = line_answer.text; appended = line_answer.appended; says = λ lines. rw is (line_answer.says (stream_answers later kept (number + 1) lines)) }
+line_refused n held later kept number line why (Ok (Stop status)) is line_answer = record { text = line_answer.text; appended = line_answer.appended; says = λ lines. rw is (line_answer.says (stream_answers later kept (number + 1) lines)) }
+line_refused n held later kept number line why (Err e) is line_answer = record { text = line_answer.text; appended = line_answer.appended; says = λ lines. rw is (line_answer.says (stream_answers later kept (number + 1) lines)) }
 
 -- memory ran out before anything was written for the line
 pub line_unread : {c : Option (List ℕ)} (before after : ℕ → List (List ℕ) → Output) (number : ℕ)
-    (line : List ℕ) (e : RunError) → TakesTurn c c before after number line (Err e)
+    (line : List ℕ) (e : RunError) → AnswersNextLine c c before after number line (Err e)
 line_unread {c} before after number line e = record {
   text = [];
   appended = Appends-none c;
@@ -271,7 +271,7 @@ bytes_spelled line bytes is =
 -- a cost that is covered by fewer bytes is covered by more
 pub pays_more : (a b m n : ℕ) (result : Result ControlFlow RunError) → OnOk result (a ≤ b + m) → m ≤ n
     → OnOk result (a ≤ b + n)
-pays_more a b m n (Ok turn) bounded few = omega (arith, bounded, few)
+pays_more a b m n (Ok line_answer) bounded few = omega (arith, bounded, few)
 pays_more a b m n (Err e) bounded few = tt
 
 -- ---- the end of the input

@@ -7,7 +7,7 @@ use Rattle.etcs_run.specs.LineReading.{CountsDevice, Reads}
 use Rattle.etcs_run.specs.Ran.{MayFollow}
 use Rattle.etcs_run.specs.TextLines.{lines_of}
 use Rattle.etcs_run.specs.Output.{Output, line_by_line, prepend}
-use Rattle.etcs_run.specs.Ran.{CountsOneDevice, IsOutputSoFar, Ran, TakesTurn, Writes, WritesBytes}
+use Rattle.etcs_run.specs.Ran.{CountsOneDevice, IsOutputSoFar, Ran, AnswersNextLine, Writes, WritesBytes}
 use Rattle.etcs_run.specs.declared.counted.Counted.{Counted}
 use Rattle.etcs_run.specs.declared.error.RunError.{RunError}
 use Rattle.etcs_run.specs.declared.error.RunError.TheVariants.{Memory, Device}
@@ -112,48 +112,48 @@ module _ {r0 r c0 c c1 : Option (List ℕ)} {ended : Bool} {output : List ℕ �
     (before after : Answers) (n : ℕ) {line : List ℕ} (now : List ℕ)
     (run : Running r0 r c0 c ended output (λ rest. before (n + 1) (line ∷ lines_of (now ++ rest)))) where
   -- a line was answered
-  pub Running-answered : TakesTurn c c1 before after (n + 1) line (Ok Next)
+  pub Running-answered : AnswersNextLine c c1 before after (n + 1) line (Ok Next)
       → Running r0 r c0 c1 ended output (left_of after (n + 1) now)
-  Running-answered turn = record {
+  Running-answered line_answer = record {
     bytes = run.bytes;
     consumed = run.consumed;
-    text = run.text ++ turn.text;
-    appended = Appends-then c0 c c1 _ _ run.appended turn.appended;
+    text = run.text ++ line_answer.text;
+    appended = Appends-then c0 c c1 _ _ run.appended line_answer.appended;
     says = λ rest may.
         let later = after ((n + 1) + 1) (lines_of (now ++ rest)) in
-        run.says rest may ∙ ap (prepend run.text) (turn.says (lines_of (now ++ rest)))
-        ∙ ap (λ s. (s, later.1)) (sym (append_assoc run.text turn.text later.0));
+        run.says rest may ∙ ap (prepend run.text) (line_answer.says (lines_of (now ++ rest)))
+        ∙ ap (λ s. (s, later.1)) (sym (append_assoc run.text line_answer.text later.0));
   }
 
   -- the run stops at a line
-  pub Running-stopped : {status : Status} → TakesTurn c c1 before after (n + 1) line (Ok (Stop status))
+  pub Running-stopped : {status : Status} → AnswersNextLine c c1 before after (n + 1) line (Ok (Stop status))
       → (ended ≡ true → IsAtEnd r) → Ran r0 r c0 c1 output (Ok status)
-  Running-stopped turn met = record {
+  Running-stopped line_answer met = record {
     bytes = run.bytes;
     consumed = run.consumed;
     ended = ended;
     met = met;
-    text = run.text ++ turn.text;
-    appended = Appends-then c0 c c1 _ _ run.appended turn.appended;
+    text = run.text ++ line_answer.text;
+    appended = Appends-then c0 c c1 _ _ run.appended line_answer.appended;
     says = λ rest may.
-        run.says rest may ∙ ap (prepend run.text) (turn.says (lines_of (now ++ rest)));
+        run.says rest may ∙ ap (prepend run.text) (line_answer.says (lines_of (now ++ rest)));
   }
 
   -- a write failed, or memory ran out
-  pub Running-cut : {e : RunError} (x : RunError) → TakesTurn c c1 before after (n + 1) line (Err e)
+  pub Running-cut : {e : RunError} (x : RunError) → AnswersNextLine c c1 before after (n + 1) line (Err e)
       → (ended ≡ true → IsAtEnd r) → Ran r0 r c0 c1 output (Err x)
-  Running-cut x turn met = record {
+  Running-cut x line_answer met = record {
     bytes = run.bytes;
     consumed = run.consumed;
     ended = ended;
     met = met;
-    text = run.text ++ turn.text;
-    appended = Appends-then c0 c c1 _ _ run.appended turn.appended;
+    text = run.text ++ line_answer.text;
+    appended = Appends-then c0 c c1 _ _ run.appended line_answer.appended;
     says = λ rest may.
-        let cut = turn.says (lines_of (now ++ rest)) in (
+        let cut = line_answer.says (lines_of (now ++ rest)) in (
           cut.0,
           ap (λ o. o.0) (run.says rest may) ∙ ap (λ s. run.text ++ s) cut.1
-              ∙ sym (append_assoc run.text turn.text cut.0),
+              ∙ sym (append_assoc run.text line_answer.text cut.0),
         );
   }
 

@@ -89,7 +89,7 @@ IsAnswerSoFar (Ok (Stop status)) text after = (rest : Output) → after rest ≡
 IsAnswerSoFar (Err _) text after = (rest : Output) → (more : List ℕ) × ((after rest).0 ≡ text ++ more)
 
 -- this text was written, and it is the answer to the line, or a beginning of it
-pub record Turns (old new : Option (List ℕ)) (after : Output → Output)
+pub record AnswersLine (old new : Option (List ℕ)) (after : Output → Output)
     (result : Result ControlFlow RunError) : Type 0 where
   pub text : List ℕ
   pub appended : Appends old new text
@@ -97,16 +97,16 @@ pub record Turns (old new : Option (List ℕ)) (after : Output → Output)
 
 -- What is written from a line onwards: this text and then what is written from the next line
 -- onwards, this text and the end, or more than this text.
-abbrev pub IsTurnSoFar : Result ControlFlow RunError → List ℕ → Output → Output → Type 0
-IsTurnSoFar (Ok Next) text now later = now ≡ prepend text later
-IsTurnSoFar (Ok (Stop status)) text now later = now ≡ (text, status)
-IsTurnSoFar (Err _) text now later = (more : List ℕ) × (now.0 ≡ text ++ more)
+abbrev pub IsNextAnswerSoFar : Result ControlFlow RunError → List ℕ → Output → Output → Type 0
+IsNextAnswerSoFar (Ok Next) text now later = now ≡ prepend text later
+IsNextAnswerSoFar (Ok (Stop status)) text now later = now ≡ (text, status)
+IsNextAnswerSoFar (Err _) text now later = (more : List ℕ) × (now.0 ≡ text ++ more)
 
 -- This text was written, and it is the answer to the line, or a beginning of it, whatever lines
 -- after it.
-pub record TakesTurn (old new : Option (List ℕ)) (before after : ℕ → List (List ℕ) → Output)
+pub record AnswersNextLine (old new : Option (List ℕ)) (before after : ℕ → List (List ℕ) → Output)
     (number : ℕ) (line : List ℕ) (result : Result ControlFlow RunError) : Type 0 where
   pub text : List ℕ
   pub appended : Appends old new text
   pub says : (lines : List (List ℕ))
-      → IsTurnSoFar result text (before number (line ∷ lines)) (after (number + 1) lines)
+      → IsNextAnswerSoFar result text (before number (line ∷ lines)) (after (number + 1) lines)

@@ -7,7 +7,7 @@ ghost use Rattle.etcs_run.specs.TextLineMeaning.{refusal_of};
 ghost use Rattle.etcs_run.specs.LineReading.{CountsDevice};
 ghost use Rattle.etcs_run.specs.TextLines.{trimmed};
 ghost use Rattle.etcs_run.specs.Output.{after_line, answered};
-ghost use Rattle.etcs_run.specs.Ran.{TakesTurn, Turns};
+ghost use Rattle.etcs_run.specs.Ran.{AnswersNextLine, AnswersLine};
 
 use crate::control_flow::ControlFlow;
 use crate::counted::Counted;
@@ -49,7 +49,7 @@ pub(crate) fn refuse_line<W: Write>(
     writer: &mut Counted<W>,
 ) -> Result<ControlFlow, RunError>
     requires { CanCount writer.old }
-    ensures turns { Turns (W.contents (inner_of writer.old)) (W.contents (inner_of writer.new))
+    ensures answers_line { AnswersLine (W.contents (inner_of writer.old)) (W.contents (inner_of writer.new))
         (answered number (Err (line_words why))) result }
     ensures counts { CountsDevice result writer.old writer.new }
     ensures unflushed { FlushesNone writer.old writer.new }
@@ -73,7 +73,7 @@ fn answer_line<M: TextLineMeaning, W: Write>(
     writer: &mut Counted<W>,
 ) -> Result<ControlFlow, RunError>
     requires { CanCount writer.old }
-    ensures turns { Turns (W.contents (inner_of writer.old)) (W.contents (inner_of writer.new))
+    ensures answers_line { AnswersLine (W.contents (inner_of writer.old)) (W.contents (inner_of writer.new))
         (answered number (M.meaning line.now)) result }
     ensures counts { CountsDevice result writer.old writer.new }
     ensures unflushed { FlushesNone writer.old writer.new }
@@ -91,7 +91,7 @@ fn answer_line<M: TextLineMeaning, W: Write>(
 }
 
 // Writes the answer to a line. An empty line is skipped.
-fn take_turn<M: TextLineMeaning, W: Write>(
+fn answer_or_skip<M: TextLineMeaning, W: Write>(
     alloc: Global,
     meaning: &mut M,
     number: u64,
@@ -100,7 +100,7 @@ fn take_turn<M: TextLineMeaning, W: Write>(
     writer: &mut Counted<W>,
 ) -> Result<ControlFlow, RunError>
     requires { CanCount writer.old }
-    ensures turns { Turns (W.contents (inner_of writer.old)) (W.contents (inner_of writer.new))
+    ensures answers_line { AnswersLine (W.contents (inner_of writer.old)) (W.contents (inner_of writer.new))
         (after_line M.meaning number (trimmed line.now)) result }
     ensures counts { CountsDevice result writer.old writer.new }
     ensures unflushed { FlushesNone writer.old writer.new }
@@ -154,14 +154,14 @@ impl<M: TextLineMeaning> TextLineCommand for EachTextLine<M> {
         writer: &mut Counted<W>,
     ) -> Result<ControlFlow, RunError>
         requires { CanCount writer.old }
-        ensures turns { TakesTurn (W.contents (inner_of writer.old)) (W.contents (inner_of writer.new))
+        ensures answers_line { AnswersNextLine (W.contents (inner_of writer.old)) (W.contents (inner_of writer.new))
             (answers M.meaning) (answers M.meaning) number line.now result }
         ensures counts { CountsDevice result writer.old writer.new }
         ensures unflushed { FlushesNone writer.old writer.new }
         ensures empty { trimmed line.now ≡ [] → (result ≡ Ok ControlFlow.Next) × (writer.new ≡ writer.old) }
     {
         let EachTextLine { meaning, room } = self;
-        take_turn(alloc, meaning, number, line, room, writer)
+        answer_or_skip(alloc, meaning, number, line, room, writer)
     }
 
     fn end<W: Write>(

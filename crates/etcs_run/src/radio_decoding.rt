@@ -8,7 +8,7 @@ ghost use Rattle.etcs_run.specs.Counted.{CanCount, FlushesNone, inner_of};
 ghost use Rattle.etcs_run.specs.LineReading.{CountsDevice};
 ghost use Rattle.etcs_run.specs.RadioHeld.{Feeds, least_read, kept_by, messages_written};
 ghost use Rattle.etcs_run.specs.RadioStream.{bytes_output, line_for, refused_message, message_output};
-ghost use Rattle.etcs_run.specs.Ran.{Turns, Writes};
+ghost use Rattle.etcs_run.specs.Ran.{AnswersLine, Writes};
 
 use crate::control_flow::ControlFlow;
 use crate::counted::Counted;
@@ -70,7 +70,7 @@ fn write_message<W: Write>(
     writer: &mut Counted<W>,
 ) -> Result<ControlFlow, RunError>
     requires { CanCount writer.old }
-    ensures turns { Turns (W.contents (inner_of writer.old)) (W.contents (inner_of writer.new))
+    ensures answers_line { AnswersLine (W.contents (inner_of writer.old)) (W.contents (inner_of writer.new))
         (message_output number (line_for (message_of bytes.now))) result }
     ensures counts { CountsDevice result writer.old writer.new }
     ensures unflushed { FlushesNone writer.old writer.new }
@@ -125,7 +125,7 @@ impl RadioDecoding {
         requires ready { state_of (kept_by self.old) ≡ State.Ready }
         requires numbered { messages_written self.old + 1 < 2 ^ 64 }
         requires writes { CanCount writer.old }
-        ensures turns { Turns (W.contents (inner_of writer.old)) (W.contents (inner_of writer.new))
+        ensures answers_line { AnswersLine (W.contents (inner_of writer.old)) (W.contents (inner_of writer.new))
             (message_output (messages_written self.old) (line_for (message_of (kept_by self.old)))) result }
         ensures next { result ≡ Ok ControlFlow.Next → messages_written self.new ≡ messages_written self.old + 1 }
         ensures cleared { result ≡ Ok ControlFlow.Next → kept_by self.new ≡ [] }

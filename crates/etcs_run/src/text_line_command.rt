@@ -4,7 +4,7 @@ ghost use Rattle.std.specs.Prelude.{◌≡◌, ℕ, ◌+◌, ◌<◌, ◌≤◌,
 ghost use Rattle.etcs_run.specs.Counted.{CanCount, FlushesNone, inner_of};
 ghost use Rattle.etcs_run.specs.LineReading.{CountsDevice};
 ghost use Rattle.etcs_run.specs.Output.{Output};
-ghost use Rattle.etcs_run.specs.Ran.{TakesTurn, Writes};
+ghost use Rattle.etcs_run.specs.Ran.{AnswersNextLine, Writes};
 
 use crate::control_flow::ControlFlow;
 use crate::counted::Counted;
@@ -36,7 +36,7 @@ pub trait TextLineCommand: Drop {
     ) -> Result<ControlFlow, RunError>
         requires numbered { count_bound self.old + length line.now < 2 ^ 64 }
         requires writes { CanCount writer.old }
-        ensures turns { TakesTurn (W.contents (inner_of writer.old)) (W.contents (inner_of writer.new))
+        ensures answers_line { AnswersNextLine (W.contents (inner_of writer.old)) (W.contents (inner_of writer.new))
             (answers self.old) (answers self.new) number line.now result }
         ensures bounded { OnOk result (count_bound self.new ≤ count_bound self.old + length line.now) }
         ensures counts { CountsDevice result writer.old writer.new }

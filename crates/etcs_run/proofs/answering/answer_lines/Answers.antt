@@ -22,10 +22,10 @@ lines-preserved g c =
     let held = held_of c.next.new.self in
     let read = rw c.if-branch.true at c.in_ok-next.ensures.reads in
     let found = Running-line (answers c.lines.command) c.lines.number c.lines.invariant.running read c.in_ok-next.ensures.ended in
-    let turn = rw (c.in_default.is, c.line.ensures) at c.in_ok-status.ensures.turns in
+    let line_answer = rw (c.in_default.is, c.line.ensures) at c.in_ok-status.ensures.answers_line in
     let paid = rw c.line.ensures at c.in_ok-status.ensures.bounded in
     record {
-      running = Running-answered (answers c.lines.command) (answers c.answer.new.self) c.lines.number held found turn;
+      running = Running-answered (answers c.lines.command) (answers c.answer.new.self) c.lines.number held found line_answer;
       reads = search rules;
       writes = search rules;
       unflushed = search rules;
@@ -51,8 +51,8 @@ returns-in_err-status-clause-ran g c =
     let found = Running-line (answers c.lines.command) c.lines.number c.lines.invariant.running read c.in_ok-next.ensures.ended in
     let residual = c.from_residual-in_err-status in
     let passed_on = err_from_is_err_and residual.result residual.ensures.1 in
-    let turn = rw c.line.ensures at c.in_err-status.ensures.turns in
-    rw passed_on.1 (Running-cut (answers c.lines.command) (answers c.answer.new.self) c.lines.number held found passed_on.0 turn
+    let line_answer = rw c.line.ensures at c.in_err-status.ensures.answers_line in
+    rw passed_on.1 (Running-cut (answers c.lines.command) (answers c.answer.new.self) c.lines.number held found passed_on.0 line_answer
     (c.in_ok-next.ensures.met c.lines.invariant.met))
 
 -- the run stops at the line
@@ -62,8 +62,8 @@ returns-in-Stop-clause-ran g c =
     let held = held_of c.next.new.self in
     let read = rw c.if-branch.true at c.in_ok-next.ensures.reads in
     let found = Running-line (answers c.lines.command) c.lines.number c.lines.invariant.running read c.in_ok-next.ensures.ended in
-    let turn = rw (c.in-Stop.is, c.line.ensures) at c.in_ok-status.ensures.turns in
-    Running-stopped (answers c.lines.command) (answers c.answer.new.self) c.lines.number held found turn (c.in_ok-next.ensures.met c.lines.invariant.met)
+    let line_answer = rw (c.in-Stop.is, c.line.ensures) at c.in_ok-status.ensures.answers_line in
+    Running-stopped (answers c.lines.command) (answers c.answer.new.self) c.lines.number held found line_answer (c.in_ok-next.ensures.met c.lines.invariant.met)
 
 -- there is no further line
 pub returns-clause-ran : goal.returns-clause-ran

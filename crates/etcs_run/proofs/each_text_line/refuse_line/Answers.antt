@@ -6,8 +6,8 @@ use Rattle.etcs_run.proofs.AnswerLemmas.{begins_refused, put_failed}
 use Rattle.etcs_run.proofs.each_text_line.refuse_line.Goals as goal
 
 -- the part of a refusal that was written is a beginning of it
-pub returns-in_err-put-in-Ok-clause-turns : goal.returns-in_err-put-in-Ok-clause-turns
-returns-in_err-put-in-Ok-clause-turns g c =
+pub returns-in_err-put-in-Ok-clause-answers_line : goal.returns-in_err-put-in-Ok-clause-answers_line
+returns-in_err-put-in-Ok-clause-answers_line g c =
     let passed_on = err_from_is_err_and c.from_residual.result c.from_residual.ensures.1 in
     let text : c.as_bytes.result.now ≡ refusal_of c.args.number (line_words c.args.why) = search rules in
     let begins = begins_refused c.args.number (line_words c.args.why) text in

@@ -7,8 +7,8 @@ use Rattle.etcs_run.proofs.AnswerLemmas.{put_failed}
 use Rattle.etcs_run.proofs.radio_decoding.write_message.Goals as goal
 
 -- the part of a line that was written is a beginning of the answer
-pub returns-in_err-put-in-Ok-clause-turns : goal.returns-in_err-put-in-Ok-clause-turns
-returns-in_err-put-in-Ok-clause-turns g c =
+pub returns-in_err-put-in-Ok-clause-answers_line : goal.returns-in_err-put-in-Ok-clause-answers_line
+returns-in_err-put-in-Ok-clause-answers_line g c =
     let passed_on = err_from_is_err_and c.from_residual.result c.from_residual.ensures.1 in
     let means : line_for (message_of c.args.bytes.now) ≡ Ok c.as_slice.result.now = search rules in
     rw passed_on.1 (put_failed passed_on.0 c.put.ensures.written (begins_told c.args.number means))

@@ -5,7 +5,7 @@ use Rattle.etcs_document.specs.declared.refusal.StreamFault.TheVariants.{BelowTh
 use Rattle.etcs_radio.specs.Meaning.{message_of}
 use Rattle.etcs_run.specs.Output.{Output}
 use Rattle.etcs_run.specs.RadioStream.{bytes_output, line_for, refused_message, message_output}
-use Rattle.etcs_run.proofs.RadioLemmas.{Feeding-message, Feeds-cut, Feeds-more, Feeds-stopped, left_failed, left_more, left_ready, takes_few, takes_of, takes_so_many, takes_three, turn_of_beginning, turn_of_output}
+use Rattle.etcs_run.proofs.RadioLemmas.{Feeding-message, Feeds-cut, Feeds-more, Feeds-stopped, left_failed, left_more, left_ready, takes_few, takes_of, takes_so_many, takes_three, answer_of_beginning, answer_of_output}
 use Rattle.etcs_run.proofs.radio_decoding.RadioDecoding.feed.Goals as goal
 
 -- all bytes were fed, and the splitter waits for more
@@ -24,9 +24,9 @@ returns-in_err-status-in-Failed-clause-feeds g c =
     let failed = sym c.feed-fed.ensures.state ∙ c.in-Failed.is in
     let refused : Output = refused_message n BelowThree in
     let passed_on = err_from_is_err_and c.from_residual.result c.from_residual.ensures.1 in
-    let turn = turn_of_beginning passed_on.0 c.in_err-status-in-Failed.ensures.writes in
+    let line_answer = answer_of_beginning passed_on.0 c.in_err-status-in-Failed.ensures.writes in
     rw passed_on.1 (Feeds-cut c.messages.invariant.feeding (λ _. refused) (λ _. refused) (left_failed call n failed)
-    passed_on.0 turn n c.feed-fed.new.self)
+    passed_on.0 line_answer n c.feed-fed.new.self)
 
 -- the refusal was written
 pub returns-in-Failed-clause-feeds : goal.returns-in-Failed-clause-feeds
@@ -35,8 +35,8 @@ returns-in-Failed-clause-feeds g c =
     let n = c.messages.self.number in
     let failed = sym c.feed-fed.ensures.state ∙ c.in-Failed.is in
     let refused : Output = refused_message n BelowThree in
-    let turn = turn_of_output c.in_ok-status-in-Failed.ensures.writes in
-    Feeds-stopped c.messages.invariant.feeding (λ _. refused) (λ _. refused) (left_failed call n failed) turn n
+    let line_answer = answer_of_output c.in_ok-status-in-Failed.ensures.writes in
+    Feeds-stopped c.messages.invariant.feeding (λ _. refused) (λ _. refused) (left_failed call n failed) line_answer n
     c.feed-fed.new.self
 
 -- a message has at least three bytes, and they cover its cost
@@ -57,7 +57,7 @@ returns-in_err-status-in-Ready-clause-feeds g c =
     let residual = c.from_residual-in_err-status-in-Ready in
     let passed_on = err_from_is_err_and residual.result residual.ensures.1 in
     rw passed_on.1 (Feeds-cut c.messages.invariant.feeding later after (left_ready call n ready) passed_on.0
-    c.in_err-status-in-Ready.ensures.turns _ _)
+    c.in_err-status-in-Ready.ensures.answers_line _ _)
 
 -- the run stops at the message
 pub returns-in-Stop-clause-feeds : goal.returns-in-Stop-clause-feeds
@@ -67,8 +67,8 @@ returns-in-Stop-clause-feeds g c =
     let n = c.messages.self.number in
     let later = bytes_output (n + 1) [] (drop (c.messages.at + c.feed-fed.result.used) c.args.bytes.now) in
     let after = message_output n (line_for (message_of c.feed-fed.new.self)) in
-    let turn = rw c.in-Stop.is at c.in_ok-status-in-Ready.ensures.turns in
-    Feeds-stopped c.messages.invariant.feeding later after (left_ready call n ready) turn _ _
+    let line_answer = rw c.in-Stop.is at c.in_ok-status-in-Ready.ensures.answers_line in
+    Feeds-stopped c.messages.invariant.feeding later after (left_ready call n ready) line_answer _ _
 
 pub returns-in-Stop-clause-bounded : goal.returns-in-Stop-clause-bounded
 returns-in-Stop-clause-bounded g c =
@@ -93,9 +93,9 @@ messages-preserved g c =
     let after = message_output n (line_for (message_of c.feed-fed.new.self)) in
     let cleared = c.in_ok-status-in-Ready.ensures.cleared (ap Ok c.in_default.is) in
     let next = c.in_ok-status-in-Ready.ensures.next (ap Ok c.in_default.is) in
-    let turn = rw c.in_default.is at c.in_ok-status-in-Ready.ensures.turns in
+    let line_answer = rw c.in_default.is at c.in_ok-status-in-Ready.ensures.answers_line in
     record {
-      feeding = rw (next, cleared) (Feeding-message c.messages.invariant.feeding later after (left_ready call n ready) turn);
+      feeding = rw (next, cleared) (Feeding-message c.messages.invariant.feeding later after (left_ready call n ready) line_answer);
       within = omega (arith, c.messages.invariant.within, takes_few call);
       writes = search rules;
       unflushed = search rules;

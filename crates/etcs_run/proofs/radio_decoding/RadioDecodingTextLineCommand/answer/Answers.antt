@@ -14,8 +14,8 @@ feed-requires-clause-numbered g c =
     omega (arith, c.requires.numbered, few, ap length c.as_slice.ensures.value)
 
 -- the bytes of the line were fed
-pub returns-in-Ok-clause-turns : goal.returns-in-Ok-clause-turns
-returns-in-Ok-clause-turns g c =
+pub returns-in-Ok-clause-answers_line : goal.returns-in-Ok-clause-answers_line
+returns-in-Ok-clause-answers_line g c =
     let old = c.args.self.now in
     let new = c.feed.new.self in
     let is : decode_of (trimmed c.args.line.now) ≡ Ok c.as_slice.result.now =
@@ -30,9 +30,9 @@ returns-in-Ok-clause-bounded g c =
     pays_more _ _ _ _ c.feed.result c.feed.ensures.bounded (bytes_spelled c.args.line.now c.as_slice.result.now is)
 
 -- the line is not hexadecimal text
-pub returns-in_default-clause-turns : goal.returns-in_default-clause-turns
-returns-in_default-clause-turns g c =
+pub returns-in_default-clause-answers_line : goal.returns-in_default-clause-answers_line
+returns-in_default-clause-answers_line g c =
     let old = c.args.self.now in
     let is = not_read c.trim.ensures c.in_default.not-OutOfMemory c.in-Err.ensures.err in
     line_refused (messages_written old) (kept_by old) (messages_written old) (kept_by old) c.args.number c.args.line.now
-    c.in-Err.why c.refuse_line.result is c.refuse_line.ensures.turns
+    c.in-Err.why c.refuse_line.result is c.refuse_line.ensures.answers_line
