@@ -18,8 +18,8 @@ use Rattle.etcs_profile.specs.declared.reach.Reach.TheVariants.{Ends, Open}
 use Rattle.etcs_telegram.specs.Record.{Telegram}
 use Rattle.etcs_check.specs.Findings.{lies_past, goes_past, is_short, lacks}
 use Rattle.etcs_check.specs.Profiles.{limit_of, gradient_reach, speed_reach}
-use Rattle.etcs_check.specs.Said.{greater, is_before, nothing, both, by_one, said_in}
-use Rattle.etcs_check.specs.declared.said.Said.{Said}
+use Rattle.etcs_check.specs.PacketSummary.{greater, is_before, nothing, both, by_one, summary_of}
+use Rattle.etcs_check.specs.declared.packet_summary.PacketSummary.{PacketSummary}
 use Rattle.etcs_check.proofs.NoteLemmas.{drop_at}
 
 -- ---- sums, which may be made in any order
@@ -44,10 +44,10 @@ pub or_false : (a : Bool) → a ≡ (a || false)
 or_false true = refl
 or_false false = refl
 
-pub both-nothing : (s : Said) → both s nothing ≡ s
+pub both-nothing : (s : PacketSummary) → both s nothing ≡ s
 both-nothing s = λ i. record { limit = greater-none s.limit i; has_gradient = sym (or_false s.has_gradient) i; has_speed = sym (or_false s.has_speed) i }
 
-pub both-assoc : (a b c : Said) → both (both a b) c ≡ both a (both b c)
+pub both-assoc : (a b c : PacketSummary) → both (both a b) c ≡ both a (both b c)
 both-assoc a b c = λ i. record {
   limit = greater-assoc a.limit b.limit c.limit i;
   has_gradient = or_assoc a.has_gradient b.has_gradient c.has_gradient i;
@@ -60,26 +60,26 @@ or_comm true false = refl
 or_comm false true = refl
 or_comm false false = refl
 
-both-comm : (a b : Said) → both a b ≡ both b a
+both-comm : (a b : PacketSummary) → both a b ≡ both b a
 both-comm a b = λ i. record {
   limit = greater-comm a.limit b.limit i;
   has_gradient = or_comm a.has_gradient b.has_gradient i;
   has_speed = or_comm a.has_speed b.has_speed i;
 }
 
-said-append : (xs ys : List TrackPacket) → said_in (xs ++ ys) ≡ both (said_in xs) (said_in ys)
+said-append : (xs ys : List TrackPacket) → summary_of (xs ++ ys) ≡ both (summary_of xs) (summary_of ys)
 said-append [] ys = refl
-said-append (x ∷ xs) ys = ap (both (by_one x)) (said-append xs ys) ∙ sym (both-assoc (by_one x) (said_in xs) (said_in ys))
+said-append (x ∷ xs) ys = ap (both (by_one x)) (said-append xs ys) ∙ sym (both-assoc (by_one x) (summary_of xs) (summary_of ys))
 
-said-passing : {X : Type 0} (f : X → List TrackPacket) (run : Run) (xs : List X) → said_in (flat_map f (in_passing_order run xs)) ≡ said_in (flat_map f xs)
+said-passing : {X : Type 0} (f : X → List TrackPacket) (run : Run) (xs : List X) → summary_of (flat_map f (in_passing_order run xs)) ≡ summary_of (flat_map f xs)
 said-passing f runs.Nominal xs = refl
 said-passing f runs.Reverse [] = refl
 said-passing f runs.Reverse (x ∷ xs) =
-    ap (λ l. said_in (flat_map f l)) (reverse-append (x ∷ []) xs)
-    ∙ ap said_in (flat_map-append f (reverse xs) (x ∷ []))
+    ap (λ l. summary_of (flat_map f l)) (reverse-append (x ∷ []) xs)
+    ∙ ap summary_of (flat_map-append f (reverse xs) (x ∷ []))
     ∙ said-append (flat_map f (reverse xs)) (f x ++ [])
-    ∙ ap₂ both (said-passing f runs.Reverse xs) (ap said_in (append-nil (f x)))
-    ∙ both-comm (said_in (flat_map f xs)) (said_in (f x))
+    ∙ ap₂ both (said-passing f runs.Reverse xs) (ap summary_of (append-nil (f x)))
+    ∙ both-comm (summary_of (flat_map f xs)) (summary_of (f x))
     ∙ sym (said-append (f x) (flat_map f xs))
 
 -- ---- steps
@@ -95,24 +95,24 @@ pub said_end : (run : Run) (n : ℕ) (group : List Telegram) (i : ℕ) → lengt
 said_end run n group i le = ap (λ l. flat_map (λ (e : ℕ × Telegram). balise_packets run n e.0 e.1) (enumerate_from i l)) (drop_all i group le)
 
 pub said_here : (held : TrackPacket → Bool) (packets : List TrackPacket) (i : ℕ) (p : TrackPacket) → At packets i p
-    → said_in (filter held (drop i packets)) ≡ both (if held p then by_one p else nothing) (said_in (filter held (drop (i + 1) packets)))
-said_here held packets i p at = ap (λ l. said_in (filter held l)) (drop_at packets i p at) ∙ go (held p)
+    → summary_of (filter held (drop i packets)) ≡ both (if held p then by_one p else nothing) (summary_of (filter held (drop (i + 1) packets)))
+said_here held packets i p at = ap (λ l. summary_of (filter held l)) (drop_at packets i p at) ∙ go (held p)
   where
     rest : List TrackPacket
     rest = filter held (drop (i + 1) packets)
 
-    go : (b : Bool) → said_in (if b then p ∷ rest else rest) ≡ both (if b then by_one p else nothing) (said_in rest)
+    go : (b : Bool) → summary_of (if b then p ∷ rest else rest) ≡ both (if b then by_one p else nothing) (summary_of rest)
     go true = refl
     go false = refl
 
-pub none_here : (held : TrackPacket → Bool) (packets : List TrackPacket) (i : ℕ) → length packets ≤ i → said_in (filter held (drop i packets)) ≡ nothing
-none_here held packets i le = ap (λ l. said_in (filter held l)) (drop_all i packets le)
+pub none_here : (held : TrackPacket → Bool) (packets : List TrackPacket) (i : ℕ) → length packets ≤ i → summary_of (filter held (drop i packets)) ≡ nothing
+none_here held packets i le = ap (λ l. summary_of (filter held l)) (drop_all i packets le)
 
 pub said_step : (run : Run) (n : ℕ) (group : List Telegram) (i : ℕ) (t : Telegram) → At group i t
-    → said_in (said_from run n i group) ≡ both (said_in (balise_packets run n i t)) (said_in (said_from run n (i + 1) group))
-said_step run n group i t at = ap said_in (said_rest run n group i t at) ∙ said-append (balise_packets run n i t) (said_from run n (i + 1) group)
+    → summary_of (said_from run n i group) ≡ both (summary_of (balise_packets run n i t)) (summary_of (said_from run n (i + 1) group))
+said_step run n group i t at = ap summary_of (said_rest run n group i t at) ∙ said-append (balise_packets run n i t) (said_from run n (i + 1) group)
 
-pub said_whole : (run : Run) (group : List Telegram) → said_in (said_from run (length group) 0 group) ≡ said_in (group_message run group)
+pub said_whole : (run : Run) (group : List Telegram) → summary_of (said_from run (length group) 0 group) ≡ summary_of (group_message run group)
 said_whole run group = sym (said-passing (λ (e : ℕ × Telegram). balise_packets run (length group) e.0 e.1) run (enumerate_from 0 group))
 
 -- ---- some location lies past a reach if and only if the greatest one does
@@ -132,15 +132,15 @@ past_greater r (Some m) None = or_false (lies_past r m)
 past_greater (Ends n) (Some m) (Some k) = max_past n m k
 past_greater Open (Some m) (Some k) = refl
 
-past_said : (r : Reach) (packets : List TrackPacket) → list_any (goes_past r) packets ≡ option_map_or (lies_past r) (said_in packets).limit false
+past_said : (r : Reach) (packets : List TrackPacket) → list_any (goes_past r) packets ≡ option_map_or (lies_past r) (summary_of packets).limit false
 past_said r [] = refl
-past_said r (p ∷ ps) = ap (λ s. goes_past r p || s) (past_said r ps) ∙ sym (past_greater r (limit_of p) (said_in ps).limit)
+past_said r (p ∷ ps) = ap (λ s. goes_past r p || s) (past_said r ps) ∙ sym (past_greater r (limit_of p) (summary_of ps).limit)
 
 -- a profile is short if and only if it ends before the greatest location
-pub short-before : (reach : TrackPacket → Option Reach) (packets : List TrackPacket) (p : TrackPacket) → is_short reach packets p ≡ is_before reach (said_in packets).limit p
+pub short-before : (reach : TrackPacket → Option Reach) (packets : List TrackPacket) (p : TrackPacket) → is_short reach packets p ≡ is_before reach (summary_of packets).limit p
 short-before reach packets p = go (reach p)
   where
-    go : (o : Option Reach) → option_map_or (λ r. list_any (goes_past r) packets) o false ≡ option_map_or (λ r. option_map_or (lies_past r) (said_in packets).limit false) o false
+    go : (o : Option Reach) → option_map_or (λ r. list_any (goes_past r) packets) o false ≡ option_map_or (λ r. option_map_or (lies_past r) (summary_of packets).limit false) o false
     go None = refl
     go (Some r) = past_said r packets
 
@@ -151,20 +151,20 @@ some_greater None b = refl
 some_greater (Some m) None = refl
 some_greater (Some m) (Some n) = refl
 
-some_said : (packets : List TrackPacket) → list_any (λ p. is_some (limit_of p)) packets ≡ is_some (said_in packets).limit
+some_said : (packets : List TrackPacket) → list_any (λ p. is_some (limit_of p)) packets ≡ is_some (summary_of packets).limit
 some_said [] = refl
-some_said (p ∷ ps) = ap (λ s. is_some (limit_of p) || s) (some_said ps) ∙ sym (some_greater (limit_of p) (said_in ps).limit)
+some_said (p ∷ ps) = ap (λ s. is_some (limit_of p) || s) (some_said ps) ∙ sym (some_greater (limit_of p) (summary_of ps).limit)
 
-gradient_said : (packets : List TrackPacket) → (said_in packets).has_gradient ≡ list_any (λ p. is_some (gradient_reach p)) packets
+gradient_said : (packets : List TrackPacket) → (summary_of packets).has_gradient ≡ list_any (λ p. is_some (gradient_reach p)) packets
 gradient_said [] = refl
 gradient_said (p ∷ ps) = ap (λ b. is_some (gradient_reach p) || b) (gradient_said ps)
 
-speed_said : (packets : List TrackPacket) → (said_in packets).has_speed ≡ list_any (λ p. is_some (speed_reach p)) packets
+speed_said : (packets : List TrackPacket) → (summary_of packets).has_speed ≡ list_any (λ p. is_some (speed_reach p)) packets
 speed_said [] = refl
 speed_said (p ∷ ps) = ap (λ b. is_some (speed_reach p) || b) (speed_said ps)
 
-pub lacks_gradient-is : (packets : List TrackPacket) → (is_some (said_in packets).limit && not (said_in packets).has_gradient) ≡ lacks gradient_reach packets
+pub lacks_gradient-is : (packets : List TrackPacket) → (is_some (summary_of packets).limit && not (summary_of packets).has_gradient) ≡ lacks gradient_reach packets
 lacks_gradient-is packets = ap₂ (λ a b. a && not b) (sym (some_said packets)) (gradient_said packets)
 
-pub lacks_speed-is : (packets : List TrackPacket) → (is_some (said_in packets).limit && not (said_in packets).has_speed) ≡ lacks speed_reach packets
+pub lacks_speed-is : (packets : List TrackPacket) → (is_some (summary_of packets).limit && not (summary_of packets).has_speed) ≡ lacks speed_reach packets
 lacks_speed-is packets = ap₂ (λ a b. a && not b) (sym (some_said packets)) (speed_said packets)

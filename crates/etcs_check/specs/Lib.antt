@@ -10,5 +10,5 @@ pub mod Order
 pub mod Violation
 pub mod Laws
 pub mod Facts
-pub mod Said
+pub mod PacketSummary
 pub mod Walk

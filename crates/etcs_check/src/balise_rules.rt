@@ -9,7 +9,7 @@ ghost use Rattle.etcs_check.specs.declared.finding.Spot.{Spot as SomeSpot};
 
 use crate::aspects::is_taken;
 use crate::finding::{Finding, Rule, Spot, push_if};
-use crate::said::packets;
+use crate::packet_summary::packets;
 use etcs_bits::{Dup, Memory};
 use etcs_packet::TrackPacket;
 use etcs_telegram::Telegram;

@@ -10,7 +10,7 @@ ghost use Rattle.etcs_check.specs.Duplicates.{same_header, same_held, same_packe
 ghost use Rattle.etcs_check.specs.Findings.{are_pair, pair_differs};
 ghost use Rattle.etcs_check.specs.Walk.{ArePairsAlike, are_same_pair};
 
-use crate::said::packets;
+use crate::packet_summary::packets;
 use etcs_bits::{Dup, Same, are_same};
 use etcs_packet::{Run, TrackPacket};
 use etcs_telegram::{Header, Size, Telegram};

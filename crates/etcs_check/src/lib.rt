@@ -16,8 +16,8 @@ mod identities;
 pub mod laws;
 mod line;
 mod line_checker;
+mod packet_summary;
 mod profile_rules;
-mod said;
 mod walk;
 
 pub use duplicates::same_packets;

@@ -5,7 +5,7 @@ ghost use Rattle.etcs_check.specs.Findings.{lies_past};
 ghost use Rattle.etcs_check.specs.Walk.{lacks_found, short_at_packet, short_by_balise, short_found};
 
 use crate::finding::{Finding, Rule, Spot, push_if};
-use crate::said::{Said, is_silent, packets};
+use crate::packet_summary::{PacketSummary, is_silent, packets};
 use etcs_bits::Memory;
 use etcs_packet::{Run, TrackPacket};
 use etcs_profile::Reach;
@@ -16,7 +16,7 @@ pub(crate) fn push_lacks(
     found: &mut Vec<Finding>,
     spot: Spot,
     run: Run,
-    said: Said,
+    said: PacketSummary,
 ) -> Result<(), Memory>
     ensures ok { OnOk result (found.new.items ≡ found.old.items ++ lacks_found spot run said) }
     ensures memory { OnErr result (lacks_found spot run said ≢ []) }

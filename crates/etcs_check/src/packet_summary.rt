@@ -5,7 +5,7 @@ ghost use Rattle.std.specs.Prelude.{◌≡◌, ◌<◌, if◌then◌else◌, len
 ghost use Rattle.etcs_packet.specs.Track.{holds};
 ghost use Rattle.etcs_telegram.specs.Record.{Telegram as SomeTelegram};
 ghost use Rattle.etcs_group.specs.Packets.{is_silent, balise_packets, group_message};
-ghost use Rattle.etcs_check.specs.Said.{both, by_one, greater, nothing, said_in};
+ghost use Rattle.etcs_check.specs.PacketSummary.{both, by_one, greater, nothing, summary_of};
 
 use etcs_bits::Dup;
 use etcs_packet::{Run, TrackPacket};
@@ -13,14 +13,14 @@ use etcs_telegram::Telegram;
 
 // A summary of packets: the greatest supervised location, and which profiles there are.
 #[derive(Clone, Copy)]
-pub(crate) struct Said {
+pub(crate) struct PacketSummary {
     pub(crate) limit: Option<u64>,
     pub(crate) has_gradient: bool,
     pub(crate) has_speed: bool,
 }
 
 // The summary of no packets.
-pub(crate) const NOTHING: Said = Said {
+pub(crate) const NOTHING: PacketSummary = PacketSummary {
     limit: None,
     has_gradient: false,
     has_speed: false,
@@ -59,19 +59,19 @@ pub(crate) fn is_silent(run: Run, telegram: &Telegram, count: usize, place: usiz
 // The summary with one more packet, if it holds. Only authorities and profiles count, so for most packets the
 // direction is not checked.
 #[inline(always)]
-fn add_packet(so_far: Said, packet: &TrackPacket, run: Run) -> Said
+fn add_packet(so_far: PacketSummary, packet: &TrackPacket, run: Run) -> PacketSummary
     ensures { result ≡ both so_far (if holds run packet.now then by_one packet.now else nothing) }
 {
     match packet {
-        TrackPacket::Authority(authority) if packet.holds_in(run) => Said {
+        TrackPacket::Authority(authority) if packet.holds_in(run) => PacketSummary {
             limit: greater(so_far.limit, Some(authority.limit())),
             ..so_far
         },
-        TrackPacket::Gradient(_) if packet.holds_in(run) => Said {
+        TrackPacket::Gradient(_) if packet.holds_in(run) => PacketSummary {
             has_gradient: true,
             ..so_far
         },
-        TrackPacket::Speed(_) if packet.holds_in(run) => Said {
+        TrackPacket::Speed(_) if packet.holds_in(run) => PacketSummary {
             has_speed: true,
             ..so_far
         },
@@ -81,8 +81,8 @@ fn add_packet(so_far: Said, packet: &TrackPacket, run: Run) -> Said
 
 // The summary with more packets, of which those that hold count.
 #[inline(always)]
-pub(crate) fn add_packets(so_far: Said, packets: &[TrackPacket], run: Run) -> Said
-    ensures { result ≡ both so_far (said_in (filter (holds run) packets.now)) }
+pub(crate) fn add_packets(so_far: PacketSummary, packets: &[TrackPacket], run: Run) -> PacketSummary
+    ensures { result ≡ both so_far (summary_of (filter (holds run) packets.now)) }
 {
     let mut said = so_far;
     'packets: for packet in packets {
@@ -93,10 +93,10 @@ pub(crate) fn add_packets(so_far: Said, packets: &[TrackPacket], run: Run) -> Sa
 
 // The summary with the packets of the balise at this place, unless it is silent.
 #[inline(always)]
-fn add_balise(so_far: Said, group: &[Telegram], run: Run, place: usize) -> Said
+fn add_balise(so_far: PacketSummary, group: &[Telegram], run: Run, place: usize) -> PacketSummary
     requires { place < length group.now }
     ensures { (t : SomeTelegram) → slice_get group.now place ≡ Some t
-        → result ≡ both so_far (said_in (balise_packets run (length group.now) place t)) }
+        → result ≡ both so_far (summary_of (balise_packets run (length group.now) place t)) }
 {
     let telegram = &group[place];
     if is_silent(run, telegram, group.len(), place) {
@@ -107,8 +107,8 @@ fn add_balise(so_far: Said, group: &[Telegram], run: Run, place: usize) -> Said
 }
 
 // The summary of a group's message in a running direction.
-pub(crate) fn said_of(group: &[Telegram], run: Run) -> Said
-    ensures { result ≡ said_in (group_message run group.now) }
+pub(crate) fn group_summary(group: &[Telegram], run: Run) -> PacketSummary
+    ensures { result ≡ summary_of (group_message run group.now) }
 {
     let mut said = NOTHING;
     'places: for place in 0..group.len() {

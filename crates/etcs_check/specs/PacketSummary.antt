@@ -5,7 +5,7 @@ use Rattle.etcs_packet.specs.declared.track.TrackPacket.{TrackPacket}
 use Rattle.etcs_profile.specs.declared.reach.Reach.{Reach}
 use Rattle.etcs_check.specs.Findings.{lies_past}
 use Rattle.etcs_check.specs.Profiles.{limit_of, gradient_reach, speed_reach}
-use Rattle.etcs_check.specs.declared.said.Said.{Said}
+use Rattle.etcs_check.specs.declared.packet_summary.PacketSummary.{PacketSummary}
 
 -- a profile of the kind, gradient or speed, ends before the location
 abbrev pub is_before : (TrackPacket → Option Reach) → Option ℕ → TrackPacket → Bool
@@ -17,24 +17,24 @@ greater None o = o
 greater (Some m) None = Some m
 greater (Some m) (Some n) = Some (max m n)
 
-abbrev pub nothing : Said
+abbrev pub nothing : PacketSummary
 nothing = record { limit = None; has_gradient = false; has_speed = false }
 
 -- the summary of two parts together
-abbrev pub both : Said → Said → Said
+abbrev pub both : PacketSummary → PacketSummary → PacketSummary
 both s t = record {
   limit = greater s.limit t.limit;
   has_gradient = s.has_gradient || t.has_gradient;
   has_speed = s.has_speed || t.has_speed;
 }
 
-abbrev pub by_one : TrackPacket → Said
+abbrev pub by_one : TrackPacket → PacketSummary
 by_one p = record {
   limit = limit_of p;
   has_gradient = is_some (gradient_reach p);
   has_speed = is_some (speed_reach p);
 }
 
-abbrev pub said_in : List TrackPacket → Said
-said_in [] = nothing
-said_in (p ∷ ps) = both (by_one p) (said_in ps)
+abbrev pub summary_of : List TrackPacket → PacketSummary
+summary_of [] = nothing
+summary_of (p ∷ ps) = both (by_one p) (summary_of ps)
