@@ -15,14 +15,13 @@ pub enum Rule {
     PositionWrong,
     /// F2: the number of balises that a balise gives, N_TOTAL plus one, differs from the number in the group.
     TotalWrong,
-    /// F3: the version, the identity or the link flag of a balise differs from that of balise 0 of
-    /// aspect 0.
+    /// F3: the version, the identity or the link flag of a balise differs from balise 0 of aspect 0.
     HeaderDiffers,
     /// F4: the duplicate flag of a balise, M_DUP, names a balise outside the group.
     MarkOutside,
     /// F5: the duplicate flag of a balise names a balise of the group whose own flag does not name it.
     MarkUnanswered,
-    /// F6: the message counter of a balise, M_MCOUNT, is 254, which no message can have.
+    /// F6: the message counter of a balise, M_MCOUNT, is 254, which fits no message.
     CounterUnfit,
     /// F7: the counter of a balise is below 254, and differs from the first below 254 in the group.
     CountersDiffer,

@@ -1,5 +1,5 @@
 //! A line of JSON, token by token. A value is written together with the comma that may follow it, and a
-//! closing bracket overwrites that comma. So most tokens are appended without a look at the next one.
+//! closing bracket overwrites that comma. So most tokens are appended as they are, a key together with its number.
 
 ghost use Rattle.std.specs.Prelude.{◌≡◌, ◌-◌, ◌++◌, ◌∷◌, [], IfOk, List, OnOk, cond, decimal, false, not, true};
 ghost use Rattle.json.specs.Print.{begins, ends, print, IsPrintable};
