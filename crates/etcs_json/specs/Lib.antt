@@ -1,5 +1,4 @@
 pub mod Cover
-pub mod Profiles
 pub mod Transition
 pub mod Authority
 pub mod AuthoritySending

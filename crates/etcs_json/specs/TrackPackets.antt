@@ -1,20 +1,91 @@
--- The form of a packet from track to train, by its number (SUBSET-026, 7.4.2).
-use Rattle.std.specs.Prelude.{codes, length, refl}
-use Rattle.etcs_schema.specs.Prelude.{ranged}
+-- The forms of packets from track to train, by their numbers (SUBSET-026, 7.4.2): first those of linking
+-- and of the profiles of the track, packets 5, 21 and 27, then the choice among all packets. Each key is
+-- named as the standard names its variable, in small letters. `links`, `elements` and `differences` are
+-- this project's and name lists. `nc` is NC_CDDIFF or NC_DIFF. Keys are in the order in which they are
+-- looked for.
+use Rattle.std.specs.Prelude.{◌≡◌, ℕ, ◌+◌, Bool, true, List, Result, Ok, codes, nat_le, refl, length}
+use Rattle.etcs_schema.specs.Prelude.{arith, le-leb, Data, Format, AreAllowed, alone, width, nid_bg, nid_c, ranged}
+use Rattle.etcs_bits.specs.declared.variables.direction.Dir.{Dir}
+use Rattle.etcs_profile.specs.Elements.{elements, profile_struct}
+use Rattle.etcs_profile.specs.Gradient.{d_gradient, g_a, gradient_element as gradient_layout, gradient_struct}
+use Rattle.etcs_profile.specs.Linking.{d_link, link as link_layout, link_struct, q_linkreaction, q_locacc}
+use Rattle.etcs_profile.specs.Packet.{rest}
+use Rattle.etcs_profile.specs.Profile.{Profile}
+use Rattle.etcs_profile.specs.Speed.{d_static, difference as difference_layout, difference_struct, nc_diff, q_diff, speed_element as speed_layout, speed_struct, v_diff, v_static}
+use Rattle.etcs_packet.specs.declared.raw.RawPacket.{RawPacket}
+use Rattle.etcs_packet.specs.declared.track.TrackPacket.{TrackPacket}
 use Rattle.etcs_packet.specs.PacketNumbers.{nid_raw, nid_track}
 use Rattle.etcs_packet.specs.Raw.{other_of, others as other_bits}
 use Rattle.etcs_packet.specs.Track.{NumberedTrackPacket, again, parts_of, track_of}
-use Rattle.etcs_packet.specs.declared.raw.RawPacket.{RawPacket}
-use Rattle.etcs_packet.specs.declared.track.TrackPacket.{TrackPacket}
+use Rattle.etcs_schema.specs.Chosen.{behind, Choice, HasNumber, begins_with, chosen, either, others}
+use Rattle.etcs_schema.specs.Fault.{Fault, Range, here}
+use Rattle.etcs_schema.specs.Head.{Packet, headed, scaled, nid_range}
+use Rattle.etcs_schema.specs.Reading.{◌>>=◌, at_key}
+use Rattle.etcs_schema.specs.Shape.{ObjectOf, Part, both_of, closed, first_and_others, key, key_if, list, list_from_one, object, only, struct, within, ◌then◌, Shape, renamed}
+use Rattle.etcs_schema.specs.Variables.{direction, flag, number, scale, is_allowed}
 use Rattle.etcs_json.specs.Authority.{with_main, without_main}
-use Rattle.etcs_schema.specs.Chosen.{Choice, HasNumber, begins_with, chosen, either, others}
 use Rattle.etcs_json.specs.Cover.{cover}
-use Rattle.etcs_json.specs.Profiles.{gradient, linking, speed_profile}
-use Rattle.etcs_schema.specs.Head.{nid_range}
 use Rattle.etcs_json.specs.Raw.{raw_packet}
-use Rattle.etcs_schema.specs.Shape.{Shape, object, renamed}
 use Rattle.etcs_json.specs.Transition.{transition}
-use Rattle.etcs_schema.specs.Variables.{is_allowed}
+
+-- a packet of elements that has no more bits than L_PACKET counts, of which 23 are NID_PACKET, Q_DIR and L_PACKET
+abbrev pub is_short : {X : Type 0} → Format X → Dir × Profile X → Bool
+is_short layout p = nat_le (23 + width ((elements layout).rows p.1)) 8191
+
+pub profile_short : {X : Type 0} (layout : Format X) (p : Dir × Profile X) → AreAllowed ((rest (elements layout)).rows p) → is_short layout p ≡ true
+unfolding alone
+profile_short layout p allowed = le-leb (23 + width ((elements layout).rows p.1)) 8191 (omega (arith, allowed.1.0.0))
+
+-- a packet with a list of elements at this key; it is refused where it is too long
+abbrev pub profile : {X : Type 0} → List ℕ → (layout : Format X) → ObjectOf layout.rows → Part (rest (elements layout)).rows
+profile name layout element =
+    within (here Range) (is_short layout) (profile_short layout) (headed (struct profile_struct (scaled (key name (list_from_one (object element))))))
+
+-- what is read of such a packet
+abbrev pub profile_of : {X : Type 0} → List ℕ → Format X → (Data → Result X Fault) → Data → Result (Dir × Profile X) Fault
+profile_of name layout element d =
+    both_of (at_key direction.of (codes "q_dir"))
+    (λ e. both_of (at_key scale.of (codes "q_scale")) (at_key (first_and_others element 32) name) e >>= λ p. Ok (profile_struct.make p)) d >>= only (here Range) (is_short layout)
+
+-- a balise group ahead; its country is there exactly where Q_NEWCOUNTRY is 1
+unfoldable pub link : ObjectOf link_layout.rows
+link =
+    closed (struct link_struct
+    (key (codes "d_link") (number d_link.fields) then key_if (codes "nid_c") (number nid_c.fields) then key (codes "nid_bg") (number nid_bg.fields)
+    then key (codes "q_linkorientation") flag then key (codes "q_linkreaction") (number q_linkreaction.fields) then key (codes "q_locacc") (number q_locacc.fields))) refl
+
+-- what packet 5 has after its number
+unfoldable pub linking : Packet 5 (rest (elements link_layout)).rows
+linking = behind (profile (codes "links") link_layout link) refl
+
+-- a gradient, and the place where it begins
+unfoldable pub gradient_element : ObjectOf gradient_layout.rows
+gradient_element =
+    closed (struct gradient_struct
+    (key (codes "d_gradient") (number d_gradient.fields) then key (codes "q_gdir") flag then key (codes "g_a") (number g_a.fields))) refl
+
+-- what packet 21 has after its number
+unfoldable pub gradient : Packet 21 (rest (elements gradient_layout)).rows
+gradient = behind (profile (codes "elements") gradient_layout gradient_element) refl
+
+-- another speed for some trains
+unfoldable pub difference : ObjectOf difference_layout.rows
+difference =
+    closed (struct difference_struct
+    (key (codes "q_diff") (number q_diff.fields) then key (codes "nc") (number nc_diff.fields) then key (codes "v_diff") (number v_diff.fields))) refl
+
+-- a speed, and the place where it begins
+unfoldable pub speed_element : ObjectOf speed_layout.rows
+speed_element =
+    closed (struct speed_struct
+    (key (codes "d_static") (number d_static.fields) then key (codes "v_static") (number v_static.fields) then key (codes "q_front") flag
+    then key (codes "differences") (list (object difference)))) refl
+
+-- what packet 27 has after its number
+unfoldable pub speed_profile : Packet 27 (rest (elements speed_layout)).rows
+speed_profile = behind (profile (codes "elements") speed_layout speed_element) refl
+
+-- ---- the packet of a number
 
 pub raw_has : (p : RawPacket) → HasNumber (codes "nid_packet") p.number ((object raw_packet).to p)
 unfolding raw_packet

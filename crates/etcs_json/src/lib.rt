@@ -5,7 +5,7 @@
 //! object. Each form is stated once, as a `Shape`: what is written, what is read, and that the one
 //! undoes the other (`specs/Shape.antt`). A writer of lines sends a form member by member
 //! ([`InPieces`]). Read `form.rt` and `record.rt` first, with `specs/Shape.antt` and
-//! `specs/Profiles.antt`, then `packets/profile_form.rt`.
+//! `specs/TrackPackets.antt`, then `packets/track_form.rt`.
 //!
 //! A form is read through a [`Node`], whatever holds the JSON value: a `serde_json::Value`, or the tape
 //! of tokens that [`JsonText::read`] makes of a text in less time. This crate leaves out the document

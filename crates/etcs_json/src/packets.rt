@@ -8,7 +8,6 @@ pub(crate) mod cover_form;
 pub(crate) mod integrity_form;
 pub(crate) mod level_form;
 pub(crate) mod number_forms;
-pub(crate) mod profile_form;
 pub(crate) mod raw_form;
 pub(crate) mod raw_train_form;
 pub(crate) mod report_form;

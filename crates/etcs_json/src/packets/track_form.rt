@@ -1,18 +1,288 @@
-//! The form of a packet from track to train, whose number decides it.
+//! The forms of packets from track to train: of linking and of the profiles of the track, packets 5, 21
+//! and 27, and the form that the number decides.
 
-ghost use Rattle.std.specs.Prelude.{◌≡◌, IfOk};
+ghost use Rattle.std.proofs.Common.{lit<};
+ghost use Rattle.std.specs.Prelude.{◌≡◌, ◌<◌, ◌≤◌, ◌∷◌, [], codes, length, Some, Ok, OnOk, IfOk};
+ghost use Rattle.std.specs.List.{AllByRecursion};
+ghost use Rattle.etcs_profile.specs.Elements.{profile as made_of};
+ghost use Rattle.serde_json.specs.Data.{Data, array};
+ghost use Rattle.etcs_schema.specs.Fault.{Gives, Range, here};
+ghost use Rattle.etcs_schema.specs.Head.{packet};
+ghost use Rattle.etcs_json.specs.TrackPackets.{difference, gradient, gradient_element, is_short, link, linking, profile_of, speed_element, speed_profile, track_packet};
+ghost use Rattle.etcs_schema.specs.Shape.{items_of, only, number_data, whole};
+ghost use Rattle.etcs_schema.specs.Variables.{direction, scale};
 ghost use Rattle.serde_json.specs.View.{view};
-ghost use Rattle.etcs_json.specs.TrackPackets.{track_packet};
 
+use crate::members::{
+    ListMember, Member, NonEmpty, NonEmptyMember, NumberMember, OptionalMember, ReadMembers,
+    check_members, pairs, read_record, send_members,
+};
 use crate::packets::authority_form::{read_with_main, read_without_main};
 use crate::reading::read_first;
-use crate::record::prove_allowed;
-use crate::{Form, InPieces};
-use etcs_bits::{Memory, Ranged};
+use crate::record::{InRange, LayoutRecord, Members, prove_allowed};
+use crate::writing::Sink;
+use crate::{Form, InPieces, Record};
+use etcs_bits::{Dir, Layout, Memory, Ranged, Scale};
 use etcs_packet::TrackPacket;
+use etcs_profile::{
+    Difference, Elements, Gradient, GradientElement, Link, Linking, Packet, SpeedElement,
+    SpeedProfile,
+};
+use etcs_schema::reading::read_fixed;
 use etcs_schema::{FormError, Marks, Node};
 use serde_json::Value;
 use std::alloc::Global;
+
+// Sends the members of a packet of elements. `name` is the key of the list of its elements.
+fn send_profile<const N: u32, T: InPieces + Layout, S: Sink>(
+    out: &mut S,
+    name: &'static str,
+    packet: &Packet<N, Elements<T>>,
+) -> Result<(), Memory>
+    ensures { OnOk result (S.takes (
+        (name.now, Some (array (items_of T.shape.to (packet.now.1.first ∷ packet.now.1.further))))
+        ∷ (codes "nid_packet", Some (number_data N))
+        ∷ (codes "q_dir", Some (direction.to packet.now.0))
+        ∷ (codes "q_scale", Some (scale.to packet.now.1.scale)) ∷ [])
+        out.old out.new) }
+{
+    send_members!(out;
+        NonEmptyMember(name, packet.first(), packet.further()),
+        NumberMember("nid_packet", u64::from(N)),
+        Member("q_dir", &packet.dir()),
+        Member("q_scale", &packet.scale()),
+    )
+}
+
+// The packet of these elements. It is refused where it has more than 8,191 bits.
+fn packet_of<const N: u32, T: Form + Layout>(
+    alloc: Global,
+    dir: Dir,
+    scale: Scale,
+    first: T,
+    further: Vec<T>,
+) -> Result<Packet<N, Elements<T>>, FormError>
+    ensures { length further.items < 32 → T.fit first × AllByRecursion T.fit further.items
+        → Gives (λ p. p) result (only (here Range) (is_short T.format) (dir, made_of scale first further.items)) }
+{
+    match Elements::new(scale, first, further) {
+        Ok(body) => match Packet::of(dir, body) {
+            Some(packet) => Ok(packet),
+            None => Err(FormError::range(alloc)),
+        },
+        Err(_) => Err(FormError::range(alloc)),
+    }
+}
+
+// Reads the members of a packet of elements behind its number.
+fn read_profile<const K: u32, T: Form + Layout, N: Node>(
+    alloc: Global,
+    node: &N,
+    name: &'static str,
+) -> Result<Packet<K, Elements<T>>, FormError>
+    requires { (d : Data) → (x : T) → T.shape.of d ≡ Ok x → T.fit x }
+    ensures { Gives (λ p. p) result (profile_of name.now T.format T.shape.of (N.shows node.now)) }
+{
+    let found = ReadMembers::read(alloc, node, pairs!("q_dir", "q_scale", name))?;
+    let (dir, (scale, NonEmpty { first, further })) = found;
+    packet_of(alloc, dir, scale, first, further)
+}
+
+// ---- linking
+
+impl Record for Link {
+    ghost object = { whole link };
+}
+
+impl LayoutRecord for Link {
+    ghost keeps = { λ x allowed _. allowed tt };
+}
+
+#[tactic(auto, unfolding(crate::specs::TrackPackets::link))]
+impl Members for Link {
+    fn send_members<S: Sink>(&self, out: &mut S) -> Result<(), Memory> {
+        send_members!(out;
+            Member("d_link", &self.distance),
+            Member("nid_bg", &self.group),
+            OptionalMember("nid_c", &self.country),
+            Member("q_linkorientation", &self.nominal),
+            Member("q_linkreaction", &self.reaction),
+            Member("q_locacc", &self.accuracy),
+        )
+    }
+
+    fn of_members<N: Node>(alloc: Global, node: &N) -> Result<Self, FormError> {
+        check_members!(alloc, node; "d_link", "nid_bg", "nid_c", "q_linkorientation", "q_linkreaction", "q_locacc");
+        read_record!(Link, alloc, node;
+            distance "d_link",
+            country "nid_c",
+            group "nid_bg",
+            nominal "q_linkorientation",
+            reaction "q_linkreaction",
+            accuracy "q_locacc",
+        )
+    }
+}
+
+impl Record for Linking {
+    ghost object = { packet linking };
+}
+
+impl LayoutRecord for Linking {
+    ghost keeps = { λ x allowed _. allowed (lit< tt) };
+}
+
+#[tactic(auto, unfolding(crate::specs::TrackPackets::linking))]
+impl Members for Linking {
+    fn send_members<S: Sink>(&self, out: &mut S) -> Result<(), Memory> {
+        send_profile(out, "links", self)
+    }
+
+    fn of_members<N: Node>(alloc: Global, node: &N) -> Result<Self, FormError> {
+        check_members!(alloc, node; "links", "nid_packet", "q_dir", "q_scale");
+        read_fixed(alloc, node, "nid_packet", 5)?;
+        read_profile(alloc, node, "links")
+    }
+}
+
+// ---- gradients
+
+impl Record for GradientElement {
+    ghost object = { whole gradient_element };
+}
+
+impl LayoutRecord for GradientElement {
+    ghost keeps = { λ x allowed _. allowed tt };
+}
+
+#[tactic(auto, unfolding(crate::specs::TrackPackets::gradient_element, etcs_schema::specs::Reading::object_with, etcs_schema::specs::Reading::at_key))]
+impl Members for GradientElement {
+    fn send_members<S: Sink>(&self, out: &mut S) -> Result<(), Memory> {
+        send_members!(out;
+            Member("d_gradient", &self.distance),
+            Member("g_a", &self.gradient),
+            Member("q_gdir", &self.uphill),
+        )
+    }
+
+    fn of_members<N: Node>(alloc: Global, node: &N) -> Result<Self, FormError> {
+        check_members!(alloc, node; "d_gradient", "g_a", "q_gdir");
+        read_record!(GradientElement, alloc, node;
+            distance "d_gradient",
+            uphill "q_gdir",
+            gradient "g_a",
+        )
+    }
+}
+
+impl Record for Gradient {
+    ghost object = { packet gradient };
+}
+
+impl LayoutRecord for Gradient {
+    ghost keeps = { λ x allowed _. allowed (lit< tt) };
+}
+
+#[tactic(auto, unfolding(crate::specs::TrackPackets::gradient))]
+impl Members for Gradient {
+    fn send_members<S: Sink>(&self, out: &mut S) -> Result<(), Memory> {
+        send_profile(out, "elements", self)
+    }
+
+    fn of_members<N: Node>(alloc: Global, node: &N) -> Result<Self, FormError> {
+        check_members!(alloc, node; "elements", "nid_packet", "q_dir", "q_scale");
+        read_fixed(alloc, node, "nid_packet", 21)?;
+        read_profile(alloc, node, "elements")
+    }
+}
+
+// ---- speeds
+
+impl Record for Difference {
+    ghost object = { whole difference };
+}
+
+impl LayoutRecord for Difference {
+    ghost keeps = { λ x allowed _. allowed tt };
+}
+
+#[tactic(auto, unfolding(crate::specs::TrackPackets::difference))]
+impl Members for Difference {
+    fn send_members<S: Sink>(&self, out: &mut S) -> Result<(), Memory> {
+        send_members!(out;
+            Member("nc", &self.category),
+            Member("q_diff", &self.kind),
+            Member("v_diff", &self.speed),
+        )
+    }
+
+    fn of_members<N: Node>(alloc: Global, node: &N) -> Result<Self, FormError> {
+        check_members!(alloc, node; "nc", "q_diff", "v_diff");
+        read_record!(Difference, alloc, node;
+            kind "q_diff",
+            category "nc",
+            speed "v_diff",
+        )
+    }
+}
+
+impl Record for SpeedElement {
+    ghost object = { whole speed_element };
+
+    // The types keep the numbers in range, except the count of differences.
+    ghost bounded = { λ e. length e.differences ≤ 31 };
+}
+
+impl InRange for SpeedElement {
+    fn prove_in_range(&self) {
+        prove_allowed(self);
+    }
+}
+
+#[tactic(auto, unfolding(crate::specs::TrackPackets::speed_element))]
+impl Members for SpeedElement {
+    fn send_members<S: Sink>(&self, out: &mut S) -> Result<(), Memory> {
+        send_members!(out;
+            Member("d_static", &self.distance),
+            ListMember("differences", self.differences.as_slice()),
+            Member("q_front", &self.front),
+            Member("v_static", &self.speed),
+        )
+    }
+
+    fn of_members<N: Node>(alloc: Global, node: &N) -> Result<Self, FormError> {
+        check_members!(alloc, node; "d_static", "differences", "q_front", "v_static");
+        read_record!(SpeedElement, alloc, node;
+            distance "d_static",
+            speed "v_static",
+            front "q_front",
+            differences "differences",
+        )
+    }
+}
+
+impl Record for SpeedProfile {
+    ghost object = { packet speed_profile };
+}
+
+impl LayoutRecord for SpeedProfile {
+    ghost keeps = { λ x allowed _. allowed (lit< tt) };
+}
+
+#[tactic(auto, using(crate::proofs::ReadLemmas::few_at), unfolding(crate::specs::TrackPackets::speed_profile, crate::specs::TrackPackets::speed_element))]
+impl Members for SpeedProfile {
+    fn send_members<S: Sink>(&self, out: &mut S) -> Result<(), Memory> {
+        send_profile(out, "elements", self)
+    }
+
+    fn of_members<N: Node>(alloc: Global, node: &N) -> Result<Self, FormError> {
+        check_members!(alloc, node; "elements", "nid_packet", "q_dir", "q_scale");
+        read_fixed(alloc, node, "nid_packet", 27)?;
+        read_profile(alloc, node, "elements")
+    }
+}
+
+// ---- the packet of a number
 
 // What `$value` gives of the packet's own record, whichever kind it is.
 macro_rules! of_each {

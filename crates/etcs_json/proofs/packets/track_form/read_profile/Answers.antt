@@ -3,7 +3,7 @@ use Rattle.etcs_schema.specs.Reading.{at_key}
 use Rattle.etcs_schema.specs.Shape.{both_of, first_and_others}
 use Rattle.etcs_schema.specs.Variables.{direction, scale}
 use Rattle.etcs_json.proofs.ReadLemmas.{both_read, first_and_read}
-use Rattle.etcs_json.proofs.packets.profile_form.read_profile.Goals as goal
+use Rattle.etcs_json.proofs.packets.track_form.read_profile.Goals as goal
 
 -- the list that was read is no longer than it may be, and each element of it fits
 pub returns : goal.returns
