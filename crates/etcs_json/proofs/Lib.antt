@@ -3,5 +3,4 @@ pub mod KeyedLemmas
 pub mod SumLemmas
 pub mod AuthorityWidth
 pub mod LawLemmas
-pub mod RawLemmas
 pub mod FitLemmas

@@ -1,6 +1,8 @@
 //! The form of track packets whose layout is not known. Their bodies are kept as bits.
 
-ghost use Rattle.etcs_packet.specs.PacketNumbers.{nid_raw};
+ghost use Rattle.std.specs.Prelude.{◌≡◌, length, true};
+ghost use Rattle.etcs_packet.specs.FoundRaw.{raw_with};
+ghost use Rattle.etcs_packet.specs.PacketNumbers.{is_kept, nid_raw};
 ghost use Rattle.etcs_json.specs.Raw.{raw_packet};
 ghost use Rattle.etcs_schema.specs.Shape.{whole};
 ghost use Rattle.etcs_schema.specs.Variables.{is_allowed};
@@ -12,7 +14,7 @@ use crate::packets::body_text::BodyMember;
 use crate::reading::{Numbers, read_number};
 use crate::record::{InRange, Members, prove_allowed};
 use crate::writing::Sink;
-use etcs_bits::Memory;
+use etcs_bits::{Bits, Dir, Memory};
 use etcs_packet::RawPacket;
 use etcs_schema::{FormError, Node};
 use std::alloc::Global;
@@ -24,7 +26,7 @@ impl Numbers for RawPacket {
     ghost test = { is_allowed nid_raw };
 
     fn has(number: u64) -> bool {
-        number < 256 && RawPacket::has_number(number)
+        RawPacket::has_number(number)
     }
 }
 
@@ -35,6 +37,17 @@ impl Record for RawPacket {
 impl InRange for RawPacket {
     fn prove_in_range(&self) {
         prove_allowed(self);
+    }
+}
+
+// The packet of parts that were read.
+fn packet_of(number: u8, dir: Dir, body: Bits) -> RawPacket
+    requires { is_kept number (length body) ≡ true }
+    ensures { result ≡ raw_with number (dir, body) }
+{
+    match RawPacket::new(number, dir, body) {
+        Ok(packet) => packet,
+        Err(_) => unreachable!("a packet of this number and this length is kept as bits"),
     }
 }
 
@@ -55,9 +68,6 @@ impl Members for RawPacket {
         let number = read_number::<Self, N>(alloc, node, "nid_packet")?;
         let dir = ReadMembers::read(alloc, node, "q_dir")?;
         let body = read_measured::<HEAD_BITS, N>(alloc, node)?;
-        match RawPacket::new(number as u8, dir, body) {
-            Ok(packet) => Ok(packet),
-            Err(_) => unreachable!("the number and the length were read"),
-        }
+        Ok(packet_of(number as u8, dir, body))
     }
 }

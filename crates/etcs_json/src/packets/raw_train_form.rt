@@ -1,6 +1,8 @@
 //! The form of packets from train to track whose layout is not known. Their bodies are kept as bits.
 
-ghost use Rattle.etcs_radio.specs.TrainNumbers.{nid_raw};
+ghost use Rattle.std.specs.Prelude.{◌≡◌, length, true};
+ghost use Rattle.etcs_radio.specs.FoundRaw.{raw_with};
+ghost use Rattle.etcs_radio.specs.TrainNumbers.{is_kept, nid_raw};
 ghost use Rattle.etcs_json.specs.RawTrain.{raw_train_packet};
 ghost use Rattle.etcs_schema.specs.Shape.{whole};
 ghost use Rattle.etcs_schema.specs.Variables.{is_allowed};
@@ -12,7 +14,7 @@ use crate::packets::body_text::BodyMember;
 use crate::reading::{Numbers, read_number};
 use crate::record::{InRange, Members, prove_allowed};
 use crate::writing::Sink;
-use etcs_bits::Memory;
+use etcs_bits::{Bits, Memory};
 use etcs_radio::RawTrainPacket;
 use etcs_schema::{FormError, Node};
 use std::alloc::Global;
@@ -24,7 +26,7 @@ impl Numbers for RawTrainPacket {
     ghost test = { is_allowed nid_raw };
 
     fn has(number: u64) -> bool {
-        number < 256 && RawTrainPacket::has_number(number)
+        RawTrainPacket::has_number(number)
     }
 }
 
@@ -35,6 +37,17 @@ impl Record for RawTrainPacket {
 impl InRange for RawTrainPacket {
     fn prove_in_range(&self) {
         prove_allowed(self);
+    }
+}
+
+// The packet of parts that were read.
+fn packet_of(number: u8, body: Bits) -> RawTrainPacket
+    requires { is_kept number (length body) ≡ true }
+    ensures { result ≡ raw_with number body }
+{
+    match RawTrainPacket::new(number, body) {
+        Ok(packet) => packet,
+        Err(_) => unreachable!("a packet of this number and this length is kept as bits"),
     }
 }
 
@@ -53,9 +66,6 @@ impl Members for RawTrainPacket {
         check_members!(alloc, node; "body", "l_packet", "nid_packet");
         let number = read_number::<Self, N>(alloc, node, "nid_packet")?;
         let body = read_measured::<HEAD_BITS, N>(alloc, node)?;
-        match RawTrainPacket::new(number as u8, body) {
-            Ok(packet) => Ok(packet),
-            Err(_) => unreachable!("the number and the length were read"),
-        }
+        Ok(packet_of(number as u8, body))
     }
 }
