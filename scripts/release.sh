@@ -11,8 +11,8 @@
 #
 # `store` takes the program that the gate or scripts/build has built from these sources in out/, and runs tests/dist. A
 # program that differs from the stored one needs a new version number. A release needs out/edits of `tests/edits --all`,
-# and the output of `.ci/run` in out/gate.log and of `tests/edits --all` in out/edits.log. Two runs on one commit with the
-# same tools give the same bytes. They need git, python3-hatchling, advancecomp, help2man and dpkg-deb.
+# and the output of `.ci/run` in out/gate.log and of `tests/edits --all` in out/edits.log. Two runs on one commit with
+# the same tools give the same bytes. They need git, python3-hatchling, advancecomp, help2man and dpkg-deb.
 set -euo pipefail
 
 cd "$(dirname "${BASH_SOURCE[0]}")/.."
