@@ -23,7 +23,7 @@ FORM, MESSAGE = cases.answer(210, []), "03048000001900080021e810901ff801f400"
 NO_DIGITS = answered("refused: line 1: not hexadecimal\n")
 AUTHORITY_FORM = (EXAMPLES / "radio-movement-authority.json").read_text()
 REPORT = json.loads((EXAMPLES / "radio-position-report.json").read_text())
-PAGE = TOP / "balisecheck.1"
+PAGE = TOP / "man" / "balisecheck.1"
 LEAST_CASES = 4831
 PATIENCE = 10  # seconds that the answers to two lines may take
 

@@ -31,7 +31,7 @@ def program():
                                stdout=subprocess.PIPE, check=False)
         named = asked.stdout.strip()
     if not named or not os.access(named, os.X_OK):
-        print(f"no program {named}: make it by ./build, or name one by BALISECHECK\n0 passed, 1 failed")
+        print(f"no program {named}: make it by scripts/build, or name one by BALISECHECK\n0 passed, 1 failed")
         sys.exit(1)
     return os.path.abspath(named)
 

@@ -35,15 +35,16 @@ begin() {
     local crate
     chmod -R u+w "$tree" 2>/dev/null
     rm -rf "$tree"
-    mkdir -p "$tree/dist" "$room/elsewhere"
+    mkdir -p "$tree/dist" "$tree/man" "$tree/scripts" "$room/elsewhere"
     mkdir -p "$tree/companion/src/balisekit/__pycache__"
     touch "$tree/companion/start.py" "$tree/companion/pyproject.toml" "$tree/companion/src/balisekit/main.py"
     printf '#!/bin/sh\necho a kit\n' >"$tree/balisekit"
     chmod +x "$tree/balisekit"
-    cp "$from/balisecheck" "$from/build" "$from/install.sh" "$tree"
+    cp "$from/balisecheck" "$tree"
+    cp "$from/scripts/build" "$from/scripts/install.sh" "$tree/scripts"
     cp "$from/dist/sources" "$from/dist/hand-over" "$tree/dist"
     echo 1.0 >"$tree/VERSION"
-    echo 'a manual page' >"$tree/balisecheck.1"
+    echo 'a manual page' >"$tree/man/balisecheck.1"
     echo 'Handles allowed: none.' >"$tree/HANDLES"
     printf '%s\n' '# crates' 'etcs_low:' 'etcs_high: etcs_low' 'trials_low: etcs_low' 'balisecheck: etcs_high' >"$tree/crates.txt"
     for crate in etcs_low etcs_high trials_low balisecheck; do
@@ -107,7 +108,7 @@ changed() {
     begin
     is_built
     (cd "$tree" && "$@")
-    answers_none "$name" 'out/balisecheck was built from other sources; dist/x86_64-linux/balisecheck was built from other sources; run ./build'
+    answers_none "$name" 'out/balisecheck was built from other sources; dist/x86_64-linux/balisecheck was built from other sources; run scripts/build'
 }
 
 takes_no_other_sources() {
@@ -171,12 +172,12 @@ takes_none_that_does_not_start() {
     does_not_start 'a loader that refuses' 'printf "version %s not found\n" GLIBC_2.34 GLIBC_2.33 >&2; exit 1' \
         'version GLIBC_2.34 not found'
     does_not_start 'a processor that refuses' 'kill -ILL $$' ''
-    does_not_start 'one that talks' 'echo a warning' 'a warning; run ./build'
+    does_not_start 'one that talks' 'echo a warning' 'a warning; run scripts/build'
     mv "$bare/getconf" "$room/getconf"
     begin
     printf '#!/bin/sh\nexit 127\n' >"$stored/balisecheck"
     papers "$stored"
-    answers_none 'another C library' "does not start here: this is $(uname -m) with another C library: status 127; run ./build"
+    answers_none 'another C library' "does not start here: this is $(uname -m) with another C library: status 127; run scripts/build"
     mv "$room/getconf" "$bare/getconf"
 }
 
@@ -233,10 +234,10 @@ END
     program "$room/made" made
 }
 
-# builds STATUS TEXT: calls ./build, and prints how its status differs, or that standard error has not the text.
+# builds STATUS TEXT: calls scripts/build, and prints how its status differs, or that standard error has not the text.
 builds() {
     local got
-    PATH=$room/toolchain:$bare "$tree/build" >"$room/stdout" 2>"$room/stderr" &
+    PATH=$room/toolchain:$bare "$tree/scripts/build" >"$room/stdout" 2>"$room/stderr" &
     echo "$!" >"$room/build"
     wait "$!"
     got=$?
@@ -275,13 +276,13 @@ builds_in_trouble() {
     holds 'out/ is full' "$(builds 3 'balisecheck: not built: '; answers 0 $'stored a1\n' '')"
 }
 
-# installed FOLDER PREFIX: what the folder's install.sh says, and how what it installs differs from what stands there.
+# installed SCRIPT PREFIX: what the script says, and how what it installs differs from what stands in the tree.
 installed() {
-    PATH=$bare "$1/install.sh" "$2" 2>&1 |
+    PATH=$bare "$1" "$2" 2>&1 |
         diff <(printf 'installed: %s\n' "$2/bin/balisecheck" "$2/bin/balisekit" "$2/share/man/man1/balisecheck.1") -
     cmp "$stored/balisecheck" "$2/bin/balisecheck" 2>&1
     cmp "$stored/ABOUT" "$2/share/balisecheck/dist/x86_64-linux/ABOUT" 2>&1
-    cmp "$tree/balisecheck.1" "$2/share/man/man1/balisecheck.1" 2>&1
+    cmp "$(find "$tree" -name balisecheck.1)" "$2/share/man/man1/balisecheck.1" 2>&1
     [ "$("$2/bin/balisekit")" = 'a kit' ] || echo 'balisekit does not answer'
     (cd "$2/share/balisecheck" && find . ! -type d | LC_ALL=C sort) | diff <(printf './%s\n' balisecheck balisekit companion/pyproject.toml \
         companion/src/balisekit/main.py companion/start.py dist/x86_64-linux/ABOUT) -
@@ -290,24 +291,25 @@ installed() {
 
 installs() {
     begin
-    holds 'both commands and their manual pages are installed' "$(installed "$tree" "$room/prefix")"
+    holds 'both commands and their manual pages are installed' "$(installed "$tree/scripts/install.sh" "$room/prefix")"
     touch "$room/prefix/share/balisecheck/companion/src/balisekit/older.py"
-    holds 'and once more, over what was there' "$(installed "$tree" "$room/prefix")"
+    holds 'and once more, over what was there' "$(installed "$tree/scripts/install.sh" "$room/prefix")"
     mkdir "$tree/dist/pack"
     touch "$tree/dist/pack/manual"
-    holds 'a clone needs help2man for the page of balisekit' "$(PATH=$bare "$tree/install.sh" "$room/prefix" 2>&1 | tail -n 1 |
+    holds 'a clone needs help2man for the page of balisekit' "$(PATH=$bare "$tree/scripts/install.sh" "$room/prefix" 2>&1 | tail -n 1 |
         diff <(echo "not installed: $room/prefix/share/man/man1/balisekit.1, which needs help2man") -)"
     rm -r "$tree/dist/pack"
-    rm -r "$tree/dist/sources" && mv "$stored/balisecheck" "$tree" && program "$stored/balisecheck" stored
-    holds 'a release has the program itself' "$(installed "$tree" "$room/of a release")"
+    rm -r "$tree/dist/sources"
+    mv "$tree/scripts/install.sh" "$tree/man/balisecheck.1" "$stored/balisecheck" "$tree" && program "$stored/balisecheck" stored
+    holds 'a release has the program itself' "$(installed "$tree/install.sh" "$room/of a release")"
     begin
     rm -r "$stored"
-    holds 'where there is none, none is installed' "$(PATH=$bare "$tree/install.sh" "$room/other" >"$room/stdout" 2>&1 && echo 'status 0'; [ ! -e "$room/other" ] || ls "$room/other")"
+    holds 'where there is none, none is installed' "$(PATH=$bare "$tree/scripts/install.sh" "$room/other" >"$room/stdout" 2>&1 && echo 'status 0'; [ ! -e "$room/other" ] || ls "$room/other")"
     begin
     touch "$room/file"
-    holds 'what to do if a folder cannot be written' "$(PATH=$bare "$tree/install.sh" "$room/file" >"$room/stdout" 2>&1 && echo 'status 0'
+    holds 'what to do if a folder cannot be written' "$(PATH=$bare "$tree/scripts/install.sh" "$room/file" >"$room/stdout" 2>&1 && echo 'status 0'
         grep -qF "install: not installed, because $room/file/bin cannot be written" "$room/stdout" || cat "$room/stdout"
-        tail -n 1 "$room/stdout" | diff <(echo 'install: to install only for yourself: ./install.sh ~/.local') -)"
+        tail -n 1 "$room/stdout" | diff <(echo "install: to install only for yourself: $tree/scripts/install.sh ~/.local") -)"
 }
 
 mkdir "$bare"

@@ -123,7 +123,7 @@ def test_nothing_half_written(run: Run, table: Write, tmp_path: Path) -> None:
 def release(tmp_path_factory: pytest.TempPathFactory, program: Program) -> Path:
     """A folder with a tarball, as a release has it, and its checksum.
 
-    BALISECHECK_RELEASE names one that ./release.sh has written. Else it is made here, of what a job needs.
+    BALISECHECK_RELEASE names one that scripts/release.sh has written. Else it is made here, of what a job needs.
     """
     real = os.environ.get("BALISECHECK_RELEASE")
     if real:

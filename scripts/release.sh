@@ -1,29 +1,30 @@
 #!/usr/bin/env bash
 # Makes a release of the program that was proved and built here.
 #
-#     ./release.sh raise        writes the next version number into VERSION and each other file that has it
-#     ./release.sh store        stores the program and its ABOUT in dist/x86_64-linux, and adds a line to dist/RELEASES
-#     ./release.sh              writes the release into out/release: tarball and its checksum, wheel, .deb, SPDX, the logs
-#                               of the gate and of all edits, a README and SHA256SUMS
-#     ./release.sh --try DIR    the same into an empty DIR, with the program that ./balisecheck would run, without logs
-#                               and without judged edits: the names of its packages have "untested"
+#     scripts/release.sh raise        writes the next version number into VERSION and each other file that has it
+#     scripts/release.sh store        stores the program and its ABOUT in dist/x86_64-linux, and adds a line to
+#                                     dist/RELEASES
+#     scripts/release.sh              writes the release into out/release: tarball and its checksum, wheel, .deb, SPDX,
+#                                     the logs of the gate and of all edits, a README and SHA256SUMS
+#     scripts/release.sh --try DIR    the same into an empty DIR, with the program that ./balisecheck would run, without
+#                                     logs and without judged edits: the names of its packages have "untested"
 #
-# `store` takes the program that the gate or ./build has built from these sources in out/, and runs tests/dist. A program
-# that differs from the stored one needs a new version number. A release needs out/edits of `tests/edits --all`, and the
-# output of `.ci/run` in out/gate.log and of `tests/edits --all` in out/edits.log. Two runs on one commit with the same
-# tools give the same bytes. They need git, python3-hatchling, advancecomp, help2man and dpkg-deb.
+# `store` takes the program that the gate or scripts/build has built from these sources in out/, and runs tests/dist. A
+# program that differs from the stored one needs a new version number. A release needs out/edits of `tests/edits --all`,
+# and the output of `.ci/run` in out/gate.log and of `tests/edits --all` in out/edits.log. Two runs on one commit with
+# the same tools give the same bytes. They need git, python3-hatchling, advancecomp, help2man and dpkg-deb.
 set -euo pipefail
 
-cd "$(dirname "${BASH_SOURCE[0]}")"
+cd "$(dirname "${BASH_SOURCE[0]}")/.."
 room=$(mktemp -d)
 trap 'rm -rf "$room"' EXIT
 dist=dist/x86_64-linux
 version=$(cat VERSION)
-# What is handed out beside the program.
-handed=(balisecheck.1 balisekit install.sh README.md CHANGELOG.md ERRATA.md LICENSE-APACHE LICENSE-MIT THIRD-PARTY.md
-    companion dist/RELEASES docs schemas examples)
+# What is handed out beside the program. The tarball has files of scripts/ and man/ at its top.
+handed=(man/balisecheck.1 balisekit scripts/install.sh README.md CHANGELOG.md ERRATA.md LICENSE-APACHE LICENSE-MIT
+    THIRD-PARTY.md companion dist/RELEASES docs schemas examples)
 # Where the number of the program stands.
-numbered=(VERSION balisecheck.1 crates/balisecheck/src/help.rt companion/src/balisekit/__init__.py examples/ci/*.yml)
+numbered=(VERSION man/balisecheck.1 crates/balisecheck/src/help.rt companion/src/balisekit/__init__.py examples/ci/*.yml)
 
 fail() {
     echo "release: $1" >&2
@@ -80,7 +81,7 @@ raise() {
     local next=${version%.*}.$((${version##*.} + 1))
     sed -i "s/\<${version//./\\.}\>/$next/" "${numbered[@]}"
     sed -i "s/^## Unreleased\$/&\n\n## $next - $(date -u +%F)/" CHANGELOG.md
-    echo "raised: $next. Commit, ./build (which proves only the last crate), and ./release.sh store" >&2
+    echo "raised: $next. Commit, scripts/build (which proves only the last crate), and scripts/release.sh store" >&2
 }
 
 # has_a_number: fails if another program has the number of the one in out/, and raises the number then.
@@ -95,7 +96,7 @@ has_a_number() {
 store() {
     local line before=$room/before
     is_committed crates.txt HANDLES crates
-    is_right out './build'
+    is_right out 'scripts/build'
     has_a_number
     mkdir -p "$dist"
     cp -a dist "$before"
@@ -114,7 +115,7 @@ store() {
 # tree TO PROGRAM PAPERS: writes what the tarball holds, of which the other files of a release are made.
 tree() {
     mkdir -p "$1/$dist"
-    git ls-files -z -- "${handed[@]}" | tar -c --null --files-from=- | tar -x -C "$1"
+    git ls-files -z -- "${handed[@]}" | tar -c --null --files-from=- --transform='s,^\(scripts\|man\)/,,' | tar -x -C "$1"
     install -m 755 "$2" "$1/balisecheck"
     install -m 644 "$3" "$1/$dist/ABOUT"
     dist/pack/readme "$1"
@@ -150,8 +151,8 @@ sums() {
 
 release() {
     is_committed "${handed[@]}" VERSION dist crates.txt HANDLES crates
-    is_right "$dist" './release.sh store'
-    [ "$(said version "$dist")" = "$version" ] || fail "the stored program is not $version: ./release.sh store"
+    is_right "$dist" 'scripts/release.sh store'
+    [ "$(said version "$dist")" = "$version" ] || fail "the stored program is not $version: scripts/release.sh store"
     are_judged
     is_passed out/gate.log .ci/run
     grep -qx "== sources $(said sources "$dist")" out/gate.log || fail 'out/gate.log is from other sources: .ci/run | tee out/gate.log'
@@ -177,5 +178,5 @@ case "$#:${1:-}" in
 1:store) store ;;
 2:--try) try "$2" ;;
 0:) release ;;
-*) fail 'usage: ./release.sh [raise | store | --try DIR]' ;;
+*) fail 'usage: scripts/release.sh [raise | store | --try DIR]' ;;
 esac

@@ -1,5 +1,5 @@
 #!/bin/sh
-# Installs both commands with their manual pages into PREFIX, by default /usr/local:   ./install.sh [PREFIX]
+# Installs both commands with their manual pages into PREFIX, by default /usr/local:   install.sh [PREFIX]
 #
 # PREFIX/bin/balisecheck is one file that needs only the C library. In a clone it is the program that ./balisecheck would
 # run. PREFIX/bin/balisekit needs python3; its files are in PREFIX/share/balisecheck.
@@ -9,18 +9,21 @@ top=$(dirname "$(readlink -f -- "$0")")
 prefix=${1:-/usr/local}
 kit=$prefix/share/balisecheck
 manual=$prefix/share/man/man1
-# A release has the program itself where a clone has the start script.
+# A release has this script, the program and both manual pages at its top. A clone has the script in scripts/.
 program=$top/balisecheck
 about=$top/dist/x86_64-linux/ABOUT
-if [ -e "$top/dist/sources" ]; then
-    program=$(BALISECHECK_PATH=1 "$program")
+pages=$top
+if [ ! -e "$program" ]; then
+    top=${top%/*}
+    program=$(BALISECHECK_PATH=1 "$top/balisecheck")
     about=${program%/*}/ABOUT
+    pages=$top/man
 fi
 
 for folder in "$prefix/bin" "$kit" "$manual"; do
     lack=$(mkdir -p "$folder" 2>&1) && [ -w "$folder" ] && continue
     echo "install: not installed, because $folder cannot be written${lack:+ ($lack)}." >&2
-    echo 'install: to install only for yourself: ./install.sh ~/.local' >&2
+    echo "install: to install only for yourself: $0 ~/.local" >&2
     exit 1
 done
 # Not `cp`, which would write through a link, or into a program that runs.
@@ -36,8 +39,8 @@ ln -sf ../../bin/balisecheck "$kit/balisecheck"
 ln -sf ../share/balisecheck/balisekit "$prefix/bin/balisekit"
 printf 'installed: %s\n' "$prefix/bin/balisecheck" "$prefix/bin/balisekit" >&2
 for page in balisecheck.1 balisekit.1; do
-    [ -e "$top/$page" ] || continue
-    install -m 644 "$top/$page" "$manual/$page"
+    [ -e "$pages/$page" ] || continue
+    install -m 644 "$pages/$page" "$manual/$page"
     echo "installed: $manual/$page" >&2
 done
 # A clone has no manual page of balisekit: it is made here from the --help of its commands.
