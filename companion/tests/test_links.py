@@ -316,9 +316,11 @@ def test_a_link_that_is_not_known_yet_is_no_finding() -> None:
     [(9, "0", [("L2", "B")]), (10, "0", []), (5, "4.9", [("L2", "B")]), (5, "5", []), (0, "10", [])],
 )
 def test_a_distance_has_an_accuracy_and_a_tolerance(accuracy: int, tolerance: str, wanted: List[Any]) -> None:
-    chain = link_tables.linking(1, {**link_tables.link(1010, 2, 1), "q_locacc": accuracy})
+    """One unit of D_LINK, and one of the last decimal of the kilometres, are allowed too."""
+    chain = link_tables.linking(1, {**link_tables.link(1012, 2, 1), "q_locacc": accuracy})
     one = line_with(
-        (group("A", "0", nominal="rising"), [header(1, chain)]), (group("B", "1", nominal="rising"), [header(2)])
+        (group("A", "0.000", nominal="rising"), [header(1, chain)]),
+        (group("B", "1.000", nominal="rising"), [header(2)]),
     )
     assert found(one, tolerance) == wanted
 
@@ -337,14 +339,14 @@ def test_units(scale: int, unit: int) -> None:
 
 def test_a_group_behind_the_train_and_one_wrong_distance() -> None:
     links = [link_tables.link(1000, 2, 1), link_tables.link(1000, 3, 1)]
-    some = [(group("B", "1", nominal="rising"), [header(2)]), (group("C", "2", nominal="rising"), [header(3)])]
+    some = [(group("B", "1.000", nominal="rising"), [header(2)]), (group("C", "2", nominal="rising"), [header(3)])]
     falling = line_with((group("A", "0", nominal="falling"), [header(1, link_tables.linking(1, *links))]), *some)
     said = [one.sentence for one in compare(falling).remarks if one.rule == "L2"][0]
     assert said.startswith(
         "B (km 1.000) is 1000 m from A (km 0.000) by D_LINK, and 1000 m in rear of it by the "
         "kilometres: they differ by 2000 m"
     )
-    links[0]["d_link"] = 1006
+    links[0]["d_link"] = 1008
     rising = line_with((group("A", "0", nominal="rising"), [header(1, link_tables.linking(1, *links))]), *some)
     assert found(rising) == [("L2", "B")]
 
@@ -353,7 +355,7 @@ def test_small_errors_add_up() -> None:
     links = [link_tables.link(1004, 2, 1), link_tables.link(1004, 3, 1)]
     one = line_with(
         (group("A", "0", nominal="rising"), [header(1, link_tables.linking(1, *links))]),
-        (group("B", "1", nominal="rising"), [header(2)]),
+        (group("B", "1.000", nominal="rising"), [header(2)]),
         (group("C", "2", nominal="rising"), [header(3)]),
     )
     assert found(one) == [("L2", "C")]
@@ -448,7 +450,7 @@ def test_messages_count_from_their_group() -> None:
             {**link_tables.authority()[1], "elements": [{"d_gradient": 0, "q_gdir": 1, "g_a": 5}]},
         ],
     }
-    some = [(group("A", "0", nominal="rising"), [header(1)]), (group("B", "1", nominal="rising"), [header(2)])]
+    some = [(group("A", "0", nominal="rising"), [header(1)]), (group("B", "1.000", nominal="rising"), [header(2)])]
     one = line_with(*some, messages=[(Message(3, ""), form)])
     assert found(one) == [("L2", "B"), ("L7", "")]
     assert str(compare(one).remarks[0].location) == (
@@ -547,7 +549,7 @@ def test_any_correct_line_is_silent() -> None:
         st.booleans(),
         st.lists(st.booleans(), min_size=1),
         st.integers(0, 50),
-        st.integers(6, 500),
+        st.integers(8, 500),
     )(tried)()
 
 
