@@ -10,7 +10,7 @@ from bisect import bisect_left, bisect_right
 from dataclasses import dataclass, field
 from decimal import Decimal
 from functools import cached_property
-from typing import Dict, FrozenSet, Iterable, Iterator, List, Mapping, NamedTuple, Optional, Sequence, Tuple
+from typing import AbstractSet, Dict, FrozenSet, Iterator, List, Mapping, NamedTuple, Optional, Sequence, Tuple, Union
 
 from balisekit.engine.grammar import Finding
 from balisekit.engine.program import Record
@@ -18,7 +18,15 @@ from balisekit.etcs.geometry import kilometres
 from balisekit.etcs.variables import Form
 from balisekit.rules.chainage import Chainage, Jump
 from balisekit.rules.checking import Checked, Telegrams
-from balisekit.rules.decoded import Decoded, Telegram, contents_of_decoded, decode, resolution_of, rounding, telegrams_of
+from balisekit.rules.decoded import (
+    Decoded,
+    Telegram,
+    contents_of_decoded,
+    decode,
+    resolution_of,
+    rounding,
+    telegrams_of,
+)
 from balisekit.rules.location import NO_KILOMETRE, NOT_KNOWN, BaliseGroup, Identity, incomparable
 from balisekit.rules.passages import Chain, Content, Link, Passages, contents_of
 from balisekit.tables.model import Aspect, Group, Message, Row
@@ -29,6 +37,7 @@ BY_LINKS = "its direction along the kilometres is taken from the links that name
 END = (None, None)
 NOWHERE = -(10**12)
 """The place of a group whose place is not known, before all others."""
+Number = Union[int, Decimal]
 Placed = Tuple[int, BaliseGroup]
 """A group behind its place."""
 
@@ -258,14 +267,14 @@ class Line:
     def _resolution(self) -> int:
         return resolution_of(self.groups)
 
-    def may_be_refused(self, track: str, low: int, high: int, nameless: bool = False) -> bool:
+    def may_be_refused(self, track: str, low: Number, high: Number, nameless: bool = False) -> bool:
         """Whether a group with a refused telegram, or a `nameless` one, may be from one place of a track to another."""
         places = self._refused[nameless].get(track, ())
         at = bisect_left(places, low)
         return bool(places) and (places[0] == NOWHERE or at < len(places) and places[at] <= high)
 
     @property
-    def nameless(self) -> Iterable[str]:
+    def nameless(self) -> AbstractSet[str]:
         """The tracks with a group whose identity the program has not read."""
         return self._refused[True].keys()
 
