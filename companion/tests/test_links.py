@@ -23,7 +23,7 @@ from balisekit.rules.chainage import Jump
 from balisekit.rules.line import BY_LINKS, Line, with_directions
 from balisekit.rules.links import RULES, compare
 from balisekit.rules.own import RULES as OWN
-from balisekit.rules.rule import CORRECT_DATA, Options
+from balisekit.rules.rule import CORRECT_DATA, REFUSED, Options
 from balisekit.tables.model import Aspect, Group, Message, Row
 
 Write = Callable[..., Path]
@@ -223,6 +223,47 @@ def test_a_link_out_of_the_table_is_named_if_its_sender_has_no_direction(nominal
         (group("A", "0", nominal=nominal), [header(1, chain)]), (group("B", "1", nominal="rising"), [header(2)])
     )
     assert found(one) == wanted
+
+
+@pytest.mark.parametrize(
+    "km, track, distance, nominal, is_named",
+    [
+        ("2.000", "", 2000, "rising", False),
+        ("2.007", "", 2000, "rising", False),
+        ("2.008", "", 2000, "rising", True),
+        ("", "", 2000, "rising", False),
+        ("2.000", "2", 2000, "rising", False),
+        ("2.000", "2", 1000, "rising", True),
+        ("2.500", "", 2000, "", False),
+    ],
+    ids=["there", "rounded", "elsewhere", "no place", "another track", "at B", "no direction"],
+)
+def test_a_link_may_lead_to_a_refused_group(km: str, track: str, distance: int, nominal: str, is_named: bool) -> None:
+    """One without identity at the place by D_LINK, or at a place that is not known. It is counted, not named."""
+    chain = link_tables.linking(1, link_tables.link(distance, 9, 1))
+    one = line_with(
+        (group("A", "0.000", nominal=nominal), [header(1, chain)]),
+        (group("B", "1.000", nominal="rising"), [header(2)]),
+        (group("C", km, nominal="rising", track=track), []),
+        (group("D", "3.000", nominal="rising"), [header(4)]),
+    )
+    made = compare(one)
+    sentences = [each.sentence for each in made.remarks if each.rule == "L1"]
+    assert len(sentences) == is_named and made.results[RULES[0]].not_looked_at.get(REFUSED, 0) == 1 - is_named
+    assert all(
+        each.startswith("group 9 of country or region 1 is linked, and no telegram that was") for each in sentences
+    )
+
+
+def test_a_group_with_a_refused_telegram_is_not_known_to_say_anything() -> None:
+    """L9 counts it in its note."""
+    chain = link_tables.linking(1, link_tables.link(2000, 3, 1))
+    one = line_with(
+        (group("A", "0", nominal="rising"), [header(1, chain)]),
+        (group("B", "1.000", "1.003"), [header(2)]),
+        (group("C", "2", nominal="rising"), [header(3)]),
+    )
+    assert found(one) == [] and any(note.startswith("L9: 1 group with Q_LINK 1") for note in compare(one).notes)
 
 
 @pytest.mark.parametrize("number, wanted", [(44, [("L9", "B")]), (145, [])])
