@@ -326,9 +326,11 @@ def test_x3_of_an_authority_without_length(program: Program, tmp_path: Path, met
         rows[:] = [row for row in rows if row.place >= 14_500]
         change(rows, "Signal 4", "green", 12)["l_endsection"] = metres
 
-    line = read(program, written(program, tmp_path / "t.csv", Line(), begins_there))
+    line = read(program, written(program, tmp_path / "t.csv", Line(signals=6), begins_there))
     rows = [{**of_kind(implied_rows(line), "signal"), "km": "19.000"}]
-    groups = [each.location.group for each in remarks(line, rows, tmp_path) if each.values["metres_apart"] > 4000]
+    groups = [
+        each.location.group for each in remarks(line, rows, tmp_path) if each.values.get("metres_apart", 0) > 4000
+    ]
     assert [group.group.name for group in groups if group] == ["Signal 4"] * is_named
 
 
