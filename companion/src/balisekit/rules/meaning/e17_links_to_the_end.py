@@ -5,9 +5,9 @@ Its V_MAIN is above 0. The packets 5 are those of all aspects of the group, and 
 way. If the direction of one is not known, its first link shows it. The other group has Q_LINK 1, is at most 50 m beyond
 the end of the authority, and has packets for that direction other than 254 and 255. The rule is silent if the end is
 beyond the last such group of the track. It is also silent if the last link is NID_BG 16,383: the group with
-repositioning information there names the next ones. So it is if this group, or one before it, has a refused telegram,
-at most 10 km in rear of the end. Packets 5 after a packet 136 do not count. A table without any packet 5 and without
-refused telegrams or messages gets one remark (SUBSET-026, 3.4.4).
+repositioning information there names the next ones. Nor does it speak if this group, or one before it at most 10 km in
+rear of the end, has a refused telegram. Packets 5 after a packet 136 do not count. A table without any packet 5 and
+without refused telegrams or messages gets one remark (SUBSET-026, 3.4.4).
 
 How urgent. At worst a wrong position of the train.
 
