@@ -23,7 +23,7 @@ from balisekit.rules.chainage import Jump
 from balisekit.rules.line import BY_LINKS, Line, with_directions
 from balisekit.rules.links import RULES, compare
 from balisekit.rules.own import RULES as OWN
-from balisekit.rules.rule import CORRECT_DATA, Options
+from balisekit.rules.rule import CORRECT_DATA, REFUSED, Options
 from balisekit.tables.model import Aspect, Group, Message, Row
 
 Write = Callable[..., Path]
@@ -225,6 +225,47 @@ def test_a_link_out_of_the_table_is_named_if_its_sender_has_no_direction(nominal
     assert found(one) == wanted
 
 
+@pytest.mark.parametrize(
+    "km, track, distance, nominal, is_named",
+    [
+        ("2.000", "", 2000, "rising", False),
+        ("2.007", "", 2000, "rising", False),
+        ("2.008", "", 2000, "rising", True),
+        ("", "", 2000, "rising", False),
+        ("2.000", "2", 2000, "rising", False),
+        ("2.000", "2", 1000, "rising", True),
+        ("2.500", "", 2000, "", False),
+    ],
+    ids=["there", "rounded", "elsewhere", "no place", "another track", "at B", "no direction"],
+)
+def test_a_link_may_lead_to_a_refused_group(km: str, track: str, distance: int, nominal: str, is_named: bool) -> None:
+    """One without identity at the place by D_LINK, or at a place that is not known. It is counted, not named."""
+    chain = link_tables.linking(1, link_tables.link(distance, 9, 1))
+    one = line_with(
+        (group("A", "0.000", nominal=nominal), [header(1, chain)]),
+        (group("B", "1.000", nominal="rising"), [header(2)]),
+        (group("C", km, nominal="rising", track=track), []),
+        (group("D", "3.000", nominal="rising"), [header(4)]),
+    )
+    made = compare(one)
+    sentences = [each.sentence for each in made.remarks if each.rule == "L1"]
+    assert len(sentences) == is_named and made.results[RULES[0]].not_looked_at.get(REFUSED, 0) == 1 - is_named
+    assert all(
+        each.startswith("group 9 of country or region 1 is linked, and no telegram that was") for each in sentences
+    )
+
+
+def test_a_group_with_a_refused_telegram_is_not_known_to_say_anything() -> None:
+    """L9 counts it in its note."""
+    chain = link_tables.linking(1, link_tables.link(2000, 3, 1))
+    one = line_with(
+        (group("A", "0", nominal="rising"), [header(1, chain)]),
+        (group("B", "1.000", "1.003"), [header(2)]),
+        (group("C", "2", nominal="rising"), [header(3)]),
+    )
+    assert found(one) == [] and any(note.startswith("L9: 1 group with Q_LINK 1") for note in compare(one).notes)
+
+
 @pytest.mark.parametrize("number, wanted", [(44, [("L9", "B")]), (145, [])])
 def test_a_group_for_a_national_system_only_is_passed_over(number: int, wanted: List[Any]) -> None:
     """The page names a group with packet 44 only as correct data that gets L9."""
@@ -316,9 +357,11 @@ def test_a_link_that_is_not_known_yet_is_no_finding() -> None:
     [(9, "0", [("L2", "B")]), (10, "0", []), (5, "4.9", [("L2", "B")]), (5, "5", []), (0, "10", [])],
 )
 def test_a_distance_has_an_accuracy_and_a_tolerance(accuracy: int, tolerance: str, wanted: List[Any]) -> None:
-    chain = link_tables.linking(1, {**link_tables.link(1010, 2, 1), "q_locacc": accuracy})
+    """One unit of D_LINK, and one of the last decimal of the kilometres, are allowed too."""
+    chain = link_tables.linking(1, {**link_tables.link(1012, 2, 1), "q_locacc": accuracy})
     one = line_with(
-        (group("A", "0", nominal="rising"), [header(1, chain)]), (group("B", "1", nominal="rising"), [header(2)])
+        (group("A", "0.000", nominal="rising"), [header(1, chain)]),
+        (group("B", "1.000", nominal="rising"), [header(2)]),
     )
     assert found(one, tolerance) == wanted
 
@@ -337,14 +380,14 @@ def test_units(scale: int, unit: int) -> None:
 
 def test_a_group_behind_the_train_and_one_wrong_distance() -> None:
     links = [link_tables.link(1000, 2, 1), link_tables.link(1000, 3, 1)]
-    some = [(group("B", "1", nominal="rising"), [header(2)]), (group("C", "2", nominal="rising"), [header(3)])]
+    some = [(group("B", "1.000", nominal="rising"), [header(2)]), (group("C", "2", nominal="rising"), [header(3)])]
     falling = line_with((group("A", "0", nominal="falling"), [header(1, link_tables.linking(1, *links))]), *some)
     said = [one.sentence for one in compare(falling).remarks if one.rule == "L2"][0]
     assert said.startswith(
         "B (km 1.000) is 1000 m from A (km 0.000) by D_LINK, and 1000 m in rear of it by the "
         "kilometres: they differ by 2000 m"
     )
-    links[0]["d_link"] = 1006
+    links[0]["d_link"] = 1008
     rising = line_with((group("A", "0", nominal="rising"), [header(1, link_tables.linking(1, *links))]), *some)
     assert found(rising) == [("L2", "B")]
 
@@ -353,7 +396,7 @@ def test_small_errors_add_up() -> None:
     links = [link_tables.link(1004, 2, 1), link_tables.link(1004, 3, 1)]
     one = line_with(
         (group("A", "0", nominal="rising"), [header(1, link_tables.linking(1, *links))]),
-        (group("B", "1", nominal="rising"), [header(2)]),
+        (group("B", "1.000", nominal="rising"), [header(2)]),
         (group("C", "2", nominal="rising"), [header(3)]),
     )
     assert found(one) == [("L2", "C")]
@@ -448,7 +491,7 @@ def test_messages_count_from_their_group() -> None:
             {**link_tables.authority()[1], "elements": [{"d_gradient": 0, "q_gdir": 1, "g_a": 5}]},
         ],
     }
-    some = [(group("A", "0", nominal="rising"), [header(1)]), (group("B", "1", nominal="rising"), [header(2)])]
+    some = [(group("A", "0", nominal="rising"), [header(1)]), (group("B", "1.000", nominal="rising"), [header(2)])]
     one = line_with(*some, messages=[(Message(3, ""), form)])
     assert found(one) == [("L2", "B"), ("L7", "")]
     assert str(compare(one).remarks[0].location) == (
@@ -547,7 +590,7 @@ def test_any_correct_line_is_silent() -> None:
         st.booleans(),
         st.lists(st.booleans(), min_size=1),
         st.integers(0, 50),
-        st.integers(6, 500),
+        st.integers(8, 500),
     )(tried)()
 
 

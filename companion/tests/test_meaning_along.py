@@ -278,11 +278,11 @@ def links_of(group: str, place: int, metres: int) -> Change:
 
 
 def test_e14(found: Found) -> None:
-    """The tolerance itself, and what is beyond Q_LOCACC, are none."""
-    made = [found("E14", SHORT, links_of("Signal 4", 0, metres)) for metres in (3, 4, 5, 6, -4)]
+    """The tolerance itself, and what is beyond Q_LOCACC and rounding, are none."""
+    made = [found("E14", SHORT, links_of("Signal 4", 0, metres)) for metres in (3, 4, 7, 8, -4)]
     assert [len(each) for each in made] == [0, 1, 1, 0, 1]
     assert made[1][0].values == {"metres_by_d_link": Decimal(1504), "metres_by_kilometres": Decimal(1500)}
-    assert len(found("L2", SHORT, links_of("Signal 4", 0, 6))) == 1
+    assert [len(found("L2", SHORT, links_of("Signal 4", 0, metres))) for metres in (7, 8)] == [0, 1]
     assert "by the kilometres it is 1503 m to balise 1 of Signal 5 (km 16.000), row 19" in made[1][0].sentence
 
 

@@ -318,6 +318,22 @@ def test_x4_of_an_aspect_without_authority(sound: Tuple[LineOfTable, List[Cells]
     assert result.notes == [f"{tmp_path / 'plan.csv'}: row {len(rows) + 1}: the table has no such aspect"]
 
 
+@pytest.mark.parametrize("metres, is_named", [(0, False), (20, True)])
+def test_x3_of_an_authority_without_length(program: Program, tmp_path: Path, metres: int, is_named: bool) -> None:
+    """It ends at no signal, since it leads nowhere."""
+
+    def begins_there(rows: List[Row]) -> None:
+        rows[:] = [row for row in rows if row.place >= 14_500]
+        change(rows, "Signal 4", "green", 12)["l_endsection"] = metres
+
+    line = read(program, written(program, tmp_path / "t.csv", Line(signals=6), begins_there))
+    rows = [{**of_kind(implied_rows(line), "signal"), "km": "19.000"}]
+    groups = [
+        each.location.group for each in remarks(line, rows, tmp_path) if each.values.get("metres_apart", 0) > 4000
+    ]
+    assert [group.group.name for group in groups if group] == ["Signal 4"] * is_named
+
+
 def test_x5_of_packets_without_a_place(program: Program, tmp_path: Path) -> None:
     """Packet 46 has the levels behind the last border, packet 42 an RBC that is known around it."""
 

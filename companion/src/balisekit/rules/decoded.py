@@ -363,7 +363,11 @@ def allowance(packet: Packet, lengths: int = 1) -> int:
 
     It is in whole decimetres, rounded up.
     """
-    unit = packet.unit
+    return rounding(packet.unit, lengths)
+
+
+def rounding(unit: int, lengths: int) -> int:
+    """The same by the unit of the lengths."""
     return unit + (unit * (lengths - 1) + 1) // 2
 
 
@@ -388,7 +392,7 @@ def decode(
     for telegram in telegrams:
         by_group.setdefault(telegram.row.group, {})[telegram.row.number] = telegram
     made = [GroupData(each, by_group.get(each.group.name, {}), chainages[each.track].place(each.km)) for each in groups]
-    decoded = Decoded(made, [], chainages, _resolution(groups))
+    decoded = Decoded(made, [], chainages, resolution_of(groups))
     decoded.messages = [passage for message, form in messages for passage in _of_message(decoded, message, form)]
     return decoded
 
@@ -463,7 +467,7 @@ def _with_fields(packet: Form) -> Form:
     return packet if fields is None else cast(Form, {**dict(packet), **dict(fields)})
 
 
-def _resolution(groups: Sequence[BaliseGroup]) -> int:
+def resolution_of(groups: Sequence[BaliseGroup]) -> int:
     """One unit of the last decimal that a kilometre of the table has."""
     decimals = max((_decimals(row.km) for each in groups for row in each.group.rows() if row.km is not None), default=3)
     return int(Decimal(10_000).scaleb(-decimals).to_integral_value(ROUND_CEILING))

@@ -10,7 +10,7 @@ from bisect import bisect_left, bisect_right
 from dataclasses import dataclass, field
 from decimal import Decimal
 from functools import cached_property
-from typing import Dict, FrozenSet, Iterator, List, Mapping, NamedTuple, Optional, Sequence, Tuple
+from typing import AbstractSet, Dict, FrozenSet, Iterator, List, Mapping, NamedTuple, Optional, Sequence, Tuple, Union
 
 from balisekit.engine.grammar import Finding
 from balisekit.engine.program import Record
@@ -18,15 +18,26 @@ from balisekit.etcs.geometry import kilometres
 from balisekit.etcs.variables import Form
 from balisekit.rules.chainage import Chainage, Jump
 from balisekit.rules.checking import Checked, Telegrams
-from balisekit.rules.decoded import Decoded, Telegram, contents_of_decoded, decode, telegrams_of
+from balisekit.rules.decoded import (
+    Decoded,
+    Telegram,
+    contents_of_decoded,
+    decode,
+    resolution_of,
+    rounding,
+    telegrams_of,
+)
 from balisekit.rules.location import NO_KILOMETRE, NOT_KNOWN, BaliseGroup, Identity, incomparable
-from balisekit.rules.passages import Chain, Content, Passages, contents_of
+from balisekit.rules.passages import Chain, Content, Link, Passages, contents_of
 from balisekit.tables.model import Aspect, Group, Message, Row
 from balisekit.tables.names import clean
 
 AFTER_INFILL = "after packet 136"
 BY_LINKS = "its direction along the kilometres is taken from the links that name it"
 END = (None, None)
+NOWHERE = -(10**12)
+"""The place of a group whose place is not known, before all others."""
+Number = Union[int, Decimal]
 Placed = Tuple[int, BaliseGroup]
 """A group behind its place."""
 
@@ -85,6 +96,8 @@ class Line:
     """Where the kilometres jump."""
     in_full: bool = False
     """Whether rules will ask for `decoded`. The telegrams are then decoded once, with all that they say."""
+    lost_messages: bool = False
+    """Whether there are messages that the program has not read."""
 
     @classmethod
     def of(cls, checked: Checked, jumps: Sequence[Jump] = (), in_full: bool = False) -> Line:
@@ -96,7 +109,8 @@ class Line:
             if place.group is not None:
                 findings.setdefault(place.group.name, []).append(place.finding)
         messages = [(each.message, each.form) for each in checked.accepted_messages]
-        return cls(groups, checked.accepted, messages, findings, jumps, in_full)
+        lost = bool(checked.refused_messages or checked.messages_not_looked_at)
+        return cls(groups, checked.accepted, messages, findings, jumps, in_full, lost)
 
     @cached_property
     def passages(self) -> Passages:
@@ -245,6 +259,35 @@ class Line:
         lost = one and other and None in (self.places[one.number], self.places[other.number])
         return NO_KILOMETRE if lost and not why else why
 
+    def allowed(self, link: Link, lengths: int, tolerance: Decimal) -> Decimal:
+        """By how many decimetres a sum of so many D_LINK may differ from the kilometres: Q_LOCACC, and rounding."""
+        return (link.accuracy + tolerance) * 10 + self._resolution + rounding(link.unit, lengths)
+
+    @cached_property
+    def _resolution(self) -> int:
+        return resolution_of(self.groups)
+
+    def may_be_refused(self, track: str, low: Number, high: Number, nameless: bool = False) -> bool:
+        """Whether a group with a refused telegram, or a `nameless` one, may be from one place of a track to another."""
+        places = self._refused[nameless].get(track, ())
+        at = bisect_left(places, low)
+        return bool(places) and (places[0] == NOWHERE or at < len(places) and places[at] <= high)
+
+    @property
+    def nameless(self) -> AbstractSet[str]:
+        """The tracks with a group whose identity the program has not read."""
+        return self._refused[True].keys()
+
+    @cached_property
+    def _refused(self) -> Sequence[Mapping[str, Sequence[int]]]:
+        """Of each track: the places of its groups with a refused telegram, and of those whose identity is not read."""
+        found: Tuple[Dict[str, List[int]], ...] = ({}, {})
+        for group in self.groups:
+            for own in found[: 1 + (group.identity is None)] if group.unread else ():
+                place = self.places[group.number]
+                own.setdefault(group.track, []).append(NOWHERE if place is None else place)
+        return [{track: sorted(places) for track, places in own.items()} for own in found]
+
     @cached_property
     def _linked(self) -> Dict[Tuple[str, Optional[int], bool], LinkedGroups]:
         return {}
@@ -332,5 +375,5 @@ def _balise_group(number: int, group: Group, contents: Mapping[int, Content]) ->
     balises, where = len(group.aspects[0].rows), kilometres(group)
     track = next((row.track for row in rows.values() if row.track), "")
     unread = tuple(sorted(rows.keys() - contents.keys())) if len(contents) < len(rows) else ()
-    says = tuple(bool(unread) or any(each.says[index] for each in contents.values()) for index in range(2))
+    says = tuple(any(each.says[index] for each in contents.values()) for index in range(2))
     return BaliseGroup(number, group, balises, identity, linked, where.group, where.rising, track, unread, says=says)

@@ -50,6 +50,8 @@ class Link:
     """Whether Q_LINKORIENTATION says that it is passed in nominal direction."""
     accuracy: int
     """Q_LOCACC, in metres."""
+    unit: int
+    """That of D_LINK in decimetres, by Q_SCALE."""
     target: Optional[BaliseGroup] = None
     """The group of the table with this identity."""
 
@@ -297,4 +299,4 @@ def _links(packet: Form, country: int) -> Iterator[Link]:
     for number, each in enumerate(packet["links"]):
         country = each.get("nid_c", country)
         orientation = each["q_linkorientation"] == 1
-        yield Link(number, (country, each["nid_bg"]), each["d_link"] * unit, orientation, each["q_locacc"])
+        yield Link(number, (country, each["nid_bg"]), each["d_link"] * unit, orientation, each["q_locacc"], unit)

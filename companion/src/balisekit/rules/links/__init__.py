@@ -64,7 +64,7 @@ def _all(line: Line) -> Iterator[Note]:
 
 def _lacks(group: BaliseGroup) -> str:
     if group.identity is None:
-        return "no telegram of it could be read, so its identity is not known: L1 may be about it"
+        return "no telegram of it could be read, so its identity is not known: L1 counts links that may be to it"
     if group.km is None:
         return "it has no kilometre: L2 and L9 do not look at it"
     if group.rising is None:

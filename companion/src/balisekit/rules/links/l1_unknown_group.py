@@ -1,10 +1,11 @@
 """L1: linked group not in the table.
 
-What it says. A packet 5 names a group, by NID_C and NID_BG, that no row of the table has. A link without NID_C takes it
-from the group before it. If the table has that NID_BG under another NID_C, the line names that group. Other links are
-not named one by one if by D_LINK they lead beyond an end of a track by more than Q_LOCACC and `--tolerance`. A note for
-each end counts them, because the table may be a section of a longer line. A link to NID_BG 16,383 names no group, and
-is not reported (SUBSET-026, 3.4.4 and 7.4.2).
+What it says. A packet 5 names a group, by NID_C and NID_BG, that no telegram read has. A link without NID_C takes it
+from the group before it. A link that may lead to a group without a read telegram is only counted. If the table has that
+NID_BG under another NID_C, the line names that group. Other links are not named one by one if by D_LINK they lead
+beyond an end of a track by more than Q_LOCACC and `--tolerance`. A note for each end counts them, because the table may
+be a section of a longer line. A link to NID_BG 16,383 names no group, and is not reported (SUBSET-026, 3.4.4 and
+7.4.2).
 
 How urgent. At worst the train brakes or is tripped at each passage.
 
@@ -32,7 +33,7 @@ from typing import Dict, Iterator, List, Mapping, Optional, Set, Tuple, Union
 from balisekit.rules.line import Line
 from balisekit.rules.location import BaliseGroup, Identity
 from balisekit.rules.passages import Chain, Link
-from balisekit.rules.rule import Options, Remark, Result, Rule, Urgency
+from balisekit.rules.rule import REFUSED, Options, Remark, Result, Rule, Urgency
 from balisekit.tables.names import describe_identity, listed, quoted
 
 NAMED = 3
@@ -62,23 +63,35 @@ def _look_at(
     line: Line, chain: Chain, alike: Alike, leading: Set[Tuple[int, int]], tolerance: Decimal
 ) -> Iterator[Union[Remark, str, None]]:
     """Distances are summed from the last group of the chain whose place is known."""
-    base, summed = chain.sender, 0
+    base, summed, lengths = chain.sender, 0, 0
     along = base.along(chain.direction) if base else None
     for link in chain.links:
-        summed += link.distance
+        summed, lengths = summed + link.distance, lengths + 1
         if link.target is not None or not link.known or (id(chain), link.number) in leading:
             yield None if link.known else ""
             known = link.target is not None and not line.incomparable(base, link.target)
-            base, summed = (link.target, 0) if known else (base, summed)
+            base, summed, lengths = (link.target, 0, 0) if known else (base, summed, lengths)
+            continue
+        begin = line.places[base.number] if base else None
+        at = begin + along * summed if begin is not None and along is not None else None
+        if line.nameless and _may_be_refused(line, base, at, line.allowed(link, lengths, tolerance)):
+            yield REFUSED
             continue
         other = alike.get(link.identity[1])
-        sentence = f"{describe_identity(link.identity)} is linked, and no group of the table has that identity"
+        which = "telegram that was read" if line.nameless else "group of the table"
+        sentence = f"{describe_identity(link.identity)} is linked, and no {which} has that identity"
         if other and other.identity:
             sentence += f"; {other} has that NID_BG in country or region {other.identity[0]}"
-        begin = line.places[base.number] if base else None
-        if base is not None and begin is not None and along is not None:
-            sentence += _there(line, base.track, begin + along * summed, link.accuracy + tolerance, other)
+        if base is not None and at is not None:
+            sentence += _there(line, base.track, at, link.accuracy + tolerance, other)
         yield Remark("L1", chain.at(link), sentence, named=[other] if other else [])
+
+
+def _may_be_refused(line: Line, base: Optional[BaliseGroup], at: Optional[int], allowed: Decimal) -> bool:
+    """Whether a group without identity may be at that place, or on another track if this one has none there."""
+    if base is None or at is None or line.may_be_refused(base.track, at - allowed, at + allowed, True):
+        return True
+    return any(track != base.track for track in line.nameless) and abs(line.nearest(base.track, at)[0] - at) > allowed
 
 
 def _there(line: Line, track: str, place: int, within: Decimal, other: Optional[BaliseGroup]) -> str:

@@ -1,10 +1,10 @@
 """L2: distance differs.
 
-What it says. The distance of a linked group by D_LINK differs from the distance by the kilometres by more than Q_LOCACC
-and `--tolerance`. Both count in metres from the group that the line names. "In rear of it" means that by the kilometres
-the train has already passed the linked group. If the direction of the sending group along the kilometres is not known,
-the first link that is compared shows it. If all links over a stretch differ by one amount, one remark asks whether the
-kilometres jump there (SUBSET-026, 3.4.4, 3.16.2.3 and 7.5.1).
+What it says. The distance of a linked group by D_LINK differs from the distance by the kilometres by more than
+Q_LOCACC, `--tolerance` and rounding. Both count in metres from the group that the line names. "In rear of it" means
+that by the kilometres the train has already passed the linked group. If the direction of the sending group along the
+kilometres is not known, the first link that is compared shows it. If all links over a stretch differ by one amount, one
+remark asks whether the kilometres jump there (SUBSET-026, 3.4.4, 3.16.2.3 and 7.5.1).
 
 How urgent. At worst the train brakes or is tripped, or takes a wrong position for its own.
 
@@ -58,10 +58,10 @@ def compare(
 
     If the direction of the sender along the kilometres is not known, the first link that is compared shows it.
     """
-    base, summed = chain.sender, 0
+    base, summed, lengths = chain.sender, 0, 0
     along = base.along(chain.direction) if base else None
     for link in chain.links:
-        summed += link.distance
+        summed, lengths = summed + link.distance, lengths + 1
         here = link.target
         why = incomparable(base, here)
         if base is None or here is None or why:
@@ -74,7 +74,7 @@ def compare(
         if along is None:
             along = (wanted > 0) - (wanted < 0) or None
         wanted *= along or 1
-        if wanted == summed or abs(wanted - summed) <= (link.accuracy + tolerance) * 10:
+        if wanted == summed or abs(wanted - summed) <= line.allowed(link, lengths, tolerance):
             yield None
             continue
         distance, by_kilometres = Decimal(summed) / 10, wanted / 10
@@ -87,7 +87,7 @@ def compare(
         values = {"metres_by_d_link": distance, "metres_by_kilometres": by_kilometres}
         sentence += line.wrong_order(base, here)
         yield Remark("L2", chain.at(link), sentence, here, values)
-        base, summed = here, 0
+        base, summed, lengths = here, 0, 0
 
 
 def _apart(base: BaliseGroup, here: BaliseGroup, places: Optional[Sequence[Optional[int]]]) -> Optional[Decimal]:

@@ -15,7 +15,8 @@ authority.
 How to correct it. Set the first distance to 0, or note which earlier message gives the profile.
 
 Correct data that gets it. Any that break one of these assumptions; usual cases follow "not". A message has the profiles
-from its group on: not if an earlier group, or a message 3 that the file lacks, gave those of the track before them.
+from its group on: not if an earlier group, or a message 3 that was refused or that the file lacks, gave those of the
+track before them.
 
 Example. The speed profile of balise A2 begins at 50 m.
 """

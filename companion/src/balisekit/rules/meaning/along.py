@@ -17,6 +17,8 @@ Extent = Tuple[int, int]
 """The least and the greatest place."""
 NEAR = 500
 """In decimetres: how near to a group an authority is that ends at it."""
+FAR = 100_000
+"""In decimetres: how far in rear a refused packet 5 may be that leads to a place."""
 REPOSITIONED = 5000
 """In decimetres: how near to its link a balise with repositioning information is."""
 
@@ -119,10 +121,15 @@ def ends_the_line(decoded: Decoded, end: End) -> bool:
 def _lasts_and_signals(decoded: Decoded) -> Dict[Lane, Tuple[int, List[int]]]:
     """Of each track and way, along it: the last group that says something, and all that give an authority.
 
-    Groups of which the direction is not known count for both ways.
+    Groups of which the direction is not known, or a telegram, count for both ways.
     """
     lasts: Dict[Lane, int] = {}
     signals: Dict[Lane, Set[int]] = {}
+    for track, place in unread_of(decoded):
+        for way in (1, -1) if place is not None else ():
+            at, lane = (place or 0) * way, (track, way)
+            lasts[lane] = max(lasts.get(lane, at), at)
+            signals.setdefault(lane, set()).add(at)
     for passage in decoded.passages:
         place = passage.place(0)
         speaks = place is not None and any(each.number < 254 for each in passage.said)
@@ -131,6 +138,16 @@ def _lasts_and_signals(decoded: Decoded) -> Dict[Lane, Tuple[int, List[int]]]:
             lasts[lane] = max(lasts.get(lane, at), at)
             signals.setdefault(lane, set()).update([at] if passage.authorities else [])
     return {lane: (last, sorted(signals[lane])) for lane, last in lasts.items()}
+
+
+def unread_of(decoded: Decoded) -> Iterator[Tuple[str, Optional[int]]]:
+    """Tracks and places of groups with a refused telegram."""
+    return ((data.group.track, data.place) for data in decoded.groups if data.group.unread)
+
+
+def rear(place: int, way: int, length: int) -> Extent:
+    """The places in rear of a place up to a distance."""
+    return (place - length, place) if way == 1 else (place, place + length)
 
 
 def leaves(options: Options, decoded: Decoded, passage: Passage, place: int) -> bool:

@@ -32,6 +32,7 @@ from decimal import Decimal
 from typing import Iterator, Optional
 
 from balisekit.etcs.variables import metres
+from balisekit.rules.decoded import rounding
 from balisekit.rules.line import Line
 from balisekit.rules.link_steps import Jump, Step, jumps_of, steps_of
 from balisekit.rules.links import l2_distance
@@ -46,7 +47,7 @@ def find(line: Line, options: Options) -> Result:
     """Looks at each link between two groups of one track."""
     steps = list(steps_of(line))
     least = line.decoded.tolerance(options.tolerance_of_places)
-    differing = [each for each in steps if abs(each.difference) > least + _allowance(line, each)]
+    differing = [each for each in steps if abs(each.difference) > least + rounding(each.link.unit, each.lengths)]
     jumps = list(jumps_of(steps, least + 1)) if len(differing) > 1 else []
     found, notes = [_jump(line, each) for each in jumps if not _is_far(line, each, options)], []
     apart = [each for each in differing if not any(_explains(jump, each, least) for jump in jumps)]
@@ -63,16 +64,6 @@ def find(line: Line, options: Options) -> Result:
         if step.here.track not in many:
             found += _remarks(line, step, least)
     return Result(found, len(steps), notes=notes)
-
-
-def _allowance(line: Line, step: Step) -> int:
-    """What rounding may add to the sum: one unit of its packet, and half a unit for each further D_LINK."""
-    where = step.chains[0].location
-    if where.row is None or where.group is None or where.packet is None:
-        unit = 100
-    else:
-        unit = line.decoded.groups[where.group.number].telegrams[where.row.number].packets[where.packet].unit
-    return unit + (unit * (step.lengths - 1) + 1) // 2
 
 
 def _explains(jump: Jump, step: Step, tolerance: int) -> bool:
@@ -95,7 +86,7 @@ def _is_by_l2(line: Line, step: Step, options: Options) -> bool:
 
 
 def _remarks(line: Line, step: Step, least: int) -> Iterator[Remark]:
-    tolerance = least + _allowance(line, step)
+    tolerance = least + rounding(step.link.unit, step.lengths)
     side = "within" if abs(step.difference) <= step.link.accuracy * 10 else "above"
     sentence = (
         f"{step.here} is {metres(step.distance)} from {step.base} by D_LINK, and {metres(step.by_kilometres)} by the "

@@ -3,9 +3,10 @@
 What it says. What follows a packet 136 differs from its signal's aspect of the same name, or the signal is missing or
 not ahead. The signal is the group that the packet 136 names. Packets 12, 21, 27 and 80 are compared in all fields but
 Q_DIR and Q_SCALE, for the direction in which the train passes the signal. Distances are compared in metres; if Q_SCALE
-differs, the greater unit is allowed. Packets that only one of the groups has are passed over. If no group ahead of the
-infill group gives an authority in its direction, a missing signal gets only a note: it may be beyond the table. The
-layouts of packets 80 and 136 are balisekit's own (SUBSET-026, 3.6.2 and 7.4.2).
+differs, the greater unit is allowed. Packets that only one of the groups has are passed over. A missing signal gets
+only a note if a group without a read telegram may be it. So it does if no group ahead of the infill group gives an
+authority in its direction: it may be beyond the table. The layouts of packets 80 and 136 are balisekit's own
+(SUBSET-026, 3.6.2 and 7.4.2).
 
 How urgent. At worst wrong information.
 
@@ -34,9 +35,9 @@ from typing import Dict, Iterator, List, Optional, Sequence, Tuple
 from balisekit.etcs.geometry import DIRECTIONS
 from balisekit.etcs.variables import metres
 from balisekit.rules.decoded import GroupData, Packet, Passage
-from balisekit.rules.line import Line
+from balisekit.rules.line import NOWHERE, Line
 from balisekit.rules.location import NOT_KNOWN, Identity
-from balisekit.rules.meaning.along import Extent, extents_of, lane_of
+from balisekit.rules.meaning.along import Extent, extents_of, lane_of, rear
 from balisekit.rules.meaning.fields import fields_apart
 from balisekit.rules.meaning.words import merged, source
 from balisekit.rules.rule import Field, Options, Remark, Result, Rule, Urgency
@@ -62,13 +63,24 @@ def find(line: Line, options: Options) -> Result:
                 unknown.append((passage, reference, identity))
     extents, notes = extents_of(decoded) if unknown else {}, set()
     for passage, reference, identity in unknown:
-        words = f"packet 136 names {describe_identity(identity)}, which the table has not"
-        if passage.group and _is_last(passage, extents.get(lane_of(passage))):
-            notes.add(f"E15: {clean(passage.group.group.group.name)}: {words}: it may be beyond the table")
+        which = "which no telegram that was read has" if line.nameless else "which the table has not"
+        words = f"packet 136 names {describe_identity(identity)}, {which}"
+        refused = _may_be_refused(line, passage)
+        if passage.group and (refused or _is_last(passage, extents.get(lane_of(passage)))):
+            why = "be that of a refused telegram" if refused else "be beyond the table"
+            notes.add(f"E15: {clean(passage.group.group.group.name)}: {words}: it may {why}")
         else:
             values = {"nid_c": Decimal(identity[0]), "nid_bg": Decimal(identity[1])}
             found.append(Remark("E15", passage.at(reference), words, None, values))
     return Result(merged(found), looked_at, notes=sorted(notes))
+
+
+def _may_be_refused(line: Line, passage: Passage) -> bool:
+    """Whether a group without identity is ahead, on another track, or at a place that is not known."""
+    place, way = passage.place(0), passage.way
+    if place is None or way is None or line.nameless - {passage.track}:
+        return bool(line.nameless)
+    return line.may_be_refused(passage.track, *rear(place, -way, -NOWHERE), True)
 
 
 def _is_last(passage: Passage, extent: Optional[Extent]) -> bool:

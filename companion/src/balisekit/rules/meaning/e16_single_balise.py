@@ -3,7 +3,8 @@
 What it says. A single balise with Q_LINK 1 has packets for one direction, and packets 5 do not name it, or disagree
 about its direction. A direction other than that of the column `nominal` is named too. Packets 44, 145 and 254 do not
 count. A balise that is not named is passed over if no packet 5 for that way leads past its kilometre. So is one with a
-packet 16 within 500 m of a link to NID_BG 16,383. Single balises with Q_LINK 0 are L5 (SUBSET-026, 3.4.2 and 3.4.4).
+packet 16 within 500 m of a link to NID_BG 16,383, or with a refused telegram at most 10 km in rear. Single balises with
+Q_LINK 0 are L5 (SUBSET-026, 3.4.2 and 3.4.4).
 
 How urgent. At worst wrong information.
 
@@ -31,10 +32,10 @@ from decimal import Decimal
 from typing import Dict, Iterator, Tuple
 
 from balisekit.etcs.geometry import DIRECTIONS
-from balisekit.rules.decoded import Decoded, GroupData, Packet
+from balisekit.rules.decoded import GroupData, Packet
 from balisekit.rules.line import Line
 from balisekit.rules.location import BaliseGroup, Location
-from balisekit.rules.meaning.along import Passed
+from balisekit.rules.meaning.along import FAR, Passed, rear
 from balisekit.rules.passages import WITHOUT_DIRECTION, Chain, Link
 from balisekit.rules.rule import Options, Remark, Result, Rule, Urgency
 from balisekit.tables.names import rows_words
@@ -47,15 +48,15 @@ Named = Dict[int, Dict[int, Tuple[Chain, Link]]]
 
 def find(line: Line, options: Options) -> Result:
     """Looks at each single balise."""
-    decoded, passed, found = line.decoded, Passed(line), []
-    single = [data for data in decoded.groups if data.group.balises == 1]
+    passed, found = Passed(line), []
+    single = [data for data in line.decoded.groups if data.group.balises == 1]
     named = _named(line) if single else {}
     all_named = {link.identity for chain in (*line.chains, *line.passages.infill_chains) for link in chain.links}
     for data in single:
         links = named.get(data.group.number, {})
         found += list(_directions(data.group, links))
         if data.group.linked and data.group.identity not in all_named:
-            found += list(_unnamed(decoded, passed, data))
+            found += list(_unnamed(line, passed, data))
     return Result(found, len(single))
 
 
@@ -96,25 +97,28 @@ def _source(chain: Chain) -> str:
     return f"{chain.sender}{f', {rows_words([row.number])}' if row else ''}"
 
 
-def _unnamed(decoded: Decoded, passed: Passed, data: GroupData) -> Iterator[Remark]:
+def _unnamed(line: Line, passed: Passed, data: GroupData) -> Iterator[Remark]:
     """A packet for one direction of a balise that no packet 5 names."""
     packet = next((each for each in _packets(data) if each.form.get("q_dir", 2) != 2), None)
     if packet is None or packet.row is None:
         return
     direction = DIRECTIONS[1 - packet.form["q_dir"]]
     way = data.group.along(direction)
-    ways = (1, -1) if way is None else (way,)
-    if data.place is None or not any(passed.is_passed(data.group.track, data.place, each) for each in ways):
+    track, place = data.group.track, data.place
+    if place is None:
+        return
+    ways = [each for each in ((1, -1) if way is None else (way,)) if passed.is_passed(track, place, each)]
+    if not ways or any(line.may_be_refused(track, *rear(place, each, FAR)) for each in ways):
         return
     is_repositioning = any(each.number == REPOSITIONING for each in _packets(data))
-    if is_repositioning and passed.leads_to_repositioning(data.group.track, data.place):
+    if is_repositioning and passed.leads_to_repositioning(track, place):
         return
     sentence = (
         f"it is for the {direction} direction, the balise is single and has Q_LINK 1, and no packet 5 names it: those "
-        f"of other groups lead past {decoded.km(data.group.track, data.place)}"
+        f"of other groups lead past {line.decoded.km(track, place)}"
     )
     where = Location(data.group, packet.row, None, packet.place, direction, None, packet.number, packet.n_pig)
-    yield Remark("E16", where, sentence, values={"km": Decimal(data.place) / 10_000})
+    yield Remark("E16", where, sentence, values={"km": Decimal(place) / 10_000})
 
 
 def _packets(data: GroupData) -> Iterator[Packet]:

@@ -5,7 +5,9 @@ Its V_MAIN is above 0. The packets 5 are those of all aspects of the group, and 
 way. If the direction of one is not known, its first link shows it. The other group has Q_LINK 1, is at most 50 m beyond
 the end of the authority, and has packets for that direction other than 254 and 255. The rule is silent if the end is
 beyond the last such group of the track. It is also silent if the last link is NID_BG 16,383: the group with
-repositioning information there names the next ones. A table without any packet 5 gets one remark (SUBSET-026, 3.4.4).
+repositioning information there names the next ones. Nor does it speak if this group, or one before it at most 10 km in
+rear of the end, has a refused telegram. Packets 5 after a packet 136 do not count. A table without any packet 5 and
+without refused telegrams or messages gets one remark (SUBSET-026, 3.4.4).
 
 How urgent. At worst a wrong position of the train.
 
@@ -35,7 +37,7 @@ from balisekit.etcs.variables import metres
 from balisekit.rules.decoded import LINKING, Decoded, GroupData, Passage
 from balisekit.rules.line import Line
 from balisekit.rules.location import NOT_KNOWN
-from balisekit.rules.meaning.along import End, ends_of, lane_of, leaves
+from balisekit.rules.meaning.along import FAR, End, ends_of, lane_of, leaves, rear, unread_of
 from balisekit.rules.meaning.reach import LESS, Reach, lanes_of_links
 from balisekit.rules.meaning.words import merged
 from balisekit.rules.rule import Options, Remark, Result, Rule, Urgency
@@ -46,22 +48,32 @@ def find(line: Line, options: Options) -> Result:
     decoded = line.decoded
     ends = [end for end in ends_of(decoded) if end.packet.number == 12]
     if ends and _is_without_links(decoded):
+        if line.lost_messages or any(unread_of(decoded)):
+            return Result([], len(ends))
         before = " before a packet 136" if LINKING in decoded.sent else ""
         have = "authorities have" if len(ends) > 1 else "authority has"
         sentence = f"no group or message has a packet 5 (linking){before}, and {len(ends)} {have} a V_MAIN above 0"
         first = ends[0].passage
         return Result([Remark("E17", first.at(), sentence, values={"authorities": Decimal(len(ends))})], len(ends))
     lanes = lanes_of_links(decoded)
-    found = [remark for end in ends for remark in _look_at(decoded, options, lanes[lane_of(end.passage)], end)]
+    found = [
+        remark
+        for end in ends
+        if not _may_be_linked(line, end)
+        for remark in _look_at(decoded, options, lanes[lane_of(end.passage)], end)
+    ]
     return Result(merged(found), len(ends))
 
 
+def _may_be_linked(line: Line, end: End) -> bool:
+    """Whether a refused telegram of the group, or of one before it, may have links to the end."""
+    begin, length = end.passage.place(0) or 0, FAR - end.distance
+    return length >= 0 and line.may_be_refused(end.passage.track, *rear(begin, end.passage.way or 0, length))
+
+
 def _is_without_links(decoded: Decoded) -> bool:
-    """Whether no packet 5 is there that counts from its group. One beside a refused telegram may."""
-    if any(passage.of(LINKING) for passage in decoded.passages):
-        return False
-    infill = {id(packet) for passage in decoded.passages for packet in passage.infill}
-    return all(id(packet) in infill for _, packet in decoded.sent.get(LINKING, ()))
+    """Whether no packet 5 is there that counts from its group."""
+    return not any(passage.of(LINKING) for passage in decoded.passages)
 
 
 def _is_repositioned(passage: Passage) -> bool:

@@ -5,8 +5,8 @@ orders it. Compared are packets of one track and way, each at most 500 m from th
 `--tolerance` (else 1 m) and rounding, and M_LEVELTR and NID_NTC must be the same in the same order. A place is that of
 D_LEVELTR, or of the group if that is 0 or 32,767 (now). Such a packet counts as right, or else the most frequent place.
 One that repeats it beyond the border agrees. Only a place between the first and the last group of the track needs one.
-A group whose direction is unknown may have it. A packet for both directions with a distance is E5 (SUBSET-026, 5.10 and
-7.4.2).
+A group whose direction is unknown, or with a refused telegram, may have it. A packet for both directions with a
+distance is E5 (SUBSET-026, 5.10 and 7.4.2).
 
 How urgent. At worst wrong information.
 
@@ -37,6 +37,7 @@ from typing import Iterator, List, Optional, Sequence, Tuple
 from balisekit.etcs.variables import metres
 from balisekit.rules.decoded import Decoded
 from balisekit.rules.line import Line
+from balisekit.rules.meaning.along import unread_of
 from balisekit.rules.meaning.orders import NEAR, Order, orders_of, without_direction
 from balisekit.rules.meaning.words import at_place, merged, source
 from balisekit.rules.rule import Options, Remark, Result, Rule, Urgency
@@ -45,7 +46,7 @@ from balisekit.rules.rule import Options, Remark, Result, Rule, Urgency
 def find(line: Line, options: Options) -> Result:
     """Compares the orders for one place."""
     decoded, found, looked_at = line.decoded, [], 0
-    unknown = [*without_direction(decoded)]
+    unknown = [*without_direction(decoded), *unread_of(decoded)]
     for orders in orders_of(decoded).values():
         looked_at += len(orders)
         for part in _parts(orders):
@@ -98,7 +99,7 @@ def _compare(decoded: Decoded, options: Options, orders: Sequence[Order], usual:
 
 
 def _unordered(decoded: Decoded, usual: Order, unknown: Sequence[Tuple[str, Optional[int]]]) -> Iterator[Remark]:
-    """A place within the table at which no group orders the level. One without direction may do it."""
+    """A place within the table at which no group orders the level. One without direction or telegram may do it."""
     track = usual.passage.track
     places = [place for own, place in unknown if own == track]
     is_near = any(place is None or abs(place - usual.place) <= NEAR for place in places)

@@ -1,8 +1,9 @@
 """E21: level 2 needs a session.
 
 What it says. A packet 41 or 46 names level 2 or 3, and no packet 42 with Q_RBC 1 comes with it or before it. Packets 42
-of its group and of those before it on that track count, unless they are known to be for the other way. The rule is off
-unless it is asked for. The layouts of packets 42 and 46 are balisekit's own (SUBSET-026, 3.5.3, 5.10 and 7.4.2).
+of its group and of those before it on that track count, unless they are known to be for the other way. A group there
+with a refused telegram may have one. The rule is off unless it is asked for. The layouts of packets 42 and 46 are
+balisekit's own (SUBSET-026, 3.5.3, 5.10 and 7.4.2).
 
 How urgent. At worst the train brakes without need.
 
@@ -22,12 +23,12 @@ How sure. 80 %.
 from __future__ import annotations
 
 from decimal import Decimal
-from typing import Dict, List, Sequence, Tuple
+from typing import Dict, List, Optional, Sequence, Tuple
 
 from balisekit.etcs.variables import Around, value_words
 from balisekit.rules.decoded import LEVELS, Decoded, Packet, Passage
-from balisekit.rules.line import Line
-from balisekit.rules.meaning.along import Lane, lane_of
+from balisekit.rules.line import NOWHERE, Line
+from balisekit.rules.meaning.along import Lane, lane_of, unread_of
 from balisekit.rules.rule import Options, Remark, Result, Rule, Urgency
 
 SESSION, CONDITIONAL, BY_RADIO = 42, 46, (3, 4)
@@ -54,16 +55,23 @@ def find(line: Line, options: Options) -> Result:
 def _sessions(decoded: Decoded) -> Dict[Lane, int]:
     """Of each track and way: where the first group has a packet 42 with Q_RBC 1. Places count along the way.
 
-    Without a direction it may be for either way, and without a place it may be before all others.
+    Without a direction it may be for either way, and without a place it may be before all others. A refused telegram
+    may have one.
     """
     found: Dict[Lane, int] = {}
+    for track, at in unread_of(decoded):
+        for way in (1, -1):
+            _add(found, (track, way), at)
     for passage in decoded.passages:
         if passage.group and any(packet.form.get("q_rbc") == 1 for packet in passage.of(SESSION)):
-            place = passage.group.place
             for way in (passage.way,) if passage.way else (1, -1):
-                at, lane = -(10**12) if place is None else place * way, (passage.track, way)
-                found[lane] = min(found.get(lane, at), at)
+                _add(found, (passage.track, way), passage.group.place)
     return found
+
+
+def _add(found: Dict[Lane, int], lane: Lane, place: Optional[int]) -> None:
+    at = NOWHERE if place is None else place * lane[1]
+    found[lane] = min(found.get(lane, at), at)
 
 
 def _remark(line: Line, way: int, some: Sequence[Tuple[int, Passage, Packet]]) -> Remark:

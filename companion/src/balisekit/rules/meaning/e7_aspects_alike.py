@@ -4,7 +4,8 @@ What it says. Aspects of a group have equal packets in every balise, among them 
 M_MCOUNT may differ. If no packet 12 of such aspects has a V_MAIN above 0, one note for the table counts them.
 
 How urgent. At worst wrong information. The urgency is the lowest one if the authority ends within 50 m of the last
-group of its track and way, with no other signal in between. Groups of unknown direction count for both ways.
+group of its track and way, with no other signal in between. Groups of unknown direction, or with a refused telegram,
+count for both ways.
 
 Usual cause. The telegram of one aspect was copied and not changed.
 

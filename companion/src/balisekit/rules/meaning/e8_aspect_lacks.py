@@ -5,7 +5,8 @@ What it says. An aspect lacks a packet 5, 12, 21 or 27 that its siblings have, o
 aspect is also named if it has one of these packets only for the other direction than all others that have it, two at
 least. A stop aspect has a packet 12 with V_MAIN 0, not after a packet 136. It is named if it has no packet 137 and four
 of five stop aspects of the table, five at least, have one with "stop". It is also named if only it, of three or more in
-its group, has no packet 132, and a stop aspect of its name has one elsewhere (SUBSET-026, 3.8).
+its group, has no packet 132, and a stop aspect of its name has one elsewhere. Aspects with a refused telegram do not
+count. Their group is looked at only for packet 137 (SUBSET-026, 3.8).
 
 How urgent. At worst wrong information.
 
@@ -46,7 +47,9 @@ STOPS, NAMED = 5, 5
 
 def find(line: Line, options: Options) -> Result:
     """Looks at the aspects of each group, then at the stop aspects of the table."""
-    groups = [data for data in line.decoded.groups if len(data.group.group.aspects) >= SIBLINGS]
+    groups = [
+        data for data in line.decoded.groups if len(data.group.group.aspects) >= SIBLINGS and not data.group.unread
+    ]
     found = [remark for data in groups for remark in _siblings(data)]
     stops = [passage for data in line.decoded.groups for passage in data.passages if _stops(passage)]
     return Result([*found, *_without_stop(stops), *_without_danger(stops)], len(groups))
@@ -102,7 +105,8 @@ def _without_danger(stops: Sequence[Passage]) -> Iterator[Remark]:
     names = {each.aspect for each in stops if each.of(DANGER_FOR_SH)}
     by_group: Dict[Tuple[int, str], List[Passage]] = {}
     for each in stops:
-        by_group.setdefault((id(each.group), each.direction), []).append(each)
+        if each.group and not each.group.group.unread:
+            by_group.setdefault((id(each.group), each.direction), []).append(each)
     for own in by_group.values():
         without = [each for each in own if not each.of(DANGER_FOR_SH)]
         if len(own) >= SIBLINGS and len(without) == 1 and without[0].aspect in names:

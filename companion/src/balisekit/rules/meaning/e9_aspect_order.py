@@ -4,7 +4,8 @@ What it says. Of two aspects one has the longer or an equal authority, although 
 Most are at least three cases, and four of five in which a group has both aspects with a V_MAIN above 0. Equal
 authorities have the lowest urgency, and are not named if both aspects say the same in that direction. The rule also
 names an aspect with V_MAIN 0 if this name has a V_MAIN above 0 in at least three cases and four of five. It names the
-reverse too. `--tolerance` and the rounding of lengths are allowed (SUBSET-026, 3.8).
+reverse too. Aspects with a refused telegram do not count. `--tolerance` and the rounding of lengths are allowed
+(SUBSET-026, 3.8).
 
 How urgent. At worst wrong information.
 

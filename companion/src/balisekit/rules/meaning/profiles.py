@@ -138,7 +138,7 @@ def lanes_of(decoded: Decoded, number: int) -> Lanes:
     if lanes_of not in decoded.worked_out:
         made: Dict[int, Dict[Tuple[str, int], List[Profiles]]] = {SPEEDS: {}, GRADIENTS: {}}
         for data in decoded.groups:
-            for kind, profiles in _of_group(data) if data.place is not None else ():
+            for kind, profiles in _of_group(data) if data.place is not None and not data.group.unread else ():
                 made[kind].setdefault((profiles.track, profiles.way), []).append(profiles)
         for lanes in made.values():
             for lane in lanes.values():

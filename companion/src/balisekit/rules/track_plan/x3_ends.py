@@ -1,11 +1,11 @@
 """X3: end of authority at no signal of the plan.
 
 What it says. A movement authority ends at no signal of the plan for trains of its way. The line names the plan's
-nearest signal and its distance. Authorities are packets 12 with V_MAIN above 0 and packets 15; each ends at the end of
-its end section. Allowed are `--tolerance` (0 without it), one unit of Q_SCALE, half a unit for each further section,
-and one unit of the last decimal of the kilometres. A track with a signal in the plan for one way needs all signals of
-that way at which authorities end. Beyond a `point` of the plan nothing is compared, unless a packet 5 of the same
-message names a group of the track at or beyond that point (SUBSET-026, 7.4.2 and 7.5.1).
+nearest signal and its distance. Authorities are packets 12 with V_MAIN above 0 and packets 15, if they have a length;
+each ends at the end of its end section. Allowed are `--tolerance` (0 without it), one unit of Q_SCALE, half a unit for
+each further section, and one unit of the last decimal of the kilometres. A track with a signal in the plan for one way
+needs all signals of that way at which authorities end. Beyond a `point` of the plan nothing is compared, unless a
+packet 5 of the same message names a group of the track at or beyond that point (SUBSET-026, 7.4.2 and 7.5.1).
 
 How urgent. At worst wrong information.
 
@@ -72,7 +72,7 @@ def find(line: Line, options: Options) -> Result:
 
 def gives_way(packet: Packet) -> bool:
     """Whether an authority lets a train run."""
-    return bool(packet.form.get("v_main", 1))
+    return bool(packet.form.get("v_main", 1) and packet.end)
 
 
 def _end(placed: Placed, saying: Saying) -> Tuple[Optional[End], str]:

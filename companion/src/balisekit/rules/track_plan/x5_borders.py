@@ -7,8 +7,8 @@ ahead and beyond the last one in rear. NID_RBC 16,383 (the last known RBC) is no
 without it), one unit of Q_SCALE and one unit of the last decimal of the kilometres are allowed. A track with a border
 in the plan for one way needs all borders of that kind. If it begins in the area of an RBC, it also needs a row `rbc` in
 rear of the first group. A border of the plan within the table that no packet names is named at the nearest group,
-unless the track has a packet of its kind without a direction. What follows a packet 136 is not compared (SUBSET-026,
-7.4.2 and 7.5.1).
+unless the track has a packet of its kind without a direction or after a packet 136, or a refused telegram. What follows
+a packet 136 is not compared (SUBSET-026, 7.4.2 and 7.5.1).
 
 How urgent. At worst wrong information.
 
@@ -35,6 +35,7 @@ from typing import Dict, Iterator, List, Optional, Sequence, Set, Tuple
 
 from balisekit.rules.decoded import allowance
 from balisekit.rules.line import Line
+from balisekit.rules.meaning.along import unread_of
 from balisekit.rules.track_plan.borders import NOT_DECODED, NUMBERS, Border, border_of, numbers
 from balisekit.rules.track_plan.placed import (
     BEHIND_POINT,
@@ -52,6 +53,7 @@ from balisekit.tables.plan import BORDERS, PlanRow
 from balisekit.tables.plan_values import metres
 
 WORDS = {"level": "level", "rbc": "RBC"}
+KIND = {41: "level", 46: "level", 131: "rbc", 42: "rbc"}
 
 
 def find(line: Line, options: Options) -> Result:
@@ -59,7 +61,9 @@ def find(line: Line, options: Options) -> Result:
     placed, counts = Placed(line, options), Counter[str]()
     found: Dict[Tuple[int, Optional[int], str], List[Tuple[Border, int, Spot]]] = {}
     named: Set[int] = set()
-    unplaced: Set[Tuple[str, str]] = set()
+    unplaced = {(kind, track) for track, _ in unread_of(line.decoded) for kind in BORDERS}
+    infill = [(each.number, passage.track) for passage in line.decoded.passages for each in passage.infill]
+    unplaced.update((kind, track) for number, track in infill for kind in [KIND.get(number)] if kind)
     for saying in placed.sayings(*NUMBERS):
         border = border_of(saying)
         if border is None:
