@@ -105,7 +105,7 @@ def test_wrong_distances_are_red() -> None:
     back = link_tables.linking(0, link_tables.link(1000, 2, 0))
     (picture,) = drawn(
         (group("A", "0", nominal="rising"), [header(1, link_tables.linking(1, *links))]),
-        (group("B", "1", nominal="rising"), [header(2)]),
+        (group("B", "1.000", nominal="rising"), [header(2)]),
         (group("C", "2", nominal="rising"), [header(3, back)]),
     )
     assert [one.title.split(";")[0] for one in looks(picture, "arc wrong")] == ["A links B: 1010 m by D_LINK, nominal"]
