@@ -100,6 +100,26 @@ def test_what_is_folded_is_opened_at_its_place(
         assert seen.count("copy the digits</button>") == 2, "of this row, and of the refused one"
 
 
+FOLLOWED = """<script>
+const steps = ["#pg5", "#found", "#r23p1"], tops = [];
+setInterval(() => {
+  if (location.hash) tops.push(document.querySelector(":target").getBoundingClientRect().top);
+  document.title = JSON.stringify(tops);
+  if (steps.length) document.querySelector(`a[href="${steps.shift()}"]`).click();
+}, 300);
+</script></body>"""
+
+
+def test_links_lead_to_their_places(page: Path, tmp_path: Path) -> None:
+    """From a finding to its picture, back to the findings, and to the packet in a folded telegram: each at the top."""
+    text = re.sub('<meta http-equiv="Content-Security-Policy"[^>]*>', "", page.read_text("utf-8"))
+    (tmp_path / "page.html").write_text(text.replace("</body>", FOLLOWED), "utf-8")
+    words = "--dump-dom", "--virtual-time-budget=3000", "--window-size=1100,900"
+    seen = browse(tmp_path, tmp_path / "page.html", *words).stdout
+    tops = json.loads(seen.partition("<title>")[2].partition("</title>")[0])
+    assert len(tops) > 4 and all(40 <= top < 60 for top in (tops[0], tops[1], *tops[3:])), tops
+
+
 SORTED = """
 const button = [...document.querySelectorAll("thead button")].find((each) => each.textContent === "%s");
 for (let click = 0; click < %d; click++) button.click();

@@ -46,10 +46,10 @@
 
   function reveal() {
     const target = document.getElementById(location.hash.slice(1)), folded = target && target.closest("details");
-    if (folded && !folded.open) {
-      folded.open = true;
-      target.scrollIntoView();
-    }
+    if (!folded) return;
+    folded.open = true;
+    target.scrollIntoView();
+    requestAnimationFrame(() => target.scrollIntoView());
   }
 
   function copy(button, digits) {
