@@ -27,6 +27,8 @@ BAND, SPEEDS, LOW = 76, 18, 12
 """Heights of a band, and in it of the speeds, and of gradients and authority."""
 AREAS, AREA = (41, 65, 80, 68), 12
 """The packets of the other areas of a band, which are in rows below it, and the height of a row."""
+Strip = Tuple[Area, int, Tuple[int, int]]
+"""An area of a band on a page, its row, and from where to where it and its words need that row."""
 SIZES = Sizes(speed=SPEEDS, end=3, supervised=3, has_words=False)
 LANES = 12
 """So many bands without other areas fit below each other on a printed page."""
@@ -105,14 +107,6 @@ def _description(page: Page, bands: Sequence[Band], shown: str) -> str:
     return ". ".join(filter(None, parts))
 
 
-class Strip(NamedTuple):
-    """An area of a band on a page: its row, and from where to where it and its words need that row."""
-
-    area: Area
-    row: int
-    within: Tuple[int, int]
-
-
 class Placed(NamedTuple):
     """A band on a page, from where to where it needs its lane, and where its name begins, in tenths of a pixel."""
 
@@ -122,6 +116,7 @@ class Placed(NamedTuple):
     words: str
     band: Band
     strips: Sequence[Strip]
+    """Its areas."""
     height: int
     """Down to its lower edge, in pixels."""
 
@@ -134,8 +129,8 @@ def _placed(scale: Sheet, band: Band) -> Placed:
     origin = scale.nearest(band.at)
     name = min(max(origin if band.sign > 0 else origin - wide, EDGES[0]), EDGES[1] - wide)
     strips, rows = _strips(scale, band)
-    left = min(name, scale.nearest(band.begin), *(strip.within[0] for strip in strips))
-    right = max(name + wide, scale.nearest(band.end), *(strip.within[1] for strip in strips))
+    left = min(name, scale.nearest(band.begin), *(within[0] for _, _, within in strips))
+    right = max(name + wide, scale.nearest(band.end), *(within[1] for _, _, within in strips))
     height = _areas_top(band) + AREA * rows
     return Placed(max(left, EDGES[0]), min(right, EDGES[1]), name, words, band, strips, height)
 
@@ -149,7 +144,7 @@ def _strips(scale: Sheet, band: Band) -> Tuple[List[Strip], int]:
         edges = enumerate(_within(scale, band, area) for area in areas)
         rows = Rows()
         for within, place in sorted((within, place) for place, within in edges if within):
-            strips.append(Strip(areas[place], used + rows.reserve(*within), within))
+            strips.append((areas[place], used + rows.reserve(*within), within))
         used += rows.count
     return strips, used
 
