@@ -219,7 +219,11 @@ def test_nothing_is_wider_than_the_window(frames: List[Any], place: int, width: 
 
 
 def test_pictures_are_kept() -> None:
-    """The pictures that were looked at, none of them great."""
-    kept = sorted(PICTURES.glob("*.png"))
-    assert [path.name for path in kept] == ["diff.png", "draw.png", "page.png", "print.png", "track.png"]
-    assert all(1_000 < path.stat().st_size <= 100_000 for path in kept)
+    """The pictures that were looked at, none of them great.
+
+    Of the report beside the example they are its first page at 1400 pixels, its track in dark mode at 800, a picture
+    at 500 that a finding led to, and a page of its print. The others are its pictures and a report of `diff`.
+    """
+    kept = sorted(path.stem for path in PICTURES.glob("*.png"))
+    assert kept == ["dark", "diff", "draw", "narrow", "page", "print", "track"]
+    assert all(1_000 < path.stat().st_size <= 100_000 for path in PICTURES.glob("*.png"))
