@@ -100,6 +100,46 @@ def test_what_is_folded_is_opened_at_its_place(
         assert seen.count("copy the digits</button>") == 2, "of this row, and of the refused one"
 
 
+FOLLOWED = """<script>
+const steps = ["#pg5", "#found", "#r23p1", "#found", "#r15p1", "#yes"], tops = [];
+setInterval(() => {
+  if (location.hash) tops.push(document.querySelector(":target").getBoundingClientRect().top);
+  document.title = JSON.stringify(tops);
+  if (steps.length) document.querySelector(`a[href="${steps.shift()}"]`).click();
+}, 500);
+</script></body>"""
+
+
+def test_links_lead_to_their_places(page: Path, tmp_path: Path) -> None:
+    """From a finding to its picture, back to the findings, and to the packet in a folded telegram: each is seen.
+
+    Sections that are shown for the first time, and the button of a telegram that was opened, move it a little.
+    """
+    text = re.sub('<meta http-equiv="Content-Security-Policy"[^>]*>', "", page.read_text("utf-8"))
+    (tmp_path / "page.html").write_text(text.replace("</body>", FOLLOWED), "utf-8")
+    words = "--dump-dom", "--virtual-time-budget=5000", "--window-size=1100,900"
+    seen = browse(tmp_path, tmp_path / "page.html", *words).stdout
+    tops = json.loads(seen.partition("<title>")[2].partition("</title>")[0])
+    assert len(tops) >= 6 and all(40 <= top < 200 for top in tops), tops
+
+
+PRINTED = """<script>
+const looks = (selector, name) => [...document.querySelectorAll(selector)].map((one) => getComputedStyle(one)[name]);
+document.title = JSON.stringify([
+  looks("details[open] button", "display"), looks("#papers", "breakInside"), looks("#yes p:has(+ ul)", "breakAfter"),
+]);
+</script></body>"""
+
+
+def test_the_styles_of_a_print(page: Path, tmp_path: Path) -> None:
+    """No button is printed, and nothing that leads in what follows is by itself at the end of a page."""
+    text = re.sub('<meta http-equiv="Content-Security-Policy"[^>]*>', "", page.read_text("utf-8"))
+    text = text.replace("@media print", "@media all").replace("</body>", PRINTED)
+    (tmp_path / "page.html").write_text(text, "utf-8")
+    seen = browse(tmp_path, tmp_path / "page.html", "--dump-dom").stdout
+    assert json.loads(seen.partition("<title>")[2].partition("</title>")[0]) == [["none"], ["avoid"], ["avoid"] * 4]
+
+
 SORTED = """
 const button = [...document.querySelectorAll("thead button")].find((each) => each.textContent === "%s");
 for (let click = 0; click < %d; click++) button.click();
@@ -123,7 +163,10 @@ OVERVIEWS: List[Tuple[str, List[str]]] = [
 WIDTHS = [500, 800, 1400]
 SAYS = """
 const remarks = [...document.querySelectorAll("thead th")].find((each) => each.textContent === "remarks");
+document.querySelector("#found").scrollIntoView();
+const [bar, head] = ["nav", "#found h2"].map((each) => document.querySelector(each).getBoundingClientRect());
 const edges = [document.documentElement.scrollWidth, innerWidth, remarks.getBoundingClientRect().right];
+edges.push(head.top - Math.max(bar.bottom, 0));
 parent.postMessage([%d, ...edges, document.body.innerHTML], "*");
 """
 HEARS = """
@@ -158,7 +201,7 @@ def frames(page: Path, tmp_path_factory: pytest.TempPathFactory) -> List[Any]:
 @pytest.mark.parametrize("index", range(len(OVERVIEWS)))
 def test_the_overview_is_sorted_and_searched(frames: List[Any], index: int) -> None:
     """By the headings, as numbers where they are numbers, and by words; empty cells come last."""
-    seen = frames[index][3]
+    seen = frames[index][-1]
     body = seen[seen.index('id="overview"') : seen.index('id="tracks"')]
     rows = [row for row in re.findall("<tr.*?</tr>", body)[1:] if 'hidden=""' not in row]
     assert [re.findall("<bdi>(?:Signal )?([A-Za-z]+)", row)[0] for row in rows] == OVERVIEWS[index][1]
@@ -166,13 +209,21 @@ def test_the_overview_is_sorted_and_searched(frames: List[Any], index: int) -> N
 
 @pytest.mark.parametrize("place, width", enumerate(WIDTHS, len(OVERVIEWS)))
 def test_nothing_is_wider_than_the_window(frames: List[Any], place: int, width: int) -> None:
-    """What is wider, as pictures and tables may be, is scrolled by itself. Findings and remarks are seen at once."""
-    needed, there, remarks, _ = frames[place]
+    """What is wider, as pictures and tables may be, is scrolled by itself. Findings and remarks are seen at once.
+
+    A heading that a link leads to is not behind the links.
+    """
+    needed, there, remarks, below, _ = frames[place]
     assert needed <= there and abs(there - width) <= 20 and remarks <= there
+    assert 0 <= below < 60
 
 
 def test_pictures_are_kept() -> None:
-    """The pictures that were looked at, none of them great."""
-    kept = sorted(PICTURES.glob("*.png"))
-    assert [path.name for path in kept] == ["diff.png", "draw.png", "page.png", "print.png", "track.png"]
-    assert all(1_000 < path.stat().st_size <= 100_000 for path in kept)
+    """The pictures that were looked at, none of them great.
+
+    Of the report beside the example they are its first page at 1400 pixels, its track in dark mode at 800, a picture
+    at 500 that a finding led to, and a page of its print. The others are its pictures and a report of `diff`.
+    """
+    kept = sorted(path.stem for path in PICTURES.glob("*.png"))
+    assert kept == ["dark", "diff", "draw", "narrow", "page", "print", "track"]
+    assert all(1_000 < path.stat().st_size <= 100_000 for path in PICTURES.glob("*.png"))

@@ -196,7 +196,10 @@ def test_what_needs_the_script_is_hidden_without_it(run: Run, line: Path) -> Non
 
 
 def test_the_overview_has_all_groups(run: Run, line: Path, tmp_path: Path) -> None:
-    """A row for each with a link to it, its numbers, and what is found, open or accepted. The refused one is named."""
+    """A row for each with a link to it, its numbers, and what is found, open or accepted. The refused one is named.
+
+    What is expected of correct data, or accepted, is in another colour.
+    """
     text = report(run, line, "--only", "F")
     rows = re.findall(r"<tr[^>]*>(<td>.*?)</tr>", text[: text.index('<section id="tracks">')])
     cells = [re.sub("<[^>]*>", "|", row).split("|") for row in rows]
@@ -220,7 +223,7 @@ def test_the_overview_has_all_groups(run: Run, line: Path, tmp_path: Path) -> No
         writer.writeheader()
         writer.writerows(signed)
     text = report(run, line, "--only", "F", "--accepted", tmp_path / "signed.csv")
-    assert "<td class=found>2, 1 accepted<td>" in text
+    assert '<td class="found quiet">2, 1 accepted<td>' in text and "<td class=found>1<td>" in text
     assert "1 accepted, 4 open" in text
 
 

@@ -12,9 +12,10 @@ import link_tables
 import pytest
 from cases_of_program import TOP
 from conftest import Run
+from picture_lines import restriction
 from telegrams import ALONE, MESSAGE
 from test_links import group, header, line_with
-from test_text_boxes import overlaps
+from test_text_boxes import Written, overlaps, written
 
 from balisekit.drawing.flags import Mark
 from balisekit.drawing.letters import width
@@ -372,6 +373,41 @@ def test_marks_are_flags() -> None:
         and abs(place(flag.path[1:].split()[0]) - 2) < 0.01
     )
     assert quiet.title == "X1: not on the plan" and [one.text for one in looks(near, "red middle")] == ["F11, E3"]
+
+
+def test_rules_are_below_the_name_of_their_group() -> None:
+    """Also if they are wider, and if the balise that they are about has a kilometre of its own."""
+    marks = [Mark("", Decimal("2.003"), rule, "wrong", (4,), "A") for rule in ("X5", "X3", "X2")]
+    line = line_with((group("A", "2", nominal="rising"), [header(1)]))
+    (picture,) = track_pictures(line, compare(line), "", None, marks)
+    (name,), (rules,) = looks(picture, "name middle"), looks(picture, "red middle")
+    assert (name.text, rules.text) == ("\u25b8 A", "X5, X3, X2") and int(name.y) < int(rules.y)
+
+
+def test_areas_are_told_apart() -> None:
+    """Those that overlap are below each other, and each has its words in its row, which no other bar hides."""
+    speeds = {80: (300, 500), 40: (700, 600), 60: (1500, 20)}
+    some = [restriction(1, *places, speed, speed) for speed, places in speeds.items()]
+    (picture,) = drawn((group("A", "1", nominal="rising"), [header(1, *authority(), *some)]))
+    bars = looks(picture, "area65")
+    boxes = [
+        Written(one.title, x, y, x + float(one.width), y + int(one.height))
+        for one in bars
+        for x, y in [(float(one.x), int(one.y))]
+    ]
+    words = [written("", one.text, float(one.x), int(one.y)) for one in looks(picture, "") if "km/h" in one.text]
+    words = [one for one in words if one.text.split()[0] in map(str, speeds)]
+    assert len(words) == len(bars) == 3
+    assert not any(one.meets(other) for number, one in enumerate(boxes) for other in (*boxes[:number], *words))
+    for bar in boxes:
+        (own,) = (one for one in words if one.text in bar.text)
+        assert abs(own.left - bar.right) < 5 and bar.top <= own.top < own.bottom <= bar.bottom + 1
+
+
+def test_areas_have_words_on_their_page_only() -> None:
+    near, far = drawn((group("A", "4.5", nominal="rising"), [header(1, *authority(), restriction(1, 1000, 200, 80))]))
+    assert [[one.text for one in looks(page, "") if one.text == "80 km/h"] for page in (near, far)] == [[], ["80 km/h"]]
+    assert len(looks(near, "area65")) == 0 and len(looks(far, "area65")) == 1
 
 
 def test_what_a_picture_says_without_being_seen() -> None:

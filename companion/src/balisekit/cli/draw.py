@@ -16,9 +16,8 @@ from balisekit.engine.program import Program
 from balisekit.errors import TableError
 from balisekit.io.output_folder import OutputFolder
 from balisekit.io.outputs import Output
-from balisekit.present.pictures import message_picture, picture_page, track_page
+from balisekit.present.pictures import message_picture, picture_page, track_page, written
 from balisekit.present.refusals import not_looked_at, refused
-from balisekit.present.track_text import written
 from balisekit.rules import checking
 from balisekit.rules.checking import Checked
 from balisekit.rules.families import FAMILIES, apply

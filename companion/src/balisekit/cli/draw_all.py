@@ -10,9 +10,8 @@ from balisekit.cli.outcome import links_of
 from balisekit.drawing.group import pictures_of
 from balisekit.drawing.track import tracks_of
 from balisekit.io.output_folder import OutputFolder
-from balisekit.present.pictures import FileNames, message_picture, picture_page, track_page
+from balisekit.present.pictures import MARK_ALONE, FileNames, message_picture, picture_page, track_page, written
 from balisekit.present.refusals import not_looked_at, refused
-from balisekit.present.track_text import MARK_ALONE, written
 from balisekit.rules.checking import Checked
 from balisekit.rules.families import FAMILIES, Outcome, apply
 from balisekit.rules.line import Line

@@ -36,6 +36,7 @@ class Flag(NamedTuple):
     is_quiet: bool
     is_of_links: bool
     """Whether only rules L have found something there."""
+    group: str = ""
 
 
 def marks_of(entries: Iterable[Entry], accepted: Iterable[Entry] = ()) -> Iterator[Mark]:
@@ -63,7 +64,7 @@ def _flag(marks: Sequence[Mark]) -> Flag:
     title = "; ".join(map(_sentence, marks[:NAMED])) + (f"; {len(marks) - NAMED} more" if len(marks) > NAMED else "")
     place = int(min(mark.km for mark in marks) * 10_000)
     of_links = all(rule.startswith("L") for rule in rules)
-    return Flag(place, listed(rules, NAMED), title, all(mark.is_quiet for mark in marks), of_links)
+    return Flag(place, listed(rules, NAMED), title, all(mark.is_quiet for mark in marks), of_links, marks[0].group)
 
 
 def _sentence(mark: Mark) -> str:

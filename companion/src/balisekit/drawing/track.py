@@ -6,13 +6,14 @@ shows which way the band runs along the kilometres. Bands that overlap are below
 from __future__ import annotations
 
 from math import hypot
-from typing import Iterator, List, NamedTuple, Optional, Sequence, Set, Tuple
+from typing import Dict, Iterator, List, NamedTuple, Optional, Sequence, Set, Tuple
 
 from balisekit.drawing.flags import Flag, Mark, flags
 from balisekit.drawing.letters import shortened, width
-from balisekit.drawing.profiles import Sizes, WayDrawing, open_end, profile_number, speed_top
+from balisekit.drawing.profiles import Edges, Sizes, WayDrawing, open_end, profile_number, speed_top
 from balisekit.drawing.sheet import EDGE, EDGES, RIGHT, WIDTH, Lane, Picture, Rows, Sheet, tenths
 from balisekit.drawing.track_pages import Arc, Band, Page, Within, at_km, pages, place_of, shown_words
+from balisekit.etcs.areas import Area
 from balisekit.etcs.geometry import NOMINAL, kilometre_of
 from balisekit.etcs.variables import metres
 from balisekit.rules.line import Line
@@ -25,7 +26,9 @@ ARCS, PART = 68, 0.4
 BAND, SPEEDS, LOW = 76, 18, 12
 """Heights of a band, and in it of the speeds, and of gradients and authority."""
 AREAS, AREA = (41, 65, 80, 68), 12
-"""The packets of the other areas of a band, each of them in a row below it, and the height of a row."""
+"""The packets of the other areas of a band, which are in rows below it, and the height of a row."""
+Strip = Tuple[Area, int, Tuple[int, int]]
+"""An area of a band on a page, its row, and from where to where it and its words need that row."""
 SIZES = Sizes(speed=SPEEDS, end=3, supervised=3, has_words=False)
 LANES = 12
 """So many bands without other areas fit below each other on a printed page."""
@@ -112,6 +115,8 @@ class Placed(NamedTuple):
     name: int
     words: str
     band: Band
+    strips: Sequence[Strip]
+    """Its areas."""
     height: int
     """Down to its lower edge, in pixels."""
 
@@ -123,17 +128,40 @@ def _placed(scale: Sheet, band: Band) -> Placed:
     wide = ARROW + width("", words) + findings
     origin = scale.nearest(band.at)
     name = min(max(origin if band.sign > 0 else origin - wide, EDGES[0]), EDGES[1] - wide)
-    left, right = min(name, scale.nearest(band.begin)), max(name + wide, scale.nearest(band.end))
-    for area in band.way.areas:
-        end = open_end(band.way) if area.end is None else area.end
-        far = band.at + band.sign * end
-        if scale.shows(far):
-            room = width("", area.words) + 60
-            left, right = min(left, scale.x(far) - room * (band.sign < 0)), max(
-                right, scale.x(far) + room * (band.sign > 0)
-            )
-    height = _areas_top(band) + AREA * len(_kinds(band))
-    return Placed(max(left, EDGES[0]), min(right, EDGES[1]), name, words, band, height)
+    strips, rows = _strips(scale, band)
+    left = min(name, scale.nearest(band.begin), *(within[0] for _, _, within in strips))
+    right = max(name + wide, scale.nearest(band.end), *(within[1] for _, _, within in strips))
+    height = _areas_top(band) + AREA * rows
+    return Placed(max(left, EDGES[0]), min(right, EDGES[1]), name, words, band, strips, height)
+
+
+def _strips(scale: Sheet, band: Band) -> Tuple[List[Strip], int]:
+    """The areas of a band that are on a page, and how many rows they need, none over another or its words."""
+    strips: List[Strip] = []
+    used = 0
+    for number in AREAS:
+        areas = [area for area in band.way.areas if area.number == number]
+        edges = enumerate(_within(scale, band, area) for area in areas)
+        rows = Rows()
+        for within, place in sorted((within, place) for place, within in edges if within):
+            strips.append((areas[place], used + rows.reserve(*within), within))
+        used += rows.count
+    return strips, used
+
+
+def _within(scale: Sheet, band: Band, area: Area) -> Edges:
+    """From where to where an area of this page is drawn, with its words behind it, on it, or else before it."""
+    begin = area.begin if area.acknowledged is None else max(area.acknowledged, 0)
+    end = band.at + band.sign * (open_end(band.way) if area.end is None else area.end)
+    low, high = sorted((band.at + band.sign * begin, end))
+    if low > scale.greatest or high < scale.least:
+        return None
+    left, right, room = scale.nearest(low), scale.nearest(high), width("", area.words) + 60
+    around = [(left - room, right), (left, right + room)]
+    behind = around[band.sign > 0]
+    if scale.shows(end) and EDGES[0] <= behind[0] and behind[1] <= EDGES[1]:
+        return behind
+    return (left, right) if right - left >= room else around[band.sign < 0]
 
 
 def _parts(lanes: List[List[Placed]]) -> List[List[Tuple[int, List[Placed]]]]:
@@ -194,17 +222,23 @@ def _groups(sheet: Sheet, page: Page, first: bool) -> None:
 
 def _names(sheet: Sheet, stations: Sequence[BaliseGroup], found: Sequence[Flag]) -> None:
     """Each group as a mark on the axis, each flag above it, and below it their names, after an arrow."""
-    base, rows, named = sheet.y, Rows(), []
+    base, rows = sheet.y, Rows()
+    places = {station.group.name: place_of(station) for station in stations}
+    named: List[Tuple[int, bool, str, str]] = []
     for station in stations:
         sign = {1: "\u25b8", -1: "\u25c2"}.get(station.rising or 0, "\u2022")
         name = f"{sign} {clean(station.group.name)}{': refused' if station.unread else ''}"
-        named.append(("red middle" if station.unread else "name middle", name, place_of(station)))
-    named += [("middle" if flag.is_quiet else "red middle", flag.words, flag.place) for flag in found]
-    items = []
-    for style, name, place in named:
-        wide = min(width(style, name), NAME) + SPACE
-        items.append((min(max(sheet.x(place) - wide // 2, EDGES[0]), EDGES[1] - wide), wide, place, style, name))
-    for begin, wide, place, style, name in sorted(items):
+        named.append((place_of(station), False, "red middle" if station.unread else "name middle", name))
+    for flag in found:
+        place, style = places.get(flag.group, flag.place), "middle" if flag.is_quiet else "red middle"
+        named.append((place, True, style, flag.words))
+    wides: Dict[int, int] = {}  # (what is at one place has one width, so that a flag is below the name)
+    for place, _, style, name in named:
+        wides[place] = max(wides.get(place, 0), min(width(style, name), NAME) + SPACE)
+    for begin, place, _, style, name in sorted(
+        (min(max(sheet.x(one[0]) - wides[one[0]] // 2, EDGES[0]), EDGES[1] - wides[one[0]]), *one) for one in named
+    ):
+        wide = wides[place]
         y = base + 22 + 13 * rows.reserve(begin, begin + wide)
         sheet.path("leader", "", f"M{tenths(sheet.x(place))} {base + 4}v{y - base - 2}")
         sheet.short(style, name, begin + wide // 2, y + 11, NAME)
@@ -237,11 +271,10 @@ def _band(sheet: Sheet, one: Placed, top_speed: int) -> None:
         if way.speeds:
             drawing.v_main(authority, lanes[27], top_speed)
         drawing.authority(authority, Lane(lanes[21].bottom + 2, LOW))
-    kinds = _kinds(band)
-    for area in way.areas:
-        row = Lane(sheet.y + _areas_top(band) - 1 + AREA * kinds.index(area.number), AREA - 2)
+    for area, number, within in one.strips:
+        row = Lane(sheet.y + _areas_top(band) - 1 + AREA * number, AREA - 2)
         drawing.area(area, row)
-        drawing.label_area(area, area.words, row.bottom - 1, (one.left, one.right))
+        drawing.label_area(area, area.words, row.bottom - 1, within)
     for finding in band.found:
         drawing.gap(finding, lanes[profile_number(finding)])
     sheet.mark("group", "", band.at, sheet.y + 14, one.height - 18)
@@ -258,12 +291,6 @@ def _name(sheet: Sheet, one: Placed) -> None:
         left += wide
     tail = one.name if band.sign > 0 else left - SPACE + ARROW
     sheet.path("run", "", f"M{tenths(tail)} {y - 8}l{8 * band.sign} 4l{-8 * band.sign} 4z")
-
-
-def _kinds(band: Band) -> List[int]:
-    """The packets of the other areas of a band, as they are below each other."""
-    known = {area.number for area in band.way.areas}
-    return [number for number in AREAS if number in known] if known else []
 
 
 class Curve(NamedTuple):

@@ -1,27 +1,30 @@
-"""Pictures as files of SVG: their pages, and their names."""
+"""Pictures as files of SVG: their pages, their names, and what `draw --track` says of groups that they have not."""
 from __future__ import annotations
 
 import re
 from collections import Counter
 from itertools import accumulate
-from typing import Iterator, Optional, Set
+from typing import Dict, Iterator, List, Optional, Set
 from unicodedata import normalize
 
 from balisekit.drawing.flags import marks_of
 from balisekit.drawing.group import picture_of_message
 from balisekit.drawing.sheet import WIDTH, Picture
 from balisekit.drawing.track import note, track_pictures
-from balisekit.drawing.track_pages import shown_words
+from balisekit.drawing.track_pages import shown_words, undrawn
 from balisekit.etcs.places import Identities
 from balisekit.present.pages import pieces
-from balisekit.present.track_text import refused_rows
 from balisekit.rules.checking import AcceptedMessage, Checked
 from balisekit.rules.families import Outcome
+from balisekit.rules.line import Line
 from balisekit.rules.links import Links
-from balisekit.tables.names import clean, describe_message
+from balisekit.tables.names import clean, describe_message, listed, quoted
 
 GREATEST_NAME = 50
 """So many characters of a file's name are taken from the table."""
+MARK_ALONE = "only a mark"
+NAMED = 5
+"""So many groups, rows or lines are named, of those that a track does not have."""
 
 
 def picture_page(picture: Picture) -> Iterator[str]:
@@ -44,6 +47,30 @@ def track_page(outcome: Outcome, links: Links, track: str, aspect: Optional[str]
         height=tops[-1],
         pictures=list(zip(tops, pictures)),
     )
+
+
+def written(line: Line, track: str, aspect: Optional[str], where: str) -> Iterator[str]:
+    """What was written there, and which groups are not drawn, by the reason."""
+    reasons: Dict[str, List[str]] = {}
+    for station in line.groups:
+        if station.km is None or station.track != track:
+            why = "left out, no kilometre" if station.km is None else "left out, on another track"
+        else:
+            reason = undrawn(station, aspect)
+            why = f"{MARK_ALONE}, {reason}" if reason else ""
+        reasons.setdefault(why, []).append(clean(station.group.name))
+    of_track, groups = f"track {quoted(track)}" if track else "the track", len(line.along[track])
+    yield f"written: {where}: {groups} group{'s' * (groups > 1)} of {of_track}, {shown_words(aspect, 'each')}"
+    yield from (f"{why}: {listed(names, NAMED)}" for why, names in reasons.items() if why)
+
+
+def refused_rows(checked: Checked) -> str:
+    """Which telegrams and messages are refused, in a line of the picture."""
+    parts = [
+        ("telegrams by row", [str(telegram.row.number) for telegram in checked.refused]),
+        ("messages by line", [str(message.message.number) for message in checked.refused_messages]),
+    ]
+    return "; ".join(f"refused {what}: {listed(numbers, NAMED)}" for what, numbers in parts if numbers)
 
 
 def message_picture(checked: Checked, message: AcceptedMessage) -> Optional[Picture]:

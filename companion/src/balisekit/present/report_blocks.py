@@ -329,4 +329,7 @@ def _found(entries: Sequence[Listed], remarks: bool) -> str:
     """A cell: how many remarks, or else findings, there are, and how many of them were accepted. Empty for none."""
     some = [each for each in entries if bool(each.entry.remark) == remarks] if entries else ()
     total, accepted = sum(each.items for each in some), sum(each.items for each in some if each.accepted)
-    return f"<td class=found>{total}{f', {accepted} accepted' if accepted else ''}" if total else "<td>"
+    if not total:
+        return "<td>"
+    style = '"found quiet"' if all(each.accepted or each.entry.expected for each in some) else "found"
+    return f"<td class={style}>{total}{f', {accepted} accepted' if accepted else ''}"

@@ -44,12 +44,18 @@
   only.addEventListener("change", filter);
   search.hidden = false;
 
-  function reveal() {
-    const target = document.getElementById(location.hash.slice(1)), folded = target && target.closest("details");
-    if (folded && !folded.open) {
-      folded.open = true;
+  function reveal(hash) {
+    const target = document.getElementById(hash.slice(1)), folded = target && target.closest("details");
+    let frames = 6; // in which sections that are shown for the first time take their heights
+
+    function scroll() {
+      if (!frames-- || location.hash !== hash) return;
+      if (folded) folded.open = true;
       target.scrollIntoView();
+      requestAnimationFrame(scroll);
     }
+
+    if (target) requestAnimationFrame(scroll);
   }
 
   function copy(button, digits) {
@@ -72,6 +78,9 @@
 
   document.addEventListener("toggle", (event) => addButton(event.target), true);
   document.querySelectorAll(".group details[open]").forEach(addButton);
-  addEventListener("hashchange", reveal);
-  reveal();
+  document.addEventListener("click", (event) => {
+    const link = event.target.closest("a");
+    if (link) reveal(link.hash);
+  });
+  reveal(location.hash);
 })();
