@@ -222,8 +222,8 @@ def test_of_two_commands_at_once_one_writes(exists: bool, tmp_path: Path) -> Non
     if exists:
         folder.mkdir()
     first, second = OutputFolder(str(folder)), OutputFolder(str(folder))
-    check_outputs([first, second][:1], [], False)
-    second.check([], False)
+    check_outputs([first], False)
+    second.check(False)
     with pytest.raises(TableError, match="out: another command has just written it"):
         with placing([second], False):
             second.write("name.svg", ["second"])
@@ -237,4 +237,4 @@ def test_of_two_commands_at_once_one_writes(exists: bool, tmp_path: Path) -> Non
 
 def test_a_name_with_a_nul() -> None:
     with pytest.raises((ValueError, NoAnswer)):
-        OutputFolder("a\0b").check([], False)
+        OutputFolder("a\0b").check(False)
