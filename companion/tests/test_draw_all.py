@@ -121,7 +121,8 @@ def test_messages_and_tracks(run: Run, table: Write, tmp_path: Path) -> None:
     assert status == 0 and set(files) == _named(out, tmp_path / "out")
     assert set(files) == {"group-A.svg", "group-B.svg", "track-one.svg", "track-two.svg", "message-1-one.svg"}
     assert out[-1] == "left out: message of line 2: it has no authority, gradient or speed profile"
-    run("draw", path, "--messages", messages, "--message", "1", "--svg", tmp_path / "m.svg")
+    words = ["--messages", messages, "--message", "1", "--svg", tmp_path / "m.svg"]
+    assert run("draw", path, *words)[:2] == (0, [f"written: {tmp_path / 'm.svg'}"])
     assert files["message-1-one.svg"] == (tmp_path / "m.svg").read_bytes()
 
 

@@ -177,7 +177,7 @@ def _claim(options: argparse.Namespace, replaces: bool) -> None:
 
 @contextmanager
 def _process() -> Iterator[None]:
-    """Raises Terminated for the first SIGTERM or SIGHUP, unless that is ignored. Searches for no cycles of objects."""
+    """Raises Terminated for the first SIGTERM or SIGHUP, unless that is ignored. Cycles of objects are not collected."""
 
     def terminate(number: int, frame: object) -> None:
         for other in handlers:
@@ -190,7 +190,7 @@ def _process() -> Iterator[None]:
             if signal.getsignal(number) is not signal.SIG_IGN:
                 handlers[number] = signal.signal(number, terminate)
     collects = gc.isenabled()
-    gc.disable()  # (there are none)
+    gc.disable()  # (each search for cycles would visit all telegrams, and would free little)
     try:
         yield
     finally:

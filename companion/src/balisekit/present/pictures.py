@@ -21,7 +21,7 @@ from balisekit.rules.links import Links
 from balisekit.tables.names import clean, describe_message
 
 GREATEST_NAME = 50
-"""So many characters of a file's name are taken from the table."""
+"""The most characters of a file's name that are taken from the table."""
 
 
 def picture_page(picture: Picture) -> Iterator[str]:

@@ -10,7 +10,7 @@ from balisekit.tables.names import clean, listed, quoted
 
 MARK_ALONE = "only a mark"
 NAMED = 5
-"""So many groups, rows or lines are named."""
+"""How many groups, rows or lines are named."""
 
 
 def written(line: Line, track: str, aspect: Optional[str], where: str) -> Iterator[str]:

@@ -39,7 +39,7 @@ from balisekit.rules.meaning.words import balises_of
 from balisekit.rules.rule import Options, Remark, Result, Rule, Urgency
 
 LEAST, SHARE = 5, 5
-"""So many links of a track, and more than one of so many, are counted in one note."""
+"""From how many links of a track on one note counts them, if they are more than a fifth of all."""
 
 
 def find(line: Line, options: Options) -> Result:
