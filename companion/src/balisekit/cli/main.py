@@ -141,12 +141,12 @@ def _run(options: argparse.Namespace) -> int:
     from balisekit.cli import console
     from balisekit.io.inputs import guarded
     from balisekit.io.output_folder import OutputFolder
-    from balisekit.io.outputs import Output, check_outputs, files, placing
+    from balisekit.io.outputs import Output, check_outputs, placing
 
     outputs = [value for value in vars(options).values() if isinstance(value, (Output, OutputFolder))]
     force = getattr(options, "force", False)
     shows = options.command == "check" and not any(output.is_standard_output for output in outputs)
-    with guarded(files(outputs)):
+    with guarded(output.path for output in outputs):
         _claim(options, any(os.path.lexists(output.path) for output in outputs))
         check_outputs(outputs, force)
         with placing(outputs, force), console.working(options.command) if shows else nullcontext():
@@ -177,7 +177,7 @@ def _claim(options: argparse.Namespace, replaces: bool) -> None:
 
 @contextmanager
 def _process() -> Iterator[None]:
-    """Raises Terminated for the first SIGTERM or SIGHUP, unless that is ignored. Cycles of objects are not collected."""
+    """Raises Terminated for the first SIGTERM or SIGHUP, unless that is ignored. Cycles of objects stay in memory."""
 
     def terminate(number: int, frame: object) -> None:
         for other in handlers:

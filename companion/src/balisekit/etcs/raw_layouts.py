@@ -83,7 +83,7 @@ class Many(NamedTuple):
 
 @dataclass(frozen=True)
 class Rest:
-    """The rest of the body, or a text with a number of characters."""
+    """The rest of the body, or a text whose characters a variable counts."""
 
     name: str
     key: str

@@ -4,7 +4,8 @@ from __future__ import annotations
 import hashlib
 import os
 import stat
-from contextlib import contextmanager
+import sys
+from contextlib import contextmanager, suppress
 from typing import Dict, Iterable, Iterator, NamedTuple, Optional, Tuple, Union
 
 from balisekit.errors import KitError, TableError, faults_of
@@ -36,9 +37,11 @@ def _identity(file: Union[str, int]) -> Optional[Tuple[int, int]]:
 
 
 @contextmanager
-def guarded(outputs: Iterable[Tuple[str, Union[str, int]]]) -> Iterator[None]:
-    """Within this, no output replaces an input. Each output has a name, and its path or descriptor."""
-    _outputs.update((_identity(file), name) for name, file in outputs)
+def guarded(outputs: Iterable[str]) -> Iterator[None]:
+    """Within this, neither these outputs nor standard output replace an input."""
+    _outputs.update((_identity(path), path) for path in outputs)
+    with suppress(OSError, ValueError):  # (a caller in Python may have another stream)
+        _outputs[_identity(sys.stdout.fileno())] = "standard output"
     _outputs.pop(None, None)
     try:
         yield

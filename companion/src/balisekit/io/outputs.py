@@ -6,9 +6,9 @@ import os
 import shutil
 import stat
 import sys
-from contextlib import contextmanager, suppress
+from contextlib import contextmanager
 from tempfile import SpooledTemporaryFile
-from typing import TYPE_CHECKING, Iterable, Iterator, List, Mapping, Sequence, Tuple, Union
+from typing import TYPE_CHECKING, Iterable, Iterator, List, Mapping, Sequence, Union
 
 from balisekit.errors import NoAnswer, TableError
 from balisekit.io.interrupts import held
@@ -138,13 +138,6 @@ def _is_mounted(path: str) -> bool:
 def encoded(pieces: Iterable[Union[str, bytes]]) -> Iterator[bytes]:
     """A text as the bytes of a file."""
     return (piece if isinstance(piece, bytes) else piece.encode("utf-8", "backslashreplace") for piece in pieces)
-
-
-def files(outputs: Sequence[Placed]) -> Iterator[Tuple[str, Union[str, int]]]:
-    """The names and paths of these outputs, and that of standard output with its descriptor."""
-    with suppress(OSError, ValueError):  # (a caller in Python may have another stream)
-        yield "standard output", sys.stdout.fileno()
-    yield from ((output.path, output.path) for output in outputs)
 
 
 def check_outputs(outputs: Sequence[Placed], force: bool) -> None:

@@ -5,7 +5,7 @@ import os
 import pickle
 import signal
 import threading
-from contextlib import contextmanager
+from contextlib import contextmanager, suppress
 from functools import partial
 from itertools import chain, repeat
 from tempfile import TemporaryFile
@@ -17,6 +17,8 @@ from balisekit.io.interrupts import held
 LEAST, MOST = 2500, 4
 """The fewest items that are shared, and the most processes that share them: each process needs memory."""
 DONE = b"."
+PR_SET_PDEATHSIG = 1
+"""The option of prctl that sets which signal a process gets when its parent ends."""
 Work = Callable[[int, int], Iterable[Any]]
 """Makes one part of the results, by the number of the part and the number of parts."""
 
@@ -50,6 +52,14 @@ def shared(works: Sequence[Work], count: int) -> Iterator[Sequence[Iterator[Any]
             worker.end()
 
 
+def end_with_parent() -> None:
+    """Lets the kernel kill this process when its parent has ended: SIGKILL leaves the parent no time to do so."""
+    with suppress(Exception):  # (a Python can lack ctypes, or a system forbid it)
+        import ctypes
+
+        ctypes.CDLL(None).prctl(PR_SET_PDEATHSIG, signal.SIGKILL)
+
+
 class Worker:
     """A copy of this process that makes a part of each work. SIGINT, SIGTERM and SIGHUP are blocked in it.
 
@@ -72,6 +82,7 @@ class Worker:
         """All that the copy does. It ends without flushing or removing files of the process that started it."""
         status = 1
         try:
+            end_with_parent()
             os.close(self._pipe)
             for work, file in zip(works, self._files):
                 for each in chain(work(part, count), (None,)):

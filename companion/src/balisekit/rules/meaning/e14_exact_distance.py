@@ -39,7 +39,7 @@ from balisekit.rules.meaning.words import balises_of
 from balisekit.rules.rule import Options, Remark, Result, Rule, Urgency
 
 LEAST, SHARE = 5, 5
-"""From how many links of a track on one note counts them, if they are more than a fifth of all."""
+"""One note counts the links of a track if they are at least LEAST, and more than one in SHARE of all its links."""
 
 
 def find(line: Line, options: Options) -> Result:
