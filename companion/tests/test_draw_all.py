@@ -121,7 +121,8 @@ def test_messages_and_tracks(run: Run, table: Write, tmp_path: Path) -> None:
     assert status == 0 and set(files) == _named(out, tmp_path / "out")
     assert set(files) == {"group-A.svg", "group-B.svg", "track-one.svg", "track-two.svg", "message-1-one.svg"}
     assert out[-1] == "left out: message of line 2: it has no authority, gradient or speed profile"
-    run("draw", path, "--messages", messages, "--message", "1", "--svg", tmp_path / "m.svg")
+    words = ["--messages", messages, "--message", "1", "--svg", tmp_path / "m.svg"]
+    assert run("draw", path, *words)[:2] == (0, [f"written: {tmp_path / 'm.svg'}"])
     assert files["message-1-one.svg"] == (tmp_path / "m.svg").read_bytes()
 
 
@@ -222,8 +223,8 @@ def test_of_two_commands_at_once_one_writes(exists: bool, tmp_path: Path) -> Non
     if exists:
         folder.mkdir()
     first, second = OutputFolder(str(folder)), OutputFolder(str(folder))
-    check_outputs([first, second][:1], [], False)
-    second.check([], False)
+    check_outputs([first], False)
+    second.check(False)
     with pytest.raises(TableError, match="out: another command has just written it"):
         with placing([second], False):
             second.write("name.svg", ["second"])
@@ -237,4 +238,4 @@ def test_of_two_commands_at_once_one_writes(exists: bool, tmp_path: Path) -> Non
 
 def test_a_name_with_a_nul() -> None:
     with pytest.raises((ValueError, NoAnswer)):
-        OutputFolder("a\0b").check([], False)
+        OutputFolder("a\0b").check(False)

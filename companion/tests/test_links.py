@@ -796,7 +796,7 @@ def test_a_direction_by_links_is_used_for_one_group(run: Run, table: Write, tmp_
         notes = [] if word else [f"note: B (km 13.850): {BY_LINKS}"]
         out = run("show", path, "--group", "B")[1]
         assert out[: len(notes)] == notes and run("show", path, "--group", "A")[1][0].startswith("row 2")
-        assert run("draw", path, "--group", "B", "--svg", svg)[1] == notes
+        assert run("draw", path, "--group", "B", "--svg", svg)[1] == [*notes, f"written: {svg}"]
         assert run("draw", path, "--all", folder)[0] == 0 and run("report", path, "--html", html)[0] != 3
         page = html.read_text("utf-8")
         texts = ["\n".join(out[2 * len(notes) :]), *(one.read_text() for one in (svg, folder / "group-B.svg"))]

@@ -103,12 +103,51 @@ def test_a_copy(work: workers.Work, status: int, monkeypatch: pytest.MonkeyPatch
     def end(number: int) -> None:
         raise Ended(number)
 
+    monkeypatch.setattr(workers, "end_with_parent", lambda: None)
     monkeypatch.setattr(os, "fork", lambda: 0)
     monkeypatch.setattr(os, "close", lambda _: None)  # (both ends of the pipe are here)
     monkeypatch.setattr(os, "_exit", end)
     with pytest.raises(Ended) as raised:
         workers.Worker([work], 1, 2)
     assert raised.value.args == (status,)
+
+
+FOREVER = """
+import os, time
+from balisekit.io.workers import shared
+
+def work(part, count):
+    os.write(1, b"%d\\n" % os.getpid())
+    time.sleep(600)
+    yield part
+
+with shared([work], 2):
+    time.sleep(600)
+"""
+
+
+def test_a_parent_that_is_killed() -> None:
+    """Its workers end too."""
+    known = {**os.environ, "PYTHONPATH": str(TOP / "companion" / "src")}
+    with subprocess.Popen([sys.executable, "-c", FOREVER], env=known, stdout=subprocess.PIPE) as run:
+        assert run.stdout
+        found = [int(run.stdout.readline()) for _ in range(2)]
+        run.kill()
+    until = time.monotonic() + 20
+    while any(map(_runs, found)) and time.monotonic() < until:
+        time.sleep(0.05)
+    left = list(filter(_runs, found))
+    for pid in left:
+        os.kill(pid, signal.SIGKILL)
+    assert not left
+
+
+def _runs(pid: int) -> bool:
+    """Whether a process has not ended. One that nobody has waited for is a zombie."""
+    try:
+        return Path(f"/proc/{pid}/stat").read_text().rsplit(") ", 1)[1][0] != "Z"
+    except OSError:
+        return False
 
 
 def test_results_as_bytes(program: Program, tmp_path: Path) -> None:

@@ -9,7 +9,7 @@ import subprocess
 import sys
 import time
 from pathlib import Path
-from typing import IO, Dict, Sequence, Tuple, Union
+from typing import IO, Any, Dict, Sequence, Tuple, Union
 
 import pytest
 from cases_of_program import TOP
@@ -27,14 +27,42 @@ OUTPUTS = [
     "check t.csv --json",
     "check t.csv --document",
     "check t.csv --junit",
+    "check t.csv --sarif",
+    "check t.csv --xlsx",
     "report t.csv --html",
     "draw t.csv --group A --svg",
     "draw t.csv --track --svg",
     "links t.csv --json",
     "diff t.csv u.csv --html",
     "diff t.csv u.csv --json",
+    "plan t.csv --csv",
+    "table t.csv --csv",
+    "table t.csv --xlsx",
 ]
-"""Each option that names an output, but --propose."""
+"""Each option that names a file which --force lets it replace."""
+OTHER_OUTPUTS = ["check t.csv --propose", "draw t.csv --messages m.txt --message 1 --svg", "draw t.csv --all"]
+STATED = {
+    "plan.csv": "kind,km,km_to,track,way,value,name\nsignal,2.000,,,,,\n",
+    "jumps.csv": "km,km_after,track\n9.000,10.000,\n",
+    "balisekit.toml": '[check]\nplan = "plan.csv"\njumps = "jumps.csv"\n',
+}
+"""A TOML file, and the inputs that it names."""
+OPENED = [
+    ("check t.csv --messages m.txt --accepted a.csv --program ./prog --document", "t.csv m.txt a.csv prog TOML"),
+    ("check t.csv --columns c.toml --only L --sarif", "t.csv c.toml plan.csv jumps.csv"),
+    ("check t.csv --plan p.csv --jumps j.csv --propose", "t.csv p.csv j.csv balisekit.toml"),
+    ("report t.csv --messages m.txt --accepted a.csv --html", "t.csv m.txt a.csv TOML"),
+    ("draw t.csv --group A --svg", "t.csv balisekit.toml"),
+    ("draw t.csv --messages m.txt --message 1 --svg", "t.csv m.txt balisekit.toml"),
+    ("draw t.csv --track --messages m.txt --svg", "t.csv m.txt TOML"),
+    ("draw t.csv --all", "t.csv TOML"),
+    ("links t.csv --messages m.txt --json", "t.csv m.txt TOML"),
+    ("plan t.csv --messages m.txt --csv", "t.csv m.txt balisekit.toml jumps.csv"),
+    ("table t.csv --expect e.csv --csv", "t.csv e.csv balisekit.toml"),
+    ("diff t.csv u.csv --old-messages m.txt --new-messages n.txt --json", "t.csv u.csv m.txt n.txt balisekit.toml"),
+    ("diff d.json u.csv --html", "d.json u.csv balisekit.toml"),
+]
+"""A command line without its output, and all files that it opens."""
 REPLACED = [
     ("check t.csv --json t.csv", "t.csv"),
     ("check t.csv --document t.csv", "t.csv"),
@@ -75,7 +103,21 @@ def room(tmp_path: Path, monkeypatch: pytest.MonkeyPatch, program: Program) -> P
 
 
 def _contents(room: Path) -> Dict[str, bytes]:
-    return {path.name: path.read_bytes() for path in room.iterdir()}
+    return {path.name: path.read_bytes() for path in room.iterdir() if path.is_file()}
+
+
+@pytest.fixture
+def project(room: Path) -> Path:
+    """The same folder with a TOML file, and other inputs that options can name."""
+    for name, text in STATED.items():
+        (room / name).write_text(text, "utf-8")
+    for names in ("plan.csv p.csv", "jumps.csv j.csv", "balisekit.toml c.toml", "m.txt n.txt"):
+        shutil.copy(*names.split())
+    (room / "soft-plan.csv").symlink_to("plan.csv")
+    os.link("jumps.csv", "hard-jumps.csv")
+    (room / "e.csv").write_text("group,variable,raw\nA,NID_C,1\n", "utf-8")
+    (room / "d.json").write_text(f'{{"groups":[{{"balises":["{ALONE}"]}}],"messages":[]}}\n', "utf-8")
+    return room
 
 
 @pytest.mark.parametrize("force", ["", " --force"])
@@ -85,6 +127,64 @@ def test_an_output_never_replaces_an_input(words: str, output: str, force: str, 
     status, out, err = run(*words.split(), *force.split())
     assert _contents(room) == before
     assert (status, out, err) == (2, [], [f"balisekit: {output}: it is an input: an output never replaces one"])
+
+
+@pytest.mark.parametrize("columns", ["", "--columns c.toml"])
+@pytest.mark.parametrize("words", [*OUTPUTS, *OTHER_OUTPUTS])
+def test_nor_does_it_replace_what_a_toml_file_names(words: str, columns: str, project: Path, run: Run) -> None:
+    """Whether or not the command uses it, and by any name of the file."""
+    if columns:
+        (project / "balisekit.toml").unlink()
+    before = _contents(project)
+    for output in ("plan.csv", "./plan.csv", "soft-plan.csv", "jumps.csv", "hard-jumps.csv"):
+        for force in ("", "--force"):
+            answer = run(*words.split(), output, *columns.split(), *force.split())
+            assert answer == (2, [], [f"balisekit: {output}: it is an input: an output never replaces one"])
+    assert _contents(project) == before
+
+
+def test_with_columns_the_file_beside_the_table_is_kept_too(project: Path, run: Run) -> None:
+    (project / "c.toml").write_text("group = 'group'\n", "utf-8")
+    before = _contents(project)
+    for name in STATED:
+        status, out, err = run("table", "t.csv", "--columns", "c.toml", "--csv", name, "--force")
+        assert (status, out, err) == (2, [], [f"balisekit: {name}: it is an input: an output never replaces one"])
+    assert _contents(project) == before
+
+
+def test_a_toml_file_with_a_fault_loses_nothing(project: Path, run: Run) -> None:
+    """A value of [check] is wrong for `check` only, and an unknown key is for all commands."""
+    for more, words in (("line_speed = 900\n", "table t.csv --csv"), ("unknown = 1\n", "check t.csv --json")):
+        (project / "balisekit.toml").write_text(f"{STATED['balisekit.toml']}{more}", "utf-8")
+        before = _contents(project)
+        for name in STATED:
+            assert run(*words.split(), name, "--force")[:2] == (2, [])
+        assert _contents(project) == before
+
+
+@pytest.mark.parametrize("words, names", OPENED, ids=[words for words, _ in OPENED])
+def test_each_file_that_is_opened_is_an_input(
+    words: str, names: str, project: Path, run: Run, monkeypatch: pytest.MonkeyPatch
+) -> None:
+    opened = set()
+
+    def recorded(path: Any, mode: str = "r", *more: Any, **others: Any) -> Any:
+        if "r" in mode and os.path.realpath(path).startswith(f"{project}/"):
+            opened.add(os.path.basename(path))
+        return builtin(path, mode, *more, **others)
+
+    if words.split()[0] in ("draw", "report") or "--html" in words:
+        pytest.importorskip("jinja2")
+    builtin = open
+    with monkeypatch.context() as patched:
+        patched.setattr("builtins.open", recorded)
+        assert run(*words.split(), "new")[0] in (0, 1)
+    assert opened == set(names.replace("TOML", " ".join(STATED)).split())
+    before = _contents(project)
+    for name in sorted(opened):
+        status, out, err = run(*words.split(), name, "--force")
+        assert (status, out, err) == (2, [], [f"balisekit: {name}: it is an input: an output never replaces one"])
+    assert _contents(project) == before
 
 
 def test_nor_does_it_replace_the_program_of_the_environment(
@@ -108,6 +208,18 @@ def test_nothing_is_appended_to_an_input(room: Path, program: Program) -> None:
         assert _contents(room) == before
 
 
+@pytest.mark.parametrize(
+    "words", ["check t.csv", "links t.csv", "table t.csv --csv new", "diff t.csv u.csv --columns c.toml"]
+)
+def test_nothing_is_appended_to_what_a_toml_file_names(words: str, project: Path) -> None:
+    before = _contents(project)
+    for name in STATED:
+        with open(name.replace("balisekit", "c") if "c.toml" in words else name, "ab") as file:
+            answer = _run([*COMMAND, *words.split()], file)
+        assert answer == (2, "balisekit: standard output: it is an input: an output never replaces one\n")
+    assert _contents(project) == before
+
+
 def test_nothing_is_appended_to_standard_input(room: Path) -> None:
     (room / "lines.txt").write_text(f"{ALONE}\n", "utf-8")
     before = _contents(room)
@@ -126,7 +238,7 @@ def _run(command: Sequence[str], stdout: Union[int, IO[bytes]] = subprocess.DEVN
 
 @pytest.mark.parametrize("words", OUTPUTS)
 def test_an_existing_file_is_replaced_by_force_only(words: str, room: Path, run: Run) -> None:
-    pytest.importorskip("jinja2")
+    pytest.importorskip("openpyxl" if "--xlsx" in words else "jinja2")
     kept = room / "kept"
     kept.write_text("kept", "utf-8")
     kept.chmod(0o640)
@@ -135,9 +247,9 @@ def test_an_existing_file_is_replaced_by_force_only(words: str, room: Path, run:
         status, out, err = run(*words.split(), name)
         why = f"balisekit: {name}: it exists already: name a new file, or give --force to replace it"
         assert (status, out, err) == (2, [], [why])
-    assert kept.read_text("utf-8") == "kept"
+    assert kept.read_bytes() == b"kept"
     assert run(*words.split(), "link", "--force")[0] in (0, 1)
-    assert kept.read_text("utf-8") != "kept" and (kept.stat().st_mode & 0o777) == 0o640
+    assert kept.read_bytes() != b"kept" and (kept.stat().st_mode & 0o777) == 0o640
     assert (room / "link").is_symlink() and not list(room.glob(".balisekit-*"))
 
 
@@ -170,7 +282,7 @@ def test_another_owner_is_refused(room: Path, monkeypatch: pytest.MonkeyPatch) -
     (room / "kept").write_text("kept", "utf-8")
     monkeypatch.setattr(os, "geteuid", lambda: 54321)
     with pytest.raises(NoAnswer, match="kept: it belongs to another user or group"):
-        Output("kept").check([], force=True)
+        Output("kept").check(force=True)
 
 
 def test_a_mount_point_is_kept(room: Path) -> None:
@@ -195,8 +307,8 @@ def test_what_is_no_file_is_refused(name: str, room: Path, run: Run) -> None:
 def test_of_two_commands_at_once_one_writes(room: Path) -> None:
     """Both have found no file, and the second one does not replace that of the first."""
     first, second = Output("new"), Output("new")
-    check_outputs([first], [], False)
-    check_outputs([second], [], False)
+    check_outputs([first], False)
+    check_outputs([second], False)
     with pytest.raises(TableError, match="new: another command has just written it"):
         with placing([second], False):
             second.write(["second"])

@@ -64,7 +64,7 @@ def run(options: argparse.Namespace) -> int:
         checked = checking.check(program, table, messages, options.by_position)
         return draw_all.run(options, checked, of_line) if options.all else _track(options, checked, of_line)
     options.svg.write(picture_page(picture))
-    shared.say([f"note: {note}" for note in notes], options.svg)
+    shared.say([*(f"note: {note}" for note in notes), f"written: {clean(str(options.svg))}"], options.svg)
     return 0
 
 

@@ -8,15 +8,13 @@ import shutil
 import signal
 import sys
 import threading
-from contextlib import contextmanager, nullcontext
+from contextlib import contextmanager, nullcontext, suppress
 from importlib import import_module
-from typing import TYPE_CHECKING, Any, ContextManager, Iterator, List, Optional, Sequence, TextIO
+from itertools import product
+from typing import Any, ContextManager, Iterator, List, Optional, Sequence, TextIO
 
 from balisekit import __version__
-from balisekit.errors import KitError, NoAnswer, Terminated
-
-if TYPE_CHECKING:
-    from balisekit.io.outputs import Placed
+from balisekit.errors import KitError, NoAnswer, TableError, Terminated
 
 COMMANDS = {
     "check": "check the telegrams, groups and messages of a table",
@@ -141,38 +139,45 @@ def _script_ahead(arguments: Sequence[str]) -> ContextManager[None]:
 def _run(options: argparse.Namespace) -> int:
     """Runs the command. Its outputs are moved into place once standard output has taken the text."""
     from balisekit.cli import console
+    from balisekit.io.inputs import guarded
     from balisekit.io.output_folder import OutputFolder
     from balisekit.io.outputs import Output, check_outputs, placing
 
     outputs = [value for value in vars(options).values() if isinstance(value, (Output, OutputFolder))]
     force = getattr(options, "force", False)
-    check_outputs(outputs, _inputs(options, outputs), force)
     shows = options.command == "check" and not any(output.is_standard_output for output in outputs)
-    with placing(outputs, force), console.working(options.command) if shows else nullcontext():
-        status: int = options.run(options)
-        sys.stdout.flush()
+    with guarded(output.path for output in outputs):
+        _claim(options, any(os.path.lexists(output.path) for output in outputs))
+        check_outputs(outputs, force)
+        with placing(outputs, force), console.working(options.command) if shows else nullcontext():
+            status: int = options.run(options)
+            sys.stdout.flush()
     return status
 
 
-def _inputs(options: argparse.Namespace, outputs: Sequence[Placed]) -> List[str]:
-    """The files that the command reads, and the program if an output could replace it."""
-    from balisekit.engine import find_program
-    from balisekit.io.inputs import InputPath
-    from balisekit.tables.own_headings import beside
+def _claim(options: argparse.Namespace, replaces: bool) -> None:
+    """Raises ReplacedInput if an output would replace a file that an option names.
 
-    inputs: List[str] = [value for value in vars(options).values() if isinstance(value, InputPath)]
-    inputs += [file for file in map(beside, inputs) if file]
-    if not inputs:  # `show`
-        inputs.append("/dev/stdin")
-    if any(os.path.lexists(output.path) for output in outputs):
-        named = options.program or os.environ.get("BALISECHECK") or "balisecheck"
-        inputs += filter(None, (shutil.which(named), find_program.find(options.program)))
-    return inputs
+    If the file of an output exists, that also holds for the program, TOML files and what these name. Each input is
+    claimed again when it is read. But only here it is refused before a message that --force would replace it.
+    """
+    from balisekit.engine import find_program
+    from balisekit.io.inputs import InputPath, claimed
+    from balisekit.tables.own_headings import CHECK_TABLE, stated
+
+    named = [claimed(value) for value in vars(options).values() if isinstance(value, InputPath)]
+    if replaces:
+        for path, columns in product(named, (options.columns, None)):
+            with suppress(TableError, NoAnswer):  # (they are raised again if the command reads the TOML file)
+                stated(path, columns, CHECK_TABLE)
+        program = options.program or os.environ.get("BALISECHECK") or "balisecheck"
+        claimed(shutil.which(program) or "")
+        claimed(find_program.find(options.program))
 
 
 @contextmanager
 def _process() -> Iterator[None]:
-    """Raises Terminated for the first SIGTERM or SIGHUP, unless that is ignored. Searches for no cycles of objects."""
+    """Raises Terminated for the first SIGTERM or SIGHUP, unless that is ignored. Cycles of objects stay in memory."""
 
     def terminate(number: int, frame: object) -> None:
         for other in handlers:
@@ -185,7 +190,7 @@ def _process() -> Iterator[None]:
             if signal.getsignal(number) is not signal.SIG_IGN:
                 handlers[number] = signal.signal(number, terminate)
     collects = gc.isenabled()
-    gc.disable()  # (there are none)
+    gc.disable()  # (each search for cycles would visit all telegrams, and would free little)
     try:
         yield
     finally:

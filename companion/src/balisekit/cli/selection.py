@@ -13,7 +13,7 @@ from balisekit.tables.model import Group, Table
 from balisekit.tables.names import quoted
 
 COMPARED = 100
-"""So many characters of a name are compared with others."""
+"""How many characters of a name are compared with other names."""
 
 
 def meant(name: str, known: Iterable[str]) -> str:

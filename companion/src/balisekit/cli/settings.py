@@ -5,7 +5,6 @@ The table [report] of the file has what a report is headed with.
 from __future__ import annotations
 
 import argparse
-import os
 import re
 from typing import Any, Callable, Dict, FrozenSet, Mapping, Sequence, Tuple
 
@@ -52,8 +51,6 @@ KINDS: Mapping[str, Callable[[str], Any]] = {
     "rules": _rules,
 }
 """What reads the value of each key of [check]."""
-FILES = ("jumps", "plan")
-"""The keys whose values are paths."""
 
 
 def add_options(parser: argparse.ArgumentParser) -> None:
@@ -110,19 +107,16 @@ def _given(options: argparse.Namespace) -> Dict[str, Any]:
 
 
 def _of_file(options: argparse.Namespace) -> Dict[str, Any]:
-    """What the table [check] of the file has. A path is seen from the folder of the file."""
+    """What the table [check] of the file has."""
     path, values = own_headings.stated(options.table, options.columns, own_headings.CHECK_TABLE)
     with faults_of(path):
-        found = {name: _value(name, value) for name, value in values.items()}
-    folder = os.path.dirname(path)
-    return {name: os.path.join(folder, value) if name in FILES else value for name, value in found.items()}
+        return {name: _value(name, value) for name, value in values.items()}
 
 
 def _value(name: str, value: object) -> Any:
     """A value of the file as that of an option."""
-    words = ",".join(map(str, value)) if isinstance(value, list) else str(value)
     try:
-        return KINDS[name](words)
+        return KINDS[name](own_headings.words(value))
     except argparse.ArgumentTypeError as error:
         raise TableError(f"[check] {name}: {error}") from error
 

@@ -8,7 +8,7 @@ from balisekit.rules.entries import Entry, track_of
 from balisekit.tables.names import clean, listed, quoted
 
 NAMED = 4
-"""So many rules are named at a flag, and so many sentences in its title."""
+"""How many rules are named at a flag, and how many sentences its title has."""
 
 
 class Mark(NamedTuple):

@@ -31,14 +31,14 @@ Strip = Tuple[Area, int, Tuple[int, int]]
 """An area of a band on a page, its row, and from where to where it and its words need that row."""
 SIZES = Sizes(speed=SPEEDS, end=3, supervised=3, has_words=False)
 LANES = 12
-"""So many bands without other areas fit below each other on a printed page."""
+"""How many bands without other areas fit below each other on a printed page."""
 TICK = 5000
 ARROW, SPACE, NAME = 110, 70, 3400
 """The room of the arrow before a name, of a space, and the greatest one of a name, in tenths of a pixel."""
 FLAGS = "-24l9 4l-9 4", "-16a4 4 0 1 1 .1 0"
 """A flag, and the ring of one that only rules L have: the pole, and what is at its top."""
 NAMED = 5
-"""So many groups of a page are named in words."""
+"""How many groups of a page are named in words."""
 
 
 def tracks_of(line: Line) -> List[str]:

@@ -32,7 +32,7 @@ FormOf = Callable[[int], Optional[Form]]
 Within = Tuple[Optional[int], Optional[int]]
 """From which place and up to which one pages are made. None is an end of the track."""
 KEPT = 64
-"""So many telegrams are kept as objects, which takes time to make of their lines, and much memory to keep."""
+"""The most telegrams that are kept as objects: making one of its line takes time, and keeping it takes memory."""
 
 
 @dataclass(frozen=True)
@@ -217,7 +217,10 @@ def undrawn(station: BaliseGroup, aspect: Optional[str]) -> str:
 
 
 def shares(line: Line, part: int, count: int) -> Iterator[Tuple[str, Within]]:
-    """The pages that one of so many equal parts of all groups with a kilometre has, by tracks."""
+    """The tracks of one part of all groups with a kilometre, each with the places between which its pages are.
+
+    All `count` parts have the same number of groups, or one more.
+    """
     begin, end = (sum(map(len, line.along.values())) * number // count for number in (part, part + 1))
     for track, stations in line.along.items():
         inner = [place_of(stations[at]) // PAGE * PAGE if 0 < at < len(stations) else None for at in (begin, end)]

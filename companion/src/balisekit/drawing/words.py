@@ -11,7 +11,7 @@ from balisekit.tables.names import listed
 Describe = Callable[[int], str]
 """A place of a way in words."""
 NAMED = 3
-"""So many authorities, levels or restrictions of a way are named in a sentence."""
+"""How many authorities, levels or restrictions of a way a sentence names."""
 LIMIT = "no supervised location"
 CATEGORIES = ("freight P", "freight G", "passenger")
 """By NC_DIFF, in short."""

@@ -18,7 +18,7 @@ GREATEST_LINE = 4 * 1024 * 1024
 GREATEST_ERRORS = 64 * 1024
 """How many bytes of standard error are read."""
 PAUSE = 1.0
-"""balisekit waits for so many seconds at a time. A process that has ended may leave its output open for as long."""
+"""How many seconds balisekit waits at a time. A process that has ended may leave its output open for as long."""
 DEFAULT_SIGNALS = (signal.SIGPIPE, signal.SIGXFSZ)
 """Signals that Python ignores, and its children must not."""
 

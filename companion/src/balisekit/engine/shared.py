@@ -14,7 +14,7 @@ from balisekit.engine.records import FROM_TRACK, FROM_TRAIN, Form
 RAW = "q_dir l_packet body"
 """The keys of a packet that the program keeps as bits, beside its number."""
 KEPT = 1 << 12
-"""So many packets are kept with their objects."""
+"""How many packets are kept with their objects."""
 
 
 def _first_keys() -> Iterator[str]:

@@ -14,7 +14,7 @@ from balisekit.etcs.geometry import Kilometres, kilometre_of
 FIRST, MOST = 0xF0000, 0x8000
 """The letter of the first hole, and how many there are. The letters behind them are for other words of a group."""
 ASKED = 1 << 16
-"""So many keys are remembered that were asked for."""
+"""How many keys that were asked for are remembered."""
 HOLE, OF_PLACE = (re.compile(f"([\U000f0000-{last}])\\1*") for last in ("\U000ffffd", "\U000f7fff"))
 Made = TypeVar("Made")
 

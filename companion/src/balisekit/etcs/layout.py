@@ -161,7 +161,7 @@ def message_fields(bits: str) -> List[Field]:
 
 
 def bits_of(digits: str, count: Optional[int] = None) -> str:
-    """The first bits that hexadecimal digits spell: all, or so many."""
+    """The bits of hexadecimal digits: all of them, or the first `count`."""
     return "".join(f"{int(digit, 16):04b}" for digit in digits)[:count]
 
 

@@ -83,7 +83,7 @@ class Many(NamedTuple):
 
 @dataclass(frozen=True)
 class Rest:
-    """All that is left of the body, or a text of so many characters."""
+    """The rest of the body, or a text whose characters a variable counts."""
 
     name: str
     key: str

@@ -1,20 +1,60 @@
-"""Files that are read once, with their checksum."""
+"""Files that are read once, with their checksum. No output replaces one of them."""
 from __future__ import annotations
 
 import hashlib
 import os
 import stat
-from typing import NamedTuple
+import sys
+from contextlib import contextmanager, suppress
+from typing import Dict, Iterable, Iterator, NamedTuple, Optional, Tuple, Union
 
-from balisekit.errors import TableError, faults_of
+from balisekit.errors import KitError, TableError, faults_of
 
 
 class InputPath(str):
-    """The name of a file that is read, which no output may replace."""
+    """An option that names a file to read."""
+
+
+class ReplacedInput(KitError):
+    """An output would replace an input."""
+
+    status = 2
 
 
 GREATEST = 2_000_000_000
-"""So many bytes a file that is read may have."""
+"""The most bytes that a file to read can have."""
+_outputs: Dict[Optional[Tuple[int, int]], str] = {}
+"""The names of outputs by the identity of the file that each would replace."""
+
+
+def _identity(file: Union[str, int]) -> Optional[Tuple[int, int]]:
+    """The device and inode of a file that exists, by its path or descriptor. A device or pipe has none."""
+    try:
+        found = os.stat(file)
+    except (OSError, ValueError):  # ValueError for a NUL in the path
+        return None
+    return (found.st_dev, found.st_ino) if stat.S_ISREG(found.st_mode) else None
+
+
+@contextmanager
+def guarded(outputs: Iterable[str]) -> Iterator[None]:
+    """Within this, neither these outputs nor standard output replace an input."""
+    _outputs.update((_identity(path), path) for path in outputs)
+    with suppress(OSError, ValueError):  # (a caller in Python may have another stream)
+        _outputs[_identity(sys.stdout.fileno())] = "standard output"
+    _outputs.pop(None, None)
+    try:
+        yield
+    finally:
+        _outputs.clear()
+
+
+def claimed(path: str) -> str:
+    """The path of an input, whether it is read or not. ReplacedInput is raised if an output would replace the file."""
+    output = _outputs.get(_identity(path))
+    if output:
+        raise ReplacedInput(f"{output}: it is an input: an output never replaces one")
+    return path
 
 
 class Input(NamedTuple):
@@ -33,7 +73,7 @@ def read(path: str) -> Input:
     """The file of this path. A folder, a device, a pipe and a file that is being written are refused."""
     with faults_of(path):
         try:
-            before = os.stat(path)
+            before = os.stat(claimed(path))
             if not stat.S_ISREG(before.st_mode):
                 raise TableError(f"it is a {'folder' if stat.S_ISDIR(before.st_mode) else 'device or pipe, no file'}")
             if before.st_size > GREATEST:

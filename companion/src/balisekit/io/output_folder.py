@@ -3,10 +3,10 @@ from __future__ import annotations
 
 import os
 import shutil
-from typing import Iterable, List, Sequence
+from typing import Iterable, List
 
 from balisekit.errors import NoAnswer, TableError
-from balisekit.io.outputs import INPUT, NO_FILE, encoded, is_one_of
+from balisekit.io.outputs import NO_FILE, encoded
 
 NEW = "name a folder that is new or empty"
 
@@ -31,14 +31,14 @@ class OutputFolder:
     def __str__(self) -> str:
         return self.path
 
-    def check(self, inputs: Sequence[str], force: bool) -> None:
+    def check(self, force: bool) -> None:
         """Raises TableError if there is a file, also with `force`, and NoAnswer if nothing can be written there."""
         try:
-            self._check(inputs)
+            self._check()
         except (OSError, ValueError) as error:  # ValueError for a NUL in the path
             raise NoAnswer(f"{self.path}: {getattr(error, 'strerror', None) or error}") from error
 
-    def _check(self, inputs: Sequence[str]) -> None:
+    def _check(self) -> None:
         if self.path == "-":
             raise TableError(f"several pictures cannot go to standard output: {NEW}")
         folder = self.target
@@ -48,7 +48,7 @@ class OutputFolder:
         elif os.path.islink(folder):
             raise NoAnswer(f"{self.path}: {NO_FILE}")
         elif os.path.exists(folder):
-            raise TableError(f"{self.path}: {INPUT if is_one_of(os.stat(folder), inputs) else f'it is a file: {NEW}'}")
+            raise TableError(f"{self.path}: it is a file: {NEW}")
         else:
             folder = os.path.dirname(folder)
             if not os.path.isdir(folder):

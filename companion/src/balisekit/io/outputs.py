@@ -8,35 +8,19 @@ import stat
 import sys
 from contextlib import contextmanager
 from tempfile import SpooledTemporaryFile
-from typing import Iterable, Iterator, List, Mapping, Optional, Protocol, Sequence, Union
+from typing import TYPE_CHECKING, Iterable, Iterator, List, Mapping, Sequence, Union
 
 from balisekit.errors import NoAnswer, TableError
 from balisekit.io.interrupts import held
 
-INPUT = "it is an input: an output never replaces one"
+if TYPE_CHECKING:
+    from balisekit.io.output_folder import OutputFolder
+
 IN_MEMORY = 1 << 24
 """The bytes for standard output that are kept in memory until they are complete. More of them are in a file."""
+Placed = Union["Output", "OutputFolder"]
+"""What an option names as an output."""
 NO_FILE = "no file can be written there: it is a folder, a device, a pipe or a loop of links"
-
-
-class Placed(Protocol):
-    """A file or folder that an option names."""
-
-    path: str
-    target: str
-
-    @property
-    def is_standard_output(self) -> bool:
-        """Whether the option has `-`."""
-
-    def check(self, inputs: Sequence[str], force: bool) -> None:
-        """Raises TableError or NoAnswer if it must not or cannot be written."""
-
-    def place(self, force: bool) -> None:
-        """Moves what was written to its path."""
-
-    def discard(self) -> None:
-        """Removes what was written."""
 
 
 class Output:
@@ -58,8 +42,8 @@ class Output:
         """Whether the option has `-`."""
         return self.path == "-"
 
-    def check(self, inputs: Sequence[str], force: bool) -> None:
-        """Raises TableError if the file is an input or exists, and NoAnswer if it cannot be written."""
+    def check(self, force: bool) -> None:
+        """Raises TableError if the file exists and must not be replaced, and NoAnswer if it cannot be written."""
         if self.is_standard_output:
             return
         try:
@@ -70,8 +54,6 @@ class Output:
             self._check_folder()
         elif existing is None or not stat.S_ISREG(existing.st_mode):
             raise NoAnswer(f"{self.path}: {NO_FILE}")
-        elif is_one_of(existing, inputs):
-            raise TableError(f"{self.path}: {INPUT}")
         elif self.always_new:
             raise TableError(f"{self.path}: it exists already: name a new file, so that no entry is lost")
         elif not force:
@@ -158,22 +140,11 @@ def encoded(pieces: Iterable[Union[str, bytes]]) -> Iterator[bytes]:
     return (piece if isinstance(piece, bytes) else piece.encode("utf-8", "backslashreplace") for piece in pieces)
 
 
-def is_one_of(existing: os.stat_result, inputs: Sequence[str]) -> bool:
-    """Whether a file is one of these."""
-    return any(os.path.samestat(existing, os.stat(path)) for path in inputs if os.path.exists(path))
-
-
-def check_outputs(outputs: Sequence[Placed], inputs: Sequence[str], force: bool) -> None:
-    """Raises TableError or NoAnswer before anything is read if one of these files must not or cannot be written."""
-    try:
-        standard_output: Optional[os.stat_result] = os.fstat(sys.stdout.fileno())
-    except (OSError, ValueError):  # a caller in Python may have another stream
-        standard_output = None
-    if standard_output and stat.S_ISREG(standard_output.st_mode) and is_one_of(standard_output, inputs):
-        raise TableError(f"standard output: {INPUT}")
+def check_outputs(outputs: Sequence[Placed], force: bool) -> None:
+    """Raises TableError or NoAnswer before the program runs if one of these files must not or cannot be written."""
     targets: List[str] = []
     for output in outputs:
-        output.check(inputs, force)
+        output.check(force)
         target = output.path if output.is_standard_output else output.target
         if target in targets:
             raise TableError(f"{output}{'' if output.is_standard_output else ': it'} is named twice")

@@ -1,11 +1,11 @@
-"""Work that several processes share. What they make comes in the order in which one process would make it."""
+"""Work that several processes share. Its results come in the order in which one process would make them."""
 from __future__ import annotations
 
 import os
 import pickle
 import signal
 import threading
-from contextlib import contextmanager
+from contextlib import contextmanager, suppress
 from functools import partial
 from itertools import chain, repeat
 from tempfile import TemporaryFile
@@ -15,16 +15,18 @@ from balisekit.errors import NoAnswer
 from balisekit.io.interrupts import held
 
 LEAST, MOST = 2500, 4
-"""So many items are shared at least, and by so many processes at most, each of which needs memory."""
+"""The fewest items that are shared, and the most processes that share them: each process needs memory."""
 DONE = b"."
+PR_SET_PDEATHSIG = 1
+"""The option of prctl that sets which signal a process gets when its parent ends."""
 Work = Callable[[int, int], Iterable[Any]]
-"""It makes a part: the number of the part, and how many there are."""
+"""Makes one part of the results, by the number of the part and the number of parts."""
 
 
 def copies(items: int, most: int = MOST) -> int:
-    """How many copies of this process share so many items; none of few items, and none if it is the only processor's.
+    """How many copies of this process share this number of items. 0: the process makes them itself.
 
-    A copy lacks other threads, but not their locks.
+    That is so for few items, on one processor, and while other threads run: a copy would have their locks without them.
     """
     processors = len(os.sched_getaffinity(0))
     return min(most, processors) if items >= LEAST and processors > 1 and threading.active_count() == 1 else 0
@@ -32,9 +34,9 @@ def copies(items: int, most: int = MOST) -> int:
 
 @contextmanager
 def shared(works: Sequence[Work], count: int) -> Iterator[Sequence[Iterator[Any]]]:
-    """What each work makes, by so many copies of this process. They begin at once, and end with the block.
+    """The results of each work, made by this number of copies of the process. They start now and end with the block.
 
-    Without copies it is made here, when it is asked for.
+    Without copies this process makes each result when it is read.
     """
     if not count:
         yield [iter(work(0, 1)) for work in works]
@@ -50,10 +52,18 @@ def shared(works: Sequence[Work], count: int) -> Iterator[Sequence[Iterator[Any]
             worker.end()
 
 
-class Worker:
-    """A copy of this process that makes a part of each work. Interrupts do not reach it: who started it ends it.
+def end_with_parent() -> None:
+    """Lets the kernel kill this process when its parent has ended: SIGKILL leaves the parent no time to do so."""
+    with suppress(Exception):  # (a Python can lack ctypes, or a system forbid it)
+        import ctypes
 
-    What it makes of each work is in a file, so that it never waits for its reader.
+        ctypes.CDLL(None).prctl(PR_SET_PDEATHSIG, signal.SIGKILL)
+
+
+class Worker:
+    """A copy of this process that makes a part of each work. SIGINT, SIGTERM and SIGHUP are blocked in it.
+
+    It writes the results of each work into a file, so it never waits for a reader.
     """
 
     def __init__(self, works: Sequence[Work], part: int, count: int) -> None:
@@ -69,9 +79,10 @@ class Worker:
         os.close(pipe)
 
     def _make(self, works: Sequence[Work], part: int, count: int, pipe: int) -> None:
-        """All that the copy does. Nothing that it has of the other process is written or removed."""
+        """All that the copy does. It ends without flushing or removing files of the process that started it."""
         status = 1
         try:
+            end_with_parent()
             os.close(self._pipe)
             for work, file in zip(works, self._files):
                 for each in chain(work(part, count), (None,)):
@@ -87,7 +98,7 @@ class Worker:
             os._exit(status)
 
     def made(self, number: int) -> Iterator[Any]:
-        """What it has made of the work of this number, once that is complete."""
+        """The results of the work of this number, once they are complete."""
         while self._done <= number:
             self._wait()
             self._done += 1
@@ -96,7 +107,7 @@ class Worker:
             yield from iter(partial(pickle.load, file), None)
 
     def _wait(self) -> None:
-        """Waits until the next work is complete. What has gone wrong in the copy is raised here."""
+        """Waits until the next work is complete. An error of the copy is raised here."""
         said = os.read(self._pipe, 1)
         if said == DONE:
             return
@@ -110,7 +121,7 @@ class Worker:
         raise NoAnswer(f"a process that shares the work has ended too early, by {how}: memory may have run out")
 
     def end(self) -> None:
-        """Ends it, whatever it does."""
+        """Kills the copy if it still runs, and closes its files."""
         os.close(self._pipe)
         if self._pid:
             os.kill(self._pid, signal.SIGKILL)

@@ -18,7 +18,7 @@ from balisekit.tables.names import clean
 LINKS = "L"
 NO_KILOMETRES = "no kilometres: rules over the line are not applied"
 SHOWN = 20
-"""So many items that no entry can name are listed, and the others are counted."""
+"""How many items that no entry can name are listed. The others are counted."""
 
 
 def lines(outcome: Outcome, explained: bool = False, proposed: bool = False) -> Iterator[str]:

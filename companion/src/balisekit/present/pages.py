@@ -14,7 +14,7 @@ from balisekit.io.optional_packages import needed
 from balisekit.tables.names import clean
 
 PIECES = 100
-"""So many pieces of a page become one."""
+"""How many pieces of a page are joined to one."""
 TEMPLATES = Path(__file__).with_name("templates")
 
 

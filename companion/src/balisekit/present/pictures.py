@@ -21,10 +21,10 @@ from balisekit.rules.links import Links
 from balisekit.tables.names import clean, describe_message, listed, quoted
 
 GREATEST_NAME = 50
-"""So many characters of a file's name are taken from the table."""
+"""The most characters of a file's name that are taken from the table."""
 MARK_ALONE = "only a mark"
 NAMED = 5
-"""So many groups, rows or lines are named, of those that a track does not have."""
+"""How many groups, rows or lines are named, of those that a track does not have."""
 
 
 def picture_page(picture: Picture) -> Iterator[str]:

@@ -13,7 +13,7 @@ from balisekit.rules.families import Outcome, Part
 from balisekit.tables.names import clean, rows_words
 
 LINKED = 8
-"""So many rows of an entry have a link."""
+"""How many rows of an entry have a link."""
 
 
 class Link(NamedTuple):

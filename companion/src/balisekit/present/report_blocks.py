@@ -90,7 +90,7 @@ KEPT: Kept[Body] = Kept(1 << 7)
 IDENTITY = re.compile('"nid_(?:c|bg)":(?!16383)[0-9]+')
 """A part of an identity in a record. The NID_BG that says that an identity is not known has words of its own."""
 OF_GROUP, OF_ROW = 2, 3
-"""So many own words a group has, and each row of it: its number, its heading and its digits."""
+"""How many words of their own a group and each of its rows have. Those of a row: its number, heading and digits."""
 
 
 class Content(NamedTuple):
@@ -140,7 +140,7 @@ def picture_id(block: str) -> str:
 
 
 def blocks(checked: Checked, line: Line, found: Iterable[Listed], full: bool, part: int, count: int) -> Iterator[Block]:
-    """The blocks of one of so many equal parts of the groups, in the table's order. The last part has the messages.
+    """The blocks of one of `count` equal parts of the groups, in the table's order. The last part has the messages.
 
     A full one has nothing folded.
     """

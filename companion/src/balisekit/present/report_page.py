@@ -26,7 +26,7 @@ from balisekit.tables.names import clean
 from balisekit.tables.own_headings import ReportHeading
 
 IN_MEMORY, PIECE = 1 << 20, 1 << 14
-"""So many characters of the groups are kept in memory, and are copied at once."""
+"""The most characters of the groups that are kept in memory, and those that are copied at a time."""
 STYLES = ("palette.css", "page.css", "report.css", "picture.css", "track.css")
 DISTANCE = "one whose distance differs from the kilometres (L2, a rule of balisekit)"
 

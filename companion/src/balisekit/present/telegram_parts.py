@@ -15,7 +15,7 @@ LABELS = re.compile(f"^(.{{{LABEL_WIDTH - 1}}}) ", re.M)
 LINES, VALUES, NOTE = re.compile("\n(?!\t)"), re.compile("  |\n\t"), re.compile("(?:  |\n\t)(?== )")
 """What is between the lines of a packet, between the values of a line, which may be broken, and before its note."""
 OTHER = 2
-"""So many values of a header may be others, if only these are said."""
+"""The most values of a header that can differ, if only these are shown."""
 
 
 class Said:

@@ -7,7 +7,7 @@ from balisekit.tables.model import Group, Table
 from balisekit.tables.names import clean
 
 NAMED = 3
-"""So many groups with one number of aspects are named."""
+"""How many groups with one number of aspects are named."""
 
 
 def aspects_found(table: Table) -> str:

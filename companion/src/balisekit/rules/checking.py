@@ -23,7 +23,7 @@ from balisekit.tables.grouping import by_position
 from balisekit.tables.model import Aspect, Group, Message, Messages, Row, Table
 
 GREATEST_REFUSED = 10_000
-"""After so many refused telegrams the others are not tried."""
+"""After this many refused telegrams the others are not tried."""
 ALL_HELP = f"continue after {GREATEST_REFUSED:,} refused telegrams or messages"
 ENCODE = json.JSONEncoder().encode
 BODY = re.compile('"body":"[^"]*","l_packet":[0-9]+,"nid_packet":([0-9]+)')

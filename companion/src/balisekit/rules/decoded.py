@@ -47,9 +47,9 @@ RECORD = re.compile(
 )
 """The record of a telegram: the keys of its header, and NID_C with the packets as one text."""
 AT_ONCE = 500
-"""So many telegrams are decoded together: their keys then share their memory."""
+"""How many telegrams are decoded together: their keys then share memory."""
 KEPT = 1 << 12
-"""So many texts of packets are kept with their objects: many telegrams have the same packets."""
+"""How many texts of packets are kept with their objects: many telegrams have the same packets."""
 
 
 FIELDS_OF: Callable[[Form], Optional[Form]] = fields_of

@@ -24,7 +24,7 @@ from balisekit.rules.rule import Options, Remark, Result, Rule
 from balisekit.rules.statements.scene import BaliseName
 
 IN_FULL = 1
-"""So many copies of this process apply the rules that compare all that telegrams say: that takes much memory."""
+"""How many copies of this process compare the contents of all telegrams: each needs much memory."""
 PROVED, PLAN = "F", "X"
 """The family of the program, and the one that needs a track plan."""
 

@@ -34,7 +34,7 @@ WITHOUT_DIRECTION = (44, 145, 254)
 SAYS_NOTHING = (145, 254, 255)
 """Packets by which a group says nothing of the track."""
 KEPT = 1 << 12
-"""So many of these texts are kept with what they say."""
+"""How many of these texts are kept with what they say."""
 
 
 @dataclass

@@ -8,7 +8,7 @@ COLUMNS = ("group", "telegram", "name", "km", "track", "aspect", "balise", "nomi
 """The headings that are known."""
 NEEDED = COLUMNS[:2]
 GREATEST_NAME = 1000
-"""So many characters a cell may have that is no telegram, and are shown of a heading."""
+"""The most characters of a cell that is no telegram, and how many of a heading are shown."""
 BLANKS = " \t\u00a0\u2000-\u200b\u202f\u3000"
 QUOTES = "\"'\u2018\u2019\u201c\u201d\u201e\u00ab\u00bb"
 DIGITS = re.compile("[0-9A-Fa-f]+")

@@ -17,7 +17,7 @@ OTHER_ENDS = "\v\f\x1c\x1d\x1e\x85\u2028\u2029"
 GREATEST_CELL = 100_000
 """In characters."""
 HEAD = 1 << 20
-"""So many characters of a file that is read row by row are looked at for its separator."""
+"""How many characters of a file that is read row by row are searched for its separator."""
 
 
 def read(content: bytes, headings: Headings = Headings()) -> Sheet:

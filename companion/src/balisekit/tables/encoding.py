@@ -12,7 +12,7 @@ WORKBOOKS = (*ZIPS, OLD_WORKBOOK)
 """A zip, which a workbook is, and what an .xls or a workbook with a password begins with."""
 PIECE = 1 << 20
 ZEROS_WITHIN = 100
-"""UTF-16 without a mark is known by the zeros among so many bytes."""
+"""How many bytes are searched for the zeros that show UTF-16 without a mark."""
 
 
 def text_of(content: bytes) -> Tuple[str, str]:

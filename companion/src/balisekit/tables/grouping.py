@@ -283,7 +283,7 @@ def _lacking(name: str, aspects: List[Aspect]) -> List[TableError]:
 
 
 def _described(aspects: Iterable[Aspect], count: int) -> str:
-    """So many aspects with their rows, of which the first are named."""
+    """A number of aspects in words: the first ones are named with their rows."""
     names = [f'"{aspect.name}" ({_rows(sorted(aspect.rows))})' for aspect in islice(aspects, NAMED)]
     return f"aspect{'s' if count > 1 else ''} {listed(names, NAMED, count)}"
 

@@ -9,7 +9,7 @@ from balisekit.errors import TableError
 from balisekit.tables.cells import COLUMNS, GREATEST_NAME, NEEDED, digits, kind_and_text
 
 SEARCHED = 20
-"""So many rows are looked at for the headings: a title and a few lines of a form may be above them."""
+"""How many rows are searched for the headings: a title and a few lines of a form may be above them."""
 ALIKE = 0.75
 """How much of a heading has to be as in a known one to be taken for it."""
 TELEGRAM = re.compile("[0-9A-Fa-f]{20,}")

@@ -9,7 +9,7 @@ from unicodedata import category
 from balisekit.tables.model import Group, Message, Row, Table
 
 NAMED = 20
-"""So many columns that are passed over, rows or aspects of one kind are named."""
+"""The most columns that are passed over, rows or aspects of one kind that are named."""
 ORDINALS = ("first", "second", "third", "fourth", "fifth", "sixth", "seventh", "eighth", "ninth", "tenth")
 BLANK = re.compile("[\u034f\u115f\u1160\u17b4\u17b5\u180b-\u180f\u2800\u3164\ufe00-\ufe0f\uffa0\U000e0100-\U000e01ef]")
 """Letters and marks that show nothing."""

@@ -34,6 +34,8 @@ STATED = {
     REPORT_TABLE: ReportHeading._fields,
 }
 """The tables by which a project states something, and the keys of each."""
+FILES = {"jumps", "plan"}
+"""The keys of [check] whose values are paths, seen from the folder of the file."""
 
 
 def of_table(path: str, named: Optional[str]) -> Headings:
@@ -65,7 +67,7 @@ def beside(path: str) -> str:
     return file if os.path.isfile(file) else ""
 
 
-def _read(path: str) -> Dict[str, Mapping[str, Any]]:
+def _read(path: str) -> Dict[str, Dict[str, Any]]:
     """The tables of a file. Lines at the top are those of [columns]."""
     with faults_of(path):
         form = _parsed(inputs.read(path).content)
@@ -77,7 +79,15 @@ def _read(path: str) -> Dict[str, Mapping[str, Any]]:
             _look_at(name, tables[name])
         for name, keys in STATED.items():
             _look_at_stated(name, tables[name], keys)
+        check = tables[CHECK_TABLE]
+        for name in check.keys() & FILES:
+            check[name] = inputs.claimed(os.path.join(os.path.dirname(path), words(check[name])))
     return tables
+
+
+def words(value: object) -> str:
+    """A value of [check] as an option has it."""
+    return ",".join(map(str, value)) if isinstance(value, list) else str(value)
 
 
 def _parsed(content: bytes) -> Dict[str, Any]:

@@ -11,7 +11,7 @@ Terms = Mapping[str, Optional[int]]
 """What an aspect gives, by the keys of ASPECT_KEYS. None is `none`."""
 Value = Union[int, str, Terms, None]
 STEP = 5
-"""Speeds are sent in steps of so many km/h."""
+"""Speeds are sent in steps of 5 km/h."""
 GREATEST_SPEED = 600
 GREATEST_GRADIENT = 254
 """G_A 255 is the end mark."""

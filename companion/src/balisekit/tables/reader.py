@@ -21,7 +21,7 @@ KM = re.compile(r"(?!-[0-9]+\+)(-?[0-9]{1,4})(?:[.,]([0-9]{1,6})|\+([0-9]{3})(?:
 SCIENTIFIC = re.compile(r"[0-9]+[.,][0-9]+[eE]\+?[0-9]+|[0-9][eE]\+[0-9]+")
 BY_POSITION = "--by-position orders balises by N_PIG, which hides a wrong N_PIG"
 COMPARED = 1000
-"""So many headings that are passed over are compared with the known ones."""
+"""How many headings that are passed over are compared with the known ones."""
 ABSENT = -1
 """The place of a column that the table has not: each row that is read ends with an empty cell."""
 NO_GROUP = "no group; fill merged cells"

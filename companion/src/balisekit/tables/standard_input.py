@@ -7,6 +7,7 @@ import sys
 from typing import Iterator, List, Tuple, cast
 
 from balisekit.errors import TableError
+from balisekit.io.inputs import claimed
 from balisekit.tables.cells import digits
 
 CHUNK = 1 << 20
@@ -19,6 +20,7 @@ def batches() -> Iterator[List[Tuple[int, str]]]:
     """The lines with something in them after their numbers, as many at a time as there are."""
     if sys.stdin is None:
         raise TableError("standard input is closed: name a TABLE, or --messages")
+    claimed("/dev/stdin")
     number, empty = 0, True
     for lines in _pieces(cast(io.BufferedReader, sys.stdin.buffer)):
         batch = []

@@ -22,13 +22,13 @@ from balisekit.tables.merged import fill_heads
 CONTENTS = "[Content_Types].xml"
 """A part that each workbook has."""
 GREATEST, GREATEST_PART = 200_000_000, 100_000_000
-"""So many bytes a workbook, and a part of it, may have when it is unpacked. 100,000 rows have up to 55,000,000."""
+"""The most bytes of an unpacked workbook, and of one part of it. 100,000 rows have up to 55,000,000."""
 GREATEST_RATIO, SMALL_PART = 100, 1_000_000
-"""So many times its packed size a part may have, unless it is small."""
+"""The greatest ratio of a part's unpacked size to its packed size, unless the part is small."""
 GREATEST_ROW, GREATEST_CELLS, GREATEST_STRINGS = 1_048_576, 16_384, 1_048_576
-"""The last row of a sheet, so many cells in a row, and so many strings: no spreadsheet writes more."""
+"""The most rows of a sheet, cells of a row and strings that a spreadsheet writes."""
 GREATEST_COLUMNS = 200
-"""So many columns the sheet may have that is read."""
+"""The most columns of a sheet that is read."""
 SHORT_WAY_OUT = "save the table as CSV, or in a workbook of its own"
 
 NAMESPACE = "{http://schemas.openxmlformats.org/spreadsheetml/2006/main}"
@@ -36,7 +36,7 @@ REFERENCE = rb"""[^<]*?\s%b\s*=\s*["']([^"']*)"""
 NO_VALUE = rb"[^<]*(?:</[^<]*)?(?:<[^\s<>/]*v\s*/>\s*|<[^\s<>/]*v\s*>\s*</[^<]*)?</[^<]*c\s*>"
 """What follows a formula whose value is not stored, up to the end of its cell."""
 PLACES = 6
-"""A number is rounded to so many places, as many as a kilometre may have: sums have wrong ones further on."""
+"""Numbers are rounded to as many decimal places as a kilometre can have: later digits of sums are wrong."""
 FORMULAS = "formulas without a stored value, read as empty: {count}, the first {first}"
 MERGED = (
     "merged ranges, of which only the first cell is not empty: {count}, the first {first}; --fill-merged takes its "

@@ -22,7 +22,7 @@ from balisekit.tables.names import clean, describe_group
 RULES = (L1, L2, L3, L4, L5, L6, L7, L8, L9)
 __all__ = ["L2", "RULES", "Links", "compare", "notes_on"]
 SHOWN = 20
-"""So many notes with one reason are written, and the others are counted."""
+"""How many notes with one reason are written. The others are counted."""
 INFILL = "its distances count from the group of packet 136, and are not compared"
 Note = Tuple[str, str]
 """What it is about, and the reason."""

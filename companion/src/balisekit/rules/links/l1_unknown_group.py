@@ -95,7 +95,7 @@ def _may_be_refused(line: Line, base: Optional[BaliseGroup], at: Optional[int], 
 
 
 def _there(line: Line, track: str, place: int, within: Decimal, other: Optional[BaliseGroup]) -> str:
-    """Which group of the table is where D_LINK says that the linked one is, if it is within so many metres."""
+    """The group of the table that is at the place of the linked group by D_LINK, or within `within` metres of it."""
     near, group = line.nearest(track, place)
     if group is other or group.identity is None or abs(near - place) > within * 10:
         return ""

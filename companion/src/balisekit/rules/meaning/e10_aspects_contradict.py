@@ -42,7 +42,7 @@ from balisekit.rules.rule import Options, Remark, Result, Rule, Urgency
 from balisekit.tables.names import listed, quoted, rows_words
 
 STEEPER = 5
-"""By so many per mille gradients may differ."""
+"""By how many per mille gradients may differ."""
 NAMED = 5
 
 

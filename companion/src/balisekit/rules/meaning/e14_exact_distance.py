@@ -40,7 +40,7 @@ from balisekit.rules.meaning.words import balises_of
 from balisekit.rules.rule import Options, Remark, Result, Rule, Urgency
 
 LEAST, SHARE = 5, 5
-"""So many links of a track, and more than one of so many, are counted in one note."""
+"""One note counts the links of a track if they are at least LEAST, and more than one in SHARE of all its links."""
 
 
 def find(line: Line, options: Options) -> Result:

@@ -42,7 +42,7 @@ from balisekit.tables.names import listed, quoted
 
 STOP_IN_SR, DANGER_FOR_SH = 137, 132
 STOPS, NAMED = 5, 5
-"""So many stop aspects of a table are compared at least."""
+"""The fewest stop aspects of a table that are compared, and how many aspects are named."""
 
 
 def find(line: Line, options: Options) -> Result:

@@ -92,7 +92,7 @@ def field_at(packet: Packet, distance: int) -> List[Field]:
 
 
 def tolerance(line: Line, options: Options, *parts: Tuple[Packet, int]) -> int:
-    """By how many decimetres sums of so many lengths of these packets may differ."""
+    """By how many decimetres sums of lengths of these packets may differ. Each packet has the number of its lengths."""
     allowed = (allowance(packet, lengths) for packet, lengths in parts)
     return line.decoded.tolerance(options.tolerance_of_places, *allowed)
 

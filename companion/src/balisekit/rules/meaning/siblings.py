@@ -14,7 +14,7 @@ from balisekit.rules.rule import Options
 AUTHORITY = 12
 NUMBERS = frozenset({LINKING, AUTHORITY, GRADIENTS, SPEEDS})
 SIBLINGS, LEAST = 3, 3
-"""So many aspects of a group are compared at least, and so many cases show an order."""
+"""The fewest aspects of a group that are compared, and the fewest cases that show an order."""
 Said = Dict[str, Tuple[FrozenSet[int], ...]]
 """By aspect: which of NUMBERS it has in each of the DIRECTIONS."""
 Linked = Tuple[Passage, Sequence[Packet]]
@@ -131,7 +131,7 @@ def cases_of(line: Line) -> List[List[Case]]:
 
 
 def is_usual(count: int, of_how_many: int) -> bool:
-    """Whether so many cases show what is meant in all of them."""
+    """Whether this number of cases shows what is meant in all cases."""
     return count >= LEAST and count * 5 >= of_how_many * 4
 
 

@@ -22,7 +22,7 @@ from balisekit.tables.model import Group
 from balisekit.tables.names import clean, listed, quoted
 
 FEW = 3
-"""So many groups with one other name are named."""
+"""The most groups with one other name that are named."""
 GREATEST_COUNT = 32
 """More aspects than a signal has."""
 Names = FrozenSet[str]

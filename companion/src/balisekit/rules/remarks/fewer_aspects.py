@@ -21,7 +21,7 @@ from balisekit.rules.rule import Options, Remark, Result, Rule
 from balisekit.tables.names import clean, quoted
 
 FEW = 3
-"""So many groups with the same few aspects are named."""
+"""The most groups with the same few aspects that are named."""
 
 
 def find(line: Line, options: Options) -> Result:

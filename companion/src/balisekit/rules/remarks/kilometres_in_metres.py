@@ -21,7 +21,7 @@ from balisekit.tables.model import Row
 LEAST = 100
 """A table in metres has a greater number."""
 APART = 50
-"""So many kilometres from each group to the next one are no line."""
+"""On no line are all groups this many kilometres from the next one."""
 
 
 def find(line: Line, options: Options) -> Result:
