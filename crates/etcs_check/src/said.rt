@@ -1,7 +1,7 @@
 //! What is said in a running direction: the greatest supervised location, and which profiles there are.
 
 ghost use Rattle.std.specs.Prelude.{◌≡◌, ◌<◌, if◌then◌else◌, length, filter, slice_get, Some};
-ghost use Rattle.etcs_packet.specs.Track.{holds};
+ghost use Rattle.etcs_profile.specs.Track.{holds};
 ghost use Rattle.etcs_telegram.specs.Record.{Telegram as SomeTelegram};
 ghost use Rattle.etcs_group.specs.Packets.{is_silent, said_at, said_by};
 ghost use Rattle.etcs_check.specs.Said.{both, by_one, greater, nothing, said_in};

@@ -1,9 +1,9 @@
 -- Packets whose layout is not known, made of the parts that were read.
 use Rattle.std.proofs.Common.{◌≡◌, ℕ, Bool, List, sym}
 use Rattle.etcs_bits.specs.declared.variables.direction.Dir.{Dir}
-use Rattle.etcs_packet.specs.FoundRaw.{raw_with}
-use Rattle.etcs_packet.specs.Raw.{raw_again}
-use Rattle.etcs_packet.specs.declared.raw.RawPacket.{RawPacket}
+use Rattle.etcs_profile.specs.FoundRaw.{raw_with}
+use Rattle.etcs_profile.specs.Raw.{raw_again}
+use Rattle.etcs_profile.specs.declared.raw.RawPacket.{RawPacket}
 use Rattle.etcs_radio.specs.FoundRaw.{raw_with as raw_train_with}
 use Rattle.etcs_radio.specs.RawTrain.{raw_again as raw_train_again}
 use Rattle.etcs_radio.specs.declared.raw_train.RawTrainPacket.{RawTrainPacket}

@@ -1,6 +1,6 @@
 //! The form of track packets whose layout is not known. Their bodies are kept as bits.
 
-ghost use Rattle.etcs_packet.specs.PacketNumbers.{nid_raw};
+ghost use Rattle.etcs_profile.specs.PacketNumbers.{nid_raw};
 ghost use Rattle.etcs_json.specs.Raw.{raw_packet};
 ghost use Rattle.etcs_schema.specs.Shape.{whole};
 ghost use Rattle.etcs_schema.specs.Variables.{is_allowed};
