@@ -16,7 +16,7 @@ use Rattle.etcs_check.specs.Soundness.{IsSoundGroup, IsSoundControlled, first_as
 use Rattle.etcs_check.specs.Findings.{has_counter, is_counter_taken, mark_differs}
 use Rattle.etcs_check.specs.Aspects.{all_at, is_steady, has_aspect_counter, is_ambiguous}
 use Rattle.etcs_check.specs.Violation.{GroupPart}
-use Rattle.etcs_packet.specs.declared.run.Run.{Run}
+use Rattle.etcs_profile.specs.declared.run.Run.{Run}
 use Rattle.etcs_check.specs.Laws.{SoundMixturesAreDecided}
 use Rattle.etcs_check.specs.declared.finding.Rule.{Rule}
 use Rattle.etcs_check.specs.declared.finding.Rule.TheVariants as rules

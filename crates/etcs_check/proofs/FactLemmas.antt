@@ -4,8 +4,8 @@ use Rattle.std.specs.Option.{option_map_or}
 use Rattle.std.proofs.lemmas.Bool.{both_ways, and_parts, and_from, or_cases, or_right, cases_lt, lt-ltb, le-ltb, ltb-true, ltb-false, not_from_false, not-true}
 use Rattle.std.proofs.lemmas.Option.{none-some, slice_get_within}
 use mathlib.Core.Logic.{◌⊎◌, inl, inr}
-use Rattle.etcs_packet.specs.declared.run.Run.{Run}
-use Rattle.etcs_packet.specs.declared.track.TrackPacket.{TrackPacket}
+use Rattle.etcs_profile.specs.declared.run.Run.{Run}
+use Rattle.etcs_profile.specs.declared.track.TrackPacket.{TrackPacket}
 use Rattle.etcs_profile.specs.declared.reach.Reach.{Reach}
 use Rattle.etcs_telegram.specs.Record.{Telegram}
 use Rattle.etcs_group.specs.Group.{Telegrams, Aspects}

@@ -5,12 +5,12 @@ use Rattle.std.proofs.lemmas.Option.{none-some, same_Some}
 use Rattle.std.proofs.lemmas.List.{reverse-reverse}
 use mathlib.Core.Logic.{◌⊎◌, inl, inr}
 use Rattle.etcs_group.specs.Places.{At}
-use Rattle.etcs_packet.specs.Track.{holds}
+use Rattle.etcs_profile.specs.Track.{holds}
 use Rattle.etcs_group.specs.Reading.{in_passing_order}
 use Rattle.etcs_group.specs.Packets.{held_packets, is_silent, balise_packets, group_message}
-use Rattle.etcs_packet.specs.declared.run.Run.{Run}
-use Rattle.etcs_packet.specs.declared.run.Run.TheVariants as runs
-use Rattle.etcs_packet.specs.declared.track.TrackPacket.{TrackPacket}
+use Rattle.etcs_profile.specs.declared.run.Run.{Run}
+use Rattle.etcs_profile.specs.declared.run.Run.TheVariants as runs
+use Rattle.etcs_profile.specs.declared.track.TrackPacket.{TrackPacket}
 use Rattle.etcs_telegram.specs.Record.{Telegram}
 use Rattle.etcs_group.proofs.PlaceLemmas.{At-reverse}
 use Rattle.etcs_check.specs.Findings.{all_rules, finding_of, for_each}

@@ -16,8 +16,8 @@ use Rattle.etcs_bits.specs.variables.VariableValues.{version_of}
 use Rattle.etcs_bits.specs.variables.VariableLemmas.{version_names}
 use Rattle.etcs_bits.specs.layout.Rows.{Row, row, width}
 use Rattle.etcs_bits.specs.layout.Fields.{Fields, nothing, field, ◌▹◌, sized, l_packet, AreRowsOf}
-use Rattle.etcs_packet.specs.Track.{track_packet}
-use Rattle.etcs_packet.specs.declared.track.TrackPacket.{TrackPacket}
+use Rattle.etcs_profile.specs.Track.{track_packet}
+use Rattle.etcs_profile.specs.declared.track.TrackPacket.{TrackPacket}
 use Rattle.etcs_telegram.specs.Record.{Telegram}
 use Rattle.etcs_telegram.specs.declared.header.Header.{Header}
 use Rattle.etcs_telegram.specs.declared.size.Size.{Size}

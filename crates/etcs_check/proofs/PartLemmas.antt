@@ -3,9 +3,9 @@ use Rattle.std.proofs.Common.{◌≡◌, ℕ, ◌+◌, Bool, true, false, List, 
 use Rattle.std.specs.List.{filter}
 use Rattle.std.proofs.lemmas.Option.{same_Some}
 use Rattle.std.proofs.lemmas.Bool.{both_ways, eqb-true, eq-eqb, eqb-false, ne_eqb, not-false, not_from_true, false_from_ne_true}
-use Rattle.etcs_packet.specs.Track.{holds}
-use Rattle.etcs_packet.specs.declared.run.Run.{Run}
-use Rattle.etcs_packet.specs.declared.track.TrackPacket.{TrackPacket}
+use Rattle.etcs_profile.specs.Track.{holds}
+use Rattle.etcs_profile.specs.declared.run.Run.{Run}
+use Rattle.etcs_profile.specs.declared.track.TrackPacket.{TrackPacket}
 use Rattle.etcs_profile.specs.declared.reach.Reach.{Reach}
 use Rattle.etcs_radio.specs.declared.message.Message.{Message}
 use Rattle.etcs_radio.specs.declared.message.Message.TheVariants as messages

@@ -4,17 +4,16 @@ use Rattle.std.specs.List.{list_any}
 use Rattle.std.specs.Option.{option_map_or}
 use Rattle.std.proofs.lemmas.Bool.{ltb-false, le-ltb, both_ways, cases_Bool, and_cases, and_left, and_right, not-false, not_from_true, false_from_ne_true}
 use mathlib.Core.Logic.{inl, inr}
-use Rattle.etcs_packet.specs.Track.{holds}
-use Rattle.etcs_packet.specs.declared.run.Run.{Run}
-use Rattle.etcs_packet.specs.declared.track.TrackPacket.{TrackPacket}
+use Rattle.etcs_profile.specs.Track.{holds, track_number}
+use Rattle.etcs_profile.specs.declared.run.Run.{Run}
+use Rattle.etcs_profile.specs.declared.track.TrackPacket.{TrackPacket}
 use Rattle.etcs_profile.specs.declared.reach.Reach.{Reach}
 use Rattle.etcs_profile.specs.declared.reach.Reach.TheVariants.{Ends, Open}
 use Rattle.etcs_telegram.specs.Record.{Telegram}
 use Rattle.etcs_group.specs.Places.{At}
 use Rattle.etcs_group.specs.Packets.{group_message}
 use Rattle.etcs_group.proofs.PlaceLemmas.{at_list_any, list_any-at, list_any-none}
-use Rattle.etcs_packet.specs.Track.{track_number}
-use Rattle.etcs_packet.specs.declared.track.TrackPacket.TheVariants as packets
+use Rattle.etcs_profile.specs.declared.track.TrackPacket.TheVariants as packets
 use Rattle.etcs_check.specs.Profiles.{gradient_reach, speed_reach, limit_of, Reaches, HasProfiles}
 use Rattle.etcs_check.specs.Violation.{HasProfile, IsLong, IsLongAt}
 use Rattle.etcs_check.specs.Findings.{lacks, lies_past, goes_past, is_short, is_said_and_short}

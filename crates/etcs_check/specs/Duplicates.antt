@@ -7,9 +7,9 @@ use Rattle.etcs_bits.specs.declared.variables.duplicate.Dup.{Dup}
 use Rattle.etcs_bits.specs.declared.variables.duplicate.Dup.TheVariants as dups
 use Rattle.etcs_bits.specs.declared.variables.identity.Identity.{Identity}
 use Rattle.etcs_bits.specs.variables.Variables.{version_number}
-use Rattle.etcs_packet.specs.Track.{track_packet}
-use Rattle.etcs_packet.specs.declared.run.Run.{Run}
-use Rattle.etcs_packet.specs.declared.track.TrackPacket.{TrackPacket}
+use Rattle.etcs_profile.specs.Track.{track_packet}
+use Rattle.etcs_profile.specs.declared.run.Run.{Run}
+use Rattle.etcs_profile.specs.declared.track.TrackPacket.{TrackPacket}
 use Rattle.etcs_telegram.specs.Record.{Telegram}
 use Rattle.etcs_telegram.specs.declared.header.Header.{Header}
 use Rattle.etcs_telegram.specs.declared.size.Size.{Size}

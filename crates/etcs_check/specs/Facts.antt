@@ -2,9 +2,9 @@
 -- project's rules, after SUBSET-026, 3.16.2). No definition here refers to what a train reads.
 use Rattle.std.specs.Prelude.{ℕ, ◌+◌, ◌&&◌, ◌||◌, nat_lt, Bool, false, not, List, [], length, slice_get, take, filter, Option, Some, None, IsTrue}
 use Rattle.std.specs.Option.{option_map_or}
-use Rattle.etcs_packet.specs.Track.{holds}
-use Rattle.etcs_packet.specs.declared.run.Run.{Run}
-use Rattle.etcs_packet.specs.declared.track.TrackPacket.{TrackPacket}
+use Rattle.etcs_profile.specs.Track.{holds}
+use Rattle.etcs_profile.specs.declared.run.Run.{Run}
+use Rattle.etcs_profile.specs.declared.track.TrackPacket.{TrackPacket}
 use Rattle.etcs_profile.specs.declared.reach.Reach.{Reach}
 use Rattle.etcs_radio.specs.declared.message.Message.{Message}
 use Rattle.etcs_radio.specs.declared.message.Message.TheVariants as messages

@@ -4,8 +4,8 @@ use Rattle.std.specs.Prelude.{◌≡◌, ℕ, suc, ◌<◌, ◌==◌, Bool, List
 use Rattle.std.specs.Cmp.Lexicographic.{slice_cmp}
 use Rattle.std.specs.Ordering.{nat_cmp}
 use Rattle.std.specs.declared.cmp.Ordering.TheVariants.{Less}
-use Rattle.etcs_packet.specs.declared.run.Run.{Run}
-use Rattle.etcs_packet.specs.declared.run.Run.TheVariants as runs
+use Rattle.etcs_profile.specs.declared.run.Run.{Run}
+use Rattle.etcs_profile.specs.declared.run.Run.TheVariants as runs
 use Rattle.etcs_radio.specs.declared.message.Message.{Message}
 use Rattle.etcs_group.specs.Places.{At}
 use Rattle.etcs_group.specs.Group.{Aspects}

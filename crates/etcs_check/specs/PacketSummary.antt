@@ -1,7 +1,7 @@
 -- A summary of packets: the greatest supervised location of the authorities, and which profiles there are.
 use Rattle.std.specs.Prelude.{ℕ, Bool, ◌||◌, false, max, List, [], ◌∷◌, Option, Some, None, is_some}
 use Rattle.std.specs.Option.{option_map_or}
-use Rattle.etcs_packet.specs.declared.track.TrackPacket.{TrackPacket}
+use Rattle.etcs_profile.specs.declared.track.TrackPacket.{TrackPacket}
 use Rattle.etcs_profile.specs.declared.reach.Reach.{Reach}
 use Rattle.etcs_check.specs.Findings.{lies_past}
 use Rattle.etcs_check.specs.Profiles.{limit_of, gradient_reach, speed_reach}

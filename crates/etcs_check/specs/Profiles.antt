@@ -1,14 +1,14 @@
 -- How far a train may run, and how far profiles describe the track (SUBSET-026, 3.8 and 7.4.2). Gradients and
 -- speeds must be known up to the supervised location of each movement authority.
 use Rattle.std.specs.Prelude.{◌≡◌, ℕ, ◌≤◌, ◌==◌, List, Option, Some, None, is_some, IsTrue, ⊤}
-use Rattle.etcs_packet.specs.declared.track.TrackPacket.{TrackPacket}
-use Rattle.etcs_packet.specs.declared.track.TrackPacket.TheVariants as packets
+use Rattle.etcs_profile.specs.declared.track.TrackPacket.{TrackPacket}
+use Rattle.etcs_profile.specs.declared.track.TrackPacket.TheVariants as packets
 use Rattle.etcs_profile.specs.Authority.{authority_limit}
 use Rattle.etcs_profile.specs.Elements.{elements_reach}
-use Rattle.etcs_profile.specs.declared.gradient.GradientElement.{GradientElement}
+use Rattle.etcs_profile.specs.declared.track.gradient.GradientElement.{GradientElement}
 use Rattle.etcs_profile.specs.declared.reach.Reach.{Reach}
 use Rattle.etcs_profile.specs.declared.reach.Reach.TheVariants.{Ends, Open}
-use Rattle.etcs_profile.specs.declared.speed.SpeedElement.{SpeedElement}
+use Rattle.etcs_profile.specs.declared.track.speed.SpeedElement.{SpeedElement}
 use Rattle.etcs_group.specs.Places.{At}
 
 -- the supervised location of a movement authority, in decimetres; no other packet has one

@@ -4,8 +4,8 @@
 use Rattle.std.specs.Prelude.{◌≡◌, ◌≢◌, ℕ, ◌<◌, Bool, List, [], ◌∷◌, length, Option, Some, None, filter, ⊤}
 use Rattle.std.specs.List.{AllPass}
 use Rattle.etcs_bits.specs.declared.variables.identity.Identity.{Identity}
-use Rattle.etcs_packet.specs.Track.{holds}
-use Rattle.etcs_packet.specs.declared.run.Run.{Run}
+use Rattle.etcs_profile.specs.Track.{holds}
+use Rattle.etcs_profile.specs.declared.run.Run.{Run}
 use Rattle.etcs_group.specs.Places.{At}
 use Rattle.etcs_group.specs.Group.{IsWellFormed, is_modelled, Telegrams, Aspects}
 use Rattle.etcs_group.specs.Missed.{IsSetOf, IsCovered, none_missed}

@@ -2,8 +2,8 @@
 
 ghost use Rattle.std.specs.Prelude.{◌≡◌, ◌↔◌, ◌≤◌, ◌<◌, ◌+◌, ℕ, length, drop, filter, slice_get, Some, IsFalse, IsTrue};
 ghost use Rattle.std.specs.Cmp.Lexicographic.{pointwise};
-ghost use Rattle.etcs_packet.specs.Track.{holds};
-ghost use Rattle.etcs_packet.specs.declared.track.TrackPacket.{TrackPacket};
+ghost use Rattle.etcs_profile.specs.Track.{holds};
+ghost use Rattle.etcs_profile.specs.declared.track.TrackPacket.{TrackPacket};
 ghost use Rattle.etcs_telegram.specs.Record.{Telegram as SomeTelegram};
 ghost use Rattle.etcs_group.specs.Packets.{held_packets};
 ghost use Rattle.etcs_check.specs.Duplicates.{same_header, same_held, same_packet, same_size, same_telegram};

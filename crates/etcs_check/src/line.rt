@@ -3,7 +3,7 @@
 ghost use Rattle.std.specs.Prelude.{◌≡◌, ◌≢◌, ◌↔◌, ◌<◌, ◌++◌, ◌&&◌, ◌||◌, ◌==◌, [], ℕ, Bool, true, false, length, Option, IfOk, OnOk, OnErr};
 ghost use Rattle.std.specs.BTreeSet.{contains};
 ghost use Rattle.std.specs.Ordering.{nat_cmp};
-ghost use Rattle.etcs_packet.specs.declared.run.Run.{Run};
+ghost use Rattle.etcs_profile.specs.declared.run.Run.{Run};
 ghost use Rattle.etcs_group.specs.Places.{At};
 ghost use Rattle.etcs_group.specs.Missed.{IsSetOf};
 ghost use Rattle.etcs_group.specs.Reading.{reading_of};

@@ -2,7 +2,7 @@
 //! profiles there are.
 
 ghost use Rattle.std.specs.Prelude.{◌≡◌, ◌<◌, if◌then◌else◌, length, filter, slice_get, Some};
-ghost use Rattle.etcs_packet.specs.Track.{holds};
+ghost use Rattle.etcs_profile.specs.Track.{holds};
 ghost use Rattle.etcs_telegram.specs.Record.{Telegram as SomeTelegram};
 ghost use Rattle.etcs_group.specs.Packets.{is_silent, balise_packets, group_message};
 ghost use Rattle.etcs_check.specs.PacketSummary.{both, by_one, greater, nothing, summary_of};

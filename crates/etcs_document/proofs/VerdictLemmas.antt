@@ -15,7 +15,7 @@ use Rattle.etcs_group.specs.Laws.{IsDecided}
 use Rattle.etcs_group.specs.Missed.{IsSetOf}
 use Rattle.etcs_group.specs.Places.{At}
 use Rattle.etcs_group.specs.Reading.{reading_of}
-use Rattle.etcs_packet.specs.declared.run.Run.{Run}
+use Rattle.etcs_profile.specs.declared.run.Run.{Run}
 use Rattle.etcs_radio.proofs.TextLemmas.{means_text, text_meaning}
 use Rattle.etcs_radio.specs.Text.{IsMessageText}
 use Rattle.etcs_radio.specs.TextMeaning.{message_of_text}

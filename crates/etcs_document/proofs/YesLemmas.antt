@@ -20,7 +20,7 @@ use Rattle.etcs_group.specs.Missed.{IsSetOf}
 use Rattle.etcs_group.specs.Mixture.{Fits}
 use Rattle.etcs_group.specs.Places.{At}
 use Rattle.etcs_group.specs.Reading.{reading_of}
-use Rattle.etcs_packet.specs.declared.run.Run.{Run}
+use Rattle.etcs_profile.specs.declared.run.Run.{Run}
 use Rattle.etcs_radio.specs.declared.message.Message.{Message}
 use Rattle.etcs_telegram.specs.Record.{Telegram}
 

@@ -19,8 +19,8 @@ use Rattle.etcs_group.specs.Mixture.{Fits}
 use Rattle.etcs_group.specs.Places.{At}
 use Rattle.etcs_group.specs.Reading.{reading_of}
 use Rattle.etcs_group.specs.Group.{Telegrams, Aspects}
-use Rattle.etcs_packet.specs.Track.{holds}
-use Rattle.etcs_packet.specs.declared.run.Run.{Run}
+use Rattle.etcs_profile.specs.Track.{holds}
+use Rattle.etcs_profile.specs.declared.run.Run.{Run}
 use Rattle.etcs_radio.specs.Text.{IsMessageText}
 use Rattle.etcs_radio.specs.declared.message.Message.{Message}
 use Rattle.etcs_radio.specs.declared.message.Message.TheVariants as messages

@@ -2,7 +2,7 @@
 
 ghost use Rattle.std.specs.Prelude.{◌≡◌, ◌≢◌, ◌↔◌, ℕ, Bool, false, [], Option, IfOk};
 ghost use Rattle.std.specs.Str.{is_utf8};
-ghost use Rattle.etcs_packet.specs.declared.run.Run.{Run};
+ghost use Rattle.etcs_profile.specs.declared.run.Run.{Run};
 ghost use Rattle.etcs_group.specs.Laws.{IsDecided, IsMixtureDecided};
 ghost use Rattle.etcs_group.specs.Missed.{IsSetOf};
 ghost use Rattle.etcs_group.specs.Mixture.{Fits};

@@ -4,8 +4,8 @@ use Rattle.std.specs.Bool.{⊤}
 use Rattle.std.proofs.lemmas.Option.{slice_get_within}
 use Rattle.std.proofs.lemmas.Bool.{or_from, or_left, or_right, lt-ltb, not_from_true, not_from_false, eq-eqb, ne_eqb, false_from_ne_true, both_ways, cases_Bool}
 use mathlib.Core.Logic.{◌⊎◌, inl, inr}
-use Rattle.etcs_packet.specs.declared.run.Run.{Run}
-use Rattle.etcs_packet.specs.declared.run.Run.TheVariants as runs
+use Rattle.etcs_profile.specs.declared.run.Run.{Run}
+use Rattle.etcs_profile.specs.declared.run.Run.TheVariants as runs
 use Rattle.etcs_telegram.specs.Record.{Telegram}
 use Rattle.etcs_group.specs.declared.refused.Refused.TheVariants as reasons
 use Rattle.etcs_group.specs.Places.{At, least, IsLeast}

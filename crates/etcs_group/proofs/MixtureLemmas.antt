@@ -7,8 +7,8 @@ use Rattle.std.proofs.lemmas.Bool.{both_ways, cases_eq, cases_lt, lt-ltb, le-ltb
 use Rattle.std.proofs.lemmas.List.{append_assoc, append-nil, reverse-reverse}
 use Rattle.std.proofs.lemmas.Nat.Bits.{bit_at_set_same, bit_at_set_other}
 use mathlib.Core.Logic.{inl, inr}
-use Rattle.etcs_packet.specs.declared.run.Run.{Run}
-use Rattle.etcs_packet.specs.declared.run.Run.TheVariants as runs
+use Rattle.etcs_profile.specs.declared.run.Run.{Run}
+use Rattle.etcs_profile.specs.declared.run.Run.TheVariants as runs
 use Rattle.etcs_telegram.specs.Record.{Telegram}
 use Rattle.etcs_group.specs.Places.{At, least}
 use Rattle.etcs_group.specs.Group.{named_by, partner_of, HasOneCounter}

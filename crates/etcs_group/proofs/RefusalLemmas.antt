@@ -10,8 +10,8 @@ use Rattle.etcs_bits.specs.declared.variables.identity.Identity.{Identity}
 use Rattle.etcs_bits.specs.declared.variables.version.Version.{Version}
 use Rattle.etcs_bits.specs.declared.variables.version.Version.TheVariants as versions
 use Rattle.etcs_bits.specs.variables.Variables.{version_number}
-use Rattle.etcs_packet.specs.declared.run.Run.{Run}
-use Rattle.etcs_packet.specs.declared.run.Run.TheVariants as runs
+use Rattle.etcs_profile.specs.declared.run.Run.{Run}
+use Rattle.etcs_profile.specs.declared.run.Run.TheVariants as runs
 use Rattle.etcs_telegram.specs.Record.{Telegram}
 use Rattle.etcs_group.specs.declared.refused.Refused.{Refused}
 use Rattle.etcs_group.specs.declared.refused.Refused.TheVariants as reasons

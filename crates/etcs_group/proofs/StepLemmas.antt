@@ -4,8 +4,8 @@ use Rattle.std.specs.List.{list_any, flat_map, enumerate_from}
 use Rattle.std.proofs.lemmas.Option.{none-some, same_Some, slice_get_within, get_or_from_slice_get}
 use Rattle.std.proofs.lemmas.List.{drop_more, append_assoc}
 use Rattle.std.proofs.lemmas.Bool.{lt-ltb, ne_eqb}
-use Rattle.etcs_packet.specs.declared.run.Run.{Run}
-use Rattle.etcs_packet.specs.declared.track.TrackPacket.{TrackPacket}
+use Rattle.etcs_profile.specs.declared.run.Run.{Run}
+use Rattle.etcs_profile.specs.declared.track.TrackPacket.{TrackPacket}
 use Rattle.etcs_telegram.specs.Record.{Telegram}
 use Rattle.etcs_group.specs.declared.refused.Refused.TheVariants as reasons
 use Rattle.etcs_group.specs.Places.{At, least}

@@ -1,6 +1,6 @@
 -- The laws of groups, readings, messages and mixtures.
 use Rattle.std.specs.Prelude.{◌≡◌, ◌↔◌, ℕ, ◌<◌, Bool, length, Option, Some, None, IsTrue, IsFalse}
-use Rattle.etcs_packet.specs.declared.run.Run.{Run}
+use Rattle.etcs_profile.specs.declared.run.Run.{Run}
 use Rattle.etcs_group.specs.declared.refused.Refused.TheVariants as reasons
 use Rattle.etcs_group.specs.Places.{At, IsLeast}
 use Rattle.etcs_group.specs.Group.{IsWellFormed, HasOneCounter, Telegrams, Aspects}

@@ -3,7 +3,7 @@
 -- function of places: an aspect, or none if the balise is missed.
 use Rattle.std.specs.Prelude.{◌≡◌, ℕ, ◌<◌, nat_lt, Bool, ◌&&◌, List, length, slice_get, Option, Some, is_none, option_and_then, filter_map}
 use Rattle.std.specs.List.{range_with_len}
-use Rattle.etcs_packet.specs.declared.run.Run.{Run}
+use Rattle.etcs_profile.specs.declared.run.Run.{Run}
 use Rattle.etcs_telegram.specs.Record.{Telegram}
 use Rattle.etcs_group.specs.Places.{At}
 use Rattle.etcs_group.specs.Missed.{IsCovered}

@@ -2,8 +2,8 @@
 -- in which it passes the balises.
 use Rattle.std.specs.Prelude.{ℕ, Bool, not, List, map, reverse, filter}
 use Rattle.std.specs.List.{enumerate_from}
-use Rattle.etcs_packet.specs.declared.run.Run.{Run}
-use Rattle.etcs_packet.specs.declared.run.Run.TheVariants as runs
+use Rattle.etcs_profile.specs.declared.run.Run.{Run}
+use Rattle.etcs_profile.specs.declared.run.Run.TheVariants as runs
 use Rattle.etcs_group.specs.Group.{Telegrams}
 
 -- a list by rising place, in the order in which the places are passed

@@ -5,7 +5,7 @@ use Rattle.etcs_bits.specs.bits.Number.{worth}
 use Rattle.etcs_bits.specs.layout.Rows.{AreAllowed, IsAllowed, alone, row}
 use Rattle.etcs_bits.specs.variables.Identity.{identity as identity_layout}
 use Rattle.etcs_bits.specs.variables.Variables.{plain}
-use Rattle.etcs_packet.specs.Track.{track_packet as track_layout}
+use Rattle.etcs_profile.specs.Track.{track_packet as track_layout}
 use Rattle.etcs_radio.specs.Record.{Movement, Position}
 use Rattle.etcs_radio.specs.Required.{has_authority, has_report}
 use Rattle.etcs_radio.specs.TrainPacket.{train_packet as train_layout}

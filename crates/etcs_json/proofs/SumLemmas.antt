@@ -5,9 +5,9 @@ use Rattle.serde_json.specs.Data.{Data, Members, no_members, object as object_da
 use Rattle.etcs_bits.specs.declared.variables.identity.Identity.{Identity}
 use Rattle.etcs_bits.specs.layout.Rows.{alone}
 use Rattle.etcs_profile.specs.Authority.{AuthorityValue, WithMain, WithoutMain, numbered_by as authority_by, authority_value, authority_of_parts}
-use Rattle.etcs_packet.specs.Track.{authority_in, track_of}
-use Rattle.etcs_packet.specs.declared.cover.CoverMarker.{CoverMarker}
-use Rattle.etcs_packet.specs.declared.track.TrackPacket.TheVariants as track
+use Rattle.etcs_profile.specs.Track.{authority_in, track_of}
+use Rattle.etcs_profile.specs.declared.track.cover.CoverMarker.{CoverMarker}
+use Rattle.etcs_profile.specs.declared.track.TrackPacket.TheVariants as track
 use Rattle.etcs_radio.specs.Report.{WithOne, WithTwo, numbered_by as report_by, report_of, report_with, situation_of}
 use Rattle.etcs_radio.specs.TrainPacket.{report_in, train_of}
 use Rattle.etcs_radio.specs.declared.report.Report.{Report}

@@ -1,6 +1,6 @@
 -- The form of virtual balise cover markers, packet 0 (SUBSET-026, 7.4.2).
 use Rattle.std.specs.Prelude.{codes, refl}
-use Rattle.etcs_packet.specs.Cover.{cover_marker as cover_layout, cover_struct, nid_vbcmk}
+use Rattle.etcs_profile.specs.Cover.{cover_marker as cover_layout, cover_struct, nid_vbcmk}
 use Rattle.etcs_schema.specs.Chosen.{behind}
 use Rattle.etcs_schema.specs.Head.{Packet, numbered}
 use Rattle.etcs_schema.specs.Shape.{ObjectOf, closed, key, struct}

@@ -1,7 +1,7 @@
 -- The laws of forms: each telegram and each radio message is what its form is read as.
 use Rattle.std.specs.Prelude.{◌≡◌, true, List, Ok}
 use Rattle.etcs_schema.specs.Prelude.{flat_map, AreAllowed, Row}
-use Rattle.etcs_packet.specs.Track.{track_packet}
+use Rattle.etcs_profile.specs.Track.{track_packet}
 use Rattle.etcs_telegram.specs.Header.{header}
 use Rattle.etcs_telegram.specs.Record.{Telegram}
 use Rattle.etcs_radio.specs.Head.{movement_head, position_head}

@@ -4,7 +4,7 @@
 -- are in the order in which they are looked for.
 use Rattle.std.specs.Prelude.{List, codes, refl}
 use Rattle.etcs_schema.specs.Prelude.{flat_map, pair_rows, Row, nid_bg, nid_c}
-use Rattle.etcs_packet.specs.declared.track.TrackPacket.{TrackPacket}
+use Rattle.etcs_profile.specs.declared.track.TrackPacket.{TrackPacket}
 use Rattle.etcs_radio.specs.Head.{m_ack, nid_engine, t_train}
 use Rattle.etcs_radio.specs.Record.{Movement, Position}
 use Rattle.etcs_radio.specs.Required.{has_authority, has_report}

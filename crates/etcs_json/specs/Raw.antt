@@ -1,8 +1,8 @@
 -- The form of packets whose layout is not known (SUBSET-026, 7.4.1). Their bodies are kept as bits.
 use Rattle.std.specs.Prelude.{codes, refl}
-use Rattle.etcs_packet.specs.FoundRaw.{raw_with}
-use Rattle.etcs_packet.specs.PacketNumbers.{nid_raw}
-use Rattle.etcs_packet.specs.Raw.{raw_again, raw_packet as raw_layout}
+use Rattle.etcs_profile.specs.FoundRaw.{raw_with}
+use Rattle.etcs_profile.specs.PacketNumbers.{nid_raw}
+use Rattle.etcs_profile.specs.Raw.{raw_again, raw_packet as raw_layout}
 use Rattle.etcs_schema.specs.Measured.{measured}
 use Rattle.etcs_schema.specs.Shape.{ObjectOf, closed, key, named, ◌then◌}
 use Rattle.etcs_schema.specs.Variables.{direction, variable}

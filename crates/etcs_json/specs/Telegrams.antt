@@ -5,7 +5,7 @@ use Rattle.std.specs.Prelude.{◌≡◌, ◌++◌, ℕ, ◌==◌, ◌||◌, Bool
 use Rattle.etcs_schema.specs.Prelude.{ap, ◌∙◌, flat_map, Row}
 use Rattle.etcs_bits.specs.declared.layout.fault.FaultKind.TheVariants.{Downlink, Loop}
 use Rattle.etcs_bits.specs.variables.Variables.{only as only_number}
-use Rattle.etcs_packet.specs.Track.{track_packet as track_layout}
+use Rattle.etcs_profile.specs.Track.{track_packet as track_layout}
 use Rattle.etcs_telegram.specs.Header.{header as header_layout, header_struct, m_mcount, n_pig, n_total}
 use Rattle.etcs_telegram.specs.Record.{Telegram}
 use Rattle.etcs_telegram.specs.Sizes.{user_bits}

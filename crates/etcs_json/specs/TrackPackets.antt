@@ -7,16 +7,13 @@ use Rattle.std.specs.Prelude.{◌≡◌, ℕ, ◌+◌, Bool, true, List, Result,
 use Rattle.etcs_schema.specs.Prelude.{arith, le-leb, Data, Format, AreAllowed, alone, width, nid_bg, nid_c, ranged}
 use Rattle.etcs_bits.specs.declared.variables.direction.Dir.{Dir}
 use Rattle.etcs_profile.specs.Elements.{elements, profile_struct}
-use Rattle.etcs_profile.specs.Gradient.{d_gradient, g_a, gradient_element as gradient_layout, gradient_struct}
-use Rattle.etcs_profile.specs.Linking.{d_link, link as link_layout, link_struct, q_linkreaction, q_locacc}
+use Rattle.etcs_profile.specs.Track.{d_gradient, g_a, gradient_element as gradient_layout, gradient_struct, d_link, link as link_layout, link_struct, q_linkreaction, q_locacc, d_static, difference as difference_layout, difference_struct, nc_diff, q_diff, speed_element as speed_layout, speed_struct, v_diff, v_static, NumberedTrackPacket, again, parts_of, track_of}
 use Rattle.etcs_profile.specs.Packet.{rest}
 use Rattle.etcs_profile.specs.Profile.{Profile}
-use Rattle.etcs_profile.specs.Speed.{d_static, difference as difference_layout, difference_struct, nc_diff, q_diff, speed_element as speed_layout, speed_struct, v_diff, v_static}
-use Rattle.etcs_packet.specs.declared.raw.RawPacket.{RawPacket}
-use Rattle.etcs_packet.specs.declared.track.TrackPacket.{TrackPacket}
-use Rattle.etcs_packet.specs.PacketNumbers.{nid_raw, nid_track}
-use Rattle.etcs_packet.specs.Raw.{other_of, others as other_bits}
-use Rattle.etcs_packet.specs.Track.{NumberedTrackPacket, again, parts_of, track_of}
+use Rattle.etcs_profile.specs.declared.raw.RawPacket.{RawPacket}
+use Rattle.etcs_profile.specs.declared.track.TrackPacket.{TrackPacket}
+use Rattle.etcs_profile.specs.PacketNumbers.{nid_raw, nid_track}
+use Rattle.etcs_profile.specs.Raw.{other_of, others as other_bits}
 use Rattle.etcs_schema.specs.Chosen.{behind, Choice, HasNumber, begins_with, chosen, either, others}
 use Rattle.etcs_schema.specs.Fault.{Fault, Range, here}
 use Rattle.etcs_schema.specs.Head.{Packet, headed, scaled, nid_range}

@@ -1,7 +1,7 @@
 -- The form of a packet from train to track (SUBSET-026, 7.4.3). NID_PACKET decides it.
 use Rattle.std.specs.Prelude.{codes, length, refl}
 use Rattle.etcs_schema.specs.Prelude.{ranged}
-use Rattle.etcs_packet.specs.PacketNumbers.{nid_track as nid_train}
+use Rattle.etcs_profile.specs.PacketNumbers.{nid_track as nid_train}
 use Rattle.etcs_radio.specs.RawTrain.{other_of, others as other_bits}
 use Rattle.etcs_radio.specs.TrainNumbers.{nid_raw}
 use Rattle.etcs_radio.specs.TrainPacket.{NumberedTrainPacket, again, parts_of, train_of}

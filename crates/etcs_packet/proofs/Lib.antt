@@ -4,5 +4,3 @@ pub mod ItemLemmas
 pub mod ListLemmas
 pub mod WholeLemmas
 pub mod WrittenLemmas
-pub mod RawLemmas
-pub mod TrackLemmas

@@ -11,8 +11,8 @@ ghost use Rattle.etcs_bits.specs.layout.Rows.{Place, AreAllowed, join, IsSpelled
 ghost use Rattle.etcs_packet.specs.Laws.{HasNoMark};
 ghost use Rattle.etcs_packet.specs.Lists.{IsHeaded, IsListFault, NoneStand, Stand, ends};
 ghost use Rattle.etcs_packet.specs.Reading.{items_at, whole_at, whole_of};
-ghost use Rattle.etcs_packet.specs.Track.{own_rows, track_packet};
-ghost use Rattle.etcs_packet.specs.declared.track.TrackPacket.{TrackPacket};
+ghost use Rattle.etcs_profile.specs.Track.{own_rows, track_packet};
+ghost use Rattle.etcs_profile.specs.declared.track.TrackPacket.{TrackPacket};
 ghost use Rattle.etcs_packet.specs.Whole.{AreSpelled, BeginsWith, HeadAndListStand, IsWholeFault, NoHeadAndListStands, start};
 
 use crate::stop::Stop;

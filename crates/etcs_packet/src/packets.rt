@@ -9,14 +9,14 @@ ghost use Rattle.etcs_bits.specs.layout.Results.{Gives, IfFault, IfMemory};
 ghost use Rattle.etcs_bits.specs.variables.VariableFormats.{q_dir};
 ghost use Rattle.etcs_packet.specs.Lists.{IsListFault, NoStep, NoneStand, Stand, ends};
 ghost use Rattle.etcs_packet.specs.Reading.{items_at};
-ghost use Rattle.etcs_packet.specs.Track.{track_packet};
-ghost use Rattle.etcs_packet.specs.View.{IsViewStep, grows_at};
+ghost use Rattle.etcs_profile.specs.Track.{track_packet};
+ghost use Rattle.etcs_profile.specs.View.{grows_at};
+ghost use Rattle.etcs_packet.specs.View.{IsViewStep};
 
 use crate::list::{is_end, read_items, write_items};
 use crate::stop::Stop;
-use crate::track::TrackPacket;
-use crate::view::PacketView;
 use etcs_bits::{Bits, Cursor, DecodeError, Memory, are_allowed};
+use etcs_profile::{PacketView, TrackPacket};
 use std::alloc::Global;
 
 /// Reads a view of the packet at the cursor. The cursor then stands after the packet. The result is

@@ -1,3 +1,5 @@
 pub mod WayLemmas
 pub mod BuiltLemmas
 pub mod ShortLemmas
+pub mod RawLemmas
+pub mod TrackLemmas

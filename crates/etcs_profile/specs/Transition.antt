@@ -7,7 +7,7 @@ use Rattle.etcs_bits.specs.layout.Format.{Format, number, ◌then◌, several, s
 use Rattle.etcs_bits.specs.layout.Struct.{Struct, two_ways}
 use Rattle.etcs_bits.specs.variables.Level.{m_level}
 use Rattle.etcs_bits.specs.variables.VariableFormats.{q_scale}
-use Rattle.etcs_profile.specs.declared.transition.LevelOrder.{LevelOrder}
+use Rattle.etcs_profile.specs.declared.track.transition.LevelOrder.{LevelOrder}
 
 -- D_LEVELTR, 15 bits: the distance to the place of the change; 32,767 means now
 abbrev pub d_leveltr : Format ℕ

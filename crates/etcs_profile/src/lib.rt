@@ -1,15 +1,16 @@
-//! Movement authorities, linking, profiles of the track and level transition orders: packets 5, 12,
-//! 15, 21, 27 and 41 (SUBSET-026, 7.4.2). They say how far and in which level a train may run, and
-//! what is known of the track there.
+//! The packets from track to train (SUBSET-026, 7.4.2): movement authorities, linking, profiles of the
+//! track, level transition orders, virtual balise cover markers, and any other packet as bits.
 //!
-//! [`Authority`] is the movement authority, packets 12 and 15. [`Authority::end`] gives how far the
-//! train may run. [`Linking`], packet 5, [`Gradient`], packet 21, and [`SpeedProfile`], packet 27,
-//! are each a [`Packet`] of [`Elements`]. [`Packet::reach`] gives how far along the track the last
-//! two reach. [`Transition`] is packet 41, a [`Packet`] of [`LevelOrders`]. Read `packet.rt`,
-//! `elements.rt` and `gradient.rt` first, with the files of the same names in `specs/`, then
-//! `authority.rt`. [`laws`] states how far a profile reaches. The crate builds on
-//! [`etcs_bits::Layout`]. It leaves out all other packets. It does not check whether an authority and
-//! the profiles fit together.
+//! [`TrackPacket`] is any of them. [`Authority`] is the movement authority, packets 12 and 15.
+//! [`Authority::end`] gives how far the train may run. Other packets are a [`Packet`]: [`Linking`],
+//! [`Gradient`] and [`SpeedProfile`] of [`Elements`], [`Transition`] of [`LevelOrders`].
+//! [`Packet::reach`] gives how far along the track a profile reaches. [`RawPacket`] is a packet whose
+//! layout is not known. A [`PacketView`] borrows its body.
+//!
+//! Read `packet.rt`, `elements.rt` and `track/gradient.rt` first, then `track.rt`, with `specs/Track.antt`,
+//! then `authority.rt`. [`laws`] states how far a profile reaches. The crate builds on
+//! [`etcs_bits::Layout`]. It does not check whether an authority and the profiles fit together. Packets
+//! from train to track are left out.
 #![tactic(auto)]
 
 mod authority;
@@ -20,18 +21,19 @@ mod elements;
 mod end_timer;
 mod error;
 mod factor;
-mod gradient;
 pub mod laws;
-mod linking;
 mod number;
 mod overlap;
 mod packet;
 mod profile;
+mod raw;
 mod reach;
+mod run;
 mod section;
-mod speed;
 mod terms;
-mod transition;
+pub mod track;
+mod track_layout;
+mod view;
 
 pub use authority::Authority;
 pub use danger_point::DangerPoint;
@@ -40,12 +42,15 @@ pub use elements::Elements;
 pub use end_timer::EndTimer;
 pub use error::BuildError;
 pub use etcs_bits::Reaction;
-pub use gradient::{Gradient, GradientElement};
-pub use linking::{Link, Linking};
-pub use number::Number;
+pub use number::{Number, scan_number};
 pub use overlap::Overlap;
 pub use packet::Packet;
+pub use raw::RawPacket;
 pub use reach::Reach;
+pub use run::Run;
 pub use section::{Section, SectionTimer};
-pub use speed::{Difference, SpeedElement, SpeedProfile};
-pub use transition::{LevelOrder, LevelOrders, Transition};
+pub use track::{
+    CoverMarker, Difference, Gradient, GradientElement, LevelOrder, LevelOrders, Link, Linking,
+    SpeedElement, SpeedProfile, TrackPacket, Transition,
+};
+pub use view::PacketView;

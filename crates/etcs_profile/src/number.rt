@@ -1,8 +1,11 @@
-//! The number of a known packet.
+//! The number of a packet.
 
-ghost use Rattle.std.specs.Prelude.{◌≡◌};
+ghost use Rattle.std.specs.Prelude.{◌≡◌, ◌==◌, ◌<◌, true, not, IfOk};
+ghost use Rattle.etcs_bits.specs.layout.Reading.{field_at};
+ghost use Rattle.etcs_bits.specs.layout.Results.{Gives, IfMemory};
+ghost use Rattle.etcs_profile.specs.PacketNumbers.{nid_track};
 
-use etcs_bits::{Bits, Cursor, DecodeError, Fault, FaultKind, Layout, Memory};
+use etcs_bits::{Bits, Cursor, DecodeError, Fault, FaultKind, Layout, Memory, refused};
 use std::alloc::Global;
 
 /// NID_PACKET, 8 bits, where it must be `N`. Any other number is a Spare fault (SUBSET-026, 7.5.1).
@@ -23,7 +26,7 @@ pub(crate) fn other_packet(at: usize, end: usize) -> DecodeError
 
 #[tactic(auto, unfolding(etcs_bits::specs::layout::Rows::alone))]
 impl<const N: u32> Layout for Number<N> {
-    ghost use Rattle.std.specs.Prelude.{◌<◌, refl};
+    ghost use Rattle.std.specs.Prelude.{refl};
     ghost use Rattle.etcs_bits.specs.layout.Format.{named};
     ghost use Rattle.etcs_profile.specs.Packet.{nid_packet};
 
@@ -51,5 +54,28 @@ impl<const N: u32> Layout for Number<N> {
         } else {
             Err(other_packet(at, cur.at()))
         }
+    }
+}
+
+/// Reads NID_PACKET of a packet in a list. 255, the end mark, is spare here. Fewer than eight bits are
+/// a NoEnd fault. After an error the cursor may stand anywhere.
+#[inline]
+pub fn scan_number(cur: &mut Cursor<'_>) -> Result<u64, DecodeError>
+    ensures gives { Gives (λ n. n) result (field_at nid_track cur.old) cur.new }
+    ensures number { IfOk result (λ n. (n < 256) × (not (n == 255) ≡ true)) }
+
+    // Looking at the number takes no memory.
+    ensures memory { IfMemory result ⊥ }
+{
+    let at = cur.at();
+    match cur.take(8) {
+        Ok(255) => Err(refused(at, cur, FaultKind::Spare)),
+        Ok(number) => Ok(number),
+        // No end mark fits in the bits that are left.
+        Err(_) => Err(DecodeError::Fault(Fault {
+            at,
+            end: at,
+            why: FaultKind::NoEnd,
+        })),
     }
 }

@@ -14,7 +14,7 @@ use Rattle.etcs_bits.proofs.WidthLemmas.{width_both}
 use Rattle.etcs_packet.specs.declared.stop.Stop.TheVariants as stops
 use Rattle.etcs_packet.specs.Laws.{HasNoMark}
 use Rattle.etcs_packet.specs.Lists.{IsHeaded, Stand, ends}
-use Rattle.etcs_packet.specs.Track.{track_packet}
+use Rattle.etcs_profile.specs.Track.{track_packet}
 use Rattle.etcs_packet.specs.Whole.{HeadAndListStand, start}
 use Rattle.etcs_packet.proofs.WrittenLemmas.{few_end, mark_ends, ends_only, whole_spelled, whole_written}
 use Rattle.etcs_radio.specs.declared.error.EncodeError.{EncodeError}

@@ -14,7 +14,7 @@ use Rattle.etcs_packet.specs.declared.stop.Stop.TheVariants as stops
 use Rattle.etcs_packet.specs.Laws.{HasNoMark}
 use Rattle.etcs_packet.specs.Lists.{IsHeaded, IsListFault, Stand}
 use Rattle.etcs_packet.specs.Reading.{items_at}
-use Rattle.etcs_packet.specs.Track.{track_packet}
+use Rattle.etcs_profile.specs.Track.{track_packet}
 use Rattle.etcs_packet.proofs.EndLemmas.{next_within}
 use Rattle.etcs_packet.proofs.ItemLemmas.{list_fault_is_read, read_is_list_fault}
 use Rattle.etcs_packet.proofs.ListLemmas.{stand_is_read, read_stands}

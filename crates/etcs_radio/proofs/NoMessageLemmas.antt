@@ -13,7 +13,7 @@ use Rattle.etcs_bits.proofs.StandLemmas.{place_in, stands_moved}
 use Rattle.etcs_bits.proofs.FaultLemmas.{fault_stays}
 use Rattle.etcs_packet.specs.declared.stop.Stop.TheVariants as stops
 use Rattle.etcs_packet.specs.Lists.{IsHeaded, IsListFault}
-use Rattle.etcs_packet.specs.Track.{track_packet}
+use Rattle.etcs_profile.specs.Track.{track_packet}
 use Rattle.etcs_packet.specs.Whole.{start}
 use Rattle.etcs_packet.proofs.EndLemmas.{fault_past}
 use Rattle.etcs_packet.proofs.FollowLemmas.{follow_forward, follow_within, list_fault_stays}

@@ -11,7 +11,7 @@ use Rattle.etcs_radio.specs.declared.train_packet.TrainPacket.TheVariants as pac
 use Rattle.etcs_radio.specs.Report.{WithOne, WithTwo, report_numbered, numbered_of, report_variable}
 use Rattle.etcs_bits.specs.layout.Format.{kept_bits}
 use Rattle.etcs_radio.specs.RawTrain.{other_of}
-use Rattle.etcs_packet.specs.PacketNumbers.{nid_track as nid_train}
+use Rattle.etcs_profile.specs.PacketNumbers.{nid_track as nid_train}
 use Rattle.etcs_radio.specs.TrainPacket.{train_numbered, report_in, train_packet, own_rows}
 
 -- the rows of a report with its number, as one of a list and by itself

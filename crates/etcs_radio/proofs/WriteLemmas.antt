@@ -8,8 +8,8 @@ use Rattle.etcs_bits.specs.bits.Number.{num, bits_of_bytes}
 use Rattle.etcs_bits.specs.layout.Rows.{alone, AreAllowed, join}
 use Rattle.etcs_bits.proofs.NumberLemmas.{length-bits_of_bytes}
 use Rattle.etcs_bits.proofs.StandLemmas.{join-append, allowed-append}
-use Rattle.etcs_packet.specs.declared.track.TrackPacket.{TrackPacket}
-use Rattle.etcs_packet.specs.Track.{track_packet}
+use Rattle.etcs_profile.specs.declared.track.TrackPacket.{TrackPacket}
+use Rattle.etcs_profile.specs.Track.{track_packet}
 use Rattle.etcs_radio.specs.declared.message.Message.{Message}
 use Rattle.etcs_radio.specs.declared.message.Message.TheVariants as messages
 use Rattle.etcs_radio.specs.declared.train_packet.TrainPacket.{TrainPacket}

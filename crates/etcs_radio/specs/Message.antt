@@ -13,7 +13,7 @@ use Rattle.etcs_bits.specs.layout.Rows.{Row, Place, AreAllowed, join, width, IsS
 use Rattle.etcs_bits.specs.layout.Fault.{IsFault}
 use Rattle.etcs_packet.specs.declared.stop.Stop.TheVariants as stops
 use Rattle.etcs_packet.specs.Lists.{Stand, IsListFault}
-use Rattle.etcs_packet.specs.Track.{track_packet}
+use Rattle.etcs_profile.specs.Track.{track_packet}
 use Rattle.etcs_packet.specs.Whole.{start}
 use Rattle.etcs_radio.specs.declared.message.Message.{Message}
 use Rattle.etcs_radio.specs.declared.message.Message.TheVariants as messages

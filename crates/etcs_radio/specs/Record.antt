@@ -1,7 +1,7 @@
 -- What radio messages hold (SUBSET-026, 8.6 and 8.7). NID_MESSAGE and L_MESSAGE follow from it.
 use Rattle.std.specs.Prelude.{ℕ, Bool, List}
 use Rattle.etcs_bits.specs.declared.variables.identity.Identity.{Identity}
-use Rattle.etcs_packet.specs.declared.track.TrackPacket.{TrackPacket}
+use Rattle.etcs_profile.specs.declared.track.TrackPacket.{TrackPacket}
 use Rattle.etcs_radio.specs.declared.train_packet.TrainPacket.{TrainPacket}
 
 -- message 3: the time, whether to acknowledge, the group that it refers to, the packets

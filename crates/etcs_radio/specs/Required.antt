@@ -2,8 +2,8 @@
 -- authority packet 15, a position report packet 0 or 1, at any index.
 use Rattle.std.specs.Prelude.{◌==◌, Bool, List}
 use Rattle.std.specs.List.{list_any}
-use Rattle.etcs_packet.specs.declared.track.TrackPacket.{TrackPacket}
-use Rattle.etcs_packet.specs.Track.{track_number}
+use Rattle.etcs_profile.specs.declared.track.TrackPacket.{TrackPacket}
+use Rattle.etcs_profile.specs.Track.{track_number}
 use Rattle.etcs_radio.specs.declared.train_packet.TrainPacket.{TrainPacket}
 use Rattle.etcs_radio.specs.TrainPacket.{is_report}
 

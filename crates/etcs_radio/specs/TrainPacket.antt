@@ -10,7 +10,7 @@ use Rattle.etcs_radio.specs.declared.train_packet.TrainPacket.{TrainPacket}
 use Rattle.etcs_radio.specs.declared.train_packet.TrainPacket.TheVariants as packets
 use Rattle.etcs_radio.specs.Report.{WithOne, WithTwo, with_one, with_two, report_of, report_numbered, numbered_of as report_parts, again as report_again, report}
 use Rattle.etcs_radio.specs.RawTrain.{others, raw_train_packet}
-use Rattle.etcs_packet.specs.PacketNumbers.{nid_track as nid_train}
+use Rattle.etcs_profile.specs.PacketNumbers.{nid_track as nid_train}
 
 -- NID_PACKET, and what follows it
 abbrev pub NumberedTrainPacket : Type 0

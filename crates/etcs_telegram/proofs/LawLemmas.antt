@@ -12,8 +12,8 @@ use Rattle.etcs_bits.specs.layout.Reading.{◌>>=◌}
 use Rattle.etcs_bits.proofs.BindLemmas.{ok_is}
 use Rattle.etcs_bits.specs.layout.Rows.{Place}
 use Rattle.etcs_packet.specs.declared.stop.Stop.TheVariants as stops
-use Rattle.etcs_packet.specs.declared.track.TrackPacket.{TrackPacket}
-use Rattle.etcs_packet.specs.Track.{track_packet}
+use Rattle.etcs_profile.specs.declared.track.TrackPacket.{TrackPacket}
+use Rattle.etcs_profile.specs.Track.{track_packet}
 use Rattle.etcs_packet.specs.Whole.{start}
 use Rattle.etcs_packet.specs.Reading.{whole_at, whole_of}
 use Rattle.etcs_packet.proofs.WholeLemmas.{none_whole, read_is_whole, whole_fault_is_read, read_is_whole_fault}

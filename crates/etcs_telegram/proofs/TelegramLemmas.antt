@@ -12,10 +12,10 @@ use Rattle.etcs_bits.specs.bits.Number.{num}
 use Rattle.etcs_bits.specs.layout.Rows.{alone, AreAllowed, join}
 use Rattle.etcs_bits.specs.layout.Results.{Fails}
 use Rattle.etcs_packet.specs.declared.stop.Stop.TheVariants as stops
-use Rattle.etcs_packet.specs.declared.track.TrackPacket.{TrackPacket}
+use Rattle.etcs_profile.specs.declared.track.TrackPacket.{TrackPacket}
 use Rattle.etcs_packet.specs.Laws.{HasNoMark}
 use Rattle.etcs_packet.specs.Lists.{IsHeaded, ends}
-use Rattle.etcs_packet.specs.Track.{track_packet}
+use Rattle.etcs_profile.specs.Track.{track_packet}
 use Rattle.etcs_packet.specs.Whole.{BeginsWith, start}
 use Rattle.etcs_packet.specs.Reading.{whole_of}
 use Rattle.etcs_packet.proofs.WholeLemmas.{whole_is_read, means_whole}

@@ -4,8 +4,8 @@
 use Rattle.std.specs.Prelude.{ℕ, ◌==◌, if◌then◌else◌, List, Bool, length, Result, Ok, Err}
 use Rattle.etcs_bits.specs.declared.layout.fault.Fault.{Fault}
 use Rattle.etcs_packet.specs.declared.stop.Stop.TheVariants as stops
-use Rattle.etcs_packet.specs.declared.track.TrackPacket.{TrackPacket}
-use Rattle.etcs_packet.specs.Track.{track_packet}
+use Rattle.etcs_profile.specs.declared.track.TrackPacket.{TrackPacket}
+use Rattle.etcs_profile.specs.Track.{track_packet}
 use Rattle.etcs_packet.specs.Reading.{whole_of}
 use Rattle.etcs_telegram.specs.declared.header.Header.{Header}
 use Rattle.etcs_telegram.specs.declared.size.Size.{Size}

@@ -1,7 +1,7 @@
 -- What a telegram holds (SUBSET-026, 8.4.2): its size, its header and its packets. The fill after
 -- the end mark carries no information.
 use Rattle.std.specs.Prelude.{List}
-use Rattle.etcs_packet.specs.declared.track.TrackPacket.{TrackPacket}
+use Rattle.etcs_profile.specs.declared.track.TrackPacket.{TrackPacket}
 use Rattle.etcs_telegram.specs.declared.header.Header.{Header}
 use Rattle.etcs_telegram.specs.declared.size.Size.{Size}
 

@@ -7,7 +7,7 @@ use Rattle.etcs_bits.specs.declared.layout.fault.Fault.{Fault}
 use Rattle.etcs_bits.specs.bits.Number.{num}
 use Rattle.etcs_bits.specs.layout.Rows.{AreAllowed, join, width}
 use Rattle.etcs_packet.specs.declared.stop.Stop.TheVariants as stops
-use Rattle.etcs_packet.specs.Track.{track_packet}
+use Rattle.etcs_profile.specs.Track.{track_packet}
 use Rattle.etcs_packet.specs.Whole.{BeginsWith, IsWholeFault, NoHeadAndListStands, start}
 use Rattle.etcs_telegram.specs.Header.{header}
 use Rattle.etcs_telegram.specs.Record.{Telegram}

@@ -1,8 +1,8 @@
 //! The form of track packets whose layout is not known. Their bodies are kept as bits.
 
 ghost use Rattle.std.specs.Prelude.{◌≡◌, length, true};
-ghost use Rattle.etcs_packet.specs.FoundRaw.{raw_with};
-ghost use Rattle.etcs_packet.specs.PacketNumbers.{is_kept, nid_raw};
+ghost use Rattle.etcs_profile.specs.FoundRaw.{raw_with};
+ghost use Rattle.etcs_profile.specs.PacketNumbers.{is_kept, nid_raw};
 ghost use Rattle.etcs_json.specs.Raw.{raw_packet};
 ghost use Rattle.etcs_schema.specs.Shape.{whole};
 ghost use Rattle.etcs_schema.specs.Variables.{is_allowed};

@@ -1,6 +1,6 @@
 use Rattle.std.proofs.Common.{◌≡◌, ◌≤◌, drop, length}
 use Rattle.std.specs.List.{filter}
-use Rattle.etcs_packet.specs.Track.{holds}
+use Rattle.etcs_profile.specs.Track.{holds}
 use Rattle.etcs_check.proofs.duplicates.next_held.Given as goal
 
 -- the packets that were skipped do not hold

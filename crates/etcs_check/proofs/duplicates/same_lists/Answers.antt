@@ -1,6 +1,6 @@
 use Rattle.std.proofs.Common.{◌<◌, ◌≤◌, ◌&&◌, eqb, length, sym, ap, ◌∙◌, arith}
 use Rattle.std.proofs.lemmas.Bool.{eq-eqb, ne_eqb, and_left}
-use Rattle.etcs_packet.specs.Track.{holds}
+use Rattle.etcs_profile.specs.Track.{holds}
 use Rattle.etcs_group.proofs.PlaceLemmas.{some_at}
 use Rattle.etcs_check.specs.Duplicates.{same_packet}
 use Rattle.etcs_check.proofs.CompareLemmas.{agree_here, differ_here, same_at_end}

@@ -1,5 +1,5 @@
 use Rattle.std.proofs.Common.{◌≡◌, drop, filter}
-use Rattle.etcs_packet.specs.Track.{holds}
+use Rattle.etcs_profile.specs.Track.{holds}
 use Rattle.etcs_check.specs.PacketSummary.{both, summary_of}
 use Rattle.etcs_check.proofs.packet_summary.add_packets.Given as goal
 

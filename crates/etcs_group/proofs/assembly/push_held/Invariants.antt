@@ -1,6 +1,6 @@
 use Rattle.std.proofs.Common.{◌≡◌, ◌++◌, take}
 use Rattle.std.specs.List.{filter}
-use Rattle.etcs_packet.specs.Track.{holds}
+use Rattle.etcs_profile.specs.Track.{holds}
 use Rattle.etcs_group.specs.Places.{pointed}
 use Rattle.etcs_group.proofs.assembly.push_held.Given as goal
 

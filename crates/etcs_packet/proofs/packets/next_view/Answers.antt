@@ -2,7 +2,7 @@ use Rattle.std.proofs.Common.{◌≡◌, false, refl}
 use Rattle.std.proofs.lemmas.Result.{err_from_is_err_and}
 use Rattle.etcs_bits.proofs.LayoutLemmas.{is_spelled, is_fault, none_begins}
 use Rattle.etcs_packet.specs.Lists.{ends}
-use Rattle.etcs_packet.specs.Track.{track_packet}
+use Rattle.etcs_profile.specs.Track.{track_packet}
 use Rattle.etcs_packet.proofs.ListLemmas.{due_fault, no_step}
 use Rattle.etcs_packet.proofs.packets.next_view.Goals as goal
 

@@ -1,7 +1,7 @@
 use Rattle.std.proofs.Common.{refl, ap, ◌∙◌, length, Ok, arith}
 use Rattle.std.proofs.lemmas.Result.{err_from_is_err_and}
 use Rattle.etcs_bits.specs.declared.layout.fault.FaultKind.TheVariants.{NoAuthority}
-use Rattle.etcs_packet.specs.Track.{track_packet}
+use Rattle.etcs_profile.specs.Track.{track_packet}
 use Rattle.etcs_radio.specs.Meaning.{movement_with}
 use Rattle.etcs_radio.specs.Required.{has_authority}
 use Rattle.etcs_radio.proofs.MessageLemmas.{stand_bits}

@@ -1,8 +1,8 @@
 use Rattle.std.proofs.Common.{◌≡◌, ap, List, Ok, Err, Some, length}
 use Rattle.std.proofs.lemmas.Result.{err_from_is_err_and}
 use Rattle.etcs_packet.specs.declared.stop.Stop.TheVariants as stops
-use Rattle.etcs_packet.specs.declared.track.TrackPacket.{TrackPacket}
-use Rattle.etcs_packet.specs.Track.{track_packet}
+use Rattle.etcs_profile.specs.declared.track.TrackPacket.{TrackPacket}
+use Rattle.etcs_profile.specs.Track.{track_packet}
 use Rattle.etcs_packet.proofs.ListLemmas.{no_error, same_error}
 use Rattle.etcs_packet.proofs.WholeLemmas.{gives_means}
 use Rattle.etcs_telegram.specs.declared.header.Header.{Header}

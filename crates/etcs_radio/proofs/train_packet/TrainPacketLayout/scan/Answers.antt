@@ -2,7 +2,7 @@ use Rattle.etcs_bits.specs.layout.Rows.{alone}
 use Rattle.etcs_bits.proofs.SumLemmas.{chosen_read}
 use Rattle.etcs_radio.specs.Report.{report_numbered}
 use Rattle.etcs_radio.specs.RawTrain.{others}
-use Rattle.etcs_packet.specs.PacketNumbers.{nid_track as nid_train}
+use Rattle.etcs_profile.specs.PacketNumbers.{nid_track as nid_train}
 use Rattle.etcs_radio.specs.TrainPacket.{train_numbered}
 use Rattle.etcs_radio.proofs.TrainLemmas.{report_next, report_here, other_next}
 use Rattle.etcs_radio.proofs.train_packet.TrainPacketLayout.scan.Goals as goal

@@ -1,5 +1,0 @@
-use Rattle.etcs_packet.proofs.TrackLemmas.{track_join}
-use Rattle.etcs_packet.proofs.track_layout.TrackPacketLayout.put.Goals as goal
-
-pub returns : goal.returns
-returns c = rw (track_join c.args.self.now) c.put_own.ensures

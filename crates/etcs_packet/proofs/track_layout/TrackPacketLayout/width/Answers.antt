@@ -1,5 +1,0 @@
-use Rattle.etcs_packet.proofs.TrackLemmas.{track_width}
-use Rattle.etcs_packet.proofs.track_layout.TrackPacketLayout.width.Goals as goal
-
-pub returns : goal.returns
-returns c = rw (track_width c.args.self.now) c.own_width.ensures
