@@ -34,6 +34,7 @@ fn byte_at(bits: &BitSlice<'_>, at: usize) -> u8
 }
 
 // The bytes of the bits. The rest of the array carries no information.
+#[tactic(auto, unfolding(etcs_schema::specs::BodyText::bytes_in))]
 fn bytes_of<const BYTES: usize>(bits: &BitSlice<'_>) -> [u8; BYTES]
     requires { length bits.now ≤ 8 * BYTES }
     ensures { take (bytes_for (length bits.now)) result ≡ body_bytes bits.now }
