@@ -5,12 +5,9 @@ use Rattle.etcs_bits.specs.layout.Combined.{option_rows}
 use Rattle.etcs_bits.specs.layout.Rows.{Row, alone, width}
 use Rattle.etcs_bits.specs.variables.Variables.{plain}
 use Rattle.etcs_bits.proofs.WidthLemmas.{width_both}
-use Rattle.etcs_profile.specs.Authority.{IsAuthorityTooLong, AuthorityValue, authority, authority_value}
-use Rattle.etcs_profile.specs.Built.{IsReason}
+use Rattle.etcs_profile.specs.Authority.{AuthorityValue, authority, authority_value}
 use Rattle.etcs_profile.specs.Parts.{danger_point, end_timer, overlap, section, section_timer}
 use Rattle.etcs_profile.specs.Terms.{TermsValue, terms}
-use Rattle.etcs_profile.specs.declared.error.BuildError.{BuildError}
-use Rattle.etcs_profile.specs.declared.error.BuildError.TheVariants as errors
 use Rattle.etcs_profile.specs.declared.section.Section.{Section}
 
 option_short : {X : Type 0} (rows : X → List Row) (most : ℕ) → ((x : X) → width (rows x) ≤ most) → (o : Option X) → width (option_rows rows o) ≤ 1 + most
@@ -62,10 +59,5 @@ short_by None a few = omega (arith, terms_short a.terms few)
 short_by (Some v) a few = omega (arith, terms_short a.terms few)
 
 -- an authority of at most 31 sections has at most 1,463 bits
-authority_short : (a : AuthorityValue) → length a.terms.sections < 32 → width (authority.rows a) ≤ 1463
+pub authority_short : (a : AuthorityValue) → length a.terms.sections < 32 → width (authority.rows a) ≤ 1463
 authority_short a few = short_by a.main a few
-
--- an authority of at most 31 sections is never too long
-pub is_authority : (e : BuildError) (a : AuthorityValue) → IsReason e (31 < length a.terms.sections) (IsAuthorityTooLong a) → length a.terms.sections < 32 → ⊥
-is_authority errors.TooMany a reason few = omega (arith, reason, few)
-is_authority errors.TooLong a reason few = omega (arith, reason.1, authority_short a few)

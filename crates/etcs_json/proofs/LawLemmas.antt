@@ -1,26 +1,36 @@
 -- The rows of each telegram and of each radio message are allowed, if none of its numbers is spare.
-use Rattle.std.proofs.Common.{◌≡◌, Bool, true, false, refl, arith}
+-- What is written of a value whose rows are allowed is read as that value again.
+use Rattle.std.proofs.Common.{◌≡◌, Bool, true, false, Result, Ok, IfOk, refl, arith}
 use Rattle.std.specs.List.{flat_map}
+use Rattle.serde_json.specs.Data.{Data}
+use Rattle.serde_json.specs.View.{view}
+use Rattle.serde_json.specs.declared.value.Value.{Value}
 use Rattle.etcs_bits.specs.bits.Number.{worth}
 use Rattle.etcs_bits.specs.layout.Rows.{AreAllowed, IsAllowed, alone, row}
 use Rattle.etcs_bits.specs.variables.Identity.{identity as identity_layout}
 use Rattle.etcs_bits.specs.variables.Variables.{plain}
 use Rattle.etcs_profile.specs.Track.{track_packet as track_layout}
+use Rattle.etcs_profile.specs.Authority.{AuthorityValue, authority as authority_layout}
 use Rattle.etcs_radio.specs.Record.{Movement, Position}
+use Rattle.etcs_radio.specs.Report.{report as report_layout}
 use Rattle.etcs_radio.specs.Required.{has_authority, has_report}
 use Rattle.etcs_radio.specs.TrainPacket.{train_packet as train_layout}
 use Rattle.etcs_radio.specs.declared.message.Message.{Message}
 use Rattle.etcs_radio.specs.declared.message.Message.TheVariants as messages
+use Rattle.etcs_radio.specs.declared.report.Report.{Report}
+use Rattle.etcs_radio.specs.declared.train_packet.TrainPacket.{TrainPacket}
 use Rattle.etcs_telegram.specs.Header.{header as header_layout}
 use Rattle.etcs_telegram.specs.Record.{Telegram}
 use Rattle.etcs_json.specs.AnyMessage.{message}
+use Rattle.etcs_json.specs.Authority.{authority}
 use Rattle.etcs_json.specs.Laws.{IsMessageInRange, IsTelegramInRange}
 use Rattle.etcs_json.specs.Messages.{movement_rows, position_rows}
-use Rattle.etcs_json.specs.Report.{lrbg_allowed}
+use Rattle.etcs_json.specs.Report.{lrbg_allowed, report}
 use Rattle.etcs_schema.specs.Shape.{allowed_append}
 use Rattle.etcs_json.specs.Telegrams.{telegram_rows}
 use Rattle.etcs_json.specs.TrackPackets.{track_packet}
 use Rattle.etcs_json.specs.TrainPackets.{train_packet}
+use Rattle.etcs_schema.proofs.Objects.{read_again, written_again}
 
 pub telegram_allowed : (t : Telegram) → IsTelegramInRange t → AreAllowed (telegram_rows t)
 telegram_allowed t allowed = allowed_append (header_layout.rows t.header) (flat_map track_layout.rows t.packets) allowed.header allowed.packets
@@ -57,3 +67,25 @@ message_allowed (messages.Movement m) allowed =
     movement_in m (movement_allowed m (allowed.head.0, tt) (lrbg_allowed m.lrbg allowed.head.1.1) allowed.packets allowed.complete)
 message_allowed (messages.Position m) allowed =
     position_in m (position_allowed m (allowed.head.0, tt) allowed.head.1 allowed.packets allowed.complete)
+
+-- ---- what was written is read again
+
+pub authority_again : (a : AuthorityValue) (d : Data) → d ≡ authority.to a → AreAllowed (authority_layout.rows a) → authority.of d ≡ Ok a
+unfolding authority
+authority_again a = read_again authority a
+
+pub report_again : (r : Report) (d : Data) → d ≡ report.to r → AreAllowed (report_layout.rows r) → report.of d ≡ Ok r
+unfolding report
+report_again r = read_again report r
+
+pub train_again : {E : Type 0} (p : TrainPacket) (result : Result Value E) → AreAllowed (train_layout.rows p) → IfOk result (λ v. view v ≡ train_packet.to p)
+    → IfOk result (λ v. Unit {0} → train_packet.of (view v) ≡ Ok p)
+train_again p result = written_again train_packet p result
+
+pub movement_again : {E : Type 0} (m : Movement) (result : Result Value E) → AreAllowed (movement_rows track_packet m) → IfOk result (λ v. view v ≡ message.to (messages.Movement m))
+    → IfOk result (λ v. Unit {0} → message.of (view v) ≡ Ok (messages.Movement m))
+movement_again m result allowed = written_again message (messages.Movement m) result (movement_in m allowed)
+
+pub position_again : {E : Type 0} (m : Position) (result : Result Value E) → AreAllowed (position_rows train_packet m) → IfOk result (λ v. view v ≡ message.to (messages.Position m))
+    → IfOk result (λ v. Unit {0} → message.of (view v) ≡ Ok (messages.Position m))
+position_again m result allowed = written_again message (messages.Position m) result (position_in m allowed)

@@ -32,6 +32,7 @@ impl Form for Message {
 
     ghost asks = { λ d. IsOk (any_object d) };
 
+    #[tactic(auto, using(crate::proofs::LawLemmas::movement_again, crate::proofs::LawLemmas::position_again), unfolding(crate::specs::AnyMessage::message))]
     fn to_form(&self, alloc: Global) -> Result<Value, Memory> {
         // Each kind is in range. That is for the proof alone: what is written is read again.
         match self {

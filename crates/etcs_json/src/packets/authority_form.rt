@@ -143,6 +143,7 @@ impl Form for Authority {
 
     ghost asks = { λ d. IsOk (any_object d) };
 
+    #[tactic(auto, using(crate::proofs::SumLemmas::made_of, crate::proofs::SumLemmas::authority_in_order, crate::proofs::SumLemmas::authority_sent, crate::proofs::LawLemmas::authority_again))]
     fn to_form(&self, alloc: Global) -> Result<Value, Memory> {
         // For the proof alone: what is written is read again.
         prove_allowed(self);

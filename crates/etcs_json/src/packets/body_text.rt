@@ -20,6 +20,7 @@ const FEW_BITS: usize = 1024;
 
 // The byte that eight bits make, the first of them at this place. Zeros follow the last bit.
 #[inline]
+#[tactic(auto, using(etcs_schema::proofs::BodyTextLemmas::whole_byte, etcs_schema::proofs::BodyTextLemmas::last_byte, etcs_schema::proofs::BodyTextLemmas::byte_small))]
 fn byte_at(bits: &BitSlice<'_>, at: usize) -> u8
     requires inside { at + 8 ≤ 8 * bytes_for (length bits.now) }
     requires not_past { at < length bits.now }
@@ -33,6 +34,7 @@ fn byte_at(bits: &BitSlice<'_>, at: usize) -> u8
 }
 
 // The bytes of the bits. The rest of the array carries no information.
+#[tactic(auto, unfolding(etcs_schema::specs::BodyText::bytes_in))]
 fn bytes_of<const BYTES: usize>(bits: &BitSlice<'_>) -> [u8; BYTES]
     requires { length bits.now ≤ 8 * BYTES }
     ensures { take (bytes_for (length bits.now)) result ≡ body_bytes bits.now }

@@ -202,6 +202,7 @@ impl Form for Report {
 
     ghost asks = { λ d. IsOk (any_object d) };
 
+    #[tactic(auto, using(crate::proofs::SumLemmas::made_of, crate::proofs::SumLemmas::report_in_order, crate::proofs::SumLemmas::report_sent, crate::proofs::LawLemmas::report_again))]
     fn to_form(&self, alloc: Global) -> Result<Value, Memory> {
         // For the proof alone: what is written is read again.
         prove_allowed(self);

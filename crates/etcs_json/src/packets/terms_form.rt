@@ -9,7 +9,7 @@ ghost use Rattle.etcs_schema.specs.Shape.{object};
 use crate::members::{FromNode, ReadMembers, make_record, pairs};
 use crate::reading::read_list;
 use etcs_bits::{Dir, Distance, Scale, Speed, Time};
-use etcs_profile::{Authority, DangerPoint, EndTimer, Overlap, Section, SectionTimer};
+use etcs_profile::{Authority, BuildError, DangerPoint, EndTimer, Overlap, Section, SectionTimer};
 use etcs_schema::{FormError, Node};
 use std::alloc::Global;
 use std::marker::Model;
@@ -86,7 +86,7 @@ impl ReadMembers for Terms {
 
 /// The movement authority with these conditions: packet 12 if there is a `main` speed, else packet
 /// 15. It is never too long.
-#[tactic(auto)]
+#[tactic(auto, using(crate::proofs::AuthorityWidth::authority_short))]
 pub(crate) fn authority_of(dir: Dir, scale: Scale, main: Option<Speed>, terms: Terms) -> Authority
     ensures { result ≡ authority_value dir scale main terms }
 {
@@ -105,6 +105,7 @@ pub(crate) fn authority_of(dir: Dir, scale: Scale, main: Option<Speed>, terms: T
     );
     match built {
         Ok(authority) => authority,
-        Err(_) => unreachable!("31 sections are not too many"),
+        Err(BuildError::TooMany) => unreachable!("there are at most 31 sections"),
+        Err(BuildError::TooLong) => unreachable!("31 sections are not too long"),
     }
 }

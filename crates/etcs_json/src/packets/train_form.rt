@@ -36,6 +36,7 @@ impl Form for TrainPacket {
 
     ghost asks = { λ d. IsOk (any_object d) };
 
+    #[tactic(auto, using(crate::proofs::LawLemmas::train_again))]
     fn to_form(&self, alloc: Global) -> Result<Value, Memory> {
         // For the proof alone: what is written is read again.
         prove_allowed(self);
