@@ -1,6 +1,6 @@
 //! Help and the version of the program, for standard error.
 
-/// The program's name and version, the number in the file VERSION. `./release.sh raise` changes both.
+/// The program's name and version, the number in the file VERSION. `scripts/release.sh raise` changes both.
 pub const VERSION: &str = "balisecheck 0.5.6";
 
 /// How the program is called, with examples.
