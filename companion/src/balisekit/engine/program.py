@@ -85,7 +85,7 @@ class Program:
     path: str
     sha256: str
     about: Mapping[str, str] = field(default_factory=dict)
-    """The papers of a stored program, by the first word of each line. Empty for any other program."""
+    """The metadata of a stored program, by the first word of each line. Empty for any other program."""
     timeout: Optional[float] = None
     """For how many seconds balisekit waits for an answer; None is a limit by the size of the input."""
     _stop: Event = field(default_factory=Event, compare=False, repr=False)
