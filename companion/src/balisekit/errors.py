@@ -6,7 +6,7 @@ from contextlib import contextmanager
 from typing import Iterator, List, Optional, Sequence
 
 SHOWN = 20
-"""How many faults of a table are shown. The others are counted."""
+"""How many faults of a table are shown."""
 
 
 class KitError(Exception):

@@ -21,7 +21,7 @@ from balisekit.tables.names import NAMED, clean, describe_group, describe_messag
 
 
 def run(options: argparse.Namespace, checked: Checked, of_line: Options) -> int:
-    """Writes the pictures, and an index of them. What is refused is named, and the rest is drawn."""
+    """Writes the pictures and reports each file. What is refused is reported too, and the rest is drawn."""
     for item in [*refused(checked), *not_looked_at(checked)]:
         print(f"balisekit: {item}", file=sys.stderr)
     for note in passed_over(checked.table):

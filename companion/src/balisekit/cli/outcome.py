@@ -36,7 +36,7 @@ def _letters(options: argparse.Namespace) -> Sequence[str]:
 
 
 def stated(options: argparse.Namespace) -> Options:
-    """What the user states of the line. TableError is raised for an option that no rule uses that is asked for."""
+    """What the user states of the line. TableError is raised for an option that none of the requested rules uses."""
     asked = _letters(options)
     settings.refuse_unused(options, asked)
     line = settings.of_line(options)
@@ -48,7 +48,7 @@ def stated(options: argparse.Namespace) -> Options:
 def outcome(options: argparse.Namespace, line: Options, now: datetime, keep: bool = False) -> Outcome:
     """What the rules find in such a line, and what was accepted on this day if there is a file of entries.
 
-    `keep` is for those who need all telegrams themselves.
+    With `keep` the records of all telegrams are kept, for callers that read them several times.
     """
     began = time.perf_counter()
     entries = accepted.read(options.accepted) if options.accepted else None

@@ -15,7 +15,7 @@ from balisekit.tables.names import clean
 
 FULL = "fold nothing: decoded telegrams and groups without findings are printed too"
 OF_THE_DOCUMENT = ("messages", "by_position", *(word[2:].replace("-", "_") for word in shared.READING), "all")
-"""The options by which a document differs."""
+"""The options that change the document."""
 
 
 def add_options(parser: argparse.ArgumentParser) -> None:

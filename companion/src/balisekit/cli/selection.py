@@ -1,4 +1,4 @@
-"""Groups and aspects that options name. A name that the table has not is refused with the names that resemble it."""
+"""Groups and aspects that options name. An unknown name is refused with the names that resemble it."""
 from __future__ import annotations
 
 from dataclasses import replace
@@ -17,7 +17,7 @@ COMPARED = 100
 
 
 def meant(name: str, known: Iterable[str]) -> str:
-    """The known names that resemble this one in either case, at most three, as a question. Without any it is empty."""
+    """A question with the known names that resemble this one in either case, at most three. Without any it is empty."""
     spelled: Dict[str, str] = {}
     for each in known:
         spelled.setdefault(each[:COMPARED].casefold(), each)
@@ -58,7 +58,7 @@ def check_aspect(table: Table, aspect: Optional[str]) -> None:
 
 
 def check_aspect_of(group: Group, aspect: Optional[str]) -> None:
-    """Raises TableError if this group has not the aspect that is asked for."""
+    """Raises TableError if this group does not have the aspect that is asked for."""
     known = [known.name for known in group.aspects]
     if aspect is not None and aspect not in known:
         has = f"its aspects are {', '.join(map(quoted, known))}" if any(known) else "what it sends is for every aspect"

@@ -1,6 +1,6 @@
 """What a user states of the line: by options, else by the table [check] of balisekit.toml beside the table.
 
-The table [report] of the file has what a report is headed with.
+The table [report] of the file has the heading of reports.
 """
 from __future__ import annotations
 
@@ -114,7 +114,7 @@ def _of_file(options: argparse.Namespace) -> Dict[str, Any]:
 
 
 def _value(name: str, value: object) -> Any:
-    """A value of the file as that of an option."""
+    """A value of the file, read as an option is."""
     try:
         return KINDS[name](own_headings.words(value))
     except argparse.ArgumentTypeError as error:

@@ -161,7 +161,7 @@ def _slots(side: Side, number: int, group: Group) -> Mapping[Slot, Row]:
 
 
 def _cycles(before: Sequence[Moved], after: Sequence[Moved]) -> Iterator[Cycle]:
-    """The telegrams that went round in a circle. In one group and aspect, or one balise, they are found first."""
+    """The telegrams that changed places in a circle. In one group and aspect, or one balise, they are found first."""
     pairs, _, _ = paired(
         before,
         after,

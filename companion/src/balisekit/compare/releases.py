@@ -1,6 +1,6 @@
 """What differs between two releases of a line: groups, telegrams, messages and findings.
 
-Groups are paired by their identity, telegrams by aspect and position. So the order of groups says nothing.
+Groups are paired by their identity, telegrams by aspect and position. So the order of groups does not matter.
 """
 from __future__ import annotations
 
@@ -30,7 +30,7 @@ OTHER_ORDER = (
 
 @dataclass(frozen=True)
 class Changed:
-    """A telegram or message that differs. Without changes it differs in fill or case alone."""
+    """A telegram or message that differs. Without changes it differs only in fill or case."""
 
     words: str
     old: int
@@ -48,7 +48,7 @@ class Difference:
     groups_added: List[str] = field(default_factory=list)
     groups_removed: List[str] = field(default_factory=list)
     added: List[str] = field(default_factory=list)
-    """Telegrams of groups that are in both, and messages, which the new release alone has."""
+    """Telegrams of groups that are in both releases, and messages, which only the new release has."""
     removed: List[str] = field(default_factory=list)
     groups_renumbered: List[Renumbered] = field(default_factory=list)
     exchanged: List[Exchanged] = field(default_factory=list)
@@ -276,7 +276,7 @@ def _packet(form: Form, place: int) -> Hashable:
 
 
 def _without(keyed: Keyed, others: Keyed) -> Iterator[Place]:
-    """The findings of one release that the other one has not."""
+    """The findings that only one of the two releases has."""
     counted = Counter(key for key, _ in others)
     for key, place in keyed:
         counted[key] -= 1

@@ -18,9 +18,9 @@ from balisekit.tables.model import Group, Row
 from balisekit.tables.names import NAMED, kilometre, listed
 
 TELEGRAM = ("group", "identity", "aspect", "balise")
-"""The columns that tell which telegram a row of a sheet is about."""
+"""The columns that identify the telegram of a row."""
 VARIABLE = ("packet", "element", "variable")
-"""The columns that tell which variable of it."""
+"""The columns that identify the variable in the telegram."""
 VALUES = ("raw", "value", "unit", "km")
 COLUMNS = (*TELEGRAM, *VARIABLE, *VALUES)
 Key = Tuple[str, ...]

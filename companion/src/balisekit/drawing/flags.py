@@ -23,7 +23,7 @@ class Mark(NamedTuple):
     group: str = ""
     """The group that it is about: all that is about one group has one flag."""
     is_quiet: bool = False
-    """Whether it is no fault: it was accepted, or correct data get it."""
+    """Whether it is no fault: it was accepted, or the rule also reports it for correct data."""
 
 
 class Flag(NamedTuple):

@@ -159,7 +159,7 @@ def _contents(title: str, forms: Sequence[Form], short: Sequence[Finding]) -> Li
 
 
 def draw(title: str, contents: Sequence[Content], where: Kilometres, titled: bool = False, name: str = "") -> Picture:
-    """The picture of a group: a row for each content, below the title if it is to be seen."""
+    """The picture of a group: a row for each content, below the title if that is visible."""
     drawn = _drawn(title if titled else "", contents, where)
     km, name = where.words(0, NOMINAL), name or clean(title)
     description = f"km {km}. {drawn.description}" if km else drawn.description
@@ -167,7 +167,7 @@ def draw(title: str, contents: Sequence[Content], where: Kilometres, titled: boo
 
 
 def _drawn(title: str, contents: Sequence[Content], where: Kilometres) -> Picture:
-    """What draws a picture without its name: its title is to be seen if there is one."""
+    """The function that draws a picture without its name. A title is visible if there is one."""
     rows = [(content, [way(content.forms, each, content.infill) for each in DIRECTIONS]) for content in contents]
     nominal, reverse = (
         max((place for _, ways in rows for place in places(ways[index])), default=0) for index in range(2)

@@ -116,7 +116,7 @@ def box(style: str, text: str, x: int, y: int) -> Box:
 
 
 def shortened(style: str, text: str, room: int) -> str:
-    """As much of a text as fits into this room, with three dots if that is not all of it."""
+    """As much of a text as fits into this width, with three dots if something is cut off."""
     if width(style, text) <= room:
         return text
     count, left = 0, room - width(style, "\u2026")

@@ -37,13 +37,13 @@ KEPT = 64
 
 @dataclass(frozen=True)
 class Band:
-    """What a group says in its chosen aspect in one direction."""
+    """What a group sends in its chosen aspect for one direction."""
 
     station: BaliseGroup
     aspect: str
     way: Way
     has_other: bool
-    """Whether the group says something in the other direction too."""
+    """Whether the group sends something for the other direction too."""
     found: Sequence[Finding] = ()
     """The profiles of this direction that the program has found too short or missing."""
 

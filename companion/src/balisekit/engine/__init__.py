@@ -1,1 +1,1 @@
-"""The program balisecheck: where it is, how it is run, and what its answers hold."""
+"""The program balisecheck: where it is, how it is run, and what its answers contain."""

@@ -17,7 +17,7 @@ if TYPE_CHECKING:
 TOP = about.TOP
 """The top of the repository, if this is a clone."""
 SECONDS = 60
-"""For how long the start script of the clone may take, which sums up its sources."""
+"""How long the start script of a clone may take to compute the checksum of its sources."""
 _STARTED: List[Popen[bytes]] = []
 """The start script that runs ahead."""
 

@@ -1,4 +1,4 @@
-"""What the program says, as regular expressions, and what a line of it holds.
+"""The lines that the program writes, as regular expressions, and what each line contains.
 
 schemas/report-grammar.txt has the same lines. A line has a name and an expression, in which {NAME} stands for the
 expression of that name. An expression is matched against a whole line, without its line end.
@@ -88,13 +88,13 @@ class Verdict(NamedTuple):
 
     line: str
     groups: Optional[int] = None
-    """Of a yes: the groups that were checked, and None else."""
+    """The number of groups that were checked, if the answer is yes. Otherwise None."""
     messages: Optional[int] = None
     findings: int = 0
 
     @property
     def yes(self) -> bool:
-        """Whether the program has said yes."""
+        """Whether the program has answered yes."""
         return self.groups is not None
 
 
@@ -116,7 +116,7 @@ class Refusal(NamedTuple):
     """A line that begins with `refused: `. What it does not name is None."""
 
     text: str
-    """The words behind the place: `spare at 15 end 17`."""
+    """The words after the place: `spare at 15 end 17`."""
     line: str = ""
     """The program's whole line."""
     why: Optional[str] = None
@@ -132,7 +132,7 @@ class Refusal(NamedTuple):
 
 
 def _parts(name: str, line: str, begin: str = "") -> Optional[Dict[str, Any]]:
-    """What a line of this name holds, or None if it is none. No number has more than 18 digits."""
+    """The parts of a line of this name, or None if it is no such line. No number has more than 18 digits."""
     matches = (expression.fullmatch(line) for expression in expressions(name, begin))
     match = None if LONG.search(line) else next(filter(None, matches), None)
     if match is None:

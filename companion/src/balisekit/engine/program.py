@@ -27,7 +27,7 @@ PART = 64
 """The lines or messages of a part."""
 AT_A_TIME = min(4, os.cpu_count() or 1)
 SHOWN = 100
-"""This many characters of a line that is no answer are shown."""
+"""How many characters of a wrong answer are shown."""
 HANDSHAKE = (
     (["check"], '{"groups":[],"messages":[]}', 0, "yes: groups 0, messages 0"),
     (["--version"], "", 2, "refused: usage is balisecheck check, decode [--radio] or encode [--radio]"),
@@ -39,9 +39,9 @@ HANDSHAKE = (
         '"q_link":0,"user_bits":210}',
     ),
 )
-"""The words, the input, the status and the answer of each run by which the program is known."""
+"""Words, input, status and answer of each trial run."""
 Part = Tuple[int, int]
-"""The first line of a part, and the line behind its last one."""
+"""The first line of a part, and the line after its last one."""
 Answer = Union[str, Refusal]
 Done = TypeVar("Done")
 
@@ -85,9 +85,9 @@ class Program:
     path: str
     sha256: str
     about: Mapping[str, str] = field(default_factory=dict)
-    """The papers of a stored program, by the first word of each line. Empty for any other program."""
+    """The metadata of a stored program. Empty for any other program."""
     timeout: Optional[float] = None
-    """For how many seconds balisekit waits for an answer; None is a limit by the size of the input."""
+    """How many seconds an answer may take. None is a limit by the size of the input."""
     _stop: Event = field(default_factory=Event, compare=False, repr=False)
 
     @classmethod
@@ -216,7 +216,7 @@ class Program:
 
     def _in_parts(self, work: Callable[[Program, Part], Iterator[Done]], starts: Sequence[int]) -> Iterator[Done]:
         """What is done for the lines from these on, by several runs at a time. They end with the iterator."""
-        from concurrent.futures import ThreadPoolExecutor  # (few inputs need it, and it imports much)
+        from concurrent.futures import ThreadPoolExecutor  # (slow, and seldom needed)
 
         with ThreadPoolExecutor(AT_A_TIME) as pool:
             try:
@@ -236,7 +236,7 @@ class Program:
             verdict = grammar.verdict(first)
             refusal = None if verdict else grammar.refusal("check", first)
             count = verdict.findings if verdict else 0
-            if count > size:  # (a packet has 14 bits at least, and a telegram more digits than findings)
+            if count > size:  # (a telegram has more digits than findings)
                 raise run.no_answer(f"more findings than the document has bytes: {first}")
             findings: Dict[str, Finding] = {}
             for line in lines:

@@ -137,7 +137,7 @@ FROM_TRAIN: Dict[int, str] = {
     0: f"q_scale nid_c nid_bg {REPORT}",
     1: f"q_scale nid_c nid_bg prv_nid_c prv_nid_bg {REPORT}",
 }
-"""The same of packets from train to track."""
+"""The same for packets from train to track."""
 ONLY_WITH: Dict[str, Tuple[Tuple[str, str], ...]] = {
     "nid_ntc": (("m_leveltr", "1"), ("m_level", "1")),
     "l_trainint": (("q_length", "[12]"),),

@@ -30,7 +30,7 @@ class Limit:
     seconds: float
     size: Optional[int] = None
     stop: Event = field(default_factory=Event)
-    """Once it is set all runs with this limit are ended."""
+    """Once it is set, all runs with this limit end."""
 
     @classmethod
     def of(cls, size: int, timeout: Optional[float], stop: Event) -> Limit:

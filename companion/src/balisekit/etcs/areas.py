@@ -38,9 +38,9 @@ class Area(NamedTuple):
     """Which one, such as "80 km/h"."""
     begin: int
     end: Optional[int]
-    """Where it ends. One that goes on and on has no end, and one place ends where it begins."""
+    """Where it ends. An area without end has None, and a single place ends where it begins."""
     layout: str = ""
-    """Whose layout it was read by, if that is not proved."""
+    """The source of the layout by which it was read, if the layout is not proved."""
     acknowledged: Optional[int] = None
     """From where on the driver acknowledges it, if it has to be acknowledged."""
 

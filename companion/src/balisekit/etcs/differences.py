@@ -33,7 +33,7 @@ PACKET_KEYS: Sequence[Callable[[Values], object]] = (
 
 
 class Change(NamedTuple):
-    """A field that differs, or a part that is in one of both alone."""
+    """A field that differs, or a part that only one of the two has."""
 
     kind: str
     where: str
@@ -153,7 +153,7 @@ def _list(
 
 
 def _part(where: str, kind: str, form: Any, around: Around) -> Change:
-    """All values of a part that is in one of both alone."""
+    """All values of a part that only one of the two has."""
     text = "  ".join(_texts(form, around))
     return Change(kind, where, "", *((text, "") if kind == REMOVED else ("", text)))
 

@@ -30,7 +30,7 @@ class Field(NamedTuple):
     parts: Tuple[Tuple[str, int], ...] = ()
     """Its paths in the JSON with their bits. A field that the JSON does not write has none."""
     packet: Optional[int] = None
-    """In which packet it stands, counted from 0. A field of the header stands in none."""
+    """The index of its packet, counted from 0. A field of the header has None."""
     number: Optional[int] = None
     """The number of this packet, NID_PACKET."""
 
@@ -46,7 +46,7 @@ class Field(NamedTuple):
 
 
 class _End(Exception):
-    """The bits end within a field, or nothing more can be told apart."""
+    """The bits end within a field, or no further field can be distinguished."""
 
 
 class _Walk:
@@ -107,7 +107,7 @@ class _Walk:
             self.object(keys, f"{path}/{place}")
 
     def packets(self, from_track: bool) -> None:
-        """Packets up to the end mark, or as far as there is room for one."""
+        """Packets up to the end mark, or while enough bits for a packet are left."""
         index = 0
         while len(self.bits) - self.at >= 8:
             self.packet, self.number = index, int(self.bits[self.at : self.at + 8], 2)

@@ -25,7 +25,7 @@ DATA = "raw_layouts.json"
 CERTAIN = 97
 """From how many per cent on a layout is taken as certain. No remark rests on another one; E5 omits one by it."""
 IMPLIED = ("Q_NEWCOUNTRY", "N_ITER")
-"""Variables that an object has no key for, as the program's JSON has none: other keys, and lengths of lists, say it."""
+"""Variables without a key, as in the program's JSON: other keys, and lengths of lists, give their values."""
 NUMBERS = re.compile(r"(\d+)(?: to (\d+))?(?: (.+))?")
 
 

@@ -113,7 +113,7 @@ def fields_of(packet: Form, from_track: bool = True) -> Optional[Form]:
 
 
 def fault_of(packet: Form, from_track: bool = True) -> Optional[RawFault]:
-    """Why a raw packet whose layout is certain has not exactly the bits of it, or which spare number is in it.
+    """Why a raw packet does not have exactly the bits of its certain layout, or which spare number is in it.
 
     Only the first fault is given. A packet without a certain layout has none.
     """

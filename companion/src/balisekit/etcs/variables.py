@@ -22,14 +22,14 @@ NO_FORM: Values = {}
 
 
 class Around(NamedTuple):
-    """Where a number stands: its packet, and the object that has its key."""
+    """What is around a number: its packet, and the object that has its key."""
 
     packet: Values = NO_FORM
     parent: Values = NO_FORM
     from_track: bool = True
 
     def inside(self, form: Values) -> Around:
-        """Where the numbers of an object within this one stand."""
+        """What is around the numbers of an object within this one."""
         return Around(form if "nid_packet" in form else self.packet, form, self.from_track)
 
 

@@ -73,7 +73,7 @@ def read(path: str) -> Input:
     """The file of this path. A folder, a device, a pipe and a file that is being written are refused."""
     with faults_of(path):
         try:
-            before = os.stat(claimed(path))
+            before = os.stat(path)
             if not stat.S_ISREG(before.st_mode):
                 raise TableError(f"it is a {'folder' if stat.S_ISDIR(before.st_mode) else 'device or pipe, no file'}")
             if before.st_size > GREATEST:
@@ -87,4 +87,4 @@ def read(path: str) -> Input:
             raise TableError("standard input is not read: name a file" if path == "-" else why) from error
         if (before.st_size, before.st_mtime_ns) != (after.st_size, after.st_mtime_ns) or len(content) != after.st_size:
             raise TableError("the file is being written")
-    return Input(path, content)
+    return Input(claimed(path), content)

@@ -17,8 +17,6 @@ from balisekit.io.interrupts import held
 LEAST, MOST = 2500, 4
 """The fewest items that are shared, and the most processes that share them: each process needs memory."""
 DONE = b"."
-PR_SET_PDEATHSIG = 1
-"""The option of prctl that sets which signal a process gets when its parent ends."""
 Work = Callable[[int, int], Iterable[Any]]
 """Makes one part of the results, by the number of the part and the number of parts."""
 
@@ -57,7 +55,7 @@ def end_with_parent() -> None:
     with suppress(Exception):  # (a Python can lack ctypes, or a system forbid it)
         import ctypes
 
-        ctypes.CDLL(None).prctl(PR_SET_PDEATHSIG, signal.SIGKILL)
+        ctypes.CDLL(None).prctl(1, signal.SIGKILL)  # PR_SET_PDEATHSIG
 
 
 class Worker:

@@ -1,4 +1,4 @@
-"""What is said of accepted findings and remarks: in words, as JSON, and as entries for those that are open."""
+"""Accepted findings and remarks in words and as JSON, and entries for the open ones."""
 from __future__ import annotations
 
 from collections import Counter

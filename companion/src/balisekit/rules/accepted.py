@@ -46,7 +46,7 @@ UNNAMED = "\0"
 """Instead of the name of a message that has none, or `*`, or that of another message. No entry is about it."""
 EARLIEST = datetime.date(2000, 1, 1)
 ONE_DAY = datetime.timedelta(days=1)
-"""By so much the day of a signature may be after that of the run, which is by universal time."""
+"""How much later than the day of the run, in universal time, the day of a signature may be."""
 ONE_TELEGRAM = ("F1", "F4", "F6", "F9", "L1", "L2", "L3", "L5", "L6", "L9")
 """The findings and remarks about one telegram only."""
 ALL_ASPECTS = ("F3", "F14", "F15", "F16")

@@ -37,7 +37,7 @@ class Applied:
 
     @property
     def empty(self) -> Sequence[Rule]:
-        """The rules that had something to look at, and looked at nothing."""
+        """The rules that had something to compare, and compared none of it."""
         return [rule for rule, result in self.results.items() if result.is_empty]
 
 

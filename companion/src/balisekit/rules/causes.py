@@ -30,7 +30,7 @@ class Cause(NamedTuple):
     places: Tuple[Place, ...]
     statement: Statement
     balise: Optional[Balise] = None
-    """The one that it is about, if it is not about those of its findings."""
+    """The balise that it is about, if that is not the balise of its findings."""
 
 
 def causes(checked: Checked, findings: Sequence[Place]) -> List[Cause]:
@@ -69,7 +69,7 @@ def _about(place: Place) -> Tuple[object, ...]:
 
 
 def _missing_at(place: Place) -> Tuple[object, ...]:
-    """Of F10 and F12: group or message, aspect and direction. Of other findings nothing."""
+    """For F10 and F12: group or message, aspect and direction. For other findings nothing."""
     is_missing = place.finding.rule in (NO_GRADIENT, NO_SPEED_PROFILE)
     return (*_about(place), place.finding.aspect, place.finding.direction) if is_missing else ()
 

@@ -159,7 +159,7 @@ class Place(NamedTuple):
     finding: Finding
     group: Optional[Group] = None
     aspect: Optional[str] = None
-    """The aspect's name in the table, also where the group has one alone."""
+    """The aspect's name in the table, even if the group has only one aspect."""
     row: Optional[Row] = None
     """The balise's row. Without an aspect, for F16, it is that of the first aspect."""
     message: Optional[Message] = None
@@ -363,7 +363,7 @@ def _scene(groups: Sequence[Group], records: Mapping[int, Record], index: int) -
 
 
 class _Names:
-    """What the numbers of findings stand for in the table. NoAnswer is raised for what was not handed in."""
+    """The groups, aspects and balises of the table that the numbers of findings mean. NoAnswer is raised for others."""
 
     def __init__(self, readable: Checked, findings: Sequence[Finding]) -> None:
         self._readable = readable

@@ -57,7 +57,7 @@ FIELDS_OF: Callable[[Form], Optional[Form]] = fields_of
 
 
 class Stretch(NamedTuple):
-    """An element of a profile: what holds from one distance to another one. Without an end it holds on and on."""
+    """An element of a profile: what holds from one distance to another one. Without an end it is open."""
 
     begin: int
     end: Optional[int]

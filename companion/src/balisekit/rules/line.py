@@ -66,7 +66,7 @@ class LinkedGroups(NamedTuple):
     def between(self, one: BaliseGroup, other: BaliseGroup, chain: Chain) -> Sequence[range]:
         """The places of the groups between two groups that a chain does not name.
 
-        They are found without a look at each, since thousands may stand between two groups.
+        They are found without a look at each, since thousands can be between two groups.
         """
         (low, above), (low_too, above_too) = self.bounds[one.number], self.bounds[other.number]
         begin, end = min(above, above_too), max(low, low_too)

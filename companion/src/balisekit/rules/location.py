@@ -1,4 +1,4 @@
-"""Where something is that a rule speaks of: a balise group on its track, a balise's packet, a message's, a link."""
+"""The subject of a remark: a balise group on its track, a packet of a balise or message, or a link."""
 from __future__ import annotations
 
 from dataclasses import dataclass
@@ -43,9 +43,9 @@ class BaliseGroup:
     """Whether it says anything of the track in nominal and in reverse direction."""
 
     def speaks_to(self, way: Optional[int]) -> bool:
-        """Whether it says anything to a train that passes it this way along the kilometres: 1 if they rise for it.
+        """Whether it sends anything to a train that passes it in this way: 1 if the kilometres rise for the train.
 
-        If that is not known, it has to say something in both directions.
+        If its direction is not known, it must send something for both directions.
         """
         if way is None or self.rising is None:
             return all(self.says)

@@ -64,7 +64,7 @@ class Table:
     """`utf-8`, `utf-16`, `windows-1252` or `xlsx`."""
     separator: str
     passed_over: Tuple[str, ...]
-    """Headings of the columns that say nothing here."""
+    """The headings of the columns that are not used."""
     rows: Tuple[Row, ...]
     """The table's rows in their order."""
     groups: Tuple[Group, ...]

@@ -12,7 +12,7 @@ NAMED = 20
 """The most columns that are passed over, rows or aspects of one kind that are named."""
 ORDINALS = ("first", "second", "third", "fourth", "fifth", "sixth", "seventh", "eighth", "ninth", "tenth")
 BLANK = re.compile("[\u034f\u115f\u1160\u17b4\u17b5\u180b-\u180f\u2800\u3164\ufe00-\ufe0f\uffa0\U000e0100-\U000e01ef]")
-"""Letters and marks that show nothing."""
+"""Letters and marks that are invisible."""
 
 
 def ordinal(place: int) -> str:
@@ -64,7 +64,7 @@ def quoted(text: str) -> str:
 
 
 def passed_over(table: Table) -> List[str]:
-    """A line on the columns that say nothing here, if there are any: the first ones, and those that look mistyped."""
+    """A line on the columns that are not used, if there are any: the first ones, and those that look mistyped."""
     pairs = list(zip(table.passed_over, table.meant))
     mistyped = [pair for pair in pairs[NAMED:] if pair[1]]
     names = [

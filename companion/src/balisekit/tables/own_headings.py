@@ -20,7 +20,7 @@ KNOWN = {COLUMNS_TABLE: tuple(dict.fromkeys((*COLUMNS, *SHEET))), EXPECT_TABLE: 
 
 
 class ReportHeading(NamedTuple):
-    """What [report] has: texts above a report. What it does not state is empty."""
+    """The texts of [report], which head a report. A text that is not stated is empty."""
 
     project: str = ""
     revision: str = ""
@@ -105,7 +105,7 @@ def _parsed(content: bytes) -> Dict[str, Any]:
 
 
 def _look_at_stated(table: str, stated: Any, keys: Sequence[str]) -> None:
-    """Raises TableError for what is none of these keys."""
+    """Raises TableError for a key that is none of these."""
     if not isinstance(stated, dict):
         raise TableError(f"{table} is no table: write [{table}], and a line for each key below it")
     for name in stated:
@@ -114,7 +114,7 @@ def _look_at_stated(table: str, stated: Any, keys: Sequence[str]) -> None:
 
 
 def _meant(name: str, known: Sequence[str], what: str) -> str:
-    """For what a name may have been mistyped."""
+    """The known name of which this one might be a mistyping, or all known names."""
     meant = alike(name, known)
     return f'did you mean "{meant}"?' if meant else f"the {what} are {', '.join(known)}"
 

@@ -296,7 +296,7 @@ def _lanes(rows: Sequence[PlanRow]) -> Mapping[Lane, Sequence[PlanRow]]:
 
 
 def _clashes(rows: Sequence[PlanRow]) -> Iterator[TableError]:
-    """Rows that say two things of one place or aspect. Each is named once."""
+    """Rows that contradict each other about a place or aspect. Each is named once."""
     named: Dict[int, TableError] = {}
     for (kind, _, _), lane in _lanes(rows).items():
         if kind in (*STRETCHES, *BORDERS):

@@ -23,7 +23,7 @@ BY_POSITION = "--by-position orders balises by N_PIG, which hides a wrong N_PIG"
 COMPARED = 1000
 """How many headings that are passed over are compared with the known ones."""
 ABSENT = -1
-"""The place of a column that the table has not: each row that is read ends with an empty cell."""
+"""The index of a column that the table lacks: each row that is read ends with an empty cell."""
 NO_GROUP = "no group; fill merged cells"
 NUMBER = re.compile(r"[-+]?[0-9]+([.,][0-9]*)?")
 NAMES = "the column balise has names and no number: it is read as the column name, and the order of the rows counts"
@@ -132,7 +132,7 @@ def _is_name(cell: str) -> bool:
 
 
 def _meant(heading: str, places: Mapping[str, int]) -> str:
-    """The column that the table has not and that this heading resembles, or nothing."""
+    """The column that the table lacks and that this heading resembles, or nothing."""
     lacks = [name for name in COLUMNS if name not in places]
     return alike(heading.lower(), lacks)
 

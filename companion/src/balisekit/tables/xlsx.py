@@ -96,7 +96,7 @@ def _look_at_parts(content: bytes) -> None:
 
 
 def _look_at_size(part: zipfile.ZipInfo) -> None:
-    """A part is refused by its header alone, before it is unpacked."""
+    """A part is refused by its header, before it is unpacked."""
     if part.flag_bits & 1:
         raise TableError(f"{part.filename} in it is encrypted: save it without a password, or as CSV")
     if part.file_size > GREATEST_PART:
