@@ -13,11 +13,11 @@ pub fn no_finding_means_sound_text()
     no_finding_means_sound_line();
 }
 
-/// If bytes are read as a line without a finding, everything that a yes states is true: every telegram and
-/// message of the line has exactly one record. For each aspect of every group, running direction and
-/// set of missed balises whose declared duplicates are read, the assembled message is accepted and equals
-/// the message with nothing missed. Every other set is refused. In these messages and in each radio message,
-/// every movement authority has gradient and speed profiles, and all of them reach its supervised location.
+/// If bytes are read as a line without a finding, all is true that a yes says: every telegram and message of
+/// the line has exactly one record, and for each aspect of every group, running direction and set of missed
+/// balises whose declared duplicates are read, the assembled message is accepted and equals that with
+/// nothing missed, every other set being refused; there, as in each radio message, every movement authority
+/// has gradient and speed profiles, all reaching at least its supervised location.
 pub fn no_finding_says_yes()
     ensures { NoFindingSaysYes }
 {}
