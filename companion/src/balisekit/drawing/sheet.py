@@ -119,7 +119,7 @@ class Sheet:
         return self.x(min(max(place, self.least), self.greatest))
 
     def rect(self, style: str, title: str, places: Tuple[int, int], y: int, height: int) -> Optional[Tuple[int, int]]:
-        """The part of a rectangle that is on the sheet, at least a pixel wide. Its left and right edges are returned."""
+        """The part of a rectangle that is on the sheet, at least a pixel wide. Returns its left and right edge."""
         near, far = places
         if near > far:
             near, far = far, near
