@@ -20,8 +20,8 @@ import pathlib
 import re
 import sys
 
-sys.dont_write_bytecode = True  # so that no folder of it comes into being beside the tests
-sys.path.append(str(pathlib.Path(__file__).resolve().parents[1] / "tests"))  # last, since it has a documents.py too
+sys.dont_write_bytecode = True  # so that no folder for it is made beside the tests
+sys.path.append(str(pathlib.Path(__file__).resolve().parents[1] / "tests"))  # last, because it has a documents.py too
 
 from faults import random_document  # noqa: E402  (the path comes first)
 from hostile_program import Job, Program  # noqa: E402
@@ -88,7 +88,7 @@ def spoiled_keys(line):
 
 
 def spoiled_line(words, known):
-    """A line that the command mostly refuses."""
+    """A line that the command refuses in most cases."""
     line, way = right_line(words, known), numbers.random()
     if way < 0.1:
         return mutated(numbers, words, [line, numbers.choice(known)])
@@ -103,7 +103,7 @@ def spoiled_line(words, known):
 
 
 def some_lines(words, known):
-    """Up to three lines that are accepted and mostly a spoiled one, as the bytes of an input, and their number."""
+    """Up to three lines that are accepted and in most cases a spoiled one, as the bytes of an input; their number."""
     lines = [right_line(words, known) for _ in range(numbers.choice((0, 1, 1, 2, 3)))]
     if numbers.random() < 0.95:
         lines.append(spoiled_line(words, known).replace(b"\n", b" "))
@@ -129,7 +129,7 @@ def some_document(known):
 
 
 def inputs(words, known, count, met):
-    """As many documents, or inputs with as many lines."""
+    """`count` documents, or inputs with `count` lines."""
     found, made = [], 0
     while made < count:
         data, what = some_document(known) if words == CHECK else some_lines(words, known)
@@ -165,7 +165,7 @@ def compare(programs, words, known, count, met):
 
 
 def share(said, process):
-    """What one of several processes counts, and its first differences: it takes each so many-th batch."""
+    """The counts and the first differences of one of several processes, which take batches in turn."""
     met, differences, programs = collections.Counter(), [], [Program(path) for path in (said.old, said.new)]
     try:
         for words in said.commands:

@@ -1,4 +1,4 @@
-"""Reads the headers of telegrams as `balisecheck decode` does, but refuses nothing: an independent ten lines."""
+"""Reads the headers of telegrams as `balisecheck decode` does, but refuses nothing: independent of the program."""
 import json
 import sys
 

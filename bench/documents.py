@@ -31,7 +31,7 @@ def put_packet(out, number, body, direction=BOTH, scale=METRES):
 
 
 def authority(limit, has_speed=True):
-    """An authority to stop there, of a single section: of packet 12, which has a speed, or of packet 15."""
+    """An authority of a single section that stops at the limit: of packet 12, which has a speed, or of packet 15."""
     body = Spelling()
     if has_speed:
         body.one_of(SPEEDS, 7)  # V_MAIN
@@ -93,7 +93,7 @@ def pair(place, counter):
 
 
 def group(place, aspects):
-    """The group at this place, with so many aspects."""
+    """The group at this place, with `aspects` aspects."""
     if aspects == 1:
         return {"balises": pair(place, ANY_MESSAGE)}
     return {"aspects": [{"balises": pair(place, counter)} for counter in range(aspects)]}

@@ -70,7 +70,7 @@ def put(number, body, direction, scale):
 
 
 def profile_to(kind, direction, metres):
-    """A profile that ends so far away in any scale that can express it, or a longer or an open one."""
+    """A profile that ends at this distance, in any scale that can express it, or a longer or an open one."""
     element, end_mark, other = PROFILES[kind]
     scale = numbers.choice((0, 1, 2) if metres % 10 == 0 else (0, 1))
     units = metres * 10 // 10 ** scale
@@ -81,18 +81,18 @@ def profile_to(kind, direction, metres):
 
 
 def short_profile(kind, direction, metres):
-    """A profile that ends before that."""
+    """A profile that ends before this distance."""
     element, end_mark, _ = PROFILES[kind]
     return put(kind, profile(max(0, metres - numbers.choice((1, 10, metres))), end_mark, element), direction, 1)
 
 
 def authority_to(number, direction, metres):
-    """An authority that ends so far away."""
+    """An authority that ends at this distance."""
     return put(number, authority(metres, number == LEVEL_1), direction, 1)
 
 
 def with_profiles(number, lacking=None, short=None):
-    """An authority and the profiles that it needs, but for the one that is lacking or short, in any order."""
+    """An authority and the profiles that it needs, in any order, without `lacking`, and with another `short` one."""
     direction, metres = numbers.randrange(3), numbers.randrange(1, MOST_METRES)
     those = [authority_to(number, direction, metres)]
     for kind in PROFILES:
@@ -134,7 +134,7 @@ def unplanned(authority_number):
 
 
 def within_room(make, *given):
-    """What this makes, as soon as it has room in a telegram."""
+    """The first of what this makes that fits into a telegram."""
     while True:
         those = make(*given)
         if size(those) <= ROOM:
@@ -145,7 +145,7 @@ def within_room(make, *given):
 
 
 def speakers_of(count):
-    """The places of so many balises, some of them in pairs of duplicates."""
+    """The places of `count` balises, some of them in pairs of duplicates."""
     places, speakers = list(range(count)), []
     while places:
         paired = len(places) > 1 and numbers.random() < 0.5
@@ -177,7 +177,7 @@ def aspect_of(speakers, header, contents, counters, long):
 
 
 def sound_group(identity, aspects):
-    """A group with so many aspects: with several, each speaker says the same in all, or has a counter for each."""
+    """A group with `aspects` aspects. If several, each speaker sends the same in all, or has a counter for each."""
     count = numbers.choice((1, 1, 2, 2, 2, 3, 3, 4, 5, 8))
     speakers = speakers_of(count)
     header = {"m_version": numbers.choice((32, 33)), "n_total": count - 1, "q_link": numbers.randrange(2),
@@ -210,7 +210,7 @@ def sound_document(has_aspects):
 
 
 def some_group(document, least=1, aspects=1):
-    """A group with so many balises and aspects at least, or None."""
+    """A group with at least this many balises and aspects, or None."""
     those = [it for it in document.groups if len(it.aspects[0]) >= least and len(it.aspects) >= aspects]
     return numbers.choice(those) if those else None
 
@@ -245,7 +245,7 @@ def mark_outside(document):
 
 
 def mark_unanswered(document):
-    """Any duplicate flag, mostly of a group of several balises."""
+    """Any duplicate flag, in most cases of a group of several balises."""
     group = some_group(document, least=2) or some_group(document)
     group.any_balise().header["m_dup"] = numbers.randrange(3)
 
@@ -302,7 +302,7 @@ def aspects_alike(document):
 
 
 def packets_differ(document):
-    """A pair of which one balise has a packet less or more, or its packets in another order."""
+    """A pair in which one balise has a packet less or more, or its packets in another order."""
     pairs = [(group, it) for group in document.groups for it in group.speakers if len(it) == 2]
     if not pairs:
         return
@@ -317,7 +317,7 @@ def packets_differ(document):
 
 
 def put_more(balise, packets):
-    """These packets too, at any place, if they have room."""
+    """Adds these packets at any index, if they fit."""
     if size(balise.packets) + size(packets) <= ROOM:
         at = numbers.randrange(len(balise.packets) + 1)
         balise.packets[at:at] = packets
@@ -363,7 +363,7 @@ def speed_short(document):
 
 
 def any_packets(document):
-    """Packets that were made without regard for each other."""
+    """Packets that were made independently of each other."""
     say(document, unplanned)
 
 

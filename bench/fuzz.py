@@ -1,5 +1,5 @@
 #!/usr/bin/env python3
-"""Random and mutated inputs for every command, without an answer that is known beforehand.
+"""Random and mutated inputs for every command, whose answers are not known beforehand.
 
     bench/fuzz.py --seconds S [--seed N]   for S seconds in all
     bench/fuzz.py --inputs M [--seed N]    M inputs a command; --command WORDS: of this command alone
@@ -19,7 +19,7 @@ import re
 import sys
 import time
 
-sys.dont_write_bytecode = True  # so that no folder of it comes into being beside the tests
+sys.dont_write_bytecode = True  # so that no folder for it is made beside the tests
 sys.path.insert(0, str(pathlib.Path(__file__).resolve().parents[1] / "tests"))
 
 from hostile_data import come_back, timed  # noqa: E402  (the path comes first)
@@ -78,7 +78,7 @@ def yes_to(document):
 
 
 def texts_read(document):
-    """The telegrams and messages that are read of a document: of a key that comes twice the last value counts."""
+    """The telegrams and messages that are read from a document. If a key is there twice, its last value counts."""
     read = json.dumps(json.loads(document)).encode()
     return [text.decode() for text in TEXT.findall(read)]
 
@@ -111,7 +111,7 @@ def batch(program, tests, words, choice, corpus):
 
 
 def fuzz(program, tests, seconds, seed, inputs=None, commands=COMMANDS):
-    """New inputs for each command, for so many seconds in all, or so many a command."""
+    """New inputs for each command, for `seconds` seconds in all, or `inputs` a command."""
     for words in commands:
         choice, corpus, name = random.Random(f"{seed} {words}"), accepted_of(program, words), " ".join(words)
         begin, runs, tried, spent = time.monotonic(), program.runs, 0, 0

@@ -77,7 +77,7 @@ def identity(number: int) -> Tuple[int, int]:
 
 
 def rows(groups: int, is_new: bool) -> Iterator[Row]:
-    """The rows, a form in place of the telegram."""
+    """The rows, with forms instead of telegrams."""
     for number in range(groups):
         track, place = divmod(number, GROUPS_OF_TRACK)
         nid_c, nid_bg = identity(number)
@@ -95,7 +95,7 @@ def rows(groups: int, is_new: bool) -> Iterator[Row]:
 def aspects(at: int, missing: int = 0) -> Iterator[Tuple[str, List[line_table.Form]]]:
     """Each aspect with the packets of the switched balise, for a signal at this metre of its track.
 
-    Signals agree on gradients, speeds and ends. The gradients of green may end so many metres too soon.
+    Signals agree on gradients, speeds and ends. The gradients of green end `missing` metres too soon.
     """
     line_table.GRADIENTS = tuple(
         (block * 2000, GRADIENTS[block % len(GRADIENTS)]) for block in range(at // 2000, at // 2000 + 4)
@@ -121,7 +121,7 @@ def sound_rows() -> Iterator[Row]:
 
 
 def make(folder: Path, count: int, program: Program) -> None:
-    """The tables OLD.csv, NEW.csv and OLD.xlsx, of about so many rows, and SOUND.csv."""
+    """The tables OLD.csv, NEW.csv and OLD.xlsx, of about `count` rows, and SOUND.csv."""
     import openpyxl
 
     for name, of in (("OLD", rows(count // 6, False)), ("NEW", rows(count // 6, True)), ("SOUND", sound_rows())):
@@ -166,7 +166,7 @@ def main() -> None:
     options = parser.parse_args()
     program = Program.find()
     with tempfile.TemporaryDirectory(prefix="balisekit-bench-") as room:
-        # In a process of its own: what a child of this one is said to take at most includes what this one holds.
+        # In a process of its own, because the peak of memory of a child includes the memory of its parent.
         maker = multiprocessing.Process(target=make, args=(Path(room), options.rows, program))
         maker.start()
         maker.join()

@@ -11,7 +11,7 @@ import time
 
 
 def peak_memory(process):
-    """The most memory that the process has held so far, in KiB, or None where it has ended."""
+    """The most memory that the process has held so far, in KiB, or None if it has ended."""
     try:
         with open(f"/proc/{process}/status") as status:
             found = [line.split()[1] for line in status if line.startswith("VmHWM:")]

@@ -40,7 +40,7 @@ def report(out):
 
 
 def filling(out, number, head, end):
-    """A packet that is kept as bits, with so many bits before its body, up to fewer than eight bits before `end`."""
+    """A packet that is kept as bits, with `head` bits before its body, up to fewer than eight bits before `end`."""
     bits = end - out.bits - numbers.randrange(8) - head
     record = {"nid_packet": out.put(number, 8)}
     if head == HEAD_BITS:

@@ -1,4 +1,4 @@
-"""New inputs for every command out of those of the tests: bits turned, numbers replaced, lines torn and joined.
+"""New inputs for every command, made from those of the tests: bits turned, numbers replaced, lines torn and joined.
 
 Every function takes a `random.Random` as `choice`, so a seed decides what comes out. Who imports this has put tests/ on
 the path.
@@ -35,7 +35,7 @@ def corpus_of(words):
 
 
 def turned(choice, line, first=0):
-    """Some bits of the line's digits turned, more often near its begin."""
+    """Some bits of the line's digits turned, more often near its beginning."""
     digits = list(line)
     for _ in range(choice.choice((1, 1, 1, 1, 1, 1, 2, 8))):
         place = first + int((len(line) - first) * choice.random() ** 1.5)
@@ -45,7 +45,7 @@ def turned(choice, line, first=0):
 
 
 def renumbered(choice, line):
-    """Some numbers of the JSON replaced, mostly by small ones."""
+    """Some numbers of the JSON replaced, more often by small ones."""
     places = list(re.finditer(rb"(?<=:)\d+", line))
     chosen = choice.sample(places, min(len(places), choice.choice((1, 1, 1, 1, 1, 3))))
     for found in sorted(chosen, key=lambda one: -one.start()):
@@ -67,7 +67,7 @@ def torn(choice, line, other):
 
 
 def random_line(choice, words):
-    """A line that is made of nothing."""
+    """A random line, not made from another one."""
     if words[0] == "decode" and choice.random() < 0.7:
         size = choice.choice((54, 208)) if words == DECODE else 2 * choice.randrange(3, 80)
         head = "a1" if words == DECODE else choice.choice(("0300", "8800")) + f"{size // 2 << 6 & 0xffff:04x}"[:2]
@@ -90,7 +90,7 @@ def mutated(choice, words, corpus):
 
 
 def turned_text(choice, document):
-    """The document with bits of one of its texts turned, or a text or a list put in place of another."""
+    """The document with bits of one of its texts turned, or with a text or a list replaced by another."""
     texts = list(re.finditer(rb'"[0-9a-fA-F]{8,}"', document))
     if not texts:
         return torn(choice, document, document)
@@ -102,7 +102,7 @@ def turned_text(choice, document):
 
 
 def recounted(choice, balises):
-    """A list of balises with one counter in the place of theirs."""
+    """A list of balises with one counter instead of theirs."""
     counter = choice.choice((7, 8, 254, 255, choice.randrange(256)))
 
     def changed(found):
@@ -111,7 +111,7 @@ def recounted(choice, balises):
 
 
 def regrouped(choice, document):
-    """The document with the balises of a group as an aspect, beside another aspect or another group."""
+    """The document with the balises of a group as an aspect, together with another aspect or another group."""
     lists = list(re.finditer(rb'"balises":(\[[^\[\]]*\])', document))
     if not lists:
         return torn(choice, document, document)

@@ -15,7 +15,7 @@ SPEEDS = range(121)  # in steps of 5 km/h
 RELEASE_SPEEDS = (*SPEEDS, 126, 127)  # calculated on board, national value
 STATIC_SPEEDS = (*SPEEDS, 127)  # end mark
 NATIONAL_LEVEL = 1
-# the packets with a layout of their own, and for how many bits there has to be room so that each can be made
+# the packets with a layout of their own, and how many bits must be left so that each can be made
 ROOM = {0: 14, 5: 79, 12: 192, 15: 185, 21: 54, 27: 58, 41: 71}
 OTHERS = [number for number in range(255) if number not in ROOM]
 FORM = json.JSONEncoder(separators=(",", ":"), sort_keys=True)
@@ -23,7 +23,7 @@ numbers = random.Random(USER_BITS)
 
 
 class Spelling:
-    """Fields, one after the other: what number their bits are, and how many there are."""
+    """Fields, one after the other: the number that all their bits are, and how many bits there are."""
 
     def __init__(self):
         self.value, self.bits = 0, 0
@@ -149,7 +149,7 @@ LAYOUTS = {5: linking, 12: authority_of_level_1, 15: authority, 21: gradients, 2
 
 
 def any_body(out, bits):
-    """So many bits without a layout, and zeros up to a whole byte in their text."""
+    """`bits` bits without a layout, and zeros up to a whole byte in their text."""
     pad = -bits % 8
     value = out.any(bits) << pad
     return f"{value:0{(bits + pad) // 4}x}" if bits else ""
@@ -162,7 +162,7 @@ def kept_as_bits(out, end):
 
 
 def packet(out, number, room):
-    """Puts a packet of at most so many bits, and gives its record."""
+    """Puts a packet of at most `room` bits, and returns its record."""
     record = {"nid_packet": out.put(number, 8)}
     if number == 0:
         record["nid_vbcmk"] = out.any(6)
@@ -191,7 +191,7 @@ def header(out):
 
 
 def packets(out):
-    """The packets of a telegram after its header: some with a layout, then others as long as one has room."""
+    """The packets of a telegram after its header: some with a layout, then others as long as one fits."""
     records = []
     for number in numbers.sample(list(ROOM), numbers.randrange(3, len(ROOM) + 1)):
         room = USER_BITS - END_BITS - out.bits

@@ -32,12 +32,12 @@ from kit import line_table
 
 CHROMIUM = os.environ.get("CHROMIUM") or shutil.which("chromium")
 LEAST_ONLY = 10_000
-"""From so many groups on, the report without rules over the meaning is measured too."""
+"""From this many groups on, the report without rules over the meaning is measured too."""
 OPTIONS = ("--headless", "--no-sandbox", "--disable-gpu", "--disable-dev-shm-usage", "--hide-scrollbars")
 
 
 def rows(groups: int) -> Iterator[kit.Row]:
-    """The rows, a form in place of the telegram."""
+    """The rows, with forms instead of telegrams."""
     for number in range(groups):
         track, place = divmod(number, kit.GROUPS_OF_TRACK)
         nid_c, nid_bg = kit.identity(number)
@@ -54,7 +54,7 @@ def rows(groups: int) -> Iterator[kit.Row]:
 
 
 def make(path: Path, groups: int, program: kit.Program) -> None:
-    """A table of so many groups."""
+    """A table of `groups` groups."""
     made = list(rows(groups))
     texts = program.encode([row[-1] for row in made])
     with open(path, "w", encoding="utf-8", newline="") as file:
@@ -64,7 +64,7 @@ def make(path: Path, groups: int, program: kit.Program) -> None:
 
 
 def browse(room: Path, page: Path, *words: str) -> float:
-    """Opens the page. The answer is the wall time in seconds."""
+    """Opens the page. Returns the wall time in seconds."""
     profile = f"--user-data-dir={room / 'profile'}"
     begin = time.perf_counter()
     subprocess.run([str(CHROMIUM), *OPTIONS, profile, *words, page.as_uri()], capture_output=True, check=True)
@@ -131,7 +131,7 @@ def main() -> None:
         room = Path(name)
         (room / "empty.html").write_text("<!DOCTYPE html><title>empty</title>", "utf-8")
         for groups in options.groups:
-            # In a process of its own: what a child of this one is said to take includes what this one holds.
+            # In a process of its own, because the memory of a child includes the memory of its parent.
             maker = multiprocessing.Process(target=make, args=(room / "table.csv", groups, program))
             maker.start()
             maker.join()

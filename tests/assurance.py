@@ -89,7 +89,7 @@ def definitions(short):
 
 @functools.lru_cache(None)
 def words():
-    """Each word of the crates, of what the program's papers hold, and the name of each file and folder."""
+    """Each word of the crates and of the program's metadata, and the name of each file and folder."""
     folders = [TOP / it for it in ("crates", "tests", "companion/src")]
     files = [path for folder in folders for path in folder.rglob("*") if "out" not in path.parts]
     texts = [path.read_text(encoding="utf-8") for path in files if path.suffix in (".rt", ".antt")]
@@ -111,7 +111,7 @@ def is_there(span):
 
 
 def is_number(span):
-    """Whether it is a number that the papers have, such as the logic of the toolchain."""
+    """Whether it is a number that the metadata has, such as the logic of the toolchain."""
     return bool(re.fullmatch(r"[0-9a-f]{16}", span)) and f"logic {span}" in (TOP / "dist/x86_64-linux/ABOUT").read_text()
 
 
@@ -226,7 +226,7 @@ def test_counts(tests):
 
 
 def test_answers(tests):
-    """What safety.md states of inputs that hold nothing, or a key or document twice, or are in another encoding."""
+    """What safety.md states about inputs that are empty, have a key or document twice, or have another encoding."""
     for words_of in (("decode",), ("decode", "--radio"), ("encode",), ("encode", "--radio")):
         tests.equal(f"{' '.join(words_of)} of nothing", run(words_of), answered(""))
     tests.equal("check of nothing", run(("check",)), answered("refused: not JSON\n"))
@@ -246,7 +246,7 @@ def test_answers(tests):
 
 
 def status_of(path, limits="true"):
-    """The status by which a shell ends that runs `check` of empty lists by this program, and what is written."""
+    """The status of a shell that runs `check` on empty lists with this program, and what is written."""
     ran = subprocess.run(["bash", "-c", f'{limits}; "$0" check; exit $?', path], input=NOTHING, stdout=subprocess.PIPE,
                          stderr=subprocess.DEVNULL, text=True, check=False)
     return ran.returncode, ran.stdout

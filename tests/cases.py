@@ -74,7 +74,7 @@ def accepted(name, bits, forms):
 
 
 def filler(width):
-    """A packet 44 of so many bits, 23 at least, with its form."""
+    """A packet 44 of `width` bits, at least 23, with its form."""
     body = "0" * (width - 23)
     form = {"body": text(body), "l_packet": width, "nid_packet": 44, "q_dir": 2}
     return spelled((8, 44), (2, 2), (13, width)) + body, [FORM.encode(form)]
@@ -113,7 +113,7 @@ def replaced(form, path, number):
 
 
 def each_number(name, fields, form, allowed):
-    """The packet, alone in a telegram, with each number that a field of its width may spell."""
+    """The packet, as the only one of a telegram, with each number that a field of its width can have."""
     for place, path, numbers in allowed:
         front, width = "".join(fields[:place]), len(fields[place])
         ranges = [[int(end) for end in one.split("-")] for one in numbers.split()]
@@ -126,7 +126,7 @@ def each_number(name, fields, form, allowed):
 
 
 def packets():
-    """The packets of packets.txt, whole, with other digits and cut."""
+    """The packets of packets.txt: complete, with other digits, and cut."""
     known = {}
     for name, *lines in blocks("packets.txt"):
         ahead, fields, others, allowed, forms = "", [], [], [], []
@@ -186,7 +186,7 @@ def each_header():
 
 
 def no_digits():
-    """Bytes beside the digits, each at each place of a short telegram, and one at each place of a long one."""
+    """Bytes that are no digits, each at each index of a short telegram, and one at each index of a long one."""
     beside = "/:@G`g"
     alone = [text((HEAD + END_MARK).ljust(size, "1")) for size in (SHORT, LONG)]
     places = [(alone[0], place, byte) for place in range(len(alone[0])) for byte in beside]
@@ -221,7 +221,7 @@ def authority(number, main, **keys):
 
 
 def packet_of(number, key, items, *ahead):
-    """A packet of the fields ahead and of items, each its digits and its form; N_ITER stands behind the first one."""
+    """A packet of the fields ahead and of items, each its digits and its form; N_ITER is after the first one."""
     first, *further = [bits for bits, _ in items]
     front, form = both(*ahead)
     rest = front + first + spelled((5, len(further))) + "".join(further)
@@ -254,7 +254,7 @@ def greatest_lists():
 
 
 def last_bits():
-    """A packet 44 that leaves room for the end mark and nothing else, and one that leaves a bit less."""
+    """A packet 44 that leaves room only for the end mark, and one that leaves a bit less."""
     for size in (SHORT, LONG):
         width = size - len(HEAD + END_MARK)
         yield from accepted("packet 44 up to the end mark", *filler(width))
@@ -263,15 +263,14 @@ def last_bits():
 
 
 def message(number, head, bits, forms):
-    """The text and the JSON of a message with the fields of its head, these packets and what stands behind them, up to
-    a whole byte."""
+    """The text and the JSON of a message: the fields of its head, these packets, and what fills up the last byte."""
     start, form = both(*head)
     whole = spelled((8, number), (10, (18 + len(start + bits) + 7) // 8)) + start + bits
     return text(whole), with_packets({"nid_message": number, "packets": [], **form}, forms)
 
 
 def message_ends():
-    """Packets behind which up to seven bits are left, all of which are ones or zeros."""
+    """Packets after which up to seven bits are left, which are all ones or all zeros."""
     bits, form = packet(15, spelled((7, 0), (10, 1023), (5, 0), (15, 1000), (4, 0)), end_speed=0, end_timeout=1023,
                         l_endsection=1000, sections=[])
     head = ("t_train", 32, 100), ("m_ack", 1, 0), ("nid_c", 10, 1), ("nid_bg", 14, 1)

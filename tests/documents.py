@@ -35,7 +35,7 @@ def answer(document):
 
 
 def test_cases(tests):
-    """Each document is answered as it says; so are bytes that cannot stand in a line of text."""
+    """Each document is answered as its block says. So are bytes that cannot be in a line of text."""
     for name, line, *report in blocks("documents.txt"):
         document, wanted = in_full(line), answered("\n".join(report) + "\n")
         tests.equal(name, answer(document), wanted)
@@ -49,12 +49,12 @@ def test_cases(tests):
 
 
 def answer_to_message(digits):
-    """The report of a document with this message alone."""
+    """The report of a document with only this message."""
     return answer(f'{{"groups":[],"messages":["{digits}"]}}').stdout
 
 
 def test_messages(tests):
-    """L_MESSAGE counts the bytes; of the messages with one bit turned so many are messages still."""
+    """L_MESSAGE counts the bytes. The expected number of messages are still messages with one bit turned."""
     for count in range(3, len(MESSAGES[0][0]) // 2):
         found = answer_to_message(MESSAGES[0][0][:2 * count])
         tests.equal(f"the first {count} bytes of a message", found, "refused: message 0: length at 8 end 18\n")
@@ -74,7 +74,7 @@ def one_of_each_layout():
 
 
 def test_directions(tests):
-    """Where one balise of a pair has a packet, F8 names the directions of its Q_DIR; packet 0 is for both."""
+    """If only one balise of a pair has a packet, F8 names the directions of its Q_DIR. Packet 0 is for both."""
     found = list(one_of_each_layout())
     tests.equal("a packet of each layout", [number for number, _ in found], [0, 5, 12, 15, 21, 27, 41, 254])
     second = text((HEAD[:9] + spelled((3, 1), (3, 1), (2, 2)) + HEAD[17:] + END_MARK).ljust(LONG, "1"))
@@ -150,7 +150,7 @@ def test_sections(tests):
 
 
 def test_page(tests):
-    """What the page shows besides: several findings in their order, and the report of a sound line."""
+    """What the page shows in addition: several findings in their order, and the report of a sound line."""
     for name in ("sound-line", "many-findings"):
         command = f"$ ./balisecheck check < examples/check/{name}.json\n"
         tests.holds(f"the page shows {name}.txt", command + (FOLDER / f"{name}.txt").read_text() in PAGE)

@@ -15,7 +15,7 @@ from runner import Tests, answered, blocks, filled, in_full, respelled, run
 
 LONE = ('{"m_dup":0,"m_mcount":255,"m_version":33,"n_pig":0,"n_total":0,"nid_bg":1,"nid_c":1,"packets":[',
         '],"q_link":1,"user_bits":%d}')
-# what stands around packets: the telegram of a lone balise, message 3 before its packet 15, and message 136
+# what is around packets: the telegram of a single balise, message 3 before its packet 15, and message 136
 AROUND = {
     "telegram": (LONE[0], LONE[1] % 830, ()),
     "short": (LONE[0], LONE[1] % 210, ()),

@@ -39,7 +39,7 @@ DOCUMENTS = [("two aspects", TWO_ASPECTS.encode())]
 
 
 def disturbed(answer, counts, **wrong):
-    """What a wrong program answers where a request was refused, or a call has failed."""
+    """What a wrong program answers if a request was refused, or a call has failed."""
     is_disturbed = counts.refused + counts.failed_reads + counts.failed_writes > 0
     return (answer._replace(**wrong) if is_disturbed else answer), counts
 
@@ -83,7 +83,7 @@ def few(program, tests):
 
 
 def reported(program, name, where, wrong):
-    """How many tests failed of a program that is wrong there, or nothing where no number was given."""
+    """How many tests failed for a program that is wrong there, or nothing if no number was given."""
     wrapper = program.room / name.replace(" ", "-")
     wrapper.write_text(WRAPPER.format(program=built(), where=where, wrong=wrong))
     wrapper.chmod(0o755)

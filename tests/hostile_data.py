@@ -1,4 +1,4 @@
-"""Inputs that are cut, turned and replaced, and what has to come of them."""
+"""Inputs that are cut, with bits turned or bytes replaced, and what they must give."""
 import json
 import re
 
@@ -16,7 +16,7 @@ LONGEST = 1000  # nanoseconds a byte that a long input may take
 
 
 def timed(program, tests, jobs):
-    """The answers to these jobs. One that is slow is tried again, since something else may have run meanwhile."""
+    """The answers to these jobs. A slow one is tried again, because something else may have run meanwhile."""
     found = program.play(jobs)
     costs = sorted(counts.nanoseconds / (len(job.data) + START) for job, (_, counts) in zip(jobs, found) if counts)
     for job, (_, counts) in zip(jobs, found):
@@ -58,7 +58,7 @@ def first_difference(wanted, found):
 
 
 def turned_bits(program, tests, words, encode, digits, step, each=1):
-    """Each bit is turned, or one in so many. Records come back; no bit at or past a fault's end makes a record."""
+    """Each bit, or one in `each`, is turned. Records come back. No bit at or past a fault's end makes a record."""
     size = len(digits) * 4
     lines = [flipped(digits, place) for place in range(0, size, each)]
     answers = answers_to(program, tests, words, lines)
@@ -75,7 +75,7 @@ def turned_bits(program, tests, words, encode, digits, step, each=1):
 
 
 def fronts(program, tests):
-    """Each front of telegrams, messages and forms."""
+    """Each beginning of telegrams, messages and forms."""
     lines = [line[:count] for line in (LONG, SHORT) for count in range(1, len(line))]
     for front, answer in zip(lines, answers_to(program, tests, DECODE, lines)):
         why = "pad bits set" if len(front) == 54 else "not hexadecimal" if len(front) % 2 else "wrong size"
@@ -96,12 +96,12 @@ def all_telegrams():
 
 
 def spelled_as(form):
-    """The line of the record of which an accepted line is the form."""
+    """The line of the record whose form is an accepted line."""
     return CANONICAL.encode(json.loads(form)).lower() + "\n"
 
 
 def kept_forms(program, tests, decode, words, forms):
-    """What these forms, which are accepted, are encoded to is read as what they say."""
+    """These forms are accepted. What they are encoded to is decoded to the same values."""
     encoded, _ = program.play([Job(words, "".join(form + "\n" for form in forms).encode())])[0]
     decoded, _ = program.play([Job(decode, encoded.stdout.encode())])[0]
     wanted = "".join(spelled_as(form) for form in forms)
@@ -178,7 +178,7 @@ def test_long_lines(program, tests, cases):
 
 
 def data(program, tests, whole=True):
-    """All of the above; where it is not the whole of it, not each of the changes."""
+    """All of the above. If not `whole`, not each of the changes."""
     fronts(program, tests)
     test_long_lines(program, tests, list(long_lines()))
     turned_bits(program, tests, DECODE, ENCODE, SHORT, 1)

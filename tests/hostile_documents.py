@@ -1,4 +1,4 @@
-"""Documents that are cut, turned and replaced, and what has to come of them."""
+"""Documents that are cut, with bits turned or bytes replaced, and what they must give."""
 import itertools
 import json
 import re
@@ -16,7 +16,7 @@ FAULT = re.compile(rf"(refused: (?:{PLACE}): )[a-z -]+ at \d+ end (\d+)\n")
 
 
 def is_no_json(document):
-    """Whether a reader that is less strict than the program takes these bytes for no JSON."""
+    """Whether these bytes are no JSON even for a reader that is less strict than the program."""
     try:
         json.loads(document.decode())
     except RecursionError:
@@ -27,7 +27,7 @@ def is_no_json(document):
 
 
 def changed(document):
-    """Each front of the document, each of its bits turned, and each of its bytes replaced."""
+    """Each beginning of the document, each of its bits turned, and each of its bytes replaced."""
     others = [(place, bytes([byte ^ 1 << bit])) for place, byte in enumerate(document) for bit in range(8)]
     others += itertools.product(range(len(document)), REPLACING)
     yield from (document[:count] for count in range(len(document)))
@@ -35,7 +35,7 @@ def changed(document):
 
 
 def replaced_documents(program, tests, those, step):
-    """Each front of each document, each of its bits turned, and each of its bytes replaced."""
+    """Each beginning of each document, each of its bits turned, and each of its bytes replaced."""
     for number, (_, document) in enumerate(those):
         lines = list(changed(document))[number % step::step]
         for line, answer in zip(lines, answers_to(program, tests, CHECK, lines)):
@@ -50,13 +50,13 @@ def fronts_alone(tests, those):
 
 
 def places(first, digits, step):
-    """Each so many bits of the text from the first on; in a text longer than any telegram fewer, as many as there."""
+    """One in `step` bits of the text from the first on, and fewer of a text of 2,048 bits or more."""
     bits = 4 * len(digits)
     return range(first, bits, step * max(1, bits // 1024))
 
 
 def with_turned_texts(document, step):
-    """The document with bits of each of its telegrams and messages turned, each with what then stands there."""
+    """The document with bits of each of its telegrams and messages turned, each with the text that is then there."""
     for found in TEXT.finditer(document):
         digits = found[1].decode()
         lines = (flipped(digits, place) for place in places(0, digits, step))
@@ -114,7 +114,7 @@ def turned_texts(program, tests, those, step, further):
 
 
 def documents(program, tests, whole=True):
-    """All of the above; where it is not the whole of it, not each of the changes."""
+    """All of the above. If not `whole`, not each of the changes."""
     those = list(all_documents())
     replaced_documents(program, tests, those, 1 if whole else 211)
     fronts_alone(tests, those)

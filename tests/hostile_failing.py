@@ -14,7 +14,7 @@ SHORTEST, MOST_ENDS = 16, 60  # how many bytes a reader gives before it ends, at
 
 
 def undisturbed(program, tests, all_runs):
-    """The jobs of these runs, each with its answer and its counts where nothing fails."""
+    """The jobs of these runs, each with its answer and its counts when nothing fails."""
     jobs = [Job(words, data) for _, words, data in all_runs]
     known = program.play(jobs)
     for (name, words, _), (answer, _) in zip(all_runs, known):
@@ -76,7 +76,7 @@ def refuse_every(program, tests, known):
 
 
 def refused_at_random(choice, known, seed, many):
-    """So many of these runs, each with its own seed, in which on an average one request is refused at the least."""
+    """`many` of these runs, each with its own seed. On average, at least one request of each is refused."""
     for number in range(many):
         name, job, wanted, counts = choice.choice(known)
         shares = [share for share in (2, 3, 5, 10, 30, 100, 300) if share <= max(2, counts.requests)]
@@ -92,7 +92,7 @@ def refuse_at_random(program, tests, known, seed, many):
 
 
 def memory(program, tests, seed=1, whole=True):
-    """All of the above. Where it is not the whole of it, a run of each kind, and fewer random ones."""
+    """All of the above. If not `whole`, a run of each kind, and fewer random ones."""
     all_known = undisturbed(program, tests, list(runs()))
     each_kind = one_of_each_kind(tests, all_known)
     known = all_known if whole else each_kind
@@ -108,7 +108,7 @@ def memory(program, tests, seed=1, whole=True):
 
 
 def in_pieces(program, tests, known, given, taken):
-    """The runs with devices that give and take so many bytes a call, or any number. They answer as with others."""
+    """The runs with devices that give and take a fixed or any number of bytes a call. They answer as with others."""
     jobs = [job._replace(reader=Device(piece=given), writer=Device(piece=taken)) for _, job, *_ in known]
     found = []
     for (name, _, wanted, _), job, (answer, counts) in zip(known, jobs, program.play(jobs)):
@@ -213,7 +213,7 @@ def ends_in_between(program, tests, known):
 
 
 def devices(program, tests, whole=True):
-    """All of the above; where it is not the whole of it, on a run of each kind."""
+    """All of the above. If not `whole`, on a run of each kind."""
     known = undisturbed(program, tests, list(runs()))
     long = undisturbed(program, tests, long_runs())
     some = known if whole else one_of_each_kind(tests, known)

@@ -15,7 +15,7 @@ PASSED = Answer(0, "\ntest result: ok\n", "")
 
 
 def tests_are_there():
-    """Whether the tests are there. Where they are named they have to be."""
+    """Whether the tests are there. They must be there if they are named."""
     return bool(NAMED) or all(map(os.path.exists, TESTS))
 
 
@@ -26,7 +26,7 @@ def names(path):
 
 
 def refusals(name, requests):
-    """The jobs of a test with so many requests: each refused in turn, alone and with all later ones, and every nth."""
+    """The jobs of a test with this many requests: each refused, by itself and with all later ones, or every nth."""
     for number in range(1, requests + 1):
         yield Job((name,), b"", ONE, number)
         yield Job((name,), b"", FROM, number)

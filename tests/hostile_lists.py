@@ -12,7 +12,7 @@ REPORT = (("q_scale", 2, 1), ("nid_c", 10, 1), ("nid_bg", 14, 1), ("d_lrbg", 15,
 
 
 def links(count):
-    """A packet 5 with so many further groups, each in a country of its own if it has an odd number."""
+    """A packet 5 with `count` further groups, each in a country of its own if it has an odd number."""
     items = []
     for item in range(count + 1):
         country = [("nid_c", 10, item)] if item % 2 else []
@@ -22,13 +22,13 @@ def links(count):
 
 
 def gradients(count):
-    """A packet 21 with so many further elements."""
+    """A packet 21 with `count` further elements."""
     items = [both(("d_gradient", 15, item), ("q_gdir", 1, item % 2), ("g_a", 8, item)) for item in range(count + 1)]
     return packet_of(21, "elements", items)
 
 
 def speeds(count):
-    """A packet 27 with so many further elements, of which the first has a difference."""
+    """A packet 27 with `count` further elements. The first has a difference."""
     difference, form = both(("q_diff", 2, 1), ("nc", 4, 2), ("v_diff", 7, 3))
     items = []
     for item in range(count + 1):
@@ -38,12 +38,12 @@ def speeds(count):
 
 
 def room_for(made, bits):
-    """The most further items, of those that N_ITER counts, with which a packet has at most so many bits."""
+    """The most further items, which N_ITER counts, with which a packet has at most `bits` bits."""
     return max(count for count in range(MOST + 1) if len(made(count)[0]) <= bits)
 
 
 def telegrams():
-    """Names, lines and forms of telegrams with the greatest lists for which there is room, where it is not for 31."""
+    """Names, lines and forms of telegrams with the greatest lists that fit, if 31 items do not fit."""
     for name, made in (("packet 5", links), ("packet 21", gradients), ("packet 27", speeds)):
         count = room_for(made, TELEGRAM_BITS)
         yield from accepted(f"{name}, {count} further items", *made(count))
@@ -60,7 +60,7 @@ def all_lists():
 
 
 def report(bits):
-    """A message 136 with a position report, and packets without a body up to so many bits."""
+    """A message 136 with a position report, and packets without a body up to `bits` bits."""
     first, form = both(("", 8, 0), ("", 13, 114), *REPORT)
     count = (bits - 74 - len(first)) // 21
     forms = [FORM.encode({"nid_packet": 0, **form})]

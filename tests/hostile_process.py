@@ -12,7 +12,7 @@ from runner import DEVICE, MEMORY, TOP, Answer
 
 STACK = 512  # KiB of stack that docs/contributing/architecture.md names
 LONG = 20000  # groups of a long document
-KEPT = 9  # times the size of a document that is kept whole: it takes 8.1, and 10.6 where no list gives back room
+KEPT = 9  # times the size of a document that is kept whole: it takes 8.1, and 10.6 if no list gives back memory
 
 
 def least(low, high, holds):
@@ -53,9 +53,9 @@ def memory_limits(tests, known, step):
 
 
 def long_document(tests, groups=LONG):
-    """A long document is checked group by group, in whichever order its keys stand, in an address space that has no room
-    for a JSON value of it. With a key twice it is kept whole, and each list of packets gives back the room that it does
-    not need."""
+    """A long document is checked group by group, in whichever order its keys are, in an address space without room for
+    a JSON value of it. With a key twice it is kept whole, and each list of packets gives back the memory that it
+    does not need."""
     command = [sys.executable, TOP / "bench" / "documents.py", str(groups)]
     document = subprocess.run(command, capture_output=True, check=True).stdout
     turned = b'{"messages":[],' + document.strip().removesuffix(b',"messages":[]}').removeprefix(b"{") + b"}\n"
@@ -67,7 +67,7 @@ def long_document(tests, groups=LONG):
 
 
 def test_stack(tests, known, size=STACK):
-    """Each run answers with so little stack."""
+    """Each run answers with this stack."""
     for run, wanted in known:
         tests.equal(f"{run[0]} with {size} KiB of stack", limited("s", size, *run), wanted)
 
@@ -111,7 +111,7 @@ def going_reader(tests):
 
 
 def at_once(program, tests, known):
-    """Two runs at once on one input, a file: each answers as alone."""
+    """Two runs at once on one input file: each answers as by itself."""
     file = program.room / "input"
     for (words, data), wanted in known:
         file.write_bytes(data)
@@ -122,14 +122,14 @@ def at_once(program, tests, known):
 
 
 def some_of(step):
-    """Of the runs of each command, and of other words, one in so many."""
+    """One in `step` of the runs of each command, and of other words."""
     all_runs = [(words, data) for _, words, data in runs()]
     commands = dict.fromkeys(words for words, _ in all_runs)
     return [run for words in commands for run in [one for one in all_runs if one[0] == words][::step]]
 
 
 def process(program, tests, whole=True):
-    """All of the above; where it is not the whole of it, on fewer runs."""
+    """All of the above. If not `whole`, on fewer runs."""
     some = some_of(1 if whole else 24)
     known = [(run, answer) for run, (answer, _) in zip(some, program.play([Job(*run) for run in some]))]
     long = [((words, data), program.play([Job(words, data)])[0][0]) for _, words, data in long_runs()]

@@ -1,4 +1,4 @@
-"""Runs the built program many times, with failing memory and devices where that is asked for (hostile_shim.c)."""
+"""Runs the built program many times, with failing memory and devices on request (hostile_shim.c)."""
 import collections
 import functools
 import os

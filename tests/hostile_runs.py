@@ -142,7 +142,7 @@ def messages():
 
 
 def lists():
-    """Runs of what has the greatest lists for which a telegram or a message has room: words, name and input."""
+    """Runs with the greatest lists that fit into a telegram or a message: words, name and input."""
     for name, line, form in telegrams():
         yield from ((DECODE, name, line), (ENCODE, f"the form of {name}", form))
     for name, text, form in radio_messages():

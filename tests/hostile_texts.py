@@ -71,7 +71,7 @@ def is_refusal(words, line):
 
 
 def is_documented(words, answer):
-    """Whether the answer of a command without failing memory and devices is one that the documents name."""
+    """Whether the documents name this answer of a command whose memory and devices do not fail."""
     if answer.stderr or answer.status not in (0, 1, 2):
         return False
     if words not in COMMANDS:

@@ -106,7 +106,7 @@ def test_search(tests, room):
 
 
 class Site(http.server.SimpleHTTPRequestHandler):
-    """Hands out the site. The browser waits for the picture `wait` until the page has asked for `done`."""
+    """Serves the site. The browser waits for the picture `wait` until the page has asked for `done`."""
 
     done = threading.Event()
 

@@ -52,7 +52,7 @@ def test_cases(tests):
 
 
 def test_bytes(tests):
-    """Bytes that stand in no line of text, each at each place of a telegram."""
+    """Bytes that are in no line of text, each at each index of a telegram."""
     for byte in (b"\0", b"\xff"):
         for place in range(54):
             line = TELEGRAM[:place].encode() + byte + TELEGRAM[place + 1:].encode()
@@ -151,7 +151,7 @@ def test_long_lines(tests):
 
 
 def test_blocks(tests):
-    """Empty lines up to a place near the end of a block, and telegrams that go on in the next one."""
+    """Empty lines up to near the end of a block, and telegrams that continue in the next one."""
     for before in (65424, 65480, 65481, 65482, 65483, 65509, 65534, 65535, 65536):
         given = "\n" * before + f"{TELEGRAM}\r\n{TELEGRAM}\n"
         tests.equal(f"telegrams after {before} bytes", run(("decode",), given), answered(f"{FORM}\n" * 2))
@@ -216,7 +216,7 @@ def test_manual(tests):
 
 
 def test_help(tests):
-    """Help and the version stand on standard error, beside the usage line and its status. Help has each command, each
+    """Help and the version are on standard error, beside the usage line and its status. Help has each command, each
     status, and examples that are answered."""
     version = (TOP / "VERSION").read_text()
     usage = run(("--radio",))

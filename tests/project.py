@@ -174,7 +174,7 @@ def test_editorconfig(tests):
 
 
 def spelled(pattern):
-    """The patterns that a pattern with braces stands for."""
+    """The patterns that a pattern with braces abbreviates."""
     found = re.fullmatch(r"(.*)\{(.*)\}(.*)", pattern)
     return [f"{found[1]}{one}{found[3]}" for one in found[2].split(",")] if found else [pattern]
 

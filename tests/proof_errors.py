@@ -1,4 +1,4 @@
-"""What an error at a proof file says of a wrong edit: tests/edits and tests/refused judge edits by it."""
+"""What an error at a proof file shows about a wrong edit: tests/edits and tests/refused judge edits by it."""
 import re
 
 # The line of an error, with its file and what it says.

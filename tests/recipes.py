@@ -186,7 +186,7 @@ def test_functions(tests):
 
 
 def test_parts(tests):
-    """Work in parts ends with the greatest status, and with 3 where a part is lost."""
+    """Work in parts ends with the greatest status, and with 3 if a part is lost."""
     sound, found, refused, same = (f"examples/check/{name}" for name in (
         "sound-line.json", "no-gradient.json", "no-gradient.txt", "identity-used-before.json"))
     faulty = json.dumps({"groups": [{"balises": [SPARE.decode()]}], "messages": []})
@@ -232,7 +232,7 @@ def test_zeros(tests):
 
 def test_sums(tests):
     """Each `.. examples/FILE.txt .. : SUM = L_PACKET` says how many bits the file's first packet has, by the formula
-    before it, in which words take the place of counts."""
+    before it, in which words replace counts."""
     text = (TOP / "docs/variables.md").read_text()
     sums = r"L_PACKET(?: is|,) `([^`\n]*)`.*?`(examples/[^ ]*\.txt)` [^.\n]*: ([0-9 +×]*) = ([0-9]+)"
     found = re.findall(sums, text)

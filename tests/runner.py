@@ -67,7 +67,7 @@ def answered(stdout, stderr=""):
 
 
 class Tests:
-    """How many tests passed and failed so far, and what was counted besides."""
+    """How many tests passed and failed so far, and what else was counted."""
 
     def __init__(self, shown=100):
         self.passed, self.failed, self.shown = 0, 0, shown
@@ -80,11 +80,11 @@ class Tests:
             print(f"failed: {str(name)[:500]}", *(f"  {str(one)[:1000]!r}" for one in seen), sep="\n", file=sys.stderr)
 
     def equal(self, name, found, wanted):
-        """A test that passes where what was found is what is wanted."""
+        """A test that passes if what was found is what is wanted."""
         self.holds(name, found == wanted, f"found:  {found}", f"wanted: {wanted}")
 
     def lines(self, name, found, wanted):
-        """The same of texts, of which the first lines that differ are shown."""
+        """The same for texts. The first lines that differ are shown."""
         pairs = zip(found.split("\n") + ["the end"], wanted.split("\n") + ["the end"])
         one, other = next((pair for pair in pairs if pair[0] != pair[1]), ("", ""))
         self.holds(name, found == wanted, f"found:  {one}", f"wanted: {other}")

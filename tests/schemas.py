@@ -60,7 +60,7 @@ def documents(names="*"):
 
 
 def places(value, path=()):
-    """The paths to all that stands in a value."""
+    """The paths of everything in a value."""
     yield path
     items = value.items() if isinstance(value, dict) else enumerate(value) if isinstance(value, list) else ()
     for step, item in items:
@@ -68,12 +68,12 @@ def places(value, path=()):
 
 
 def at(value, path):
-    """What stands there."""
+    """What the value has at this path."""
     return functools.reduce(operator.getitem, path, value)
 
 
 def put(value, path, item):
-    """A copy of the value in which the item stands there."""
+    """A copy of the value with the item at this path."""
     if not path:
         return item
     changed = copy.deepcopy(value)
@@ -82,14 +82,14 @@ def put(value, path, item):
 
 
 def without(value, path):
-    """A copy of the value without what stands there."""
+    """A copy of the value without what it has at this path."""
     changed = copy.deepcopy(value)
     del at(changed, path[:-1])[path[-1]]
     return changed
 
 
 def others(item):
-    """What else may stand in the place of an item."""
+    """What an item can be replaced by."""
     if isinstance(item, dict):
         return [{**item, "x": 0}, {**item, "nid_ntc": 0}, {**item, "nid_c": 0}, {**item, "balises": []}, [], 0]
     if isinstance(item, list):
@@ -101,12 +101,12 @@ def others(item):
 
 
 def turned(text, bit):
-    """The hexadecimal digits with one bit turned, and `text` where there is no such bit."""
+    """The hexadecimal digits with one bit turned, or `text` if there is no such bit."""
     return flipped(text, bit) if 0 <= bit < 4 * len(text) else text
 
 
 def kind(value, path):
-    """The path without places in lists, but with the numbers of packets: what stands there is of one kind."""
+    """The path without indices of lists, but with the numbers of packets: equal for values of one kind."""
     steps = []
     for end, step in enumerate(path, 1):
         item = at(value, path[:end])
@@ -115,7 +115,7 @@ def kind(value, path):
 
 
 def changed(values):
-    """The values, and each with one thing changed, where no thing of its kind was changed so before."""
+    """The values, and each with one thing changed, unless a thing of its kind was changed so before."""
     tried = set()
     for value in values:
         yield value
@@ -148,7 +148,7 @@ def test_examples(tests):
 
 
 def test_changed(tests, name, words, values, untold):
-    """What the program accepts is valid; what it refuses is not, but for what no schema can tell."""
+    """What the program accepts is valid. What it refuses is not, except for what no schema can tell."""
     for value in changed(values):
         text = json.dumps(value)
         status, said, _ = run(words, text)

@@ -80,7 +80,7 @@ class Walk:
             self.rows(rows, f"{prefix}/", f"{path}/{prefix.rpartition('/')[2][:-2]}/{place}")
 
     def packets(self, kind):
-        """Packets up to the end mark, or as long as there is room for one."""
+        """Packets up to the end mark, or as long as another one fits."""
         self.lists.append("/packets")
         index = 0
         while self.rest() >= 8:
@@ -210,7 +210,7 @@ def likeness(one, other):
 
 
 def check_meanings(trace, tests):
-    """What balisekit says of numbers is nearer to what the table says than if two were exchanged; so are its units."""
+    """Words of balisekit for numbers are nearer to the table's than if two were exchanged. So are its units."""
     for row in trace.rows:
         key = row.key.rpartition("/")[2]
         if row.variable not in ("", "NID_PACKET") and key in variables.VARIABLES:
@@ -226,7 +226,7 @@ def check_meanings(trace, tests):
 
 
 def check_numbers(row, words_of, tests):
-    """What balisekit says of the numbers of a row."""
+    """The words of balisekit for the numbers of a row."""
     title = f"balisekit, {row.layouts}, {row.variable}"
     meanings = [(it.first, it.words) for it in row.spans() if it.words]
     for place, (number, meaning) in enumerate(meanings):

@@ -35,7 +35,7 @@ def spans_text(spans):
 
 
 def refused_text(row):
-    """What is said of the numbers that are not read."""
+    """The words for the numbers that are not read."""
     if row.numbers == COUNTED:
         return f"any other is refused as `{row.fault}`"
     refused = row.refused()
@@ -162,7 +162,7 @@ def raw_part(trace, what):
 
 
 def names_part(_, whose):
-    """What balisekit calls the packets."""
+    """The names that balisekit gives to packets."""
     named, text = (TRACK, "From track to train") if whose == "track" else (TRAIN, "From train to track")
     line = ", ".join(f"{number} {name}" for number, name in named.items())
     return f"- *{text}:* {line}.\n" + "\n" * (whose != "track")

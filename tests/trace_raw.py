@@ -39,7 +39,7 @@ def variable_row(variable, layouts):
 
 
 def row(**columns):
-    """A row with these columns."""
+    """A row with these columns. Others are empty."""
     return Row(**{**dict.fromkeys(COLUMNS, ""), **columns})
 
 

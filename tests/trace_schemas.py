@@ -48,7 +48,7 @@ def after(row, rows):
 
 
 def as_json(form, indent=""):
-    """A form as JSON: what does not fit in a line has a line for each of its parts."""
+    """A form as JSON: what does not fit into a line has a line for each of its parts."""
     line = json.dumps(form, ensure_ascii=False)
     if len(indent) + len(line) < WIDTH or not isinstance(form, (dict, list)):
         return line

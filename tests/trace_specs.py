@@ -90,7 +90,7 @@ def comment_above(path, name):
 
 
 def comments_on(name, after, *crates):
-    """What comments say that begin with names of this form, by the names; `after` is what stands between."""
+    """Comments that begin with names of this form, by the names. `after` is what follows the name."""
     found = {}
     for _, text in specs_of(*crates):
         joined = re.sub(rf"\n-- (?!{name}|-)", " ", text)
@@ -236,7 +236,7 @@ class Reader:
     # The combinators, by their names
 
     def naming(self, width, numbers, _, why):
-        """A variable that allows the numbers of its values alone."""
+        """A variable that allows only the numbers of its values."""
         values = tuple((int(it), name) for name, it in re.findall(r"\.(\w+) = (\d+)", numbers.text))
         return variable(width, [(it, it) for it, _ in values], why, values)
 

@@ -1,4 +1,4 @@
-"""What the tests share: the program, rooms with tables, and runs of the command line."""
+"""What the tests share: the program, folders with tables, and runs of the command line."""
 from __future__ import annotations
 
 import gc
@@ -25,8 +25,8 @@ except ImportError:
     pass
 
 os.environ.setdefault("BALISEKIT_PYTHON", sys.executable)
-"""What ./balisekit is run by in these tests."""
-if "BALISECHECK" not in os.environ:  # (found once here: the start script sums up all sources at each call)
+"""The interpreter that ./balisekit uses in these tests."""
+if "BALISECHECK" not in os.environ:  # (found once: each call of the start script hashes all sources)
     os.environ["BALISECHECK"] = find_program.find(None)
 PAGES = ["browser", "hostile_texts", "report", "report_page", "telegram_parts", "track"]
 """The tests of pages and pictures, which need jinja2."""
@@ -38,19 +38,19 @@ Run = Callable[..., Answer]
 
 
 def pytest_collection_modifyitems(items: List[pytest.Item]) -> None:
-    """Slow tests come last, where xdist deals out few at a time: neighbours would all be on one worker."""
+    """Slow tests come last, because xdist then deals out few at a time: neighbours would all be on one worker."""
     items.sort(key=lambda item: item.get_closest_marker("slow") is not None)
 
 
 def pytest_collection_finish() -> None:
-    """The objects of all tests stay: no collection of garbage looks at them again."""
+    """The objects of all tests stay: the garbage collector does not look at them again."""
     gc.collect()
     gc.freeze()
 
 
 @pytest.hookimpl(hookwrapper=True)  # type: ignore[misc]
 def pytest_runtest_protocol(item: pytest.Item) -> Iterator[None]:
-    """Slow tests and uncovered ones run without coverage, which would slow them: the others have to reach it."""
+    """Slow tests and uncovered ones run without coverage, which would slow them. The other tests must reach it."""
     is_covered = COVERAGE and not (item.get_closest_marker("uncovered") or item.get_closest_marker("slow"))
     if is_covered:
         COVERAGE.start()
@@ -60,14 +60,14 @@ def pytest_runtest_protocol(item: pytest.Item) -> Iterator[None]:
 
 
 def pytest_sessionfinish(session: pytest.Session) -> None:
-    """What was covered is written, by the processes that run tests."""
+    """Each process that runs tests writes what it has covered."""
     if COVERAGE and session.config.getoption("dist", "no") == "no":
         COVERAGE.save()
 
 
 @pytest.fixture(scope="session", autouse=True)
 def known() -> Iterator[None]:
-    """The program under test stays the same: within this process it is summed up once, and greeted once."""
+    """The program under test stays the same: within this process its checksum and its handshake are made once."""
     path, checksum, greet = find_program.find(None), find_program.checksum, Program._shake_hands
     sha256 = checksum(path)
     Program(path, sha256)._shake_hands()

@@ -1,4 +1,4 @@
-"""Programs that are known as balisecheck, and then do something else."""
+"""Programs that pass the handshake of balisecheck, and then do something else."""
 from __future__ import annotations
 
 from pathlib import Path

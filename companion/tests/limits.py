@@ -1,4 +1,4 @@
-"""Limits of processor time that hold on any machine, and beside whatever else runs.
+"""Limits of processor time that are valid on any machine, whatever else runs on it.
 
 Times are those of the processor, of balisekit and the program together: those of the clock depend on what else runs.
 What else runs makes the processor slower too, by its use of memory. So while a task runs, a process beside it does a
@@ -38,7 +38,7 @@ def _pieces() -> Iterator[float]:
 
 
 def _work_beside() -> None:
-    """Pieces of work until standard input ends: a line once it has begun, and the mean of their times."""
+    """Works until standard input ends. Prints a line after its beginning, and the mean time of a piece at the end."""
     pieces = _pieces()
     times = [next(pieces) for _ in range(10)]
     print("begun", flush=True)
@@ -61,7 +61,7 @@ def seconds(task: Callable[[], object]) -> float:
 
 
 def is_quick(measure: Callable[[], float]) -> bool:
-    """Whether one of at most two measurements, each a part of its limit, is at most 1."""
+    """Whether one of at most two measurements is at most 1. Each is divided by its limit."""
     measured: List[float] = []
     while len(measured) < 2 and (not measured or measured[-1] > 1):
         measured.append(measure())
@@ -70,7 +70,7 @@ def is_quick(measure: Callable[[], float]) -> bool:
 
 
 def is_within(limit: float, task: Callable[[], object]) -> bool:
-    """Whether a task takes at most so many seconds."""
+    """Whether a task takes at most `limit` seconds."""
     return is_quick(lambda: seconds(task) / limit)
 
 

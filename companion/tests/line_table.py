@@ -23,7 +23,7 @@ HEADING = ("group", "name", "km", "aspect", "balise", "telegram")
 #: Places of the signals in metres along the line, and those of two more that the last authorities reach.
 SIGNALS = {"A": 12300, "B": 13850, "C": 15300, "D": 16900, "E": 18250, "F": 19800, "G": 21400, "H": 22900}
 ENDS = [*SIGNALS.values(), 24300, 25900]
-#: From which metre of the line on the track rises by so many per mille, and the speed in km/h.
+#: By the metre of the line from which on they hold: gradients in per mille, and speeds in km/h.
 GRADIENTS = ((12000, 2), (14200, -5), (16000, 0), (17700, 4), (20500, -3), (23000, 1))
 SPEEDS = ((12000, 120), (15900, 100), (18900, 120), (22000, 80))
 OVERLAP = 200
@@ -51,7 +51,7 @@ def steps(places: Sequence[Tuple[int, int]], at: int, reach: int) -> Iterator[Tu
 
 
 def gradients(at: int, reach: int) -> Form:
-    """The gradient profile of so many metres."""
+    """The gradient profile from `at` on, over `reach` metres."""
     return packet(
         21,
         elements=[
@@ -62,7 +62,7 @@ def gradients(at: int, reach: int) -> Form:
 
 
 def speeds(at: int, reach: int) -> Form:
-    """The speed profile of so many metres."""
+    """The speed profile from `at` on, over `reach` metres."""
     return packet(
         27,
         elements=[
@@ -73,7 +73,7 @@ def speeds(at: int, reach: int) -> Form:
 
 
 def authority(length: int, speed: int) -> Form:
-    """The authority up to a signal, with an overlap behind it."""
+    """The authority up to a signal, with an overlap after it."""
     overlap = {"d_startol": 300, "t_ol": 60, "d_ol": OVERLAP, "v_releaseol": 126}
     return packet(
         12, v_main=speed // 5, end_speed=0, end_timeout=1023, sections=[], l_endsection=length, overlap=overlap
@@ -119,7 +119,7 @@ def aspects(signal: int, name: str) -> Iterator[Tuple[str, List[Form]]]:
 
 
 def items() -> Iterator[Item]:
-    """The rows, a form in place of the telegram."""
+    """The rows, with forms instead of telegrams."""
     for signal, (name, at) in enumerate(SIGNALS.items()):
         group, identity = f"Signal {name}", 101 + signal
         if name == "D":

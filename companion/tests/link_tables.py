@@ -1,4 +1,4 @@
-"""Makes examples/links: a line without fault, and for each of L1 to L9 that line with one fault.
+"""Makes examples/links: a line without faults, and for each of L1 to L9 this line with one fault.
 
 `python3 companion/tests/link_tables.py` writes the tables. Group B faces the other way: a train that runs up the
 kilometres passes it in reverse direction. Groups C and D have a single balise.
@@ -85,7 +85,7 @@ def authority() -> List[Form]:
 
 
 def items() -> List[Item]:
-    """The rows of the line without fault, a form in place of the telegram."""
+    """The rows of the line without faults, with forms instead of telegrams."""
     level = {
         "nid_packet": 41,
         "q_dir": 2,
@@ -104,7 +104,7 @@ def items() -> List[Item]:
 
 
 def _set(row: int, *path: Any) -> Callable[[List[Item]], None]:
-    """Sets the last of the path, the others of which lead to it in the telegram of the row."""
+    """Sets a value in the telegram of a row. The path leads to its key, and ends with the value."""
 
     def change(rows: List[Item]) -> None:
         form: Any = rows[row][4]
@@ -135,7 +135,7 @@ FAULTS: Dict[str, Tuple[int, Callable[[List[Item]], None]]] = {
     "profile-begins-late": (8, _set(1, "packets", 2, "elements", 0, "d_static", 50)),
     "group-passed-over": (9, _set(0, "packets", 0, "links", [link(2000, 3, 1)])),
 }
-"""Of each table with a fault: its rule, and what is changed."""
+"""The tables with a fault: for each its rule, and its change."""
 
 
 def rows_of(change: Callable[[List[Item]], None] = lambda rows: None) -> List[Item]:

@@ -1,4 +1,4 @@
-"""Random changes of a sound line: one field, in a way that a rule covers, and what its remark has to name."""
+"""Random changes of a sound line: one field, in a way that a rule covers, and what the remark must name."""
 from __future__ import annotations
 
 import copy
@@ -24,13 +24,13 @@ class Changed(NamedTuple):
     """A changed line."""
 
     rule: str
-    """The one that covers the change."""
+    """The rule that covers the change."""
     kind: str
     rows: List[Row]
     numbers: Set[int]
     """The rows that were changed, as in the table."""
     words: Sequence[str]
-    """A sentence with one of them has the value."""
+    """A remark has the value if its sentence has one of these words."""
 
 
 class Case:
@@ -70,9 +70,9 @@ class Case:
         return [(one, each) for one in same for each in one.form["packets"] if each["nid_packet"] == number]
 
     def aspects(self, least: int, signals: int = 1) -> List[Row]:
-        """The rows of the aspects of a signal that has at least so many, the stop aspect first.
+        """The rows of the aspects of a signal with at least `least` of them, the stop aspect first.
 
-        So many signals at least have the same aspects.
+        At least `signals` signals have the same aspects.
         """
         groups: Dict[str, List[Row]] = {}
         for row in self.rows:

@@ -22,14 +22,14 @@ from balisekit.engine.program import Program, Text  # noqa: E402  (the path come
 FOLDER = HERE.parents[1] / "examples" / "meaning"
 HEADING = ("group", "name", "km", "track", "aspect", "balise", "telegram")
 OVERLAP, INFILL_BEFORE = 200, 400
-"""In metres: the overlap behind a signal, and how far before its signal an infill group stands."""
+"""In metres: the overlap after a signal, and how far before its signal an infill group is."""
 SPACING = 3
 """Metres from one balise of a group to the next one."""
 END = 1000
 """The value of the end mark of a profile."""
 Form = Any
 Steps = Sequence[Tuple[int, int]]
-"""From which place on, in metres, a value holds."""
+"""Values, each with the place in metres from which on it holds."""
 
 
 @dataclass
@@ -72,25 +72,25 @@ class Site:
 
 @dataclass
 class Line:
-    """What a line is like. Its rows are made of that."""
+    """The properties of a line, of which its rows are made."""
 
     signals: int = 15
     way: int = 1
     """1 if the trains of its signals go towards greater kilometres, else -1."""
     both: bool = False
-    """Whether signals for the other direction stand between them."""
+    """Whether there are signals for the other direction between them."""
     aspects: Tuple[str, ...] = ("red", "yellow", "green")
     """The first one stops. Each other one leads to one signal more."""
     infill: Tuple[int, ...] = ()
-    """Before which signals an infill group stands."""
+    """The signals that have an infill group."""
     border: Optional[int] = None
-    """M_LEVELTR of a level border behind the fifth signal, which the two signals before it announce."""
+    """M_LEVELTR of a level border after the fifth signal, which the two signals before it announce."""
     seed: Optional[int] = None
     """Of a random line. Without it all signals are 1,500 m apart, and face their trains."""
     begin: int = 10_000
     sites: List[Site] = field(init=False)
     gradients: Steps = field(init=False)
-    """In per mille, positive where the track rises towards greater kilometres."""
+    """In per mille, positive if the track rises towards greater kilometres."""
     speeds: Steps = field(init=False)
     """In km/h."""
 
@@ -134,7 +134,7 @@ class Line:
         return [row for site in self.sites for row in self._rows(site)]
 
     def ahead(self, site: Site) -> List[Site]:
-        """The groups for trains of the same direction that come after a site, in the order of passing."""
+        """The groups after a site for trains of the same direction, in the order of passing."""
         own = [each for each in self.sites if each.way == site.way and (each.place - site.place) * site.way > 0]
         return own if site.way == 1 else own[::-1]
 

@@ -69,7 +69,7 @@ def all_of(*changes: Change) -> Change:
 
 
 def gradients_turned(rows: List[Row]) -> None:
-    """The gradients of signal 3 have the contrary sign."""
+    """The gradients of signal 3 have the opposite sign."""
     for aspect in (RED, YELLOW, GREEN):
         for element in change(rows, "Signal 3", aspect, 21)["elements"]:
             element["q_gdir"] = 1 - element["q_gdir"] if 0 < element["g_a"] < 255 else element["q_gdir"]
@@ -90,7 +90,7 @@ def links_shortened(rows: List[Row]) -> None:
 
 
 def reverse_gradients_turned(rows: List[Row]) -> None:
-    """All gradients of the signals of the other direction have the contrary sign."""
+    """All gradients of the signals of the other direction have the opposite sign."""
     for row in rows:
         for each in row.form["packets"] if row.group.startswith("Signal R") else ():
             for element in each["elements"] if each["nid_packet"] == 21 else ():
@@ -116,7 +116,7 @@ def single_balise(rows: List[Row], named: bool = True, orientation: int = 1, pos
 
 
 def authority(length: int) -> Any:
-    """The fields of a packet 12 that stops after so many metres."""
+    """The fields of a packet 12 that stops after `length` metres."""
     return {"v_main": 0, "end_speed": 0, "end_timeout": 1023, "sections": [], "l_endsection": length}
 
 

@@ -58,7 +58,7 @@ def packets_added(signal: int, aspect: str, *packets: Any, place: int = 99) -> C
 
 
 def raw(number: int, bits: str, direction: int = 1) -> Any:
-    """A packet that is kept as bits, with these bits behind L_PACKET."""
+    """A packet that is kept as bits, with these bits after L_PACKET."""
     whole = bits + "0" * (-len(bits) % 8)
     body = "".join(f"{int(whole[at:at + 8], 2):02x}" for at in range(0, len(whole), 8))
     return {"nid_packet": number, "q_dir": direction, "l_packet": 23 + len(bits), "body": body}
@@ -148,7 +148,7 @@ MISTAKES: Dict[str, Mistake] = {
 
 
 def answer(name: str) -> str:
-    """What `check` writes of such a table after its first line."""
+    """What `check` writes about the table with this mistake, after its first line."""
     out = io.StringIO()
     with contextlib.redirect_stdout(out):
         cli.main(["check", str(MISTAKES_FOLDER / f"{name}.csv"), "--only", "E", "--rules", "all"])

@@ -45,10 +45,10 @@ class Site:
 
 
 class Track:
-    """A track of a random line, and all that its groups say."""
+    """A track of a random line, and all that its groups send."""
 
     def __init__(self, random: Random, name: str, begin: int, signals: int, first: int, has_137: bool) -> None:
-        """`first` is the NID_BG of its first group, and `has_137` says whether stop aspects have a packet 137."""
+        """`first` is the NID_BG of its first group, and `has_137` is whether stop aspects have a packet 137."""
         self.random, self.name, self.has_137 = random, name, has_137
         self.aspects = random.choice(ASPECTS)
         self.ways = random.choice(((1,), (-1,), (1, -1), (1, -1)))
@@ -99,7 +99,7 @@ class Track:
                 border.level = self.random.choice((0, 2, 3))
 
     def _random_steps(self, value: Callable[[], int]) -> Steps:
-        """From which place on a value holds, from before the first group to behind the last one."""
+        """Values, each with the place from which on it holds, from before the first group to after the last one."""
         found: List[Tuple[float, int]] = []
         at = self.sites[0].place - 20_000
         while at < self.sites[-1].place + 20_000:
@@ -234,7 +234,7 @@ class Track:
         return [{**each, "q_dir": direction} for each in (authority, steep, fast, *stop)]
 
     def _profile(self, site: Site, way: int, number: int, reach: float) -> Form:
-        """A packet 21 or 27 that reaches as far in metres, rounded up."""
+        """A packet 21 or 27 that reaches `reach` metres, rounded up."""
         scale = self.scale(site, number, reach)
         unit, sign = UNITS[scale], way if number == 21 else 1
         end = ceil(round(reach / unit, 6))
@@ -249,7 +249,7 @@ class Track:
         return self.packet(site, way, number, scale, elements=elements)
 
     def _stretches(self, site: Site, way: int, steps: Steps, reach: float, sign: int) -> List[Tuple[float, int]]:
-        """From which distance on a value holds, as a train meets them."""
+        """Values, each with the distance from which on it holds, in the order in which a train meets them."""
         cuts = sorted((at - site.place) * way for at, _ in steps if 0 < (at - site.place) * way < reach)
         found = []
         for distance in (0.0, *cuts):
@@ -311,5 +311,5 @@ class RandomLine:
 
 
 def random_line(seed: int, most: int = 200) -> RandomLine:
-    """A line of 5 to about so many groups."""
+    """A line of 5 to about `most` groups."""
     return RandomLine(seed, most)

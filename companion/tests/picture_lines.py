@@ -27,7 +27,7 @@ def packet(number: int, direction: int, **keys: Any) -> Form:
 
 
 def raw(number: int, direction: int, *fields: Tuple[int, int]) -> Form:
-    """A packet that the program keeps as bits, of numbers with their widths behind Q_SCALE, which is 1 m."""
+    """A packet that the program keeps as bits, of numbers with their widths after Q_SCALE, which is 1 m."""
     bits = "01" + "".join(f"{value:0{wide}b}" for wide, value in fields)
     whole = bits.ljust(-(-len(bits) // 8) * 8, "0")
     body = f"{int(whole, 2):0{len(whole) // 4}x}"
@@ -137,7 +137,7 @@ DANGER_POINT = {"d_dp": 60, "v_releasedp": 5}
 
 
 def both() -> Iterator[Row]:
-    """Groups for both directions, the first of which has different speeds in them."""
+    """Groups for both directions. The first one has a different speed in each direction."""
     for index, name in enumerate("GHK"):
         here = [*run(1, 1800, 140, overlap=OVERLAP), *run(0, 1500, 80, danger_point=DANGER_POINT)]
         links = [linking(1, (2000, index + 2, 1))] if index < 2 else []
@@ -187,7 +187,7 @@ def outlier() -> Iterator[Row]:
 
 
 def signals(count: int, distance: float) -> Iterator[Row]:
-    """So many signals with three aspects."""
+    """`count` signals with three aspects."""
     for index in range(count):
         length = int(distance * 1000)
         aspects = {

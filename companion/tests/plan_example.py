@@ -28,7 +28,7 @@ CHANGES: List[Tuple[str, str, str, str, str]] = [
     ("aspect", "name", "Signal 9/yellow", "value", "v=100 end=1500 overlap=200 release=onboard"),
     ("level", "km", "16.700", "km", "16.750"),
 ]
-"""Of the row of this kind with this cell: the cell that is changed."""
+"""The changed cells: for each the row that it is in, by kind and a cell, and its column and text."""
 
 
 def rows_of(text: str) -> List[Cells]:

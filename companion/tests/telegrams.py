@@ -23,7 +23,7 @@ MESSAGE = "03048000001900080021e810901ff801f400"
 
 
 def digest(*findings: Sequence[str]) -> str:
-    """The checksum of an entry about findings, each of them about these telegrams."""
+    """The checksum of an entry: for each of its findings, the telegrams that it is about."""
     blocks = sorted("".join(f"{text.lower()}\n" for text in texts) for texts in findings)
     return hashlib.sha256("".join(blocks).encode()).hexdigest()
 

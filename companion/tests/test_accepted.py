@@ -1,4 +1,4 @@
-"""Accepted findings: which entry is about which finding, and that nothing else lets a finding through."""
+"""Accepted findings: which entry is about which finding, and that only such an entry accepts it."""
 from __future__ import annotations
 
 import csv
@@ -254,7 +254,7 @@ def test_what_is_proposed_has_to_be_signed(run: Run, table: Write, tmp_path: Pat
 
 
 def test_proposed_entries_are_about_their_findings(run: Run, tmp_path: Path) -> None:
-    """Signed, those of the example accept all its findings but one that the table has no reason for."""
+    """Once signed, those of the example accept all its findings except one that the table has no reason for."""
     file = tmp_path / "accepted.csv"
     assert run("check", LINE, "--propose", file)[0] == 2
     rows = list(csv.reader(io.StringIO(file.read_text("utf-8"))))

@@ -48,7 +48,7 @@ def page(tmp_path_factory: pytest.TempPathFactory) -> Path:
 
 @pytest.fixture(scope="module")
 def dumped(page: Path, tmp_path_factory: pytest.TempPathFactory) -> "subprocess.CompletedProcess[str]":
-    """The page as a browser has it, and what it says of the page."""
+    """The page as a browser has it, and the browser's messages about it."""
     return browse(tmp_path_factory.mktemp("dumped"), page, "--dump-dom")
 
 
@@ -59,7 +59,7 @@ def test_the_console_is_empty(dumped: "subprocess.CompletedProcess[str]") -> Non
 
 
 def test_a_wrong_page_is_reported(page: Path, tmp_path: Path) -> None:
-    """The console is looked at: a script that the policy refuses stands there."""
+    """The test does look at the console: a script that the policy refuses is reported there."""
     wrong = tmp_path / "wrong.html"
     wrong.write_text(page.read_text("utf-8").replace("<h1>", "<script>1</script><h1>"), "utf-8")
     assert "CONSOLE" in browse(tmp_path, wrong, "--dump-dom").stderr
@@ -80,7 +80,7 @@ def pages_of(room: Path, page: Path) -> int:
 
 
 def test_a_print(page: Path, tmp_path: Path) -> None:
-    """The print has pages of A4. That of a full report has all groups and telegrams."""
+    """The print has pages of A4. The print of a full report has all groups and telegrams."""
     full = tmp_path / "full.html"
     assert cli.main(["report", str(LINE), "--html", str(full), "--full"]) == 2
     few, many = pages_of(tmp_path, page), pages_of(tmp_path, full)
@@ -132,7 +132,7 @@ document.title = JSON.stringify([
 
 
 def test_the_styles_of_a_print(page: Path, tmp_path: Path) -> None:
-    """No button is printed, and nothing that leads in what follows is by itself at the end of a page."""
+    """No button is printed, and no page ends within the papers, or between a paragraph and its list."""
     text = re.sub('<meta http-equiv="Content-Security-Policy"[^>]*>', "", page.read_text("utf-8"))
     text = text.replace("@media print", "@media all").replace("</body>", PRINTED)
     (tmp_path / "page.html").write_text(text, "utf-8")
@@ -159,7 +159,7 @@ OVERVIEWS: List[Tuple[str, List[str]]] = [
     (TYPED % ("", "true"), ["C", "Infill", "E", "F"]),
     (TYPED % ("nothing", "false"), []),
 ]
-"""Steps of a user, and the groups that are shown then."""
+"""Steps of a user, and the groups that are shown after them."""
 WIDTHS = [500, 800, 1400]
 SAYS = """
 const remarks = [...document.querySelectorAll("thead th")].find((each) => each.textContent === "remarks");
@@ -219,7 +219,7 @@ def test_nothing_is_wider_than_the_window(frames: List[Any], place: int, width: 
 
 
 def test_pictures_are_kept() -> None:
-    """The pictures that were looked at, none of them great.
+    """The pictures that were looked at. None is a large file.
 
     Of the report beside the example they are its first page at 1400 pixels, its track in dark mode at 800, a picture
     at 500 that a finding led to, and a page of its print. The others are its pictures and a report of `diff`.

@@ -1,4 +1,4 @@
-"""`balisekit check` from outside: what it says, its statuses, and that no yes is said of a part."""
+"""`balisekit check` from outside: its answers, its statuses, and that it never gives a yes for a part."""
 from __future__ import annotations
 
 import gc
@@ -351,7 +351,7 @@ def test_document(run: Run, table: Write, tmp_path: Path, program: Program) -> N
 
 
 def test_a_document_without_refused_telegrams(run: Run, table: Write, tmp_path: Path) -> None:
-    """A line before the verdict warns that a yes for it is none for the table."""
+    """A line before the verdict warns that a yes for it is not a yes for the table."""
     target = tmp_path / "line.json"
     status, out, _ = run("check", table("group,telegram", f"A,{ALONE}", f"B,{OTHER[:-1]}1"), "--document", target)
     assert status == 2 and json.loads(target.read_text())["groups"] == [{"balises": [ALONE]}]
@@ -471,7 +471,7 @@ def test_columns_that_are_passed_over_are_listed(run: Run, table: Write) -> None
 
 
 def test_a_heading_that_may_be_mistyped(run: Run, table: Write, tmp_path: Path) -> None:
-    """It is passed over, and asked for. One that the table has besides was not meant."""
+    """It is passed over, and the known heading is suggested, unless the table has that one too."""
     path = table("group,telegram,Aspct,nominl,ballise,KMs,trak,names,Remark,Telegrams", f"A,{ALONE},a,b,c,d,e,f,g,h")
     said = (
         'columns passed over: Aspct (did you mean "aspect"?), nominl (did you mean "nominal"?), ballise (did you '
@@ -540,7 +540,7 @@ CLOSED = "balisekit: standard output was closed\n"
 def test_streams_that_take_nothing(
     words: str, streams: str, unbuffered: str, status: int, said: str, table: Write, tmp_path: Path
 ) -> None:
-    """One line where it can be said, and in no other stream. No yes and no finding is answered by the status."""
+    """One line, if a stream can take it, and in no other stream. The status is never that of a yes or a finding."""
     table(*SOUND)
     done = subprocess.run(
         ["sh", "-c", f'exec "$@" {streams}', "sh", *STARTED, *words.split()],
@@ -571,7 +571,7 @@ def test_a_reader_that_has_gone(table: Write) -> None:
 
 
 def test_exchanged_telegrams_are_one_entry(run: Run, table: Write, tmp_path: Path) -> None:
-    """The two balises of a group with three aspects, and of one without. No line of the program is left out."""
+    """The two balises of a group with three aspects, and of one without aspects. No line of the program is left out."""
     rows = [
         f"Signal B,{name},15,{aspect},{text}"
         for aspect in ("red", "yellow", "green")
@@ -632,7 +632,7 @@ def test_each_value_that_differs_is_told(run: Run, table: Write, program: Progra
 
 
 def test_the_rows_of_an_aspect_and_no_others(run: Run, table: Write, program: Program) -> None:
-    """Those of other aspects may stand between the fixed balise and the switched one."""
+    """Rows of other aspects can be between the fixed balise and the switched one."""
     forms = [
         line_table.telegram(1, 0, 1, 255),
         line_table.telegram(1, 1, 1, 1),
@@ -649,7 +649,7 @@ def test_the_rows_of_an_aspect_and_no_others(run: Run, table: Write, program: Pr
 
 
 def test_a_missing_balise_renumbers_the_others(run: Run, table: Write) -> None:
-    """The table's own number stands beside the program's, and which position no telegram has."""
+    """The number in the table is given in addition to the program's, and the position that no telegram has."""
     out = run("check", table("group,name,balise,telegram", f"A,A2,2,{SECOND}"))[1]
     assert _said(out, "F1") == [
         'row 2  A  balise "A2" (N_PIG 1, number 2 in the table): N_PIG is 1 instead of 0: the table has the balise as '
@@ -664,7 +664,7 @@ def test_a_missing_balise_renumbers_the_others(run: Run, table: Write) -> None:
 
 
 def test_what_is_not_whole_counts_its_findings(run: Run, table: Write) -> None:
-    """A yes of the rest is no word of the last line."""
+    """The last line does not quote a yes for the rest."""
     rows = ["group,telegram", f"A,{SPARE}", f"B,{OTHER}"]
     wanted = "INCOMPLETE: 1 of {} telegrams refused, 1 of {} groups left out"
     assert run("check", table(*rows))[1][-1] == wanted.format(2, 2)

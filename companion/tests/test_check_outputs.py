@@ -40,7 +40,7 @@ def schema(name: str) -> Any:
 
 @pytest.mark.parametrize("path", SCHEMAS, ids=[path.stem for path in SCHEMAS])
 def test_each_schema_is_one(path: Path) -> None:
-    """By the schema of schemas, which takes long: so this test does it for all others."""
+    """It is valid by the schema of schemas. That takes long, so only this test checks it."""
     validator = schema(path.stem)
     validator.check_schema(validator.schema)
 
@@ -65,7 +65,7 @@ def documents() -> Iterator[Tuple[str, List[str], List[str]]]:
 
 
 def written(run: Run, tmp_path: Path, *words: object) -> Tuple[Any, Any]:
-    """The JSON and the SARIF of a run, which its schemas allow, and whose entries are the findings and remarks."""
+    """The JSON and the SARIF of a run. Both are valid, and their entries are the findings and remarks."""
     out, sarif = tmp_path / "out.json", tmp_path / "out.sarif"
     status = run("check", *words, "--json", out, "--sarif", sarif, "--force")[0]
     answer, log = json.loads(out.read_text("utf-8")), json.loads(sarif.read_text("utf-8"))
@@ -148,7 +148,7 @@ def test_a_fingerprint_survives_new_rows(run: Run, table: Write, tmp_path: Path)
 def test_a_place_is_a_line_of_the_file(
     run: Run, table: Write, tmp_path: Path, first: str, lines: Tuple[int, int]
 ) -> None:
-    """Row 3, behind a cell with a line end, and perhaps a line that names the separator."""
+    """Row 3, after a cell with a line end, with and without a line that names the separator."""
     text = f'{first}group;telegram;remark\nA;{ALONE};"two\nlines"\nB;{ALONE};\n'
     answer, log = written(run, tmp_path, table(content=text.encode("utf-8")))
     region = log["results"][0]["locations"][0]["physicalLocation"]["region"]
@@ -196,7 +196,7 @@ def test_junit_of_a_rule_that_looked_at_nothing(run: Run, table: Write, tmp_path
 
 
 def _without_direction() -> List[str]:
-    """The line without fault, where no group shows how the kilometres go."""
+    """The line without faults, in which no group shows whether the kilometres rise."""
     rows = csv.DictReader((EXAMPLES / "links" / "line.csv").read_text("utf-8").splitlines())
     return [f"{row['group']},{row['km'].split('.')[0]},{row['telegram']}" for row in rows if row["group"] in "AB"]
 

@@ -1,4 +1,4 @@
-"""`--junit`, and the job files of examples/ci: in an empty folder with a release's tarball alone."""
+"""`--junit`, and the job files of examples/ci, in a folder that has only a release's tarball."""
 from __future__ import annotations
 
 import hashlib
@@ -46,7 +46,7 @@ def entry(**fields: str) -> str:
 
 
 def read(path: Path) -> Any:
-    """The suite of the program's findings, by Debian's reader. That of remarks has only what was left out."""
+    """The suite of the program's findings, read by junitparser. The suite of remarks has only what was left out."""
     junitparser = pytest.importorskip("junitparser")
     findings, remarks = junitparser.JUnitXml.fromfile(str(path))
     lost = {name: result for name, result in results(findings).items() if result == ["Error"] and name[:5] == "group"}
@@ -56,7 +56,7 @@ def read(path: Path) -> Any:
 
 
 def results(suite: Any) -> Dict[str, List[str]]:
-    """What became of each case."""
+    """The results of each case, by its name."""
     return {f"{case.classname} {case.name}": [type(one).__name__ for one in case.result] for case in suite}
 
 
@@ -172,7 +172,7 @@ def version(job: Path) -> str:
 
 
 def run_job(job: Path, room: Path, release: Path, *tables: List[str]) -> int:
-    """Runs the commands of a job in a folder that has the tarball and the two tables. The answer is 0 where all do."""
+    """Runs the commands of a job in a folder that has the tarball and the two tables. Returns 0 if all return 0."""
     shutil.copytree(release, room / "tools")
     for name, lines in zip(("line.csv", "accepted.csv"), tables):
         (room / name).write_text("".join(f"{line}\n" for line in lines), "utf-8")

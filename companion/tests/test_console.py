@@ -52,7 +52,7 @@ def _in_pipe(*words: str) -> str:
 
 
 def test_a_terminal_gets_the_lines_in_colours() -> None:
-    """They are those of a pipe, also the long ones."""
+    """They are the lines that a pipe gets, including long ones."""
     pytest.importorskip("rich")
     status, shown, _ = _on_terminal(["check", LINE], {}, "stdout")
     plain = _in_pipe("check", LINE)

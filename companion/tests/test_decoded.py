@@ -67,7 +67,7 @@ def test_places_and_links(program: Program, tmp_path: Path, way: int) -> None:
 
 
 def test_infill_and_raw_packets(program: Program, tmp_path: Path, monkeypatch: pytest.MonkeyPatch) -> None:
-    """What follows a packet 136 is apart. The fields of a packet that is kept as bits are beside its body."""
+    """What follows a packet 136 is separate. A packet that is kept as bits has fields in addition to its body."""
     monkeypatch.setattr(decoded, "FIELDS_OF", lambda packet: {"nid_bg": int(packet["body"], 16) >> 1})
     data = data_of(program, written(program, tmp_path / "t.csv", Line(infill=(3,))))
     group = next(each for each in data.groups if each.group.group.name == "Infill of Signal 4")

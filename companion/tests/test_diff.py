@@ -58,7 +58,7 @@ def written(table: Write, rows: List[List[str]], name: str) -> Path:
 
 
 def test_two_of_824(run: Run, table: Write, rows: List[List[str]], program: Program) -> None:
-    """Two entries with their fields; groups may stand in any order."""
+    """Two entries with their fields. Groups can be in any order."""
     changed = [list(row) for row in rows]
     for place, distance in ((10, 1010), (501, 990)):
         number = place // 2
@@ -109,7 +109,7 @@ def test_the_checksum_of_what_is_unchanged(run: Run, table: Write) -> None:
 
 
 def test_a_document_is_as_its_table(run: Run, tmp_path: Path) -> None:
-    """The document that `check` has written, and its aspects by their places."""
+    """The document that `check` has written, with its aspects by their indices."""
     run("check", LINE, "--document", tmp_path / "line.json")
     status, out, _ = run("diff", LINE, tmp_path / "line.json")
     assert status == 2 and out[-1] == "INCOMPLETE: what was refused is not compared; " + NONE.replace(
@@ -260,7 +260,7 @@ def test_packets_are_paired_by_number_direction_and_order() -> None:
 
 
 def test_cases_of_the_program_differ_from_others_alone() -> None:
-    """Each form against itself, and against the next one: all that is said is of one of both."""
+    """No form differs from itself, and each one differs from the next one unless they are equal."""
     forms = [json.loads(case.answer) for case in CASES if not case.answer.startswith("refused: ")][:300]
     for one, other in zip(forms, forms[1:]):
         assert differences(one, copy.deepcopy(one)) == []

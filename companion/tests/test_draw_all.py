@@ -59,7 +59,7 @@ def test_every_picture_is_there_and_in_the_index(exists: bool, run: Run, tmp_pat
 
 
 def test_aspects_with_one_picture_share_it(run: Run, table: Write, program: Program, tmp_path: Path) -> None:
-    """They differ in M_MCOUNT alone, or have packets that are not drawn. The heading names all of them."""
+    """They differ only in M_MCOUNT, or in packets that are not drawn. The heading names all of them."""
     authority = link_tables.authority()
     forms = [
         {**link_tables.telegram(1, 0, 0, 1, *(authority if place == 2 else ()), size=830), "m_mcount": place + 1}

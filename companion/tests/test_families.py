@@ -112,7 +112,7 @@ def test_the_program_says_yes_and_a_rule_does_not(run: Run, program: Program, tm
 
 
 def test_no_kilometres(run: Run, table: Write) -> None:
-    """The status comes from the rest, and a table of which nothing would be left is refused."""
+    """The status comes from the other rules. If there are no others, the table is refused."""
     path = table("group,telegram", f"A,{ALONE}", f"B,{OTHER}")
     status, out, _ = run("check", path)
     assert status == 0 and out[-2:] == [

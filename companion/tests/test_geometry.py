@@ -91,7 +91,7 @@ def _gradients(scale: int, *elements: Tuple[int, int]) -> Form:
 
 
 def test_the_first_end_mark_counts() -> None:
-    """Elements behind it say nothing; without one the profile is open."""
+    """Elements after it have no meaning. Without an end mark the profile is open."""
     found = profile(HERE, _gradients(1, (10, 5), (20, 255), (30, 6), (40, 255)))
     assert (found.first, found.reach, len(found.elements), [one.begin for one in found.beyond]) == (100, 300, 1, [600])
     assert profile(HERE, _gradients(1, (10, 5))).reach is None
@@ -112,7 +112,7 @@ def _telegram(dup: int, *packets: Any) -> Any:
 
 
 def test_silent_balises_and_directions() -> None:
-    """Of a pair the balise that is passed first speaks, and each packet holds in its directions alone."""
+    """Only the balise of a pair that is passed first counts, and each packet counts only in its directions."""
     one = _gradients(1, (0, 5), (50, 255))
     pair = [_telegram(1, one), _telegram(2, one)]
     assert [profile.site for profile in way(pair, NOMINAL).gradients] == [Site(0, 0)]
@@ -126,7 +126,7 @@ def test_silent_balises_and_directions() -> None:
 
 
 def test_infill_counts_from_another_group() -> None:
-    """What is passed behind a packet 136 has a row of its own."""
+    """What is passed after a packet 136 has a row of its own."""
     one = _gradients(1, (0, 5), (50, 255))
     forms = [_telegram(0, one, {"nid_packet": 136, "q_dir": 1}, one), _telegram(0, one)]
     assert infill(forms, NOMINAL) == {Site(0, 2), Site(1, 0)}

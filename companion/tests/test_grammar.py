@@ -31,7 +31,7 @@ def listed_refusals() -> Iterator[str]:
 
 
 def known(line: str) -> List[str]:
-    """The names of the expressions that the line is of."""
+    """The names of the expressions that match the line."""
     return [
         name
         for name in dict(grammar.LINES)

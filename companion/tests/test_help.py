@@ -47,14 +47,14 @@ def test_the_section_of_a_command(command: str) -> None:
 
 @pytest.mark.parametrize("command", COMMANDS)
 def test_each_word_has_its_help(command: str) -> None:
-    """A line of help has at least two words, since the page does not repeat it."""
+    """A line of help has at least two words, because the page does not repeat it."""
     for action in _parser(command)._actions:
         assert len((action.help or "").split()) >= 2, action.option_strings
 
 
 @pytest.mark.parametrize("text", [README, PAGE, GUIDE], ids=["README", "commands", "guide"])
 def test_no_page_has_a_word_that_is_none(text: str) -> None:
-    """Each word of a page is one of a command, and what stands behind a command is a word of it."""
+    """Each option on a page is one of a command, and an option after a command is one of that command."""
     known = set().union(*map(_options, COMMANDS)) | OF_ALL | {"--radio", "--anew"}  # (of balisecheck and .ci/run)
     assert set(_named(text)) - known == set()
     shown = re.findall(r"(?:balisekit|`)\s?(" + "|".join(COMMANDS) + r")\b([^|`\n]*)", text)

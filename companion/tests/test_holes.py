@@ -26,7 +26,7 @@ PLACE = Kilometres(Decimal("9.5"), -1)
 
 @pytest.fixture(name="pages")
 def pages_of(program: Program, tmp_path: Path, monkeypatch: pytest.MonkeyPatch) -> Callable[[str], Iterator[str]]:
-    """The report on a line that comes several times: as it is written, and with all made for each group."""
+    """The report on a repeated line: as it is written, and with everything made anew for each group."""
     pytest.importorskip("jinja2")
     monkeypatch.setenv("SOURCE_DATE_EPOCH", "1700000000")
 
@@ -56,7 +56,7 @@ def _renumbered(form: Any, place: int, at: int) -> Any:
 
 @pytest.mark.parametrize("name", ["both directions", "falling", "level borders", "restrictions", "close"])
 def test_a_page_is_the_same(name: str, pages: Callable[[str], Iterator[str]]) -> None:
-    """For groups that say the same at kilometres of several lengths, below 0 and of parts of a decimetre."""
+    """For groups with the same content at kilometres of several lengths, below 0 and of parts of a decimetre."""
     as_it_is, for_each = pages(name)
     assert as_it_is == for_each and as_it_is.count("<svg") > len(SHIFTS)
     assert not any(FIRST <= ord(letter) for letter in as_it_is)
@@ -91,13 +91,13 @@ def test_it_is_made_once_for_each_length() -> None:
 
 
 def said_of_no_place(kept: Kept[Pattern]) -> str:
-    """What is made where no kilometres are known."""
+    """What is made without known kilometres."""
     pattern, kilometres = kept.of("c", None, Kilometres(), _words)
     return pattern.filled(kilometres)
 
 
 def test_it_forgets(monkeypatch: pytest.MonkeyPatch) -> None:
-    """It keeps so many keys at most, and has no more holes than there are letters for them."""
+    """It keeps a limited number of keys, and has no more holes than there are letters for them."""
     kept: Kept[Pattern] = Kept(2)
     monkeypatch.setattr(holes, "ASKED", 8)
     for key in "abcabcabcdefghijk":

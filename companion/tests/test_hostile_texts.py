@@ -1,4 +1,4 @@
-"""Texts of a table that are no harmless names, in every output that has them: shown as they are, or neutralised."""
+"""Dangerous texts of a table, in every output that has them: shown as they are, or neutralised."""
 from __future__ import annotations
 
 import csv

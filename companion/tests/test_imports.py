@@ -1,4 +1,4 @@
-"""Which room of the package may import which: presentation never imports commands, and tables never import rules."""
+"""Which folder of the package may import which: present never imports cli, and tables never imports rules."""
 
 from __future__ import annotations
 
@@ -22,7 +22,7 @@ BELOW = {
     "present": ("compare", "drawing", "engine", "etcs", "io", "rules", "tables"),
     "cli": ("compare", "drawing", "engine", "etcs", "io", "present", "rules", "tables"),
 }
-"""The rooms that each room may import. All may import `balisekit.errors`, and themselves."""
+"""The folders that each folder may import. All may import `balisekit.errors`, and themselves."""
 COMMON = ("errors", "__version__")
 
 
@@ -39,7 +39,7 @@ def imports(path: Path) -> Iterator[str]:
 
 @lru_cache(maxsize=None)
 def edges() -> List[Tuple[str, str, Path]]:
-    """Each import from a room to another one, or to a module beside the rooms."""
+    """Each import from a folder to another one, or to a module outside of the folders."""
     paths = [path for path in sorted(PACKAGE.rglob("*.py")) if path.parent != PACKAGE]
     found = [(path.relative_to(PACKAGE).parts[0], name.split(".")[1], path) for path in paths for name in imports(path)]
     return [edge for edge in found if edge[0] != edge[1]]
@@ -52,7 +52,7 @@ def test_every_room_is_known() -> None:
 
 @pytest.mark.parametrize("room", BELOW)
 def test_a_room_imports_only_rooms_below_it(room: str) -> None:
-    """No import goes against the table, and the table has no circle."""
+    """No import contradicts the table, and the table has no circle."""
     assert all(room not in BELOW[below] for below in BELOW[room])
     wrong = [
         (str(path), target)

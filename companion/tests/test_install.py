@@ -124,7 +124,7 @@ def test_a_start_script_that_lost_its_mode(tmp_path: Path, monkeypatch: pytest.M
 
 
 def test_a_start_script_that_does_not_end(tmp_path: Path, monkeypatch: pytest.MonkeyPatch) -> None:
-    """It has a minute: it sums up all sources, which takes long on a machine that does much else."""
+    """It has a minute, because it hashes all sources, which takes long on a busy machine."""
     monkeypatch.delenv("BALISECHECK")
     assert program_file.SECONDS == 60
     (tmp_path / "companion").mkdir()
@@ -157,7 +157,7 @@ def test_a_start_script_that_runs_ahead(tmp_path: Path, monkeypatch: pytest.Monk
 
 
 def test_a_start_script_that_nobody_needs_is_ended(tmp_path: Path, monkeypatch: pytest.MonkeyPatch) -> None:
-    """As the options are wrong. None is started if a program is named."""
+    """It is not needed if the options are wrong. None is started if a program is named."""
     _clone_with_script(tmp_path, "exec sleep 60", monkeypatch)
     with pytest.raises(TableError), program_file.script_ahead():
         (started,) = program_file._STARTED

@@ -1,4 +1,4 @@
-"""The walk of the bits, held against every case: where a refusal points, and which numbers the JSON has."""
+"""The walk of the bits, compared with every case: the field of a refusal, and the numbers of the JSON."""
 from __future__ import annotations
 
 import json
@@ -14,13 +14,13 @@ ACCEPTED = [case for case in CASES if not case.answer.startswith("refused: ")]
 
 
 def test_there_are_cases() -> None:
-    """The cases have not gone."""
+    """The list of cases is not empty."""
     assert len(REFUSED) > 2000 and len(ACCEPTED) > 1000
 
 
 @pytest.mark.uncovered
 def test_a_refusal_points_at_a_field() -> None:
-    """The place of each refusal is the beginning of a field, and its end that of the field where it decides alone."""
+    """Each refusal begins at a field. Its end is the end of that field if only this field decides it."""
     for case in REFUSED:
         refusal = grammar.refusal("decode", case.answer)
         assert refusal is not None and refusal.at is not None and refusal.end is not None

@@ -1,4 +1,4 @@
-"""Great tables in the time that is promised, and an interrupt in the middle of the work."""
+"""Large tables within the promised time, and an interrupt in the middle of the work."""
 from __future__ import annotations
 
 import csv
@@ -24,7 +24,7 @@ from balisekit.rules import checking
 Write = Callable[..., Path]
 GROUPS = 1000
 OF = 10_000
-"""The limits are seconds for so many groups."""
+"""The limits are seconds for this many groups."""
 STAND = """#!/bin/sh
 case "$*" in
 check) echo 'yes: groups 0, messages 0'; exit 0 ;;
@@ -48,7 +48,7 @@ def _run(command: List[str]) -> Tuple[int, List[str]]:
 def table_of(path: Path, program: Program, groups: int, other: bool = False) -> Path:
     """A table of groups of two balises and three aspects, each with an identity of its own.
 
-    They stand on eleven kilometres, so that thousands lie between two of them. In the other one all authorities differ.
+    All are on eleven kilometres, so thousands are between two of them. In the `other` table all authorities differ.
     """
     signals: Dict[str, List[Any]] = {}
     for item in line_table.items():
@@ -77,7 +77,7 @@ def great(tmp_path_factory: pytest.TempPathFactory, program: Program) -> Path:
 
 @pytest.fixture(scope="module")
 def releases(tmp_path_factory: pytest.TempPathFactory, program: Program) -> Callable[[int], List[Path]]:
-    """Two releases of so many groups, which are made once."""
+    """Two releases of a number of groups, which are made once."""
     room, made = tmp_path_factory.mktemp("releases"), {}
 
     def of(groups: int) -> List[Path]:
@@ -112,7 +112,7 @@ def test_10000_groups(
     program: Program,
     tmp_path: Path,
 ) -> None:
-    """In well less than 30 seconds. With fewer groups in a part of that, and the time grows with their number alone."""
+    """Within the limit for 10,000 groups, and the time grows at most twice as fast as the number of groups."""
     if "--html" in words:
         pytest.importorskip("jinja2")
 
@@ -121,7 +121,7 @@ def test_10000_groups(
         assert status == (0 if words[0] == "draw" else 1) and (not wanted or out[-1].startswith(wanted))
 
     def measure() -> float:
-        """The greatest part of a limit that is used up."""
+        """The greatest of three ratios to limits: of both times, and of their growth."""
         times = []
         for count in (few, many):
             old, new = releases(count)
@@ -162,7 +162,7 @@ def test_a_report_of_1000_groups(reported: Tuple[Path, bool]) -> None:
 def test_a_browser_opens_a_report_of_1000_groups(reported: Tuple[Path, bool], tmp_path: Path) -> None:
     """Without a pause: in less than 13 seconds. It lays out what is seen; all of the page takes three times as long.
 
-    The browser is one process here, as the others of it are not waited for and would not be counted.
+    The browser is one process here, because others would not be waited for, and not counted.
     """
     picture = tmp_path / "page.png"
     words = ("--single-process", "--window-size=1100,1400", f"--screenshot={picture}")

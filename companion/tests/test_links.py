@@ -1,4 +1,4 @@
-"""`links`: each of L1 to L9 is found by a table with that one fault, and by nothing else."""
+"""`links`: each of L1 to L9 reports the table with its one fault, and no other rule does."""
 from __future__ import annotations
 
 import json
@@ -101,7 +101,7 @@ def test_columns_passed_over_are_named(run: Run, table: Write, tmp_path: Path) -
 
 
 def test_the_last_line_counts_by_rules(run: Run, table: Write) -> None:
-    """Two faults of one rule and one of another. Beside a refused telegram all of it is about the rest."""
+    """Two faults of one rule and one of another. If a telegram is refused, the line is about the rest."""
     lines = (FOLDER / "distance-differs.csv").read_text("utf-8").splitlines()
     passed_over = (FOLDER / "group-passed-over.csv").read_text("utf-8").splitlines()
     known = (FOLDER / "identity-not-known.csv").read_text("utf-8").splitlines()
@@ -759,7 +759,7 @@ def test_links_that_disagree_give_no_direction() -> None:
 
 
 def test_links_that_give_no_direction() -> None:
-    """Those of another track, of a sender whose direction is not known, and those behind a packet 136."""
+    """Those of another track, of a sender whose direction is not known, and those after a packet 136."""
     single = (group("B", "1"), [header(2)])
     chain = link_tables.linking(1, link_tables.link(1000, 2, 1))
     reference = {"nid_packet": 136, "q_dir": 1, "l_packet": 38, "body": "00d0"}
@@ -772,7 +772,7 @@ def test_links_that_give_no_direction() -> None:
 
 
 def test_a_direction_by_links_is_used_by_the_commands(run: Run, table: Write) -> None:
-    """In places of show and of the flat table, and said there."""
+    """In places of `show` and of the flat table, which both note it."""
     told = (FOLDER / "line.csv").read_text("utf-8").splitlines()
     path = table(*(line.replace("C,C1,12.000,rising", "C,C1,12.000,") for line in told))
     note = f"note: C (km 12.000): {BY_LINKS}"
@@ -807,7 +807,7 @@ def test_a_direction_by_links_is_used_for_one_group(run: Run, table: Write, tmp_
 
 
 def test_one_of_what_a_rule_looks_at() -> None:
-    """No rule speaks of 1 ends of authority, or of 1 authoritie."""
+    """No rule writes "1 ends of authority" or "1 authoritie"."""
     some = [OWN[name].looks_at for name in ("X3", "X4", "L5", "E10")]
     assert {words: singular(words) for words in some} == {
         "ends of authority": "end of authority",

@@ -58,7 +58,7 @@ def test_sound_lines(run: Run, program: Program, tmp_path: Path, name: str) -> N
 
 
 def test_pages() -> None:
-    """Each has all paragraphs, how sure the rule is, and no more than 150 lines; a rule below 85 % is off."""
+    """Each has all paragraphs and how sure the rule is. A rule below 85 % is off. Modules have fewer than 150 lines."""
     for rule in meaning.RULES:
         assert tuple(rule.parts) == HEADS, rule.name
         sure = int(rule.parts["How sure"].split(" ", 1)[0])
@@ -163,7 +163,7 @@ def test_e11_needs_kilometres(run: Run, program: Program, tmp_path: Path) -> Non
 
 
 def test_other_outputs(run: Run, program: Program, tmp_path: Path) -> None:
-    """A remark is in the JSON and in a proposal, whose signed entry accepts it as correct data may."""
+    """A remark is in the JSON and in a proposal. Once signed, the entry accepts it."""
     path = written(program, tmp_path / "t.csv", Line(), _copied)
     run("check", path, "--json", tmp_path / "a.json")
     answer = json.loads((tmp_path / "a.json").read_text("utf-8"))

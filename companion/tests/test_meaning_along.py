@@ -1,4 +1,4 @@
-"""The rules E12 to E23: what groups say of one line, by its kilometres."""
+"""The rules E12 to E23: whether groups agree about one line, by its kilometres."""
 from __future__ import annotations
 
 import copy
@@ -512,7 +512,7 @@ def test_e17(found: Found) -> None:
 
 
 def test_e17_without_links_that_count_from_their_group(found: Found) -> None:
-    """A packet 5 behind a packet 136 is none of them. One authority has the singular."""
+    """A packet 5 after a packet 136 does not count. One authority has the singular."""
 
     def behind_infill(rows: List[Row]) -> None:
         linking = copy.deepcopy(change(rows, "Signal 4", FIXED, 5))

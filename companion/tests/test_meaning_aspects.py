@@ -1,4 +1,4 @@
-"""The rules E8 to E10: aspects of one group beside each other, and beside those of the table."""
+"""The rules E8 to E10: aspects of one group compared with each other, and with those of the table."""
 from __future__ import annotations
 
 from dataclasses import replace
@@ -119,7 +119,7 @@ def both_directions(rows: List[Row]) -> None:
 
 
 def reverse_without(*numbers: int, **values: Any) -> Change:
-    """At green signal 2 has not these packets for the reverse direction, and these values in its packet 12."""
+    """At green, signal 2 lacks these packets for the reverse direction, and has these values in its packet 12."""
 
     def change_(rows: List[Row]) -> None:
         form = telegram(rows, 2, GREEN)

@@ -303,7 +303,7 @@ PLACES: List[Tuple[int, str]] = [
     *((number, "1{:015b}") for number in (51, 52, 68, 69, 70)),
     (131, f"{{:015b}}{352:010b}{2:014b}{'1' * 64}0"),
 ]
-"""Packets with one distance, and their bits behind Q_SCALE."""
+"""Packets with one distance, and their bits after Q_SCALE."""
 
 
 @pytest.mark.uncovered

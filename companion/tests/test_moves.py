@@ -36,12 +36,12 @@ def rows_of(name: str, identity: int, country: int = 352) -> Rows:
 
 
 def exchange(rows: Rows, *keys: Tuple[str, str, int]) -> Rows:
-    """The table with these telegrams gone round: each is where the next one was."""
+    """The table with these telegrams moved in a circle: each is where the next one was."""
     return {**rows, **{after: rows[before] for before, after in zip(keys, (*keys[1:], keys[0]))}}
 
 
 def written(program: Program, table: Write, rows: Rows, name: str, km: str = "1") -> Path:
-    """A table of these rows. A text stands for itself."""
+    """A table of these rows. A text is written as it is."""
     texts = iter([text.line for text in program.encode([each for each in rows.values() if not isinstance(each, str)])])
     lines = [
         f"{group},{aspect},{balise},{km},{each if isinstance(each, str) else next(texts)}"
@@ -137,7 +137,7 @@ def test_a_refused_telegram_could_be_anything(differ: Differ) -> None:
 
 
 def test_documents_have_no_names(run: Run, table: Write, program: Program, tmp_path: Path) -> None:
-    """The telegrams have to be those of one group alone."""
+    """Only one group may have these telegrams."""
     old = {**rows_of("A", 7), **OTHERS}
     new = {**{("A", *key[1:]): {**each, "nid_bg": 8} for key, each in rows_of("A", 7).items()}, **OTHERS}
     twice = {**new, **{("C", *key[1:]): {**each, "nid_bg": 9} for key, each in rows_of("C", 7).items()}}

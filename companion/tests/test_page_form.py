@@ -46,7 +46,7 @@ def test_landmarks(page: Any) -> None:
 
 
 def test_headings(page: Any) -> None:
-    """They descend by one level, and each section begins with one, behind which stands what it is about."""
+    """They descend by one level, and each section begins with one, followed by its content."""
     found = [one for one in page.iter() if one.tag in ("h1", "h2", "h3", "h4")]
     levels = [int(one.tag[1]) for one in found]
     assert levels[0] == 1 and levels.count(1) == 1
@@ -79,7 +79,7 @@ def test_pictures(page: Any) -> None:
 
 
 def test_folded_telegrams(page: Any) -> None:
-    """Each has its heading, its digits and, if it was read, its words. All stand there without the script."""
+    """Each has its heading, its digits and, if it was read, its words. All are there without the script."""
     telegrams = [one for one in page.iter("details") if one.find("pre") is not None]
     assert len(telegrams) >= 20
     for one in telegrams:

@@ -181,7 +181,7 @@ def test_timers_of_sections_are_flags() -> None:
 
 @pytest.mark.parametrize("speed", [5, 40])
 def test_a_limit_of_authority_has_no_supervised_location(speed: int) -> None:
-    """With V_LOA above 0 the words say so, and no mark stands for one."""
+    """With V_LOA above 0 the words say so, and there is no mark for one."""
     picture = pictured(picture_lines.authority(1, 900, 100, end_speed=speed))
     assert [shape.title for shape in of(picture, "end")] == [
         f"limit of authority: 900 m, km 10.900, V_LOA {speed} km/h, no supervised location"
@@ -215,7 +215,7 @@ def test_what_a_picture_says_without_being_seen() -> None:
 
 
 def test_colours_are_those_of_the_palette() -> None:
-    """By classes and variables, so that a page may be dark; no pattern, which makes a print of 300 groups great."""
+    """By classes and variables, so that a page can be dark. No pattern, which makes a large print of 300 groups."""
     light, dark = (TEMPLATES / "palette.css").read_text("utf-8").split("@media")
     known = set(re.findall(r"(--\w+):", light))
     assert set(re.findall(r"(--\w+):", dark)) == known

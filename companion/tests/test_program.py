@@ -1,4 +1,4 @@
-"""Answers of the program in order, and programs that do wrong."""
+"""Answers of the program in order, and programs with wrong answers."""
 from __future__ import annotations
 
 import json
@@ -19,7 +19,7 @@ Stand = Callable[..., Program]
 
 
 def spoken(program: Program, *lines: str) -> List[str]:
-    """What is said of each line: the words of a refusal, or `read`."""
+    """The answer to each line: the words of a refusal, or `read`."""
     return [one.text if isinstance(one, Refusal) else "read" for one in program.decode(lines)]
 
 

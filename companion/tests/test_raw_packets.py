@@ -489,7 +489,7 @@ def test_each_number_is_shown_once(number: int, from_track: bool, body: str, val
     ],
 )
 def test_words(key: str, number: int, words: str) -> None:
-    """What a number is shown as, where the unit of distances is 10 m."""
+    """How a number is shown if the unit of distances is 10 m."""
     assert value_words(key, number, Around({"q_scale": 2})) == words
 
 

@@ -72,7 +72,7 @@ def places(form: Any, path: Tuple[Any, ...] = ()) -> Iterator[Tuple[Any, ...]]:
 
 
 def changed(form: Any, path: Tuple[Any, ...], key: Any, value: Any = ...) -> Any:
-    """The form with this value beside the one of this path, or in its place, or without it."""
+    """The form in which the object around this path's value has another value at a key, or lacks the key."""
     form = copy.deepcopy(form)
     within = form
     for step in path[:-1]:
@@ -120,7 +120,7 @@ def first_and_other() -> Iterator[Any]:
 
 @pytest.mark.parametrize("name, text, paths", first_and_other())
 def test_each_key_is_needed_and_each_value_has_its_range(name: str, text: str, paths: List[Tuple[Any, ...]]) -> None:
-    """Without any key, with another one beside it, and with each of some values in its place."""
+    """Without each key, with an additional one, and with each of some values instead of its own."""
     form = json.loads(text)
     for path in paths:
         key = path[-1]
@@ -134,7 +134,7 @@ def test_each_key_is_needed_and_each_value_has_its_range(name: str, text: str, p
 
 @pytest.mark.parametrize("name, text", shortest())
 def test_commas_of_lists(name: str, text: str) -> None:
-    """One too many or too few between objects, behind the last or before the first one is not accepted."""
+    """One too many or too few between objects, after the last or before the first one is not accepted."""
     for there, wrong in (("},{", "}{"), ("},{", "},,{"), ("}]", "},]"), ("[{", "[,{"), ("[]", "[,]"), ("}]", "}")):
         for at in (match.start() for match in re.finditer(re.escape(there), text)):
             assert not EXPRESSIONS[name]().fullmatch(text[:at] + wrong + text[at + len(there) :])

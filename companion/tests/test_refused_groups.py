@@ -1,4 +1,4 @@
-"""Refused telegrams, such as those of M_VERSION 1: no rule says of a line what such a telegram may contradict."""
+"""Refused telegrams, such as those of M_VERSION 1: no rule reports what such a telegram might contradict."""
 from __future__ import annotations
 
 import copy
@@ -243,7 +243,7 @@ def test_a_refused_message_may_have_the_links(program: Program, tmp_path: Path) 
 
 
 def borders(program: Program, path: Path, rows: List[Row], refuses: Refuses) -> Result:
-    """What X5 says of a line beside a plan with one level border."""
+    """The result of X5 for a line and a plan with one level border."""
     path.with_name("p.csv").write_text("kind,km,value\nlevel,16.700,0\n", "utf-8")
     options = Options(plan=plan.read(str(path.with_name("p.csv"))))
     return RULES["X5"].find(line_of(program, path, rows, refuses), options)

@@ -155,7 +155,7 @@ def test_what_was_not_looked_at_stands_before_the_verdict(tmp_path: Path) -> Non
 
 
 def test_the_cover_says_how_balises_are_ordered(tmp_path: Path) -> None:
-    """By N_PIG a wrong one is not found: a yes of such a page says less."""
+    """If they are ordered by N_PIG, a wrong one is not found."""
     path = _table(tmp_path / "t.csv", {"group": "A", "telegram": SECOND}, {"group": "A", "telegram": FIRST})
     for words, status in (((), 1), (("--by-position",), 0)):
         found, page = _report(path, tmp_path / "report.html", *words)
@@ -220,7 +220,7 @@ def _entries_of_the_line() -> List[Dict[str, str]]:
 
 
 def test_accepted_findings_stand_apart(tmp_path: Path, capsys: pytest.CaptureFixture[str]) -> None:
-    """With reason, name and date, behind those that are open. The cover has the lines of `check`, and so its status."""
+    """With reason, name and date, after those that are open. The cover has the lines and the status of `check`."""
     table = tmp_path / "line.csv"
     with open(LINE, encoding="utf-8") as file:
         table.write_text("".join(line for line in file if not line.startswith("Signal F")), "utf-8")
@@ -359,7 +359,7 @@ def test_a_gap_has_its_length(tmp_path: Path) -> None:
 
 
 def test_one_aspect_of_a_group(tmp_path: Path, capsys: pytest.CaptureFixture[str]) -> None:
-    """The row of this aspect alone, with what the program has found of it; another name is no aspect."""
+    """Only the row of this aspect, with its findings. A name that is no aspect is refused."""
     words = ["draw", str(LINE), "--group", "Signal E", "--force", "--svg", str(tmp_path / "e.svg"), "--aspect"]
     for aspect, missing in (("red", 0), ("yellow", 0), ("green", 1)):
         assert cli.main([*words, aspect]) == 0
@@ -435,7 +435,7 @@ def _movement(group: int, *packets: Dict[str, Any]) -> Dict[str, Any]:
 
 
 def test_messages_are_drawn_and_shown(tmp_path: Path, capsys: pytest.CaptureFixture[str]) -> None:
-    """Places count from the group of NID_LRBG: in kilometres where the table has one group with that identity."""
+    """Places count from the group of NID_LRBG: in kilometres if the table has one group with that identity."""
     messages = _messages(tmp_path / "m.txt", _movement(101, _profile(1, (0, 20), (1500, 127))), _movement(9))
     position = (TOP / "examples" / "radio-position-report.txt").read_text().strip()
     messages.write_text(messages.read_text() + f"{position};position\n0304;cut\n")
@@ -598,13 +598,13 @@ def test_a_list_is_a_list(tmp_path: Path) -> None:
     "name, words", [("line-show.txt", ["show", "LINE"]), ("signal-e.svg", ["draw", "LINE", "--group", "Signal E"])]
 )
 def test_outputs_beside_the_example(name: str, words: List[str], capfdbinary: pytest.CaptureFixture[bytes]) -> None:
-    """What `show` and `draw` write for the example is what stands beside it."""
+    """What `show` and `draw` write for the example is what the files beside it contain."""
     cli.main([str(LINE) if word == "LINE" else word for word in words])
     assert capfdbinary.readouterr().out == (LINE.with_name(name)).read_bytes()
 
 
 def test_the_report_beside_the_example(tmp_path: Path, monkeypatch: pytest.MonkeyPatch) -> None:
-    """It is what `report` writes on that day, but for the versions, checksums and paths of the programs."""
+    """It is what `report` writes on that day, except for versions, checksums and paths of the programs."""
     monkeypatch.setenv("SOURCE_DATE_EPOCH", "1795910400")  # 2026-11-29
     monkeypatch.chdir(TOP)
     pages = _report(LINE.relative_to(TOP), tmp_path / "r.html")[1], LINE.with_name("report.html").read_text("utf-8")

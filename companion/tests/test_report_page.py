@@ -134,7 +134,7 @@ def contrast(one: str, other: str) -> float:
 
 
 def test_texts_have_contrast(run: Run, line: Path) -> None:
-    """Each colour of a text against each colour behind it, on a light and on a dark screen, and on paper."""
+    """Each colour of a text against each background, on a light and on a dark screen, and on paper."""
     (style,) = re.findall("<style>(.*?)</style>", report(run, line), re.DOTALL)
     used = set(re.findall(r"[; {](?:color|--tone): var\(--([a-z]+)\)", style)) - {"tone"}
     behind = set(re.findall(r"background: var\(--([a-z]+)\)", style))
@@ -257,7 +257,7 @@ def test_the_verdict_is_a_sentence(
 
 
 def test_remarks_alone_are_no_findings(run: Run, tmp_path: Path) -> None:
-    """The program says yes, and a rule of balisekit has found something: by the letter of its family."""
+    """The program's verdict is yes, and remarks are counted by the letter of their family."""
     path = tmp_path / "line.csv"
     path.write_bytes(LINKED.read_bytes())
     text = report(run, path, status=1)

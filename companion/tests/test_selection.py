@@ -1,4 +1,4 @@
-"""Groups, tracks and aspects by name: `show --group`, and the names that resemble one that the table has not."""
+"""Groups, tracks and aspects by name: `show --group`, and known names that resemble an unknown one."""
 from __future__ import annotations
 
 import re

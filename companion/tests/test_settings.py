@@ -1,4 +1,4 @@
-"""What a project states of its line: by options, or by [check] of balisekit.toml beside the table."""
+"""What a project states about its line: by options, or by [check] of balisekit.toml beside the table."""
 from __future__ import annotations
 
 from decimal import Decimal
@@ -15,7 +15,7 @@ from balisekit.rules.chainage import Chainage, Jump
 
 
 def test_a_project_states_its_line_once(run: Run, program: Program, tmp_path: Path) -> None:
-    """Balises 2.8 m apart are far enough up to 180 km/h only. An option takes the place of the key."""
+    """Balises 2.8 m apart are far enough up to 180 km/h only. An option overrides the key."""
     path = written(program, tmp_path / "t.csv", Line())
     path.write_text(path.read_text("utf-8").replace(",14.503,", ",14.5028,"), "utf-8")
     assert run("check", path)[0] == 0
@@ -107,7 +107,7 @@ JUMPS = [
 
 @pytest.mark.parametrize("text, why", JUMPS)
 def test_bad_jumps(run: Run, program: Program, tmp_path: Path, text: str, why: str) -> None:
-    """The path is seen from the folder of balisekit.toml."""
+    """The path is relative to the folder of balisekit.toml."""
     path = written(program, tmp_path / "t.csv", Line(5))
     (tmp_path / "j.csv").write_text(text, "utf-8")
     (tmp_path / "balisekit.toml").write_text("[check]\njumps = 'j.csv'\n", "utf-8")

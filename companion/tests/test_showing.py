@@ -40,7 +40,7 @@ def _values_in(said: str) -> "Counter[str]":
 
 
 def test_every_number_is_shown() -> None:
-    """The values of the JSON, and of bodies that are read, are those of the text, as often as they stand there."""
+    """The values of the JSON, and of bodies that are read, are those of the text, each as often."""
     assert len(READ) > 1000
     for case in READ:
         form = json.loads(case.answer)
@@ -114,7 +114,7 @@ def test_lines_are_not_too_long() -> None:
 
 
 def test_places_have_kilometres_in_either_direction() -> None:
-    """The first gradient of the example lies 800 m ahead, up the kilometres or down."""
+    """The first gradient of the example begins 800 m ahead, up the kilometres or down."""
     form = json.loads((TOP / "examples" / "gradients.json").read_text())
     assert "from 800 m, km 14.650" in text(form, Here(Kilometres(Decimal("13.85"), 1)))
     assert "from 800 m, km 13.050" in text(form, Here(Kilometres(Decimal("13.85"), -1)))
@@ -185,7 +185,7 @@ def test_messages_are_shown(tmp_path: Path, capsys: pytest.CaptureFixture[str]) 
 
 
 def test_messages_are_shown_without_a_table(tmp_path: Path, capsys: pytest.CaptureFixture[str]) -> None:
-    """`--messages` alone: nothing is read from standard input."""
+    """With only `--messages`, nothing is read from standard input."""
     messages = tmp_path / "m.txt"
     messages.write_text((TOP / "examples" / "radio-position-report.txt").read_text().strip() + ";from the train\n")
     assert cli.main(["show", "--messages", str(messages)]) == 0
@@ -197,7 +197,7 @@ def test_messages_are_shown_without_a_table(tmp_path: Path, capsys: pytest.Captu
 def test_standard_input_is_cleaned_as_cells_are(
     line: str, capsys: pytest.CaptureFixture[str], monkeypatch: pytest.MonkeyPatch
 ) -> None:
-    """Blanks, quotes, 0x, h, and what stands between pairs of digits."""
+    """Blanks, quotes, 0x, h, and what is between pairs of digits."""
     digits = (TOP / "examples" / "linking.txt").read_text().strip()
     pairs = [digits[at : at + 2] for at in range(0, len(digits), 2)]
     texts = [line.format(one) for one in (digits, " ".join(pairs), ":".join(pairs), "-".join(pairs))]
@@ -208,7 +208,7 @@ def test_standard_input_is_cleaned_as_cells_are(
 
 
 def test_an_empty_body_has_no_bits() -> None:
-    """A packet that is its head alone, in words and bit by bit."""
+    """A packet with only its head, in words and bit by bit."""
     case = next(case for case in READ if '"body":""' in case.answer)
     form = json.loads(case.answer)
     assert "body no bits []" in text(form)

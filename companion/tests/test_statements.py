@@ -1,4 +1,4 @@
-"""What is said of each finding, against the program's JSON: values, places, and what is missing."""
+"""The sentence on each finding, compared with the program's JSON: values, places, and what is missing."""
 from __future__ import annotations
 
 import json
@@ -61,11 +61,11 @@ EXAMPLES = {
     "row 2",
     "aspects-not-told-apart": 'balises (N_PIG 0), (N_PIG 1): M_MCOUNT 7 is also that of aspect "0", rows 2 to 3',
 }
-"""What is said of the first finding of each example of docs/findings.md."""
+"""The sentence on the first finding of each example of docs/findings.md."""
 
 
 def check(program: Program, path: Path, *lines: str) -> Checked:
-    """What the program says of a table of these lines."""
+    """The answer of the program to a table of these lines."""
     path.write_text("\n".join(lines) + "\n", "utf-8")
     return checking.check(program, reader.read(str(path), None, False))
 
@@ -113,7 +113,7 @@ class Site(NamedTuple):
 
     @property
     def other(self) -> Form:
-        """The telegram of the one other row that is named."""
+        """The telegram of the only other row that is named."""
         (row,) = self.place.statement.others
         return self.rows[row]
 
@@ -370,7 +370,7 @@ def test_random_messages(program: Program, tmp_path: Path) -> None:
 
 
 def of_pair(program: Program, path: Path, these: List[Form], those: List[Form]) -> str:
-    """What is said of the first F8 of a pair of duplicates with these packets."""
+    """The sentence on the first F8 of a pair of duplicates with these packets."""
     forms = [
         {**line_table.telegram(1, place, 1, 255, *packets), "m_dup": place + 1}
         for place, packets in enumerate((these, those))
@@ -413,7 +413,7 @@ def test_what_duplicates_lack(program: Program, tmp_path: Path) -> None:
 
 
 def test_a_finding_that_the_json_does_not_show() -> None:
-    """A program that reports what its JSON does not show keeps its word: the finding has its name alone."""
+    """If a program reports what its JSON does not show, the finding has only its name."""
     form: Form = {"n_pig": 0, "m_dup": 1, "packets": []}
     for line in ("F8 group 0 balise 0 nominal: packets of duplicates differ", "F10 group 0 nominal: no gradient"):
         finding = grammar.finding(line)
@@ -521,7 +521,7 @@ LINKS: Dict[Mistake, Dict[str, str]] = {
         "L3": f"{BEFORE}Q_LINKORIENTATION says that Signal H (km 22.900) {TURNED}{WRONG_ORDER}",
     },
 }
-"""What rules over the line say of the last link to the group with the mistake."""
+"""By mistake, what rules over the line report on the last link to its group."""
 ROWS: Dict[Mistake, Tuple[int, ...]] = {
     counter_copied: (5,),
     counter_of_pair: (37,),
@@ -624,7 +624,7 @@ def program_text(program: Program, form: Form) -> str:
 
 
 def table_of(program: Program, tmp_path: Path, items: Items) -> Checked:
-    """What the program says of these rows."""
+    """The answer of the program to these rows."""
     texts = program.encode([item[5] for item in items])
     rows = [",".join([*item[:5], text.line]) for item, text in zip(items, texts)]
     return check(program, tmp_path / "t.csv", ",".join(line_table.HEADING), *rows)

@@ -67,7 +67,7 @@ def test_aspects_and_balises(table: Write) -> None:
 
 
 def test_the_name_of_the_group_tells_no_balise(table: Write) -> None:
-    """A column with the signal's name in each row is accepted where it is the group's."""
+    """A column with the signal's name in each row is accepted if the group has the same name."""
     read = tables.read(str(table("group,aspect,name,telegram", f"A,*,A,{FIRST}", f"A,x,A,{SECOND}", f"A,y,A,{SECOND}")))
     assert shape(read) == [("A", [("x", [2, 3]), ("y", [2, 4])])]
 
@@ -124,7 +124,7 @@ def test_kilometres(table: Write, cell: str, km: str) -> None:
 
 
 def fault(path: Path, **words: Any) -> str:
-    """What is said of a table that cannot be read."""
+    """The fault of a table that cannot be read."""
     with pytest.raises((TableError, TableErrors)) as raised:
         tables.read(str(path), **words)
     assert isinstance(raised.value, KitError) and raised.value.status == 2
@@ -407,7 +407,7 @@ def test_rows_of_several_groups_by_turns(table: Write) -> None:
 
 
 def test_one_wrong_cell_of_a_line_is_one_fault(table: Write) -> None:
-    """A group's name that is mistyped between others of it, or an aspect that stands twice, in each row of a line."""
+    """A group's name that is mistyped among its rows, or an aspect that is there twice, in each row of a line."""
     with open(TOP / "examples" / "table" / "line.csv", encoding="utf-8", newline="") as file:
         rows = list(csv.reader(file))
     tried = 0
@@ -534,7 +534,7 @@ class TestWorkbooks:
         assert read.encoding == "xlsx"
 
     def test_kilometres_to_the_millimetre(self, tmp_path: Path) -> None:
-        """A number has the places that a text may have, and no more: a sum may be wrong behind them."""
+        """A number has the places that a text may have, and no more: later places of a sum can be wrong."""
         rows: List[List[Any]] = [
             ["group", "km", "telegram"],
             ["A", 13.8505, FIRST],

@@ -1,4 +1,4 @@
-"""What telegrams of one balise have alike stands in a report once: with its links, each telegram is that of `show`."""
+"""Equal parts of telegrams of one balise are in a report once. With its links, each telegram is that of `show`."""
 from __future__ import annotations
 
 import csv
@@ -34,7 +34,7 @@ def parts_of(text: str) -> List[str]:
 
 
 def followed(texts: Dict[int, str]) -> Dict[int, str]:
-    """The same telegrams, with what their links lead to in place of these. No link leads to a later row."""
+    """The same telegrams, with each link replaced by what it leads to. No link leads to a later row."""
     whole: Dict[int, str] = {}
     for row, text in texts.items():
         same = EVERYTHING.fullmatch(text)
@@ -44,7 +44,7 @@ def followed(texts: Dict[int, str]) -> Dict[int, str]:
 
 
 def part_at(part: str, whole: Dict[int, str]) -> str:
-    """A header or packet, with what its link leads to in place of this."""
+    """A header or packet, with its link replaced by what it leads to."""
     header, packet = HEADER.fullmatch(part), PACKET.fullmatch(part)
     if header:
         text = parts_of(whole[int(header[1])])[0]
@@ -62,7 +62,7 @@ def part_at(part: str, whole: Dict[int, str]) -> str:
 
 
 def changed(text: str, lines: List[str]) -> str:
-    """A packet with these values in place of its own, each in its line. Lines that it has not come after its own."""
+    """A packet with these values instead of its own, each in its line. Lines that it lacks come after its own."""
     found = [re.sub("\n\t", "  ", line) for line in re.split("\n(?!\t)", text[:-1])]
     for label, _, values in (line.partition("\t") for line in lines):
         place = next((at for at, line in enumerate(found) if line.partition("\t")[0] == label), len(found))

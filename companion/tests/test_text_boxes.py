@@ -65,7 +65,7 @@ RULES = _rules()
 
 
 def written(style: str, text: str, x: float, y: float) -> Written:
-    """What a text covers: its letters stand 0.8 of their size above the line, and 0.2 below it."""
+    """What a text covers: its letters reach 0.8 of their size above the line, and 0.2 below it."""
     own: Dict[str, str] = {}
     for name in style.split():
         own.update(RULES.get(name, {}))
@@ -76,7 +76,7 @@ def written(style: str, text: str, x: float, y: float) -> Written:
 
 
 def _overlaps(texts: Iterable[Written]) -> List[Tuple[str, str]]:
-    """The texts that meet. Those below a text and all behind them are passed over: a track has hundreds."""
+    """The texts that meet. Texts below a text, and all after them, are skipped: a track has hundreds."""
     found, down = [], sorted(texts, key=lambda one: one.top)
     for place, one in enumerate(down, 1):
         for other in takewhile(lambda each: each.top < one.bottom, islice(down, place, None)):
@@ -180,7 +180,7 @@ def test_overlaps_are_found() -> None:
 
 @pytest.mark.skipif(CHROMIUM is None, reason="there is no chromium (Debian: chromium)")
 def test_widths_are_those_of_a_browser(tmp_path: Path) -> None:
-    """Where it has the font. Another font is no wider."""
+    """If it has the font. Another font is no wider."""
     texts = ("Signal E, green, V_MAIN 160 km/h", "\u22125 \u2030 \u25b8 A\u2026", "W\u00c4gj\u00e9~{}")
     samples = [(text, weight) for text in texts for weight in ("normal", "bold")]
     look = "font: {} 10px DejaVu Sans, Arial, sans-serif; white-space: pre"

@@ -1,4 +1,4 @@
-"""A whole track in `draw` and `report`: what stands on which page, and where."""
+"""A complete track in `draw` and `report`: what is on which page, and where."""
 from __future__ import annotations
 
 import json
@@ -61,7 +61,7 @@ def authority(direction: int = 1) -> List[Form]:
     [("rising", 1, (2, 3)), ("rising", 0, (1, 2)), ("falling", 1, (1, 2)), ("falling", 0, (2, 3))],
 )
 def test_directions(nominal: str, direction: int, wanted: Tuple[int, int]) -> None:
-    """What a group says lies up or down the kilometres, as the train runs."""
+    """What a group sends is drawn up or down the kilometres, as the train runs."""
     (picture,) = drawn((group("A", "2", nominal=nominal), [header(1, *authority(direction))]))
     for name in ("speed", "up", "section0"):
         (one,) = looks(picture, name)
@@ -122,7 +122,7 @@ def test_a_group_without_direction_is_a_mark_alone() -> None:
 
 
 def test_names_and_bands_do_not_overlap() -> None:
-    """Groups that stand close have names and lanes below each other; too many lanes go on in another picture."""
+    """Groups that are close have names and lanes below each other. Too many lanes continue in another picture."""
     some = [
         (
             group(f"Group {chr(65 + number)}{chr(65 + number // 2)}", f"1.{number:03}", nominal="rising"),
@@ -171,7 +171,7 @@ def test_the_example(run: Run, tmp_path: Path) -> None:
 
 
 def test_what_was_written(run: Run, table: Write, tmp_path: Path) -> None:
-    """What is refused is marked and named; the file, its groups and what was left out are told."""
+    """What is refused is marked and named. The file, its groups and what was left out are reported."""
     radio = table(f"{MESSAGE};to train 7", "0304;cut", "03;short", name="messages.txt")
     words = ["draw", LINE, "--track", "--aspect", "yellow", "--messages", radio]
     status, out, err = run(*words, "--svg", tmp_path / "t.svg")
@@ -425,7 +425,7 @@ def test_kilometres_are_written_as_elsewhere(place: int) -> None:
 
 
 def _titles(path: Path, look_wanted: str) -> List[str]:
-    """What the shapes of a look say."""
+    """The titles of the shapes of a look."""
     some = (one for one in ElementTree.parse(path).iter(f"{SVG}g") if one.get("class") == look_wanted)
     return [path.findtext(f"{SVG}title") or "" for one in some for path in one]
 

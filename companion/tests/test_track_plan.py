@@ -36,7 +36,7 @@ RBC = (352, 17)
 
 
 def bits(value: int, width: int) -> str:
-    """A number in so many bits."""
+    """A number in `width` bits."""
     return f"{value:0{width}b}"
 
 
@@ -77,7 +77,7 @@ def with_rbc(rows: List[Row]) -> None:
 
 
 def other_session(rows: List[Row]) -> None:
-    """A session with another RBC behind the border."""
+    """A session with another RBC after the border."""
     fixed(rows, "Signal 8").append(session((352, 18)))
 
 
@@ -162,7 +162,7 @@ OTHER_TERMS = {
     "overlap=none": "overlap=50",
     "onboard": "20",
 }
-"""What the terms of an aspect may be instead."""
+"""Other values for the terms of an aspect."""
 
 
 def shifted(cell: str, metres: int) -> str:
@@ -308,7 +308,7 @@ def test_x4_of_a_danger_point(program: Program, tmp_path: Path) -> None:
 
 
 def test_x4_of_an_aspect_without_authority(sound: Tuple[LineOfTable, List[Cells]], tmp_path: Path) -> None:
-    """An aspect that the plan has and the telegrams lack is a remark; one that the table has not is a note."""
+    """An aspect that the plan has and the telegrams lack is a remark. One that the table lacks is a note."""
     line, rows = sound
     rows.append({**of_kind(rows, "aspect", name="Signal 5/green"), "name": "Border", "way": "falling"})
     rows.append({**of_kind(rows, "aspect", name="Signal 5/green"), "name": "Signal 5/blue"})
@@ -320,7 +320,7 @@ def test_x4_of_an_aspect_without_authority(sound: Tuple[LineOfTable, List[Cells]
 
 @pytest.mark.parametrize("metres, is_named", [(0, False), (20, True)])
 def test_x3_of_an_authority_without_length(program: Program, tmp_path: Path, metres: int, is_named: bool) -> None:
-    """It ends at no signal, since it leads nowhere."""
+    """It ends at no signal, because it has no length."""
 
     def begins_there(rows: List[Row]) -> None:
         rows[:] = [row for row in rows if row.place >= 14_500]
@@ -335,7 +335,7 @@ def test_x3_of_an_authority_without_length(program: Program, tmp_path: Path, met
 
 
 def test_x5_of_packets_without_a_place(program: Program, tmp_path: Path) -> None:
-    """Packet 46 has the levels behind the last border, packet 42 an RBC that is known around it."""
+    """Packet 46 has the levels after the last border, packet 42 an RBC that is known around it."""
 
     def more(rows: List[Row]) -> None:
         with_rbc(rows)
@@ -406,7 +406,7 @@ def test_x5_of_a_border_whose_direction_is_not_known(program: Program, tmp_path:
 def test_x5_of_packets_that_are_not_decoded(
     program: Program, tmp_path: Path, monkeypatch: pytest.MonkeyPatch, sound: Tuple[LineOfTable, List[Cells]]
 ) -> None:
-    """They are counted, and no border is missed on account of them."""
+    """They are counted, and no border is reported as missing because of them."""
     monkeypatch.setattr(decoded, "FIELDS_OF", lambda packet: None)
     line = read(program, tmp_path / "t.csv")
     result = results(line, sound[1], tmp_path)["X5"]
@@ -415,7 +415,7 @@ def test_x5_of_packets_that_are_not_decoded(
 
 
 def test_points(program: Program, tmp_path: Path) -> None:
-    """Behind a point nothing is compared unless a packet 5 names a group of the track there."""
+    """After a point nothing is compared unless a packet 5 names a group of the track there."""
 
     def without_links(rows: List[Row]) -> None:
         for row in rows:
@@ -531,7 +531,7 @@ def test_one_thing_is_named_by_the_singular() -> None:
 
 
 def test_a_plan_that_compares_nothing(run: Run, program: Program, tmp_path: Path) -> None:
-    """The answer is INCOMPLETE, if no row can be compared. A plan of one kind alone is none to complain about."""
+    """The answer is INCOMPLETE, if no row can be compared. A plan with rows of only one kind is accepted."""
     path, file = written(program, tmp_path / "t.csv"), tmp_path / "p.csv"
     for rows in ("jump,15,16,,,,", "signal,11.5,,other,,,"):
         file.write_text(f"kind,km,km_to,track,way,value,name\n{rows}\n", "utf-8")

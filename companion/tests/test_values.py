@@ -133,7 +133,7 @@ WORDS: Dict[Tuple[str, int], str] = {
 
 @pytest.mark.parametrize("key, number", sorted(WORDS))
 def test_words(key: str, number: int) -> None:
-    """What a number is shown as, where the unit of distances is 10 m."""
+    """How a number is shown if the unit of distances is 10 m."""
     assert value_words(key, number, Around({"q_scale": 2})) == WORDS[key, number]
 
 
@@ -170,7 +170,7 @@ def test_packet_names() -> None:
 @pytest.mark.parametrize("from_track", [True, False])
 @pytest.mark.parametrize("beside", [0, 1, 2, 30, 255])
 def test_words_that_are_kept_are_those_of_the_place(beside: int, from_track: bool) -> None:
-    """Whatever numbers stand beside a value: what is kept of another place is right here too."""
+    """Whatever other numbers its object has: words that were kept for another object are right here too."""
     for scale in (0, 1, 2):
         packet = {**dict.fromkeys(VARIABLES, beside), "q_scale": scale}
         around = Around(packet, packet, from_track)

@@ -29,7 +29,7 @@ from balisekit.tables import messages as messages_file, reader
 
 Write = Callable[..., Path]
 MANY = 3500
-"""Of so many groups the workers have some seconds of work."""
+"""This many groups are some seconds of work for the workers."""
 
 
 def _numbers(part: int, count: int) -> Iterator[int]:
@@ -93,12 +93,12 @@ def test_a_reader_that_stops() -> None:
 
 
 class Ended(BaseException):
-    """In place of the end of the process."""
+    """Raised instead of ending the process."""
 
 
 @pytest.mark.parametrize("work, status", [(_numbers, 0), (_refuses, 1)])
 def test_a_copy(work: workers.Work, status: int, monkeypatch: pytest.MonkeyPatch) -> None:
-    """It ends by itself, whatever happens, and nothing behind the fork is done twice."""
+    """It ends by itself, whatever happens, and nothing after the fork is done twice."""
 
     def end(number: int) -> None:
         raise Ended(number)
@@ -201,7 +201,7 @@ def _lines(tracks: int, groups: int = workers.LEAST + 40) -> List[str]:
 
 
 def _begin(processors: int, *words: object) -> "subprocess.Popen[bytes]":
-    """Begins a command that has so many processors: as many as there are, if these are fewer."""
+    """Begins a command that has this many processors, or all if there are fewer."""
     own = sorted(os.sched_getaffinity(0))[:processors]
 
     def begin() -> None:
@@ -224,7 +224,7 @@ needs_two = pytest.mark.skipif(len(os.sched_getaffinity(0)) < 2, reason="one pro
 @needs_two
 @pytest.mark.parametrize("tracks", [1, 3])
 def test_the_same_page(tracks: int, table: Write, tmp_path: Path) -> None:
-    """Byte for byte, whether one process makes it or several, of one track and of three."""
+    """One process and several make the same bytes, for one track and for three."""
     pytest.importorskip("jinja2")
     path, pages = table(*_lines(tracks)), []
     for processors in (1, 2, 3):

@@ -50,7 +50,7 @@ def renumbered(
 ) -> Tuple[List[Renumbered], List[Group], List[Group]]:
     """Groups that were renumbered, and the groups of either release that are left.
 
-    They have one name, or one kilometre and track. In documents nothing else has the same telegrams.
+    They have one name, or one kilometre and track. In documents, no other group has the same telegrams.
     """
     sides = [list(_left(side, groups)) if removed and added else [] for side, groups in ((old, removed), (new, added))]
     counts = [Counter(left.content for left in side) for side in sides]
@@ -110,7 +110,7 @@ class Slot(NamedTuple):
 
 
 class Moved(NamedTuple):
-    """A telegram whose place has another one in the other release."""
+    """A telegram at whose place the other release has another one."""
 
     text: str
     slot: Slot
@@ -161,7 +161,7 @@ def _slots(side: Side, number: int, group: Group) -> Mapping[Slot, Row]:
 
 
 def _cycles(before: Sequence[Moved], after: Sequence[Moved]) -> Iterator[Cycle]:
-    """The telegrams that changed places in a circle. In one group and aspect, or one balise, they are found first."""
+    """Telegrams that changed places in a circle: first within an aspect of a group, or a balise, then anywhere."""
     pairs, _, _ = paired(
         before,
         after,

@@ -95,7 +95,7 @@ class Difference:
 
 
 def by_place(table: Table) -> Table:
-    """The table with its aspects named by their places, as those of a document are."""
+    """The table with its aspects named by their indices, as those of a document are."""
     groups = []
     for group in table.groups:
         names = [str(place) if len(group.aspects) > 1 else "" for place in range(len(group.aspects))]
@@ -105,7 +105,7 @@ def by_place(table: Table) -> Table:
 
 
 def compare(old: Checked, new: Checked, named: bool = True) -> Difference:
-    """What differs between two releases. There are notes on names and kilometres if both have some of their own."""
+    """What differs between two releases. `named` ones are not documents: there are notes on names, km and tracks."""
     answer, differing = Difference(Side(old), Side(new)), []
     pairs, removed, added = _paired_groups(answer.old, answer.new, named)
     answer.groups_renumbered, removed, added = renumbered(answer.old, answer.new, removed, added, named)

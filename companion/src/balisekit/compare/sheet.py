@@ -187,7 +187,7 @@ def _named(columns: Sequence[str], cells: Mapping[str, str]) -> str:
 
 
 def same(expected: str, found: str, unit: str = "") -> bool:
-    """Whether two cells are the same number or the same text. The expected one may have the unit behind it."""
+    """Whether two cells are the same number or the same text. The expected one may have the unit after it."""
     if expected == found or _plain(expected) == _plain(found):
         return True
     numbers = [_number(text) for text in (expected.removesuffix(unit) if unit else expected, found)]

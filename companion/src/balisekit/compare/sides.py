@@ -1,4 +1,4 @@
-"""The two releases that are compared, and how things of the one are paired with things of the other."""
+"""The two releases that are compared, and how things of both are paired."""
 from __future__ import annotations
 
 from collections import deque
@@ -48,7 +48,7 @@ class Side:
         return next((row for row in group.rows() if row.number in self.checked.accepted), None)
 
     def known(self) -> List[Known]:
-        """The groups whose identity is known, behind NID_BG and NID_C."""
+        """The groups whose identity is known, after NID_BG and NID_C."""
         groups = [(self.first(group), group) for group in self.checked.table.groups]
         self.decode(row for row, _ in groups if row)
         return [(self.head(row)[1:], group) for row, group in groups if row]

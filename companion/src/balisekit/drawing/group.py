@@ -42,7 +42,7 @@ from balisekit.tables.model import Aspect, Group
 from balisekit.tables.names import NAMED, clean, listed, quoted
 
 AREAS = ((41, "level"), (65, "restriction"), (80, "mode"), (68, "condition"))
-"""The lanes of what has no lane of its own: packet and name."""
+"""The lanes of areas: packet and name."""
 AREA, LINE = 8, 12
 """The height of an area, and of a line of words."""
 PROFILES = ((27, "speed, km/h", 58), (21, "gradient, ‰", 20))
@@ -54,17 +54,17 @@ Drawn = Sequence[Tuple[WayDrawing, Authority]]
 
 
 class LinkMark(NamedTuple):
-    """A link of which a rule L has found something, or the place of another remark."""
+    """A link that a rule L reports, or the place of another remark."""
 
     row: int
-    """That of the telegram."""
+    """The row of the telegram."""
     direction: str
     place: int
     """The sum of D_LINK, or a distance from the group."""
     rule: str
     title: str
     by: str = ""
-    """By which variable, of a link. Another remark marks the place that it is about."""
+    """By which variable a link's place is known. For the place of another remark it is empty."""
 
 
 @dataclass(frozen=True)
@@ -151,7 +151,7 @@ def picture_of_message(
 
 
 def _contents(title: str, forms: Sequence[Form], short: Sequence[Finding]) -> List[Content]:
-    """What these telegrams say of places from their own group, and from the group of a packet 136."""
+    """The rows for these telegrams: one from their own group, and one from the group of a packet 136, if it has any."""
     contents = [Content(title, forms, short)]
     if has_infill(forms) and any(infill(forms, direction) for direction in DIRECTIONS):
         contents.append(Content(f"{title}, infill: metres from the group of packet 136", forms, infill=True))
@@ -167,7 +167,7 @@ def draw(title: str, contents: Sequence[Content], where: Kilometres, titled: boo
 
 
 def _drawn(title: str, contents: Sequence[Content], where: Kilometres) -> Picture:
-    """The function that draws a picture without its name. A title is visible if there is one."""
+    """The picture without its name. A title is visible if there is one."""
     rows = [(content, [way(content.forms, each, content.infill) for each in DIRECTIONS]) for content in contents]
     nominal, reverse = (
         max((place for _, ways in rows for place in places(ways[index])), default=0) for index in range(2)
@@ -245,7 +245,7 @@ def _row(sheet: Sheet, content: Content, ways: Sequence[Way], describe: Sequence
 
 
 def _links(drawing: WayDrawing, marks: Sequence[LinkMark]) -> None:
-    """A ring at the end of each link of which a rule has found something, or at the edge behind which it ends."""
+    """A ring at each of these places, or at the edge beyond which it is."""
     sheet = drawing.sheet
     for mark in marks:
         lane, words = _lane(sheet, "link" if mark.by else "place", LINE), f"{mark.rule}: {metres(mark.place)}{mark.by}"
@@ -308,9 +308,9 @@ def _authorities(sheet: Sheet, drawn: Drawn) -> None:
 
 
 def _write_at(drawing: WayDrawing, words: str, place: int, bottom: int, is_toward: bool) -> str:
-    """Words below a place of a bar: at the side toward the group if they may be there, else at the other one.
+    """Words below a place of a bar: with `is_toward` at the side toward the group if there is room, else elsewhere.
 
-    The answer is the path of a line from the place to them, if they are toward the group.
+    With `is_toward`, the path of a line from the place to the words is returned.
     """
     sheet, wide = drawing.sheet, width("", words)
     x = sheet.x(drawing.at(place))
@@ -328,7 +328,7 @@ def _write_at(drawing: WayDrawing, words: str, place: int, bottom: int, is_towar
 
 
 def _areas(sheet: Sheet, name: str, areas: Sequence[Tuple[WayDrawing, Area]]) -> None:
-    """The areas of a packet as bars, and below each of them which one it is. What overlaps is below each other."""
+    """The areas of a packet as bars, each with its words below it. Areas that overlap are in different rows."""
     rows, items = Rows(), []
     for index, (drawing, area) in enumerate(areas):
         words, begin = area_words(area, metres), area.begin if area.acknowledged is None else area.acknowledged

@@ -68,7 +68,7 @@ Box = Tuple[int, int, int, int]
 
 
 FONTS = {"title": Font(14, True), "head": Font(12, True), **dict.fromkeys(("name", "red"), Font(10, True))}
-"""Of the styles that have another one than the usual one."""
+"""The fonts of styles that do not have the usual one."""
 USUAL = Font(10)
 ANCHORS = {**dict.fromkeys(("middle", "tick", "light"), 1), "ending": 2}
 """How many halves of a text are to the left of its coordinate, by a word of its style."""
@@ -83,7 +83,7 @@ def _look(style: str) -> Tuple[Font, int]:
 
 @lru_cache(maxsize=1 << 14)
 def advance(text: str, is_bold: bool) -> int:
-    """In thousandths of the font's size."""
+    """The width of a text, in thousandths of the font's size."""
     known = WIDTHS[is_bold]
     try:
         return sum(map(known.__getitem__, text))

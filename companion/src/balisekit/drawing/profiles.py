@@ -1,6 +1,6 @@
-"""What a group says in one direction, drawn on a scale: speeds, gradients, authorities, and where profiles are missing.
+"""What a group sends for one direction, drawn on a scale: speeds, gradients, authorities, and missing profiles.
 
-Pictures of groups and of tracks are both drawn by it.
+Pictures of groups and of tracks use it.
 """
 from __future__ import annotations
 
@@ -39,7 +39,7 @@ def is_about(finding: Finding, profile: Profile) -> bool:
 
 
 def gap(finding: Finding, way: Way) -> Optional[Tuple[int, int]]:
-    """From where to where a profile is missing: up to the greatest supervised location."""
+    """From where a profile is missing, and up to where: the greatest supervised location."""
     profiles = (*way.gradients, *way.speeds)
     begin = next((profile.reach for profile in profiles if is_about(finding, profile)), None)
     begin = 0 if finding.packet is None else begin
@@ -61,7 +61,7 @@ def open_end(way: Way) -> int:
 
 
 def places(way: Way) -> Iterator[int]:
-    """The places of a way at which something begins or ends, all of which a picture has to show."""
+    """The places of a way at which something begins or ends. A picture must show them all."""
     for authority in way.authorities:
         yield from (*authority.cuts, authority.end, authority.supervised, authority.danger_point or 0)
     for profile in (*way.gradients, *way.speeds):
@@ -95,7 +95,7 @@ class Sizes(NamedTuple):
 
 @lru_cache(maxsize=1 << 9)
 def _gradient_words(value: int, rises: int) -> str:
-    """G_A and Q_GDIR. Its minus is as wide as a plus, and so is seen."""
+    """G_A with the sign of Q_GDIR. Its minus is as wide as a plus, so that it is not overlooked."""
     return value_words("g_a", value, Around({}, {"q_gdir": rises})).replace("-", "\u2212")
 
 
@@ -140,7 +140,7 @@ class WayDrawing(NamedTuple):
         self.sheet.mark(style, self._titled(title), self.origin + self.sign * place, *lane)
 
     def profile(self, profile: Profile, lane: Lane, top_speed: int) -> None:
-        """A profile in its lane: its elements, the track before it, its end mark, and the elements behind that."""
+        """A profile in its lane: its elements, the track before it, its end mark, and the elements after that."""
         is_speed, describe, steps = profile.number == SPEED_PROFILE, self.describe, []
         for element in profile.elements:
             end = open_end(self.way) if element.end is None else element.end
@@ -170,7 +170,7 @@ class WayDrawing(NamedTuple):
         return lane.bottom - max(1, speed * self.sizes.speed // top_speed)
 
     def _speed(self, element: Element, where: str, end: int, lane: Lane, top_speed: int) -> str:
-        """A speed. The answer is the path of its step; that of an open one is drawn here."""
+        """A speed. The path of its step is returned; the step of an open element is drawn here."""
         speed, bottom = element.value * 5, lane.bottom
         y = self._level(speed, lane, top_speed)
         edges = self._rect("speed", f"{speed} km/h {where}", element.begin, end, Lane(y, bottom - y))
@@ -193,7 +193,7 @@ class WayDrawing(NamedTuple):
         self._along(f"{speed} {short}", edges, y)
 
     def _along(self, words: str, edges: Tuple[int, int], y: int) -> None:
-        """What a line in the lane of speeds is, above or below it where there is room."""
+        """The words of a line in the lane of speeds, above or below it if there is room."""
         free = edges[1] - edges[0] - width("", words) - 60
         if self.sizes.has_words and free >= 0:
             spots = [(edges[0] + 30 + free * part // 4, at) for at in (y - 2, y + 10) for part in (4, 0, 2, 3, 1)]
@@ -264,7 +264,7 @@ class WayDrawing(NamedTuple):
                 self.sheet.label("", short, [(x + 70, bar.top - 2), (x - 20 - width("", short), bar.top - 2)])
 
     def _end_words(self, authority: Authority, place: int) -> str:
-        """A place of an authority in words: also whether it is the supervised location."""
+        """A place of an authority in words, and whether it is the supervised location."""
         return self.describe(place) + " (SvL)" * (place == authority.supervised and not is_limit(authority))
 
     def _danger_point(self, authority: Authority, bar: Lane) -> None:

@@ -1,4 +1,4 @@
-"""What a picture is drawn on: shapes with their coordinates, and the scale of places along the track.
+"""The sheet of a picture: shapes with their coordinates, and the scale of places along the track.
 
 Coordinates across are whole tenths of a pixel. The template draws what is here and computes nothing. No text of a
 picture is over another one: a sheet knows what its texts cover.
@@ -15,7 +15,7 @@ from balisekit.drawing.letters import Box, box, shortened, width
 
 WIDTH, LEFT, RIGHT = 800, 84, 34
 BEGIN, ROOM = LEFT * 10, (WIDTH - LEFT - RIGHT) * 10
-"""Where the least place is, and how much of the width is for places, in tenths of a pixel."""
+"""The coordinate of the least place, and the width that all places have, in tenths of a pixel."""
 EDGE = 40
 """How far texts are from the edges, in tenths of a pixel."""
 EDGES = EDGE, WIDTH * 10 - EDGE
@@ -70,9 +70,9 @@ def tenths(number: int) -> str:
 
 
 class Rows:
-    """Rows below each other, in each of which nothing overlaps. What needs one comes in the order of its beginning.
+    """Rows below each other, within which nothing overlaps. They must be reserved in the order of beginnings.
 
-    A row that is free again is put on a heap, since a page may have hundreds of them.
+    Rows that are free again are on a heap, because a page can have hundreds of them.
     """
 
     def __init__(self) -> None:
@@ -115,11 +115,11 @@ class Sheet:
         return self.least <= place <= self.greatest
 
     def nearest(self, place: int) -> int:
-        """Where the place of the sheet is that is nearest to this one, in tenths of a pixel."""
+        """The coordinate of the place on the sheet that is nearest to this one, in tenths of a pixel."""
         return self.x(min(max(place, self.least), self.greatest))
 
     def rect(self, style: str, title: str, places: Tuple[int, int], y: int, height: int) -> Optional[Tuple[int, int]]:
-        """The part of a rectangle that is on the sheet, at least a pixel wide, and from where to where it is."""
+        """The part of a rectangle that is on the sheet, at least a pixel wide. Returns its left and right edge."""
         near, far = places
         if near > far:
             near, far = far, near
@@ -134,7 +134,7 @@ class Sheet:
         return left, right
 
     def hatch(self, style: str, edges: Tuple[int, int], lane: Lane) -> None:
-        """Strokes across a rectangle, from its lower left to its upper right: a pattern makes great files of prints."""
+        """Strokes across a rectangle, from lower left to upper right. A pattern would make large files of prints."""
         left, right, tall = edges[0], edges[1], lane.height * 10
         step, strokes = max(STROKES[0] * 10, (right - left + tall) // STROKES[1]), []
         for begin in range(left - tall + step // 2, right, step):
@@ -162,7 +162,7 @@ class Sheet:
             self.shapes.append(Shape("path", style, title, "", "", "", "", path))
 
     def text(self, style: str, text: str, x: int, y: int, title: str = "") -> None:
-        """A text at a coordinate that nothing else covers, which is rounded down to a pixel."""
+        """A text at a coordinate, which is rounded down to a pixel. The caller knows that it covers no other text."""
         x -= x % 10
         self._put(Shape("text", style, title, tenths(x), str(y), "", "", "", text), box(style, text, x, y))
 
@@ -172,7 +172,7 @@ class Sheet:
             self._covered[strip].append(covered)
 
     def short(self, style: str, text: str, x: int, y: int, room: int) -> None:
-        """A text of which only as much is written as fits into the room. Its title has all of it."""
+        """A text, shortened if it does not fit into the room. Then its title has all of it."""
         written = shortened(style, text, room)
         self.text(style, written, x, y, "" if written == text else text)
 

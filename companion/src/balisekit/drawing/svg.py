@@ -16,7 +16,7 @@ Written = Dict[str, List[str]]
 
 
 def escaped(text: str) -> str:
-    """A text between elements. Most of them have nothing to escape, which is seen sooner than done."""
+    """A text between elements. Most texts have nothing to escape, and looking for it first is faster."""
     return escape(text, quote=False) if "<" in text or "&" in text or ">" in text else text
 
 
@@ -42,7 +42,7 @@ def _paths(titled: Written, bare: Written, quote: str) -> List[str]:
 
 
 def _texts(texts: Written, ticks: Written, quote: str) -> str:
-    """The usual texts, and the others by style. Ticks of one height share it."""
+    """The usual texts, and the others by style. Ticks of one height share its attribute."""
     rows = [f"<text y={quote}{y}{quote}>{''.join(row)}</text>" for y, row in ticks.items()]
     inside = "".join(texts.pop("", ()))
     for style, some in (*texts.items(), ("tick", rows)):

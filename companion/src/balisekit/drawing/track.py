@@ -34,7 +34,7 @@ LANES = 12
 """How many bands without other areas fit below each other on a printed page."""
 TICK = 5000
 ARROW, SPACE, NAME = 110, 70, 3400
-"""The room of the arrow before a name, of a space, and the greatest one of a name, in tenths of a pixel."""
+"""The width of the arrow before a name, of a space, and of a name at most, in tenths of a pixel."""
 FLAGS = "-24l9 4l-9 4", "-16a4 4 0 1 1 .1 0"
 """A flag, and the ring of one that only rules L have: the pole, and what is at its top."""
 NAMED = 5
@@ -64,7 +64,7 @@ def track_pictures(
     """The pictures of a track. If a page has too many bands below each other, the next picture goes on with them.
 
     Each group is in the aspect of this name, or in the one with the farthest end of authority. Marks are flags at their
-    places: those of other tracks are passed over.
+    places. Marks of other tracks are ignored.
     """
     for page in pages(line, links, track, aspect, flags(marks, track), within):
         scale = Sheet(page.begin, page.end)
@@ -122,7 +122,7 @@ class Placed(NamedTuple):
 
 
 def _placed(scale: Sheet, band: Band) -> Placed:
-    """The room of a band. Its name begins at the group, on the side to which it runs, or at the edge of the page."""
+    """A band with the room that it needs. Its name is at the group, on the side to which it runs, or at an edge."""
     words = shortened("", band.label, NAME) + ("" if scale.shows(band.at) else f", from {at_km(band.at)}")
     findings = width("red", band.findings) + SPACE if band.findings else 0
     wide = ARROW + width("", words) + findings
@@ -150,7 +150,7 @@ def _strips(scale: Sheet, band: Band) -> Tuple[List[Strip], int]:
 
 
 def _within(scale: Sheet, band: Band, area: Area) -> Edges:
-    """From where to where an area of this page is drawn, with its words behind it, on it, or else before it."""
+    """From where to where an area of this page is drawn, with its words after it, on it, or else before it."""
     begin = area.begin if area.acknowledged is None else max(area.acknowledged, 0)
     end = band.at + band.sign * (open_end(band.way) if area.end is None else area.end)
     low, high = sorted((band.at + band.sign * begin, end))
@@ -178,7 +178,7 @@ def _parts(lanes: List[List[Placed]]) -> List[List[Tuple[int, List[Placed]]]]:
 
 
 def _areas_top(band: Band) -> int:
-    """Where the other areas of a band begin, below its name and what else it has."""
+    """How far below the top of a band its other areas begin."""
     way = band.way
     return BAND if way.authorities or way.gradients or way.speeds else 16
 

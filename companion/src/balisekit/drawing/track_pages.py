@@ -30,7 +30,7 @@ PAGE = 50_000
 FormOf = Callable[[int], Optional[Form]]
 """The telegram of a row, if the program has read it."""
 Within = Tuple[Optional[int], Optional[int]]
-"""From which place and up to which one pages are made. None is an end of the track."""
+"""The place from which pages are made, and the one up to which. None is an end of the track."""
 KEPT = 64
 """The most telegrams that are kept as objects: making one of its line takes time, and keeping it takes memory."""
 
@@ -122,13 +122,13 @@ class Arc(NamedTuple):
 
 @dataclass
 class Page:
-    """What lies between two places of a track."""
+    """All that is between two places of a track."""
 
     begin: int
     before: int
     """Where the page before it ends. The axis is broken if that is not where this page begins."""
     is_broken_behind: bool = False
-    """Whether pages behind it are left out."""
+    """Whether pages after it are left out."""
     stations: List[BaliseGroup] = field(default_factory=list)
     bands: List[Band] = field(default_factory=list)
     arcs: List[Arc] = field(default_factory=list)
@@ -171,7 +171,7 @@ def _read_aspects(station: BaliseGroup) -> Sequence[Aspect]:
 
 
 def chosen(form_of: FormOf, station: BaliseGroup, aspect: Optional[str]) -> Optional[Aspect]:
-    """The aspect of this name, the only one, or if no name is given the one with the farthest end of authority.
+    """The only aspect, the one with this name, or without a name the one with the farthest end of authority.
 
     An aspect of which a telegram is refused has no known end.
     """
@@ -205,7 +205,7 @@ def _farthest(forms: Sequence[Form]) -> int:
 
 
 def undrawn(station: BaliseGroup, aspect: Optional[str]) -> str:
-    """Why only the mark of a group is drawn, or nothing if all that it says can be drawn."""
+    """Why only the mark of a group is drawn, or nothing if its band can be drawn."""
     aspects = station.group.aspects
     named = [one for one in aspects if len(aspects) == 1 or aspect in (None, one.name)]
     if not named:
@@ -309,7 +309,7 @@ def _filled(
 
 
 def _bands(station: BaliseGroup, shown: Aspect, forms: Sequence[Form], findings: Sequence[Finding]) -> Iterator[Band]:
-    """A band for each direction of a group whose direction is known, and that has an authority or a profile."""
+    """A band for each direction for which a group sends an authority, a profile or an area."""
     ways = [way(forms, direction) for direction in DIRECTIONS]
     short = short_profiles(findings, station.group.aspects.index(shown))
     for each in filter(None, ways):

@@ -1,4 +1,4 @@
-"""What the packets of a way say in few words: at their places, and in sentences for those who do not see a picture."""
+"""The packets of a way in few words: at their places, and in sentences for those who do not see a picture."""
 from __future__ import annotations
 
 from typing import Callable, Iterator, List, Sequence, Tuple
@@ -30,7 +30,7 @@ def release(authority: Authority, part: str) -> str:
 
 
 def limit_words(authority: Authority, place: str) -> str:
-    """The end of an authority at which the train need not stop. Of another end, its section says where it is."""
+    """A limit of authority in words, or nothing for another end: the title of its section has its place."""
     if not is_limit(authority):
         return ""
     speed = value_words("end_speed", authority.form["end_speed"], Around())
@@ -38,7 +38,7 @@ def limit_words(authority: Authority, place: str) -> str:
 
 
 def place_words(authority: Authority) -> List[Tuple[int, str]]:
-    """What is at which place of an authority, in few words. The supervised location is one of these places."""
+    """The places of an authority, with words. Unless it ends at a limit, one of them is the supervised location."""
     limit = f"limit of authority {metres(authority.end)}, {LIMIT}"
     found = [(authority.end, limit if is_limit(authority) else f"end {metres(authority.end)}")]
     if authority.danger_point is not None:

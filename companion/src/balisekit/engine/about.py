@@ -11,7 +11,7 @@ TOP = os.path.normpath(os.path.join(os.path.realpath(__file__), *[os.pardir] * 5
 
 
 def all_papers() -> Iterator[Dict[str, str]]:
-    """The lines of each ABOUT by their first words. Files that cannot be read are passed over."""
+    """The lines of each ABOUT by their first words. Files that cannot be read are skipped."""
     stored = sorted(glob.glob(os.path.join(glob.escape(TOP), "dist", "*", "ABOUT")))
     for about in [*stored, os.path.join(PACKAGE, "ABOUT")]:
         try:

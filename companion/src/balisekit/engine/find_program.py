@@ -45,7 +45,7 @@ def _is_clone() -> bool:
 
 
 def find(named: Optional[str]) -> str:
-    """Where the program is. The start script of the clone stands for the program that it would run."""
+    """Where the program is. The start script of a clone is replaced by the program that it would run."""
     named = named or os.environ.get("BALISECHECK")
     script, is_clone = _script(), _is_clone()
     if named:

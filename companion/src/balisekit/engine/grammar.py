@@ -1,7 +1,7 @@
 """The lines that the program writes, as regular expressions, and what each line contains.
 
-schemas/report-grammar.txt has the same lines. A line has a name and an expression, in which {NAME} stands for the
-expression of that name. An expression is matched against a whole line, without its line end.
+schemas/report-grammar.txt has the same lines. A line has a name and an expression, in which {NAME} is replaced by the
+expression of that name. An expression is matched against a complete line, without its line end.
 """
 from __future__ import annotations
 
@@ -62,7 +62,7 @@ check           refused: {message}: (?P<text>not hexadecimal|{message fault})
 
 LONG = re.compile("[0-9]{19}")
 BEGIN = re.compile("F([0-9]{1,2}) ")
-"""How a finding begins. By its rule one expression is taken."""
+"""The beginning of a finding. Its rule determines the expression."""
 LINES: List[Tuple[str, str]] = re.findall(r"^(.+?) {2,}(.+)$", GRAMMAR, re.MULTILINE)
 """Each name with its expression."""
 PARTS = dict(LINES)
@@ -74,7 +74,7 @@ NAMES: Dict[int, str] = {
 
 @lru_cache(maxsize=None)
 def expressions(name: str, begin: str = "") -> Tuple[Pattern[str], ...]:
-    """The expressions of a name that begin so: `verdict`, `finding`, and the command whose refusal it is."""
+    """The expressions with this beginning of a name: `verdict`, `finding`, or the command that refuses."""
 
     def put_in(expression: str) -> str:
         return re.sub(r"\{([a-z ]+)\}", lambda match: f"(?:{put_in(PARTS[match[1]])})", expression)

@@ -1,7 +1,7 @@
 """The program: where it is, and what it answers.
 
 `Program.find()` finds it. `decode`, `encode`, `messages` and `check` hand data to it and give its answers in order. A
-run ends with the first line that it refuses, so another run begins behind that line.
+run ends with the first line that it refuses, so another run begins after that line.
 """
 from __future__ import annotations
 

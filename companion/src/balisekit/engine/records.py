@@ -132,7 +132,7 @@ FROM_TRACK: Dict[int, str] = {
     27: "q_dir q_scale elements",
     41: "q_dir q_scale d_leveltr transitions",
 }
-"""The keys of each packet from track to train that is decoded, beside its number."""
+"""The keys of each packet from track to train that is decoded, without its number."""
 FROM_TRAIN: Dict[int, str] = {
     0: f"q_scale nid_c nid_bg {REPORT}",
     1: f"q_scale nid_c nid_bg prv_nid_c prv_nid_bg {REPORT}",
@@ -177,7 +177,7 @@ def _types() -> Dict[str, Any]:
 
 
 def allowed(key: str) -> Tuple[Any, ...]:
-    """The numbers and ranges that a key allows, or the least and greatest length of its list; nothing of an object."""
+    """The numbers and ranges that a key allows, or the least and greatest length of its list; nothing for an object."""
     numbers: Tuple[Any, ...] = getattr(_types()[key], "__metadata__", ())
     return numbers
 
@@ -200,7 +200,7 @@ def _value(key: str) -> str:
 
 
 def _list(item: str, least: int, most: Optional[int] = None) -> str:
-    """An expression for a list with at least and at most this many objects. It has theirs once, since that is long."""
+    """An expression for a list of this many objects. It contains `item` only once, because that is long."""
     return rf"\[(?:{item}(?:,(?={{)|(?=\]))){{{least},{'' if most is None else most}}}\]"
 
 
@@ -217,13 +217,13 @@ def _object(keys: str, **values: str) -> str:
                 conditions += f"(?:(?={there})(?={holds})|(?!{there})(?!{holds}))"
         if name == key:
             text, comma = f"{text}{comma}{part}", ","
-        else:  # (before the first key that is always present, the comma is behind it)
+        else:  # (before the first key that is always present, the comma is after it)
             text += f"(?:,{part})?" if comma else f"(?:{part},)?"
     return rf"\{{{conditions}{text}\}}"
 
 
 def _packets(from_track: bool, one_of: str = "") -> str:
-    """An expression for the packets of a telegram or message, one of which has to have one of these numbers."""
+    """An expression for the packets of a telegram or message, one of which must have one of these numbers."""
     kinds = FROM_TRACK if from_track else FROM_TRAIN
     packets = []
     for number, keys in kinds.items():

@@ -116,7 +116,7 @@ class Run:
         self._wait()
 
     def _pieces(self) -> Iterator[bytes]:
-        """The bytes of standard output. Standard error is read beside it."""
+        """The bytes of standard output. Standard error is read at the same time."""
         output = self._pipes[0]
         poll = select.poll()
         for pipe in self._pipes:
@@ -161,7 +161,7 @@ class Run:
             begin, pause = self._count(begin), min(2 * pause, 0.05)
 
     def _count(self, begin: float) -> float:
-        """Counts the time since then as time in which balisekit waited. The answer is the time now."""
+        """Counts the time since then as time in which balisekit waited. Returns the time now."""
         now = time.monotonic()
         self._waited += min(now - begin, PAUSE)  # (more, if balisekit itself was stopped)
         if self._waited >= self._limit.seconds:

@@ -12,7 +12,7 @@ from typing import Iterator, cast
 from balisekit.engine.records import FROM_TRACK, FROM_TRAIN, Form
 
 RAW = "q_dir l_packet body"
-"""The keys of a packet that the program keeps as bits, beside its number."""
+"""The keys of a packet that the program keeps as bits, without its number."""
 KEPT = 1 << 12
 """How many packets are kept with their objects."""
 
@@ -37,7 +37,7 @@ def _packet(text: str) -> Form:
 
 
 def shared(line: str) -> Form:
-    """The object of a record that the program has written. It has no list outside of its packets, and keys around."""
+    """The object of a record that the program has written. Outside of its packets it has no list."""
     before, _, rest = line.partition('"packets":[')
     packets, _, behind = rest.rpartition("]")
     form = cast(Form, DECODER.raw_decode(f'{before}"packets":[]{behind}')[0])

@@ -19,13 +19,13 @@ STRETCHES: Mapping[int, Tuple[str, str]] = {
 """The keys of distance and length of raw packets. Each element of 68 and 80 counts from where the one before begins."""
 NOW_OR_INFINITE = 32_767
 INFINITE = ("l_mamode",)
-"""The lengths that have no end at this number."""
+"""The keys of lengths for which this number is infinite."""
 DRAWN: Mapping[int, Tuple[str, Tuple[str, ...]]] = {
     65: ("temporary speed restriction", ("v_tsr",)),
     80: ("mode", ("m_mamode", "v_mamode")),
     68: ("track condition", ("m_trackcond",)),
 }
-"""The raw packets that pictures have, with what each stretch is and the keys that tell which one."""
+"""The raw packets that pictures have: what each stretch is, and the keys of its values."""
 
 
 class Area(NamedTuple):
@@ -57,7 +57,7 @@ def stretches(packet: Values) -> Iterator[Tuple[str, Values, int, Optional[int]]
 
 
 def areas(packet: Form) -> Iterator[Area]:
-    """What pictures have of a packet beside authorities and profiles."""
+    """The areas of a packet that pictures have."""
     if packet["nid_packet"] == 41:
         at = 0 if packet["d_leveltr"] == NOW_OR_INFINITE else packet["d_leveltr"] * unit_dm(packet)
         before = max(choice["l_ackleveltr"] for choice in packet["transitions"]) * unit_dm(packet)

@@ -23,13 +23,13 @@ from balisekit.etcs.variables import (
 )
 
 Pair = Tuple[Optional[int], Optional[int]]
-"""Places in the old list and in the new one. One of them may be None."""
+"""Indices in the old list and in the new one. One of them can be None."""
 CHANGED, ADDED, REMOVED, MOVED = "changed", "added", "removed", "moved"
 PACKET_KEYS: Sequence[Callable[[Values], object]] = (
     lambda packet: (packet["nid_packet"], packet.get("q_dir")),
     lambda packet: packet["nid_packet"],
 )
-"""By what packets are paired, and then those that are left."""
+"""What packets are paired by, and then those that are left."""
 
 
 class Change(NamedTuple):
@@ -97,7 +97,7 @@ def _with_contents(old: Form, new: Form, before: Around, after: Around) -> Tuple
 
 
 def packet_pairs(old: Sequence[Values], new: Sequence[Values]) -> List[Pair]:
-    """Packets of one number and direction in their order, and then those that are left by their number alone."""
+    """Packets paired in order by number and direction, and then those that are left only by number."""
     pairs: List[Pair] = []
     gone, come = list(range(len(old))), list(range(len(new)))
     for key in PACKET_KEYS:

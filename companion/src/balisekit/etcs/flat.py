@@ -1,4 +1,4 @@
-"""All variables of a telegram one after the other, as rows of a sheet have them."""
+"""All variables of a telegram, one for each row of a sheet."""
 from __future__ import annotations
 
 import re
@@ -33,7 +33,7 @@ class Variable(NamedTuple):
 
 
 def variables(form: Form, here: Here = Here()) -> Iterator[Variable]:
-    """The variables of a telegram, in the order of its bits: those of raw packets, too, whose layout is known."""
+    """The variables of a telegram in the order of its bits, including those of raw packets with a known layout."""
     around = Around()
     header = {key: value for key, value in form.items() if key != "packets"}
     yield from _object(("", ""), header, "", around, {})
@@ -73,7 +73,7 @@ def _object(
 
 @lru_cache(maxsize=1 << 14)
 def _kept(key: str, raw: Union[int, str], scale: int, beside: Optional[int]) -> Tuple[str, str, str]:
-    """Name, value and unit. Most come again and again, so they are kept."""
+    """Name, value and unit. Most are repeated, so they are kept."""
     parent: Values = NO_FORM if beside is None else {BESIDE[key]: beside}
     name = variable_name(key, parent)
     if isinstance(raw, str):

@@ -1,4 +1,4 @@
-"""Where authorities and profiles of a group lie: whole decimetres from the group, in the direction of passage.
+"""Where authorities and profiles of a group are: whole decimetres from the group, in the direction of passage.
 
 The places are balisekit's own sums of the program's numbers. A place in kilometres needs the kilometre of the group's
 first balise, and whether the kilometres rise in nominal direction.
@@ -21,7 +21,7 @@ NOMINAL, REVERSE = "nominal", "reverse"
 Part = Literal["danger_point", "overlap", "end_timer"]
 Key = Literal["d_dp", "d_ol", "d_startol", "d_endtimerstartloc"]
 INFILL = 136
-"""The packet behind which distances count from another group."""
+"""The packet after which distances count from another group."""
 DIRECTIONS = (NOMINAL, REVERSE)
 ELEMENT_KEYS: Mapping[int, Tuple[Literal["d_gradient", "d_static"], Literal["g_a", "v_static"], int]] = {
     21: ("d_gradient", "g_a", 255),
@@ -31,7 +31,7 @@ ELEMENT_KEYS: Mapping[int, Tuple[Literal["d_gradient", "d_static"], Literal["g_a
 
 
 class Site(NamedTuple):
-    """Where a packet stands: its balise in the group, and its place in the telegram, both counted from 0."""
+    """The balise of a packet in the group, and the index of the packet in the telegram, both counted from 0."""
 
     balise: int
     packet: int
@@ -66,7 +66,7 @@ class Authority(NamedTuple):
 
 
 class Element(NamedTuple):
-    """What holds from one place of a profile on. Without `end` it holds on and on."""
+    """What holds from one place of a profile on. Without `end` it is open."""
 
     begin: int
     end: Optional[int]
@@ -83,15 +83,15 @@ class Profile(NamedTuple):
     elements: Tuple[Element, ...]
     """The elements before the first end mark."""
     beyond: Tuple[Element, ...]
-    """The elements behind it, which say nothing."""
+    """The elements after it, which have no meaning."""
     first: int
-    """Where the first element lies. The profile says nothing of the track before it."""
+    """Where the first element begins. The profile does not cover the track before it."""
     reach: Optional[int]
-    """Where the first end mark lies. A profile without one is open."""
+    """Where the first end mark is. A profile without one is open."""
 
 
 class Way(NamedTuple):
-    """What a group or message says in one direction."""
+    """What a group or message sends for one direction."""
 
     direction: str
     authorities: Tuple[Authority, ...]
@@ -117,7 +117,7 @@ class Kilometres:
 
     @cached_property
     def _whole(self) -> Optional[int]:
-        """The kilometre of the group in decimetres, where that is a whole number and no great one."""
+        """The kilometre of the group in decimetres, if that is a whole number below GREATEST."""
         place = Decimal() if self.group is None else self.group.scaleb(4)
         return int(place) if abs(place) < GREATEST and place == int(place) else None
 
@@ -133,7 +133,7 @@ class Kilometres:
         return self.at(place_dm if (self.rising != -1) == (direction == NOMINAL) else -place_dm)
 
     def at(self, along: int) -> str:
-        """The kilometre of a place so far up the kilometres from the group, whose kilometre is known."""
+        """The kilometre of a place this far up the kilometres from the group, whose kilometre is known."""
         whole = self._whole
         if whole is None:
             return kilometre((self.group or Decimal()) + Decimal(along).scaleb(-4))
@@ -142,14 +142,14 @@ class Kilometres:
 
 @lru_cache(maxsize=1 << 14)
 def kilometre_of(place: int) -> str:
-    """A place of whole decimetres as `kilometre` writes it, without the way by decimal numbers, which takes long."""
+    """A place of whole decimetres as `kilometre` writes it, without decimal numbers, which are slow."""
     whole, part = divmod(abs(place), 10_000)
     digits = f"{part:04}"
     return f"{'-' if place < 0 else ''}{whole}.{digits[:3]}{digits[3:].rstrip('0')}"
 
 
 def kilometres(group: Group) -> Kilometres:
-    """What the table says of the group's place: the kilometres of its balises, else the column `nominal`."""
+    """The kilometre of a group. Whether they rise is by the kilometres of its balises, else by the column `nominal`."""
     known: Dict[int, Decimal] = {}
     for aspect in group.aspects:
         for place, row in enumerate(aspect.rows):
@@ -213,7 +213,7 @@ def profile(site: Site, packet: Form) -> Profile:
 
 
 def is_silent(forms: Sequence[Optional[Form]], balise: int, direction: str) -> bool:
-    """Whether a balise is passed behind the one that its duplicate flag names, whose packets are the same."""
+    """Whether a balise is passed after the one that its duplicate flag names, which has the same packets."""
     flag = (forms[balise] or {}).get("m_dup", 0)
     if direction == NOMINAL:
         return bool(flag == 2 and balise > 0)
@@ -249,7 +249,7 @@ class Origin(Enum):
 def origins(forms: Sequence[Optional[Form]], direction: str) -> Iterator[Tuple[Site, Origin]]:
     """The origin of each packet for one direction, in passing order. A telegram that was not read is None.
 
-    A silent balise counts from where the balise counts that it stands in for.
+    The distances of a silent balise count as those of the balise before it, which it duplicates.
     """
     origin, before = Origin.OWN, {}
     step = 1 if direction == NOMINAL else -1
@@ -268,7 +268,7 @@ def origins(forms: Sequence[Optional[Form]], direction: str) -> Iterator[Tuple[S
 
 
 def infill(forms: Sequence[Form], direction: str) -> FrozenSet[Site]:
-    """The packets that are passed behind a packet 136: their distances count from another group."""
+    """The packets that are passed after a packet 136: their distances count from another group."""
     if not has_infill(forms):
         return frozenset()
     known = {site for site, origin in origins(forms, direction) if origin is Origin.INFILL}
@@ -285,7 +285,7 @@ def has_infill(forms: Sequence[Form]) -> bool:
 
 
 def way(forms: Sequence[Form], direction: str, of_infill: bool = False) -> Way:
-    """What the telegrams of a group say in one direction: of the group's own places, or of the infill's."""
+    """What the telegrams of a group send for one direction, from the group itself or from the infill's group."""
     elsewhere = infill(forms, direction)
     authorities: List[Authority] = []
     profiles: Dict[int, List[Profile]] = {21: [], 27: []}

@@ -1,7 +1,7 @@
-"""What is the same for many groups is made once, with holes where kilometres are put in for each of them.
+"""What is the same for many groups is made once, with holes for the kilometres of each of them.
 
-A hole has as many letters as the kilometre that comes there, so that a text is laid out as it would be with that. Its
-letters are of those for private use, which no text has that is shown: `clean` escapes them.
+A hole has as many letters as its kilometre, so that a text is laid out as with that. Its letters are of the private use
+area of Unicode. No other text that is shown has them, because `clean` escapes them.
 """
 from __future__ import annotations
 
@@ -12,7 +12,7 @@ from typing import Callable, Dict, Generic, Hashable, List, Match, Optional, Seq
 from balisekit.etcs.geometry import Kilometres, kilometre_of
 
 FIRST, MOST = 0xF0000, 0x8000
-"""The letter of the first hole, and how many there are. The letters behind them are for other words of a group."""
+"""The letter of the first hole, and how many there are. The letters after them are for other words of a group."""
 ASKED = 1 << 16
 """How many keys that were asked for are remembered."""
 HOLE, OF_PLACE = (re.compile(f"([\U000f0000-{last}])\\1*") for last in ("\U000ffffd", "\U000f7fff"))
@@ -20,7 +20,7 @@ Made = TypeVar("Made")
 
 
 def as_kilometre(hole: Match[str]) -> str:
-    """A kilometre that is as wide as the one that comes there: all digits have one width."""
+    """Digits and a dot that are as wide as the kilometre of a hole: all digits have one width."""
     return "." + "0" * (len(hole[0]) - 1)
 
 
@@ -69,9 +69,9 @@ class _Known(Generic[Made]):
 
 
 class Kept(Generic[Made]):
-    """What was made for groups, by what decides it: a key, and how long each kilometre is that it has.
+    """What was made for groups, by what it depends on: a key, and the length of each of its kilometres.
 
-    It is kept from the second time on that a key is asked for: on some lines none comes twice.
+    It is kept from the second request for a key on, because on some lines no key is repeated.
     """
 
     def __init__(self, most: int) -> None:
@@ -81,7 +81,7 @@ class Kept(Generic[Made]):
         self._known: Dict[Hashable, _Known[Made]] = {}
 
     def forget(self) -> None:
-        """Lets go of all that is kept."""
+        """Empties it."""
         self._known.clear()
 
     def of(
@@ -89,7 +89,7 @@ class Kept(Generic[Made]):
     ) -> Tuple[Made, Sequence[str]]:
         """What is made of kilometres, and those that its holes have here.
 
-        The key may have the `id` of objects that `held` keeps alive. It decides all but the kilometre of the group.
+        The key can have the `id` of objects that `held` keeps alive. It decides all but the kilometre of the group.
         """
         whole = where.whole
         if whole is None and where.group is not None:

@@ -1,7 +1,7 @@
 """The fields of a telegram or radio message with their bit places, as docs/variables.md has them.
 
-The walk judges nothing: it goes on through spare values and wrong lengths, and ends where the bits end. So it names the
-field at which the program says that a telegram is wrong. Which telegram is wrong is the program's word alone.
+The walk judges nothing. It continues through spare values and wrong lengths until the bits end, or no further field can
+be distinguished. It names the field at which the program has refused a telegram. Only the program refuses.
 """
 from __future__ import annotations
 
@@ -36,7 +36,7 @@ class Field(NamedTuple):
 
     @property
     def value(self) -> int:
-        """The number that its bits spell."""
+        """The number in its bits."""
         return int(self.digits or "0", 2)
 
     @property
@@ -50,7 +50,7 @@ class _End(Exception):
 
 
 class _Walk:
-    """Goes through bits and notes the fields."""
+    """Reads bits field by field."""
 
     def __init__(self, bits: str) -> None:
         self.bits, self.at = bits, 0
@@ -100,7 +100,7 @@ class _Walk:
         return self.read(f"Q_{flag}", 1) == 1
 
     def items(self, keys: str, least: int, path: str) -> None:
-        """The items of a list: as many as there are at least, and as many more as N_ITER says."""
+        """The items of a list: `least`, and N_ITER more."""
         for place in range(least):
             self.object(keys, f"{path}/{place}")
         for place in range(least, least + self.read("N_ITER", 5)):

@@ -80,5 +80,5 @@ MESSAGES: Dict[int, str] = {3: "movement authority", 136: "train position report
 
 
 def packet_name(number: int, from_track: bool = True) -> str:
-    """What the packet of this number is called."""
+    """The name of packets with this number."""
     return (TRACK if from_track else TRAIN).get(number, "not named here")

@@ -1,4 +1,4 @@
-"""Places in words: in metres from the group, and in kilometres where the table has them."""
+"""Places in words: in metres from the group, and in kilometres if the table has them."""
 from __future__ import annotations
 
 from itertools import accumulate, chain
@@ -22,7 +22,7 @@ ORIGINS = {
 
 
 class Passage(NamedTuple):
-    """A way in which a train gets a packet, and from which group the packet's distances then count."""
+    """An aspect and direction in which a train gets a packet, and the group that its distances then count from."""
 
     aspect: str
     direction: str
@@ -30,11 +30,11 @@ class Passage(NamedTuple):
 
 
 class Here(NamedTuple):
-    """From where the distances of a telegram count: from its group, whose kilometres these are."""
+    """What the distances of a telegram count from: its group, with these kilometres."""
 
     kilometres: Kilometres = Kilometres()
     passages: Mapping[int, Sequence[Passage]] = {}
-    """The passages of those packets, by their places in the telegram, that do not always count from the group."""
+    """By their indices in the telegram, the passages of packets that do not always count from the group."""
 
     def place(self, ways: Sequence[str]) -> Place:
         """How a place is written: "850 m, km 13.050", for both directions with the kilometre of either."""
@@ -52,9 +52,9 @@ class Here(NamedTuple):
         return place
 
     def notes(self, index: int, packet: Form) -> Dict[str, str]:
-        """What balisekit works out of the packet in this place, by the path of the object within the packet.
+        """What balisekit works out of the packet with this index, by the path of the object within the packet.
 
-        Where passages differ, each note names the aspects and directions that it is true of.
+        If passages differ, each note names the aspects and directions that it is true of.
         """
         if index not in self.passages:
             return _notes(packet, Origin.OWN, self.place([way for way in DIRECTIONS if holds(packet, way)]))
@@ -102,13 +102,13 @@ class Identities:
         return self.known.get((message.get("nid_c", -1), message.get("nid_bg", -1)))
 
     def here(self, message: Form) -> Here:
-        """From where the distances of a message count."""
+        """What the distances of a message count from."""
         group = self.group_of(message)
         return here_alone(message, Kilometres() if group is None else kilometres(group))
 
 
 def here_alone(form: Form, where: Kilometres = Kilometres()) -> Here:
-    """From where the distances of a message count, or those of a telegram of whose group nothing is known."""
+    """What the distances of a message count from, or of a telegram whose group is not known."""
     return Here(where, _passages([("", [(0, form)])]).get(0, {}))
 
 
@@ -202,8 +202,8 @@ NOTES: Mapping[int, Callable[[Form, Place], Notes]] = {
 def packet_kilometres(index: int, packet: Form, here: Here) -> Dict[str, str]:
     """The kilometres of a packet's places, by the path of the object or value within the packet.
 
-    There are none if the packet's distances count from another group in some passage. Of a packet for both directions
-    each has its own.
+    There are none if the packet's distances count from another group in some passage. If a packet is for both
+    directions and their kilometres differ, both are given.
     """
     ways = [way for way in DIRECTIONS if holds(packet, way)]
     packet = fields_of(packet) or packet
@@ -290,7 +290,7 @@ PLACES: Mapping[int, Callable[[Form], Iterator[Tuple[str, int]]]] = {
 
 
 def places_of_rows(group: Group, forms: Mapping[int, Form], where: Optional[Kilometres] = None) -> Dict[int, Here]:
-    """From where the distances of each row count, by the row's number, in the order of the table.
+    """What the distances of each row count from, by the row's number, in the order of the table.
 
     `where` has the kilometres of the group, if they are known already.
     """
@@ -308,7 +308,7 @@ def places_of_rows(group: Group, forms: Mapping[int, Form], where: Optional[Kilo
 def _passages(
     aspects: Sequence[Tuple[str, Sequence[Tuple[int, Optional[Form]]]]]
 ) -> Dict[int, Dict[int, Sequence[Passage]]]:
-    """The passages of packets that do not always count from the group, by telegram and place."""
+    """The passages of packets that do not always count from the group, by telegram and index."""
     passages_of: Dict[int, Dict[int, List[Passage]]] = {}
     for name, telegrams in aspects:
         for direction in DIRECTIONS:

@@ -23,7 +23,7 @@ from typing import Any, Dict, Iterator, List, Mapping, NamedTuple, Optional, Tup
 
 DATA = "raw_layouts.json"
 CERTAIN = 97
-"""From how many per cent on a layout is taken as certain. No remark rests on another one; E5 omits one by it."""
+"""From how many per cent on a layout is certain. No remark rests on another layout, but E5 omits some by it."""
 IMPLIED = ("Q_NEWCOUNTRY", "N_ITER")
 """Variables without a key, as in the program's JSON: other keys, and lengths of lists, give their values."""
 NUMBERS = re.compile(r"(\d+)(?: to (\d+))?(?: (.+))?")
@@ -54,12 +54,12 @@ class Variable(NamedTuple):
 
 
 class Condition(NamedTuple):
-    """Variables before a field that decide whether it is there: name, number, and whether it has that number."""
+    """Variables before a field that decide whether it is there: name, number, and whether it must have this number."""
 
     parts: Tuple[Tuple[str, int, bool], ...] = ()
 
     def holds(self, numbers: Mapping[str, int]) -> bool:
-        """Whether it is fulfilled. A variable that is not there fulfils nothing."""
+        """Whether it is fulfilled: not if one of its variables is absent."""
         return all(name in numbers and (numbers[name] == number) == wanted for name, number, wanted in self.parts)
 
 
@@ -95,7 +95,7 @@ Part = Union[One, Many, Rest]
 
 
 class Layout(NamedTuple):
-    """What the body of a packet has."""
+    """The fields in the body of a packet."""
 
     number: int
     from_track: bool
@@ -106,7 +106,7 @@ class Layout(NamedTuple):
 
     @property
     def is_certain(self) -> bool:
-        """Whether rules may use it. Any other is shown only as "layout not certain"."""
+        """Whether remarks may rest on it. Any other is shown as "layout not certain"."""
         return self.sure >= CERTAIN
 
 

@@ -58,7 +58,7 @@ class Content:
 
     @property
     def words(self) -> str:
-        """By which layout it was read, and up to which place it fits."""
+        """The layout that it was read by, and why it does not fit."""
         own = OWN if self.layout.is_certain else NOT_CERTAIN
         return f"{own}; {self.fault.reason}" if self.fault else own
 
@@ -73,19 +73,19 @@ def body_bits(count: int, body: str, from_track: bool) -> str:
 
 
 def content_of(packet: Form, from_track: bool = True) -> Optional[Content]:
-    """What is in the body of a packet. One that the program reads, or whose layout is not known, has nothing."""
+    """What is in the body of a packet: None if the program reads the packet, or its layout is not known."""
     return _content(packet["nid_packet"], packet["l_packet"], packet["body"], from_track) if "body" in packet else None
 
 
 @lru_cache(maxsize=1 << 12)
 def _content(number: int, count: int, body: str, from_track: bool) -> Optional[Content]:
-    """What is in a body. It is asked for by notes, places and values of one packet, so it is kept."""
+    """What is in a body. Notes, places and values of one packet need it, so it is kept."""
     layout = layout_of(number, from_track)
     return _Reader(layout, body_bits(count, body, from_track)).read() if layout else None
 
 
 def layout_words(packet: Form, from_track: bool = True) -> str:
-    """In few words whose layout a packet is read by. One that the program reads, or that nobody reads, has none."""
+    """Which layout of balisekit reads a packet, in few words: none if the program reads the packet, or nobody."""
     layout = layout_of(packet["nid_packet"], from_track) if "body" in packet else None
     return "" if layout is None else "balisekit's own layout" if layout.is_certain else "layout not certain"
 
@@ -129,7 +129,7 @@ class _Reader:
         self.head = BODIES[layout.from_track][0]
 
     def read(self) -> Content:
-        """All of it, as far as it fits."""
+        """The content, as far as the body fits."""
         content = self.content
         with suppress(_End):
             self.object(content.layout.fields, content.values, {}, "")
@@ -193,7 +193,7 @@ class _Reader:
                 self.object(part.fields, values, numbers, path)
 
     def items(self, part: Many, items: List[Any], numbers: Dict[str, int], path: str) -> None:
-        """The items of a list: as many as there are at least, and as many more as N_ITER says."""
+        """The items of a list: `part.least`, and N_ITER more."""
         for place in range(part.least):
             self.item(part, items, numbers, f"{path}/{place}")
         for place in range(part.least, part.least + self.number("N_ITER", "")):

@@ -191,7 +191,7 @@ def _raw_keys() -> Iterator[Tuple[str, raw_layouts.Variable]]:
 
 
 def _raw_name(key: str, variable: raw_layouts.Variable) -> str:
-    """The name of a variable whose key is not its name. One that an object has twice is the second one."""
+    """The name of a variable whose key is not its name. If an object has it twice, this is the second one."""
     return f"{variable.name} (2)" if key == f"{variable.name.lower()}_2" else variable.name
 
 
@@ -253,7 +253,7 @@ BESIDE: Mapping[str, str] = {
 
 
 def value_texts(keys: Sequence[str], form: Values, around: Around) -> List[str]:
-    """Values of an object with their names, as "Q_DIR nominal [1]". Most come again and again, so they are kept."""
+    """Values of an object with their names, as "Q_DIR nominal [1]". Most are repeated, so they are kept."""
     scale, from_track = around.packet.get("q_scale", 0), around.from_track
     return [
         _text(key, form[key], around)
@@ -282,7 +282,7 @@ def value_words(key: str, value: Union[int, str], around: Around) -> str:
 
 
 def _body_words(around: Around) -> str:
-    """How many bits of a body count: all but the packet's head, which has no Q_DIR from train to track."""
+    """How many bits a body has: L_PACKET without the head, which has no Q_DIR in packets from train to track."""
     head = 23 if around.from_track else 21
     count = around.packet.get("l_packet", head) - head
     is_read = bool(around.packet.keys() - HEAD)

@@ -25,7 +25,7 @@ def with_entries(checked: Checked, judged: Optional[Judged]) -> Iterator[Tuple[P
 
 
 def fault_lines(judged: Judged) -> Iterator[str]:
-    """The entries at fault, and those for rules that were not applied."""
+    """The entries at fault, and notes on entries without a sha256 and on those for rules that were not applied."""
     path = clean(judged.entries.path)
     yield from (f"{path}: row {entry.row}: {why}" for entry, why in judged.faults)
     unsigned = sum(not entry.sha256 for entry in judged.entries.entries)
@@ -41,7 +41,7 @@ def fault_lines(judged: Judged) -> Iterator[str]:
 
 
 def verdict_lines(judged: Judged, last: str, whole: bool, letters: str = "F") -> Iterator[str]:
-    """The verdict, how many items are open, and whether none is. Where it is not whole that comes last."""
+    """The verdict, how many items are open, and whether none is. If not all was looked at, the verdict comes last."""
     if not whole:
         yield from (counts(judged, letters), last)
         return
@@ -68,7 +68,7 @@ def counts(judged: Judged, letters: str = "F") -> str:
 
 
 def _against_the_rule(judged: Judged) -> str:
-    """How many items were accepted of rules that correct data never gets."""
+    """By rule, how many items were accepted that correct data never gets."""
     numbers = [f"{rule} {count}" for rule, count in sorted(judged.against_the_rule.items())]
     return f"; accepted though no case of correct data has them: {', '.join(numbers)}" if numbers else ""
 
@@ -78,7 +78,7 @@ def _letter(item: Item) -> str:
 
 
 def as_json(judged: Judged, outcome: Outcome) -> Dict[str, Any]:
-    """All that the entries have done, for other tools."""
+    """The effect of all entries, for other tools."""
     by_finding = (entry for _, entry in with_entries(outcome.checked, judged if "F" in outcome.letters else None))
     return {
         "path": judged.entries.path,
@@ -100,8 +100,8 @@ def entry_json(entry: Acceptance) -> Dict[str, Any]:
 def proposal(outcome: Outcome) -> str:
     """A file of entries for the open items. Nobody has signed them: `who` and `date` are empty.
 
-    An entry of other data that fits an item gives its reason, unless that is one of the table of findings on correct
-    data: the table gives a reason only if the data are as one of its rows says.
+    An entry for other data that fits an item gives its reason, unless the reason is from the table of findings on
+    correct data: that table gives a reason only if the data match one of its rows.
     """
     judged, reasons = outcome.judged, findings_on_correct_data.reasons()
     named = keys(outcome.items, outcome.checked)

@@ -1,4 +1,4 @@
-"""A telegram or message bit by bit: each field with its first and last bit, the ones that the JSON leaves out too."""
+"""A telegram or message bit by bit: each field with its first and last bit, even if the JSON leaves it out."""
 from __future__ import annotations
 
 from typing import Dict, Iterator, List, Mapping, Union
@@ -12,9 +12,9 @@ from balisekit.present.telegram_text import Shown, form_lines
 
 
 def bit_lines(digits: str, form: Form) -> Iterator[str]:
-    """A line for each field. NoAnswer is raised if the fields found here have other numbers than the program's JSON.
+    """A line for each field. NoAnswer is raised if a field found here has another value than in the program's JSON.
 
-    The fields of a body that is read by balisekit's own layout follow it. The JSON has nothing to compare them with.
+    Fields that balisekit's own layout reads in a body follow that body. The JSON has nothing to compare them with.
     """
     is_message, from_track = "nid_message" in form, form.get("nid_message") != 136
     fields = message_fields(bits_of(digits)) if is_message else telegram_fields(user_bits(digits))
@@ -33,7 +33,7 @@ def bit_lines(digits: str, form: Form) -> Iterator[str]:
 
 
 def _content_lines(content: Content, body: Field, path: str, known: Mapping[str, Shown]) -> Iterator[str]:
-    """The variables of a body, each with its bits, and by which layout they were read."""
+    """The layout that a body was read with, and each variable with its bits."""
     yield f"        {content.words}:" if content.fields else f"        {content.words}"
     start = body.at - (23 if content.layout.from_track else 21)
     for each in content.fields:
@@ -57,7 +57,7 @@ def _words(field: Field, known: Mapping[str, Shown]) -> str:
 
 
 def _compare(fields: List[Field], wanted: Dict[str, Union[int, str]]) -> None:
-    """Each value of the JSON is that of its field, and no field has a value that the JSON lacks."""
+    """Raises NoAnswer unless the fields have exactly the values of the JSON."""
     values: Dict[str, Union[int, str]] = {}
     for field in fields:
         rest = field.digits

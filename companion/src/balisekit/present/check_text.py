@@ -1,4 +1,4 @@
-"""What begins and ends an answer in words: what was refused, and the program's verdict."""
+"""The first and last lines of an answer in words: what was refused, and the program's verdict."""
 from __future__ import annotations
 
 from typing import Iterator
@@ -12,7 +12,7 @@ from balisekit.tables.names import clean, counted, describe_group, passed_over
 
 
 def opening_lines(checked: Checked) -> Iterator[str]:
-    """What begins the answer: the table, what was refused, and what was left out."""
+    """The first lines of the answer: the table, and what was refused, left out or not looked at."""
     table = checked.table
     yield head_line(table)
     yield from passed_over(table)
@@ -28,7 +28,7 @@ def head_line(table: Table) -> str:
 
 
 def before_last(table: Table) -> Iterator[str]:
-    """What is said of the table before the last line, and changes neither that nor the status."""
+    """Remarks on the table before the last line. They change neither that line nor the status."""
     yield from remarks(table)
     yield aspects_found(table)
 

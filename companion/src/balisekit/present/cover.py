@@ -1,4 +1,4 @@
-"""What the first and the last part of a report say: the heading, the verdict, how to repeat it, and checksums."""
+"""The first and the last part of a report: the heading, the verdict, how to repeat it, and checksums."""
 from __future__ import annotations
 
 import hashlib
@@ -44,11 +44,11 @@ class Evidence(NamedTuple):
     sha256: str
     """Of the document that was handed to the program."""
     answer: str
-    """The first line of what the program says of it."""
+    """The first line of the program's answer."""
 
 
 class Cover(NamedTuple):
-    """What a report says of itself."""
+    """The first and the last part of a report."""
 
     title: str
     heading: Sequence[Tuple[str, str]]
@@ -61,7 +61,7 @@ class Cover(NamedTuple):
     refused: Sequence[RefusedInput]
     left_out: Sequence[Tuple[str, str]]
     said: Sequence[str]
-    """What `check` says of the table beside its verdict."""
+    """Remarks on the table."""
     inputs: Sequence[Tuple[str, str, str]]
     """Name, SHA-256 and content of each input."""
     program: Sequence[Tuple[str, str]]
@@ -70,7 +70,7 @@ class Cover(NamedTuple):
 
 
 def cover(outcome: Outcome, heading: ReportHeading, command: str, now: datetime) -> Cover:
-    """What a report on an outcome says of itself. `command` begins the command that writes the document again."""
+    """The cover of a report on an outcome. `command` begins the command that writes the document again."""
     checked, judged, table = outcome.checked, outcome.judged, outcome.checked.table
     rows = [("project", heading.project), ("table", table.path), ("revision", heading.revision)]
     rows += [("date", clock.stamp(now)), ("author", heading.author)]
@@ -162,7 +162,7 @@ def _not_decoded(checked: Checked) -> Set[Tuple[bool, int]]:
 
 
 def _evidence(checked: Checked, command: str) -> Optional[Evidence]:
-    """How the program is asked again."""
+    """How the verdict is repeated, if there is one."""
     if checked.verdict is None:
         return None
     content = hashlib.sha256()

@@ -131,7 +131,7 @@ def page(found: Difference, now: datetime) -> Iterator[str]:
 
 
 def verdict(checked: Checked) -> str:
-    """What the program says of one release."""
+    """The program's verdict on one release."""
     if not checked.whole:
         return "INCOMPLETE: telegrams or messages were refused"
     return f"program: {checked.verdict.line}" if checked.verdict else "not checked"

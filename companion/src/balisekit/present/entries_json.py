@@ -33,7 +33,7 @@ def entries_json(outcome: Outcome) -> Iterator[Dict[str, Any]]:
 
 
 def _place(entry: Entry) -> Dict[str, Any]:
-    """What it is about in its group or message."""
+    """The part of its group or message that an entry is about."""
     return {
         "aspects": list(entry.aspects),
         "balises": [{"name": balise.name, "n_pig": balise.n_pig} for balise in entry.balises],

@@ -20,7 +20,7 @@ def document(outcome: Outcome) -> Iterator[bytes]:
 
 
 def _row(outcome: Outcome, entry: Entry) -> List[str]:
-    """One entry. Who looks after an open entry is left to the team."""
+    """One entry. The team writes in who looks after an open one."""
     identity, accepted = outcome.identity(entry), outcome.acceptances(entry)
     about = entry.group.name if entry.group else entry.message.name if entry.message else ""
     return [

@@ -1,4 +1,4 @@
-"""Meaning, urgency, cause and remedy of each finding by docs/findings.md, and of each rule by its own page.
+"""Meaning, urgency, cause and remedy of each finding from docs/findings.md, and of each rule from its own page.
 
 companion/tools/from_docs.py makes `findings.json` of findings.md.
 """
@@ -17,11 +17,11 @@ WIDTH = 116
 EXPLAINED = ("What it says", "How urgent", "Usual cause", "How to correct it", CORRECT_DATA, "How sure")
 """The paragraphs that `--explain` shows."""
 HEADS = (*EXPLAINED[:3], "What may happen", *EXPLAINED[3:])
-"""Those of a report."""
+"""The paragraphs of a report."""
 WHOLE = (*HEADS[:-1], "Example", HEADS[-1])
 """All paragraphs."""
 KEYS = ("says", "urgent", "cause", "remedy")
-"""The keys of those that a finding has, which are the first ones that `--explain` shows."""
+"""The keys in `findings.json` of the first paragraphs of EXPLAINED, which each finding has."""
 
 
 def explanations() -> Dict[int, Dict[str, str]]:
@@ -31,7 +31,7 @@ def explanations() -> Dict[int, Dict[str, str]]:
 
 
 class Page(NamedTuple):
-    """What the page of a rule says, as plain text."""
+    """The page of a rule as plain text."""
 
     title: str
     parts: Mapping[str, str]
@@ -48,13 +48,13 @@ def pages(family: Family, heads: Sequence[str] = HEADS) -> Iterator[Tuple[str, P
 
 
 def page_of(name: str) -> Iterator[str]:
-    """The whole page of the rule with this name, as lines of text. There are none if no rule has it."""
+    """The complete page of the rule with this name, as lines of text: none if no rule has this name."""
     named = (one for family in FAMILIES.values() for one in pages(family, WHOLE) if one[0] == name.upper())
     return page_lines(named, WHOLE)
 
 
 def page_lines(named: Iterable[Tuple[str, Page]], heads: Sequence[str] = EXPLAINED) -> Iterator[str]:
-    """What these pages say in the paragraphs with these heads, as lines of text."""
+    """The paragraphs of these pages with these heads, as lines of text."""
     import textwrap  # (only --explain needs it)
 
     for name, page in named:

@@ -20,7 +20,7 @@ CORRECT = "findings that correct data can get; check each:"
 
 
 def heading(entry: Entry) -> str:
-    """Under what it is listed."""
+    """The heading under which an entry is listed."""
     return CORRECT if entry.expected else URGENCIES[entry.urgency]
 
 
@@ -83,13 +83,13 @@ def finding_lines(place: Place, before: str = "") -> List[str]:
 
 
 def separated(found: Sequence[Entry]) -> str:
-    """How many findings are to be corrected, and how many correct data can get, if there are any of these."""
+    """How many findings must be corrected, and how many correct data can get, if there are any of the latter."""
     counts = Counter(bool(entry.expected) for entry in found for _ in entry.findings)
     return f", {counts[False]} to correct, {counts[True]} expected of correct data" if counts[True] else ""
 
 
 def summary(checked: Checked, found: Sequence[Entry], are_open: bool) -> Iterator[str]:
-    """How many findings each rule has and how many causes they have, and how many groups have none, or no open one."""
+    """How many findings there are, by rule, how many causes they have, and how many groups have no (open) finding."""
     if not found:
         return
     findings = [place for entry in found for place in entry.findings]
@@ -103,7 +103,7 @@ def summary(checked: Checked, found: Sequence[Entry], are_open: bool) -> Iterato
 
 
 DECODED = {True: "decoded only by balisekit", False: "decoded only by balisekit, layout not certain"}
-"""What is said of packets that the program keeps as bits and balisekit reads, by whether their layout is certain."""
+"""The words for packets that the program keeps as bits and balisekit reads, by whether their layout is certain."""
 
 
 def not_decoded(checked: Checked) -> Iterator[str]:

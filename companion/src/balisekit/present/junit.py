@@ -1,8 +1,8 @@
 """The answer of `check` as JUnit writes the results of tests: a suite for each family of rules.
 
-A suite has a case for each group and message, and the first one has a case for each entry at fault too. A suite's time
-was measured. A case has none, since the program and the rules look at all groups in one run. The file is written by
-Python's own library of XML, so that it has the same form wherever it is made.
+A suite has a case for each group and message, and for each rule that compared nothing. The first suite also has a case
+for each refused message and each entry at fault. Cases have no time, because the program and the rules look at all
+groups in one run. Python's own XML library writes the file, so its form does not depend on installed packages.
 """
 from __future__ import annotations
 
@@ -26,7 +26,7 @@ NAMES = {"failures": "failure", "errors": "error", "skipped": "skipped"}
 
 
 class Case(NamedTuple):
-    """What became of a group, a message, a rule or an entry: nothing, `failure`, `error` or `skipped`."""
+    """The result of a group, a message, a rule or an entry: `failure`, `error`, `skipped`, or nothing if it passed."""
 
     kind: str
     name: str
@@ -36,7 +36,7 @@ class Case(NamedTuple):
 
 
 def document(outcome: Outcome) -> bytes:
-    """The file. The output of its first suite is what `check` says before its last line, and that line."""
+    """The file. The output of its first suite has the remarks on the table, and the last line of `check`."""
     suites = [(part, list(_cases(outcome, part))) for part in outcome.parts]
     top = ElementTree.Element("testsuites", _numbers([case for _, cases in suites for case in cases]))
     top.set("time", _seconds(sum(part.seconds for part in outcome.parts)))
@@ -95,7 +95,7 @@ def _about(item: Item) -> object:
 
 
 def _left_out(checked: Checked) -> Iterator[Tuple[str, Case]]:
-    """The cases of the groups that the program was not asked about, by their names."""
+    """The cases of the groups that were left out, by their names."""
     telegrams: Dict[str, str] = {}
     for telegram, item in zip(checked.refused, refused(checked)):
         words = telegrams.get(telegram.row.group, "")

@@ -19,7 +19,7 @@ from balisekit.tables.names import clean, passed_over
 
 OF_RULES = "L1 to L9"
 FORMAT = 1
-"""The number of the form of the JSON. A key that is added does not change it."""
+"""The version of the JSON. An added key does not change it."""
 ABOUT = f"{OF_RULES} are rules of balisekit; {NOT_PROVED}"
 
 
@@ -127,7 +127,7 @@ def _things(rule: Rule, count: int) -> str:
 
 
 def singular(things: str) -> str:
-    """One of what a rule looks at: its first plural is the noun that the others describe."""
+    """The singular of what a rule looks at. Its first plural is the main noun."""
     return re.sub(r"(ie)?s\b", lambda end: "y" * bool(end[1]), things, count=1)
 
 

@@ -22,7 +22,7 @@ SHOWN = 20
 
 
 def lines(outcome: Outcome, explained: bool = False, proposed: bool = False) -> Iterator[str]:
-    """The answer in words, and what is not `proposed`. The last line is the verdict."""
+    """The answer in words. With `proposed`, or with a file of entries, it lists items that no entry can name."""
     yield from opening_lines(outcome.checked)
     for part in outcome.parts:
         if outcome.letters != PROVED:
@@ -39,7 +39,7 @@ def lines(outcome: Outcome, explained: bool = False, proposed: bool = False) -> 
 
 
 def _part(outcome: Outcome, part: Part) -> Iterator[str]:
-    """The entries of a part but those of correct data, the open ones first, and what its rules have looked at."""
+    """The entries of a part, the open ones first, and the lines after them. Open ones of correct data are not here."""
     yield from _listed([entry for entry in part.open if not entry.expected])
     yield from ["accepted:"] if part.accepted else []
     for entry in part.accepted:
@@ -49,7 +49,7 @@ def _part(outcome: Outcome, part: Part) -> Iterator[str]:
 
 
 def behind(outcome: Outcome, part: Part) -> Iterator[str]:
-    """What is said behind the entries of a part: how many there are, or notes and what rules have compared."""
+    """The lines after the entries of a part: how many there are, or notes and what rules have compared."""
     if part.applied is None:
         yield from headings.summary(outcome.checked, part.open, outcome.judged is not None)
         return
@@ -73,7 +73,7 @@ def _listed(entries: Sequence[Entry]) -> Iterator[str]:
 
 
 def not_decoded(outcome: Outcome) -> Iterator[str]:
-    """The packets that are kept as bits. Nothing is decoded for this line if all is well."""
+    """The packets that are kept as bits. If nothing was found or left out, no telegram is decoded just for them."""
     checked = outcome.checked
     if PROVED in outcome.letters and (checked.findings or not checked.whole or checked.accepted.raw is not None):
         yield from headings.not_decoded(checked)
@@ -85,7 +85,7 @@ def not_applied(outcome: Outcome) -> List[str]:
 
 
 def not_looked_at(outcome: Outcome) -> Iterator[str]:
-    """What no verdict covers of all that was handed in and read: packets, rules, and links that are not compared."""
+    """What no verdict covers: packets that are not decoded, rules not applied, and things that were not compared."""
     yield from not_decoded(outcome)
     yield from not_applied(outcome)
     for part in outcome.parts:
@@ -110,7 +110,7 @@ def unnamed_lines(outcome: Outcome) -> Iterator[str]:
 
 
 def item_words(item: Item) -> str:
-    """A finding or a remark by itself, by the names of what it is about."""
+    """A finding or a remark in one line."""
     return headings.words(entry_of(item) if isinstance(item, Place) else entry_of_remark(item))
 
 

@@ -14,14 +14,14 @@ from balisekit.io.optional_packages import needed
 from balisekit.tables.names import clean
 
 PIECES = 100
-"""How many pieces of a page are joined to one."""
+"""How many pieces of a page are joined into one."""
 TEMPLATES = Path(__file__).with_name("templates")
 
 
 def pieces(template: str, styles: Sequence[str] = (), script: str = "", **values: Any) -> Iterator[str]:
-    """The page in pieces, so that it never stands in memory whole.
+    """The page in pieces: it is never complete in memory.
 
-    All values but its style sheets, its script, and what a template calls safe are escaped.
+    Everything is escaped except its style sheets, its script, and what a template calls safe.
     """
     with needed("jinja2", "a picture or a page"):
         import jinja2

@@ -1,4 +1,4 @@
-"""Pictures as files of SVG: their pages, their names, and what `draw --track` says of groups that they have not."""
+"""Pictures as SVG files: their contents, their names, and the groups that `draw --track` reports as not drawn."""
 from __future__ import annotations
 
 import re
@@ -24,16 +24,16 @@ GREATEST_NAME = 50
 """The most characters of a file's name that are taken from the table."""
 MARK_ALONE = "only a mark"
 NAMED = 5
-"""How many groups, rows or lines are named, of those that a track does not have."""
+"""How many groups, rows or lines that a track lacks are named."""
 
 
 def picture_page(picture: Picture) -> Iterator[str]:
-    """The picture of a group or message."""
+    """The file of a picture of a group or message."""
     return pieces("group.svg", ["palette.css", "picture.css"], picture=picture)
 
 
 def track_page(outcome: Outcome, links: Links, track: str, aspect: Optional[str]) -> Iterator[str]:
-    """The pictures of a track below each other, with flags of all rules, after a note on what was refused."""
+    """The pictures of a track below each other, with flags for what is open, after a note on what was refused."""
     marks = [mark for part in outcome.parts for mark in marks_of(part.open)]
     pictures = list(track_pictures(links.line, links, track, aspect, marks))
     pictures[:0] = [] if outcome.checked.whole else [note(refused_rows(outcome.checked))]
@@ -50,7 +50,7 @@ def track_page(outcome: Outcome, links: Links, track: str, aspect: Optional[str]
 
 
 def written(line: Line, track: str, aspect: Optional[str], where: str) -> Iterator[str]:
-    """What was written there, and which groups are not drawn, by the reason."""
+    """What was written to the file `where`, and which groups are not drawn, by the reason."""
     reasons: Dict[str, List[str]] = {}
     for station in line.groups:
         if station.km is None or station.track != track:
@@ -74,7 +74,7 @@ def refused_rows(checked: Checked) -> str:
 
 
 def message_picture(checked: Checked, message: AcceptedMessage) -> Optional[Picture]:
-    """The picture of a message, if it has an authority or a profile."""
+    """The picture of a message, if it has anything to draw."""
     here = Identities(checked.table.groups, checked.accepted).here(message.form)
     findings = [place.finding for place in checked.findings if place.message == message.message]
     heading = f"message of {describe_message(message.message)}"
@@ -82,14 +82,14 @@ def message_picture(checked: Checked, message: AcceptedMessage) -> Optional[Pict
 
 
 class FileNames:
-    """Names of files that are made of names of a table. They are safe and unique on each usual system of files."""
+    """File names made of names of a table. They are safe, and unique even if a file system ignores case."""
 
     def __init__(self) -> None:
         self._taken: Set[str] = set()
         self._numbers: "Counter[str]" = Counter()
 
     def svg(self, *parts: str) -> str:
-        """A name of these parts, with letters, digits, `_` and `-`, and with a number if another file has it."""
+        """A name of these parts, of letters, digits, `_` and `-`, with a number if an earlier file has the name."""
         words = [re.sub(r"\W+", "-", normalize("NFC", part)).strip("-") for part in parts]
         stem = name = "-".join(filter(None, words))[:GREATEST_NAME].rstrip("-")
         while name.casefold() in self._taken:

@@ -24,7 +24,7 @@ SENTENCES = {
     "no authority": "message 3 has no packet 15: its packets end at bit {at}",
     "no report": "message 136 has no packet 0 or 1: its packets end at bit {at}",
 }
-"""What the program's words mean for the field at their place."""
+"""By the reason of a refusal, a sentence on the field at its bit."""
 
 
 class RefusedInput(NamedTuple):
@@ -35,7 +35,7 @@ class RefusedInput(NamedTuple):
     program: str
     """The program's words."""
     id: str
-    """Its place in a report."""
+    """Its id in a report."""
 
     def __str__(self) -> str:
         return f"{self.sentence}: program: {self.program}"
@@ -99,14 +99,14 @@ def message_refused(digits: str, refusal: Refusal) -> str:
 
 
 def _wrong_length(length: int) -> str:
-    """The length of a telegram's text, beside the nearer one of the two that it may have."""
+    """The length of a telegram's text, compared with the nearer one of the two allowed lengths."""
     nearest = min(LENGTHS, key=lambda known: abs(length - known))
     far = f"{nearest - length} short of" if length < nearest else f"{length - nearest} more than"
     return f"it has {length} digits, {far} {nearest}: a short telegram has {LENGTHS[0]}, a long one {LENGTHS[1]}"
 
 
 def _no_digit(digits: str) -> str:
-    """The first character that is no digit, or nothing."""
+    """The first character that is not a hexadecimal digit, or nothing."""
     for place, character in enumerate(digits, 1):
         if character not in "0123456789abcdefABCDEF":
             code = "" if character.isascii() else f" (U+{ord(character):04X})"
@@ -120,7 +120,7 @@ def _field(fields: Sequence[Field], at: int) -> Optional[Field]:
 
 
 def _at_field(fields: Sequence[Field], refusal: Refusal, before_length: int) -> str:
-    """A refusal with a place, by the field that begins there."""
+    """A refusal at a bit, by the field that begins there."""
     at, end, why = refusal.at or 0, refusal.end or 0, refusal.why
     if why == "no end":
         packets = [field for field in fields if field.packet is not None and field.at < at]

@@ -42,10 +42,10 @@ class Listed(NamedTuple):
     links: Sequence[Link]
     """To the telegrams, packets and rules that it is about."""
     accepted: Sequence[str]
-    """Why, by whom and when its findings were accepted. Open ones have nothing."""
+    """Why, by whom and when it was accepted: empty if it is open."""
     signatures: Sequence[Signature]
     heading: str
-    """What is above it in the list, if it is the first of its urgency."""
+    """The heading above it, if it is the first entry under that."""
 
     @property
     def items(self) -> int:
@@ -60,9 +60,9 @@ class ListedPart(NamedTuple):
     open: Sequence[Listed]
     accepted: Sequence[Listed]
     behind: Sequence[str]
-    """What is said behind the entries: how many there are, or notes and what was compared."""
+    """The lines after the entries: how many there are, or notes and what was compared."""
     none: str = "None"
-    """What is said if there are none."""
+    """The text if there are no open entries."""
 
     @property
     def all(self) -> Sequence[Listed]:
@@ -71,7 +71,7 @@ class ListedPart(NamedTuple):
 
 
 def listed(outcome: Outcome) -> List[ListedPart]:
-    """The entries of each family of rules, then those of correct data. Those that were accepted have their reasons."""
+    """The entries of each family of rules, then those that correct data can get."""
     ids = {group.name: f"g{index}" for index, group in enumerate(outcome.checked.table.groups)}
     parts = [_listed_part(outcome, part, ids) for part in outcome.parts]
     expected = [_listed(entry, ids, "", outcome.acceptances(entry)) for entry in outcome.expected]
@@ -109,7 +109,7 @@ def _signature(entry: Acceptance) -> Signature:
 
 
 def packets_of(entry: Entry) -> List[Tuple[str, int]]:
-    """The packets that an entry is about: the place of the telegram or message in the page, and that of the packet."""
+    """The packets that an entry is about: the page's id of the telegram or message, and the index of the packet."""
     where = entry.remark.location if entry.remark else None
     places = [(where.message, where.row, where.packet)] if where else []
     places += [(place.message, place.row, place.finding.packet) for place in entry.findings]

@@ -1,6 +1,6 @@
 """A block of a report for each group and message: its entries, its picture, and its telegrams in words.
 
-They are written here and not by a template, which would take most of the time for that.
+They are written here because a template would take most of the time of a report.
 """
 from __future__ import annotations
 
@@ -49,7 +49,7 @@ class Block(NamedTuple):
     id: str
     title: str
     where: str
-    """The rows of its telegrams, or where its places count from."""
+    """The rows of its telegrams, or the group that its distances count from."""
     body: str
     """Its picture and its telegrams, as the page has them."""
     entries: Sequence[Listed] = ()
@@ -66,17 +66,17 @@ class Block(NamedTuple):
 
     @property
     def place(self) -> str:
-        """Where a finding leads: to its picture if it has one."""
+        """The target of a finding's link: its picture if it has one."""
         return picture_id(self.id) if self.has_picture else self.id
 
     @property
     def is_plain(self) -> bool:
-        """Whether nothing is to be said of it."""
+        """Whether it has no entry and was not left out."""
         return not (self.entries or self.left_out)
 
 
 class Body(NamedTuple):
-    """The picture and the telegrams of groups that say the same."""
+    """The picture and the telegrams of groups that have the same content."""
 
     pattern: Pattern
     n_pig: Sequence[Optional[int]]
@@ -86,21 +86,21 @@ class Body(NamedTuple):
 
 
 KEPT: Kept[Body] = Kept(1 << 7)
-"""On a line many groups say the same, but for their names, identities and kilometres."""
+"""Many groups of a line differ only in their names, identities and kilometres."""
 IDENTITY = re.compile('"nid_(?:c|bg)":(?!16383)[0-9]+')
-"""A part of an identity in a record. The NID_BG that says that an identity is not known has words of its own."""
+"""A part of an identity in a record. NID_BG 16383, an identity that is not known, has words of its own."""
 OF_GROUP, OF_ROW = 2, 3
 """How many words of their own a group and each of its rows have. Those of a row: its number, heading and digits."""
 
 
 class Content(NamedTuple):
-    """What decides the body of a group, beside its kilometres."""
+    """All that the body of a group depends on, except its kilometres."""
 
     group: Group
     records: Mapping[int, str]
     """What the program has read, with holes for identities."""
     identities: Sequence[str]
-    """What comes into these holes."""
+    """The values of these holes."""
     findings: Sequence[Finding]
     marked: Mapping[int, Set[int]]
     """The packets that an entry is about, by rows."""
@@ -110,7 +110,7 @@ class Content(NamedTuple):
 
     @property
     def key(self) -> Tuple[object, ...]:
-        """Equal for groups that say the same."""
+        """Equal for groups that have the same body."""
         order = {number: place for place, number in enumerate(sorted(self.group.places))}
         return (
             self.full,
@@ -199,7 +199,7 @@ def _block(
 
 
 def _body(content: Content, where: Kilometres, has_picture: bool) -> Tuple[Body, Sequence[str]]:
-    """The picture and the telegrams of a group, and its kilometres if others have the same."""
+    """The picture and the telegrams of a group, and the kilometres for their holes."""
 
     def make(place: Kilometres) -> Body:
         forms = {number: Record(record).shared for number, record in content.records.items()}
@@ -213,7 +213,7 @@ def _body(content: Content, where: Kilometres, has_picture: bool) -> Tuple[Body,
 
 
 def _own_words(id: str, group: Group, body: Body) -> Iterator[str]:
-    """What comes into the holes of a body, as the page has it."""
+    """The words for the holes of a body, escaped."""
     track, rows = track_of(group), {row.number: row for row in group.rows()}
     yield from (id, escaped(clean(group.name)))
     for number, n_pig in zip(sorted(rows), body.n_pig):
@@ -266,7 +266,7 @@ def _marked(entries: Sequence[Listed], kind: str) -> Dict[int, Set[int]]:
 
 
 def _link_marks(entries: Sequence[Listed], forms: Mapping[int, Form]) -> Iterator[LinkMark]:
-    """The links of a group of which rules L have found something, and places of other remarks, if not accepted."""
+    """Marks of links that rules L report, and of places of other remarks, unless they are accepted."""
     for remark in (each.entry.remark for each in entries if each.entry.remark and not each.accepted):
         where = remark.location
         if remark.rule[0] == "L" and where.row and where.link is not None and where.row.number in forms:
@@ -313,7 +313,7 @@ def _hidden(block: Block, full: bool) -> str:
 
 
 def overview_row(block: Block, has_names: bool) -> str:
-    """Its row in the table of all groups."""
+    """The row of a block in the table of all groups."""
     track = f"<td><bdi>{escaped(block.track)}</bdi>" if has_names else ""
     link = f"<th scope=row><a href=#{block.id}><bdi>{escaped(block.title)}</bdi></a>"
     packets = " ".join(map(str, sorted(block.packets)))

@@ -1,4 +1,4 @@
-"""The page of a report. Its groups are made first, since the list of all groups is before them."""
+"""The page of a report. Its groups are made first, because the list of all groups precedes them."""
 from __future__ import annotations
 
 from datetime import datetime
@@ -26,7 +26,7 @@ from balisekit.tables.names import clean
 from balisekit.tables.own_headings import ReportHeading
 
 IN_MEMORY, PIECE = 1 << 20, 1 << 14
-"""The most characters of the groups that are kept in memory, and those that are copied at a time."""
+"""How many characters of the groups are kept in memory at most, and how many are copied at a time."""
 STYLES = ("palette.css", "page.css", "report.css", "picture.css", "track.css")
 DISTANCE = "one whose distance differs from the kilometres (L2, a rule of balisekit)"
 
@@ -72,7 +72,7 @@ def report_page(
 
 
 def _overview(noted: List[Made]) -> Dict[str, object]:
-    """What the list of all groups and messages has."""
+    """The list of all groups and messages, for the template."""
     return {
         "rows": [each.row for each in noted],
         "plain": sum(each.is_plain for each in noted),
@@ -81,13 +81,13 @@ def _overview(noted: List[Made]) -> Dict[str, object]:
 
 
 class Made(NamedTuple):
-    """What the page has of a group or message."""
+    """A group or message as the page has it."""
 
     id: str
     is_plain: bool
     has_picture: bool
     row: str
-    """That of the overview."""
+    """Its row of the overview."""
     html: str
     """The block."""
 
@@ -95,7 +95,7 @@ class Made(NamedTuple):
 def _groups(
     outcome: Outcome, line: Line, found: Sequence[ListedPart], full: bool, part: int, count: int
 ) -> Iterator[Made]:
-    """A part of the groups and messages."""
+    """One of `count` parts of the groups and messages."""
     listed_ones = (each for one in found for each in one.all)
     for block in blocks(outcome.checked, line, listed_ones, full, part, count):
         row = overview_row(block, any(line.along))
@@ -104,7 +104,7 @@ def _groups(
 
 
 def _tracks(links: Links, outcome: Outcome, aspect: Optional[str], part: int, count: int) -> Iterator[Tuple[str, str]]:
-    """The name of the track and the picture, of each picture of a part of the tracks."""
+    """Each picture of a part of the tracks, after the name of its track."""
     marks: Dict[str, List[Mark]] = {}
     for mark in (mark for each in outcome.parts for mark in marks_of(each.open, each.accepted)):
         marks.setdefault(mark.track, []).append(mark)

@@ -70,7 +70,7 @@ def document(outcome: Outcome) -> Object:
 
 
 def _invocation(outcome: Outcome) -> Object:
-    """How the run has ended. What was not looked at is a notification."""
+    """How the run has ended. What was not looked at and the closing lines are notifications."""
     closing = closing_lines(outcome)
     notes = [
         {"level": "note", "message": {"text": note}}
@@ -105,7 +105,7 @@ def _rule(name: str, page: Page) -> Object:
 
 
 def _lines(outcome: Outcome) -> Lines:
-    """The lines of the rows of a CSV. A workbook has none, and its rows are taken, as are those of a changed file."""
+    """The lines of the rows of a CSV. A workbook or a changed file has none: then row numbers are used."""
     table = outcome.checked.table
     file = None if table.encoding == "xlsx" else inputs.read(table.path)
     return lines_of_rows(file.content, table.separator) if file and file.sha256 == table.sha256 else ()

@@ -1,4 +1,4 @@
-"""A telegram in words for a report: what an earlier telegram of the same balise says in full is not said again."""
+"""A telegram in words for a report, which does not repeat what an earlier telegram of the same balise contains."""
 from __future__ import annotations
 
 import re
@@ -11,7 +11,7 @@ from balisekit.etcs.variables import WORDS, Around, Form, in_order, value_texts
 from balisekit.present.telegram_text import LABEL_WIDTH, head_text, packet_text
 
 LABELS = re.compile(f"^(.{{{LABEL_WIDTH - 1}}}) ", re.M)
-"""The labels in front of a telegram's values, and the blanks behind them."""
+"""The labels in front of a telegram's values, and the blanks after them."""
 LINES, VALUES, NOTE = re.compile("\n(?!\t)"), re.compile("  |\n\t"), re.compile("(?:  |\n\t)(?== )")
 """What is between the lines of a packet, between the values of a line, which may be broken, and before its note."""
 OTHER = 2
@@ -19,11 +19,11 @@ OTHER = 2
 
 
 class Said:
-    """What the telegrams of one balise have said so far. Packets are taken for equal if they are one object."""
+    """What earlier telegrams of one balise contain. Packets are taken for equal if they are one object."""
 
     def __init__(self) -> None:
         self.first = ""
-        """The row that has said the header."""
+        """The row whose header was written out."""
         self._header: Form = {}
         self._telegrams: Dict[Hashable, str] = {}
         self._packets: Dict[int, Tuple[str, int]] = {}
@@ -31,7 +31,7 @@ class Said:
         """By NID_PACKET, the first packet that was written out."""
 
     def header(self, row: str, form: Form) -> Optional[str]:
-        """What follows a link in place of the header: the values that are others, if they are few, or M_MCOUNT."""
+        """What follows a link that replaces the header: values that differ, else M_MCOUNT; None if many differ."""
         if not self.first:
             self.first, self._header = row, form
             return None
@@ -45,13 +45,13 @@ class Said:
         return f", but {but}\n" if but else f"{also}\n"
 
     def telegram(self, row: str, header: Optional[str], packets: Sequence[object]) -> str:
-        """The earlier row whose telegram has this header and these packets."""
+        """The earlier row whose telegram has this header and these packets, or nothing."""
         is_same = row == self.first or header is not None and " but " not in header
         first = self._telegrams.setdefault(("" if is_same else header or row, *map(id, packets)), row)
         return first if first != row else ""
 
     def packet(self, row: str, place: int, packet: Form, words: str) -> str:
-        """A packet in words. One of several lines has a link to an earlier row, if that has it or one much like it."""
+        """A packet in words, or a link instead of several lines, if an earlier row has it or a similar one."""
         first, first_place = self._packets.setdefault(id(packet), (row, place))
         if words.count("\n") == 1:
             return words
@@ -67,9 +67,9 @@ class Said:
 
 
 def changes(words: str, known: str) -> str:
-    """The values of a packet that a known one has not, by their lines: nothing unless it has all lines of that one.
+    """The values of a packet that differ from a known one, by lines: nothing unless it has all lines of the known one.
 
-    Their labels say which line it is, so no two may have the same one.
+    Labels name the lines, so it is also nothing if two lines have the same label.
     """
     lines, others = ([_values(line) for line in LINES.split(each[:-1])] for each in (words, known))
     lines[0][0] = others[0][0] = ""
@@ -100,17 +100,17 @@ def link(row: str) -> str:
 
 
 def packet_id(telegram: str, packet: int) -> str:
-    """The place of a packet in the page."""
+    """The id of a packet in the page."""
     return f"{telegram}p{packet}"
 
 
 def telegram_words(
     form: Form, here: Here, id: str, marked: Collection[int], row: str = "", said: Optional[Said] = None
 ) -> str:
-    """A telegram or message in words, as a page has it, the packets apart that are marked.
+    """A telegram or message in words for a page, with these packets marked.
 
-    `said` has what earlier telegrams of its balise have said. What is marked is always written out, and so are packets
-    whose notes are of some aspects.
+    `said` has what earlier telegrams of its balise contain. Marked packets are always written out. So are packets
+    whose notes are of some aspects only.
     """
     packets, said = form["packets"], said or Said()
     header = said.header(row, form)
@@ -128,5 +128,5 @@ def telegram_words(
 
 
 def _in_page(words: str) -> str:
-    """Words with a tab before the values of each line, in place of a sixth of the page that would be blanks."""
+    """Words with a tab before the values of each line: blanks would be a sixth of the page."""
     return LABELS.sub(lambda label: label[1].rstrip() + "\t", escaped(words))

@@ -1,7 +1,7 @@
 """A telegram or radio message in words: each number of the program's JSON with its name, unit and raw value.
 
-Lines are made by going through the JSON itself, so nothing of it is left out. What follows ` = ` is balisekit's own,
-and so are the variables of packets that the program keeps as bits.
+Lines are made from the JSON itself, so nothing of it is left out. What follows ` = ` is balisekit's own. So are the
+variables of packets that the program keeps as bits.
 """
 from __future__ import annotations
 
@@ -90,7 +90,7 @@ def _packet_lines(place: int, packet: Form, here: Here, from_track: bool) -> Tup
 def _steps(keys: Tuple[str, ...]) -> List[Tuple[Tuple[str, ...], str]]:
     """The keys of an object in the order of the standard: those whose values share a line, or the key of a part.
 
-    Objects have few sets of keys. One that is not known may have anything, so it is taken for a part.
+    Objects have few sets of keys. The value of an unknown key can be anything, so the key is taken for a part.
     """
     steps: List[Tuple[Tuple[str, ...], str]] = []
     for key in in_order(keys):
@@ -104,7 +104,7 @@ def _steps(keys: Tuple[str, ...]) -> List[Tuple[Tuple[str, ...], str]]:
 
 
 class _Lines:
-    """Goes through the objects of a telegram or message. One list is faster than generators within each other."""
+    """Goes through the objects of a telegram or message. One list is faster than nested generators."""
 
     def __init__(self) -> None:
         self.found: List[Line] = []
@@ -135,7 +135,7 @@ class _Lines:
 
 
 def _text_of(line: Line, note: str) -> str:
-    """The line as text, broken where it is too long. A break never parts a name from its raw value."""
+    """The line as text, broken if it is too long, but never between a name and its raw value."""
     words, length = _broken(line.depth, line.label, tuple(line.texts))
     if not note:
         return words
@@ -150,7 +150,7 @@ def _text_of(line: Line, note: str) -> str:
 
 @lru_cache(maxsize=1 << 12)
 def _broken(depth: int, label: str, texts: Tuple[str, ...]) -> Tuple[str, int]:
-    """Values under their label, and how long their last line is. Most come again and again, so they are kept."""
+    """Values after their label, and the length of their last line. Most are repeated, so they are kept."""
     lines, indent = [_label(depth, label) + "".join(texts[:1])], " " * LABEL_WIDTH
     for value in texts[1:]:
         if len(lines[-1]) + 2 + len(value) > WIDTH:
@@ -162,13 +162,13 @@ def _broken(depth: int, label: str, texts: Tuple[str, ...]) -> Tuple[str, int]:
 
 @lru_cache(maxsize=1024)
 def _label(depth: int, label: str) -> str:
-    """What stands before the values of a line."""
+    """A label, indented and padded."""
     text = f"{'  ' * depth}{label}"
     return f"{text:<{LABEL_WIDTH}}" if len(text) < LABEL_WIDTH else f"{text} "
 
 
 Finish = Callable[[str], str]
-"""What is made of words, and is kept: it may not change what is between the words of a line."""
+"""Makes what is kept of a packet's words. It must not change what is between the words of a line."""
 
 
 def head_text(form: Form, finish: Finish = str) -> str:
@@ -177,7 +177,7 @@ def head_text(form: Form, finish: Finish = str) -> str:
 
 
 def packet_text(form: Form, place: int, here: Here = Here(), finish: Finish = str) -> str:
-    """The packet in this place in words. Packets that are one object are made once."""
+    """The packet with this index in words. Packets that are one object are made once."""
     packet, from_track = form["packets"][place], form.get("nid_message") != 136
     if place in here.passages or isinstance(here.kilometres, Holes):
         return finish(_text(*_packet_lines(place, packet, here, from_track)))

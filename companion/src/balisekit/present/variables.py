@@ -1,4 +1,4 @@
-"""The variables of a table as CSV and .xlsx, and what `table` says of them."""
+"""The variables of a table as CSV and .xlsx, and their comparison with a sheet in words."""
 from __future__ import annotations
 
 from typing import Iterator, Union
@@ -10,7 +10,7 @@ from balisekit.rules.checking import Checked
 from balisekit.tables.names import clean, describe_balise, quoted
 
 NUMBERS = ("balise", "raw", "value")
-"""The columns whose numbers are numbers in an .xlsx too."""
+"""The columns whose numbers are stored as numbers in an .xlsx."""
 
 
 def csv_pieces(sheet: Sheet) -> Iterator[str]:

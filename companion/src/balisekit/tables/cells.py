@@ -1,4 +1,4 @@
-"""Cells of a table, be it CSV or a workbook, and the digits in a cell."""
+"""Cells of a CSV file or a workbook, and the digits in a cell."""
 from __future__ import annotations
 
 import re
@@ -56,7 +56,7 @@ def kind_and_text(cell: str) -> Tuple[str, str]:
 
 
 def digits(cell: str) -> str:
-    """The cell without what stands around and between digits: blanks, quotes, 0x, h, colons and hyphens of pairs."""
+    """The cell without what is around and between digits: blanks, quotes, 0x, h, colons and hyphens of pairs."""
     if DIGITS.fullmatch(cell):
         return cell
     text = re.sub(f"[{BLANKS}]", "", cell).strip(QUOTES)

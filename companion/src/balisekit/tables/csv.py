@@ -60,7 +60,7 @@ def stream(content: bytes, headings: Headings) -> Tuple[Sheet, Callable[[], Iter
 
 
 def _separator(lines: Sequence[str], headings: Headings) -> str:
-    """The one by which one of the first rows has the needed columns, and the most that are known; or the most cells."""
+    """The separator with which one of the first rows names all needed columns, or most columns, or has most cells."""
     best, most = ",", 0
     for separator in SEPARATORS:
         for row in _first_rows(lines, separator):

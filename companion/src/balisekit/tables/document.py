@@ -1,4 +1,4 @@
-"""A document of a line, as `check` of the program reads it, in place of a table."""
+"""A document of a line, as `check` of the program reads it, instead of a table."""
 from __future__ import annotations
 
 import json
@@ -18,7 +18,7 @@ def is_document(content: bytes) -> bool:
 
 
 def read(file: Input) -> Tuple[Table, Messages]:
-    """The groups and messages of a document. Its groups are named by their places, and so are their aspects."""
+    """The groups and messages of a document. Its groups, aspects and messages are named by their indices."""
     with faults_of(file.path):
         try:
             text, encoding = text_of(file.content)
@@ -64,7 +64,7 @@ def _groups(form: Any) -> Tuple[List[Group], List[Row]]:
 
 
 def _list(form: Any, key: str, path: str, alone: bool = False) -> List[Any]:
-    """The list under a key. The object has no other key if this one stands alone."""
+    """The list under a key. With `alone`, TableError is raised if the object has another key."""
     values = form.get(key) if isinstance(form, dict) else None
     if not isinstance(values, list):
         raise TableError(f"{path}/{key} is no list: it is no document of a line")

@@ -1,4 +1,4 @@
-"""The text of a file whose encoding it does not say."""
+"""The text of a file whose encoding is not known."""
 from __future__ import annotations
 
 import codecs
@@ -9,7 +9,7 @@ from balisekit.errors import TableError
 ZIPS = (b"PK\x03\x04", b"PK\x05\x06")
 OLD_WORKBOOK = b"\xd0\xcf\x11\xe0"
 WORKBOOKS = (*ZIPS, OLD_WORKBOOK)
-"""A zip, which a workbook is, and what an .xls or a workbook with a password begins with."""
+"""The beginning of a zip, such as an .xlsx, and that of an .xls or of a workbook with a password."""
 PIECE = 1 << 20
 ZEROS_WITHIN = 100
 """How many bytes are searched for the zeros that show UTF-16 without a mark."""

@@ -22,7 +22,7 @@ Cells = Mapping[str, str]
 
 @dataclass(frozen=True)
 class Expected:
-    """A sheet in which each cell can be compared. A CSV file is read row by row, since it may have millions of them."""
+    """A sheet in which each cell can be compared. A CSV file is read row by row, because it can have millions."""
 
     path: str
     notes: Tuple[str, ...]

@@ -16,10 +16,10 @@ EVERY = "*"
 """In the column `aspect`: the balise sends this telegram in every aspect."""
 GREATEST_COUNT = 8
 KEYS = {"balise": "balise {}", "name": 'balise "{}"', "km": "the balise at km {}"}
-"""Columns that may tell which balise a row is of, and how it is called by them."""
+"""Columns that can identify the balise of a row, and how each of them names it."""
 COLUMN = {name: place for place, name in enumerate(Row._fields)}
 UNKNOWN = {"", None}
-"""What such a column has if it does not tell."""
+"""The values of such a column that identify nothing."""
 
 
 class Grouped(NamedTuple):
@@ -53,7 +53,7 @@ def groups_of(rows: Sequence[Row], by_position: bool = False, heading: int = 1) 
 
 
 def by_position(group: Group, positions: Mapping[int, int]) -> Group:
-    """The group with the balises of each aspect in the order of N_PIG, which is given by the rows' numbers."""
+    """The group with the balises of each aspect in the order of N_PIG. `positions` has N_PIG by the row's number."""
     aspects = (
         Aspect(aspect.name, tuple(sorted(aspect.rows, key=lambda row: positions[row.number])))
         for aspect in group.aspects
@@ -69,7 +69,7 @@ def _has_one_name(block: Sequence[Row]) -> bool:
 
 
 def _shared_names(shared: Sequence[Sequence[Row]], heading: int) -> List[TableError]:
-    """One hint at the heading where the column seems to name something else than balises."""
+    """One hint at the heading, if the column seems to name something else than balises."""
     if len(shared) < 2:
         return []
     row = shared[0][0]
@@ -87,7 +87,7 @@ def _shared_names(shared: Sequence[Sequence[Row]], heading: int) -> List[TableEr
 def _blocks(rows: Sequence[Row]) -> Tuple[Dict[str, List[Row]], List[List[Row]], List[TableError]]:
     """The rows of each group, the groups whose rows are apart, and faults of rows within other groups.
 
-    A single row between rows of another group is at fault, unless the row before or after it is another such.
+    A single row between rows of another group is at fault, unless the row before or after it is such a row too.
     """
     runs = [list(run) for _, run in groupby(rows, key=attrgetter("group"))]
     between = {
@@ -126,7 +126,7 @@ def _apart(blocks: Sequence[Sequence[Row]]) -> List[str]:
 
 
 def _alike(names: Iterable[str]) -> List[str]:
-    """A note for names that differ in case or inner blanks alone."""
+    """Notes on names that differ only in case or inner blanks."""
     seen: Dict[str, str] = {}
     notes = []
     for name in names:
@@ -138,7 +138,7 @@ def _alike(names: Iterable[str]) -> List[str]:
 
 
 def _plain_aspects(name: str, block: List[Row]) -> Optional[Tuple[Aspect, ...]]:
-    """The aspects of a group like most, in which nothing is to be refused or noted. None is inconclusive."""
+    """The aspects of a usual group, with nothing to refuse or to note. None is inconclusive."""
     columns: List[Tuple[Any, ...]] = list(zip(*block))
     layout = _layout(columns[COLUMN["aspect"]], columns[COLUMN["balise"]])
     if layout is None or len(set(columns[COLUMN["track"]])) > 1 or len(set(columns[COLUMN["nominal"]])) > 1:
@@ -202,7 +202,7 @@ def _members(block: List[Row]) -> Dict[str, List[Row]]:
     every = members.pop(EVERY, [])
     if not every:
         return members
-    names = list(members or [""])[: 1 if len(every) > GREATEST_COUNT else None]  # (too many are refused by the first)
+    names = list(members or [""])[: 1 if len(every) > GREATEST_COUNT else None]  # (if too many, one is refused)
     return {name: sorted([*every, *members.get(name, [])]) for name in names}
 
 
@@ -222,7 +222,7 @@ def _repeated(members: Iterable[Sequence[Row]], column: str) -> List[TableError]
 
 
 def _repeated_by(column: str, first: Row, row: Row) -> TableError:
-    """The fault of a row: its aspect is wrong, or this column where balises are apart by the other one."""
+    """The fault of a row, at its aspect, or at this column if the other column distinguishes the balises."""
     aspect = f' of aspect "{first.aspect}"' if first.aspect else ""
     said = f"row {first.number} has {KEYS[column].format(getattr(row, column))}"
     said += (" of every aspect" if first.aspect == EVERY else aspect) + " too"
@@ -298,7 +298,7 @@ def _rows(rows: Sequence[Row]) -> str:
 
 
 def _numbered_otherwise(name: str, aspects: List[Aspect]) -> List[str]:
-    """A note where aspects have other numbers in the column `balise`: only their order counts."""
+    """A note if aspects have different numbers in the column `balise`: only their order counts."""
     numbers = [row.balise for row in aspects[0].rows]
     for other in aspects:
         if [row.balise for row in other.rows] != numbers:
@@ -307,7 +307,7 @@ def _numbered_otherwise(name: str, aspects: List[Aspect]) -> List[str]:
 
 
 def _uneven(name: str, aspects: List[Aspect]) -> List[TableError]:
-    """A fault for each aspect that has not as many balises as most have."""
+    """A fault for each aspect that does not have as many balises as most have."""
     sizes = Counter(len(aspect.rows) for aspect in aspects)
     usual = max(aspects, key=lambda aspect: (sizes[len(aspect.rows)], len(aspect.rows)))
     return [
@@ -323,7 +323,7 @@ def _uneven(name: str, aspects: List[Aspect]) -> List[TableError]:
 
 
 def _look_at_places(aspects: List[Aspect]) -> None:
-    """A row that is in every aspect is at one place in all of them."""
+    """Raises TableError if a row of every aspect does not have the same position in all of them."""
     places: Dict[int, int] = {}
     for aspect in aspects:
         for place, row in enumerate(aspect.rows):
@@ -333,7 +333,7 @@ def _look_at_places(aspects: List[Aspect]) -> None:
 
 
 def _look_at_values(rows: Sequence[Row], column: str, of_group: bool = False) -> None:
-    """The rows of a balise in all aspects, or of a group, that have something in this column have the same."""
+    """Raises TableError if rows of a balise, or of a group, have different values in this column."""
     values = [row[COLUMN[column]] for row in rows]
     if len(set(values)) == 1:
         return

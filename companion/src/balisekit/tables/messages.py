@@ -1,4 +1,4 @@
-"""A file of radio messages: one a line, and a name behind a semicolon."""
+"""A file of radio messages: one a line, with a name after a semicolon."""
 from __future__ import annotations
 
 import re

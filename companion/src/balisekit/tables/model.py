@@ -13,7 +13,7 @@ class Row(NamedTuple):
     number: int
     """As a spreadsheet counts."""
     group: str
-    """The group's name, with which lines about it begin."""
+    """The group's name."""
     telegram: str
     """The digits that are handed to the program."""
     cell: str = ""
@@ -44,7 +44,7 @@ class Group:
     aspects: Tuple[Aspect, ...]
 
     def rows(self) -> Iterator[Row]:
-        """All rows of the group. A row that stands in every aspect comes once for each."""
+        """All rows of the group. A row of every aspect comes once for each."""
         for aspect in self.aspects:
             yield from aspect.rows
 
@@ -66,10 +66,10 @@ class Table:
     passed_over: Tuple[str, ...]
     """The headings of the columns that are not used."""
     rows: Tuple[Row, ...]
-    """The table's rows in their order."""
+    """In the order of the table, but those of each group together."""
     groups: Tuple[Group, ...]
     notes: Tuple[str, ...] = ()
-    """What the user should know of how the table was read."""
+    """What the user should know about how the table was read."""
     meant: Tuple[str, ...] = ()
     """Of the first 1,000 headings that are passed over: the one for which each may have been mistyped, or nothing."""
 

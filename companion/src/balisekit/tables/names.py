@@ -75,7 +75,7 @@ def passed_over(table: Table) -> List[str]:
 
 
 def kilometre(km: Decimal) -> str:
-    """A kilometre with three places behind the point, and more if it has more."""
+    """A kilometre with three digits after the point, and more if it has more."""
     text = f"{km:.3f}"
     if Decimal(text) == km:  # (as most are: it takes a third of the time)
         return text
@@ -93,9 +93,9 @@ def balise_name(name: str, n_pig: Optional[int], place: int = 0, number: Optiona
 
 
 def describe_balise(group: Optional[Group], row: Row, n_pig: Optional[int] = None, below: Optional[str] = None) -> str:
-    """Where a row's balise is: row, group, kilometre, aspect, and its name. `n_pig` is that of its telegram.
+    """Where a row's balise is: row, group, kilometre, track, aspect and name. `n_pig` is N_PIG of its telegram.
 
-    Below a heading that has its group and this track, neither is said again.
+    `below` is the track of a heading that also has the group. Neither is repeated below it.
     """
     place = group.places.get(row.number) if group else None
     parts = [f"row {row.number}", *([clean(row.group)] if below is None else [])]
@@ -108,7 +108,7 @@ def describe_balise(group: Optional[Group], row: Row, n_pig: Optional[int] = Non
 
 
 def describe_group(group: Group, aspect: Optional[str] = None) -> str:
-    """Where a group is: rows, name and kilometre, and which aspect is meant."""
+    """Where a group is: rows, name, kilometre and track, and which aspect is meant."""
     parts = [describe_rows(group, aspect), clean(group.name), *_where(group.aspects[0].rows[0])]
     return "  ".join([*parts, *([f"aspect {quoted(aspect)}"] if aspect else [])])
 
@@ -136,7 +136,7 @@ def describe_identity(identity: Tuple[int, int]) -> str:
 
 
 def listed(names: Sequence[str], most: int, count: Optional[int] = None) -> str:
-    """The first of these names, and how many more there are. `count` has those that `names` does not hold too."""
+    """The first of these names, and how many more there are. `count` includes those that are not in `names`."""
     more = (len(names) if count is None else count) - most
     return ", ".join(names[:most]) + (f" and {more} more" if more > 0 else "")
 

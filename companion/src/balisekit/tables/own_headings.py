@@ -35,7 +35,7 @@ STATED = {
 }
 """The tables by which a project states something, and the keys of each."""
 FILES = {"jumps", "plan"}
-"""The keys of [check] whose values are paths, seen from the folder of the file."""
+"""The keys of [check] whose values are paths, relative to the folder of the file."""
 
 
 def of_table(path: str, named: Optional[str]) -> Headings:
@@ -46,7 +46,7 @@ def of_table(path: str, named: Optional[str]) -> Headings:
 
 
 def of_sheet(path: str, named: Optional[str], needed_columns: Sequence[str]) -> Headings:
-    """The headings of a sheet of variables: by [expect], else by [columns] where the sheet has these headings."""
+    """The headings of a sheet of variables: by [expect], else by [columns] if the sheet has these headings."""
     file = named or beside(path)
     tables = _read(file) if file else {}
     of_expect = tables.get(EXPECT_TABLE, {})
@@ -56,7 +56,7 @@ def of_sheet(path: str, named: Optional[str], needed_columns: Sequence[str]) -> 
 
 
 def stated(path: str, named: Optional[str], table: str) -> Tuple[str, Mapping[str, object]]:
-    """The file that states something of a table's line, and the keys of this one of STATED with their values."""
+    """The file that states something about a table's line, and the keys and values of `table`, one of STATED."""
     file = named or beside(path)
     return file, _read(file)[table] if file else {}
 

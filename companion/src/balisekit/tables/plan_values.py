@@ -41,7 +41,7 @@ def gradient(text: str) -> int:
 
 
 def length(text: str) -> int:
-    """A length in metres, in decimetres."""
+    """A length that is written in metres, in decimetres."""
     if not re.fullmatch("[0-9]{1,6}([.,][0-9])?", text):
         raise TableError(f"{_shown(text)} is no length: write metres, such as 1400 or 1400.5")
     return int(Decimal(text.replace(",", ".")) * 10)
@@ -69,7 +69,7 @@ LENGTHS = ("end", "overlap")
 
 
 def terms(text: str) -> Terms:
-    """What an aspect gives, written as `v=120 end=1400 overlap=100 release=20`. A key that is not there is open."""
+    """What an aspect gives, written as `v=120 end=1400 overlap=100 release=20`. A missing key is not compared."""
     found: Dict[str, Optional[int]] = {}
     for part in text.split():
         key, equals, value = part.partition("=")

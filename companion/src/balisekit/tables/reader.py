@@ -28,7 +28,7 @@ NO_GROUP = "no group; fill merged cells"
 NUMBER = re.compile(r"[-+]?[0-9]+([.,][0-9]*)?")
 NAMES = "the column balise has names and no number: it is read as the column name, and the order of the rows counts"
 PLAIN = re.compile(r"[^\0\r\n#]{0,1000}")
-"""A cell of text in which nothing has to be looked for."""
+"""A text without anything that needs to be looked for."""
 
 
 def read(
@@ -138,7 +138,7 @@ def _meant(heading: str, places: Mapping[str, int]) -> str:
 
 
 def _passed_over(sheet: Sheet, place: int, places: Mapping[str, int]) -> Tuple[str, ...]:
-    """Headings, as they stand, of the columns that are not known."""
+    """The headings, unchanged, of the unknown columns that are not empty."""
     names, known = [], set(places.values())
     for column, cell in enumerate(sheet.rows[place]):
         if column not in known:
@@ -177,7 +177,7 @@ def _filled(sheet: Sheet, begin: int, width: int) -> Iterator[Tuple[int, List[st
 
 
 class _Column(Dict[str, Any]):
-    """What the cells of a column mean. Most cells of a table have the text of another one."""
+    """What the cells of a column mean, by their texts. Most texts are repeated."""
 
     def __init__(self, name: str, place: int, meaning: Callable[[str, str], object]) -> None:
         super().__init__()

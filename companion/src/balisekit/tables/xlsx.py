@@ -1,4 +1,4 @@
-"""Cells of a workbook. openpyxl reads all but plain texts. What would take too long is refused before it is parsed."""
+"""Cells of a workbook. openpyxl reads all but plain texts. What takes too long is refused before it is parsed."""
 from __future__ import annotations
 
 import datetime
