@@ -143,8 +143,11 @@ def test_nor_does_it_replace_what_a_toml_file_names(words: str, columns: str, pr
     assert _contents(project) == before
 
 
-def test_with_columns_the_file_beside_the_table_is_kept_too(project: Path, run: Run) -> None:
+@pytest.mark.parametrize("fault", ["", "unknown = 1\n"])
+def test_with_columns_the_file_beside_the_table_is_kept_too(fault: str, project: Path, run: Run) -> None:
+    """Nobody else reads that file, so nobody reports its unknown key."""
     (project / "c.toml").write_text("group = 'group'\n", "utf-8")
+    (project / "balisekit.toml").write_text(f"{STATED['balisekit.toml']}{fault}", "utf-8")
     before = _contents(project)
     for name in STATED:
         status, out, err = run("table", "t.csv", "--columns", "c.toml", "--csv", name, "--force")

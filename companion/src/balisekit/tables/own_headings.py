@@ -72,6 +72,9 @@ def _read(path: str) -> Dict[str, Dict[str, Any]]:
     with faults_of(path):
         form = _parsed(inputs.read(path).content)
         tables = {name: form.pop(name, {}) for name in (COLUMNS_TABLE, EXPECT_TABLE, *STATED)}
+        check = tables[CHECK_TABLE]
+        for name in FILES.intersection(check if isinstance(check, dict) else ()):
+            check[name] = inputs.claimed(os.path.join(os.path.dirname(path), words(check[name])))
         if form and tables[COLUMNS_TABLE]:
             raise TableError(f"{next(iter(form))} is outside of [columns]: put all headings of the table there")
         tables[COLUMNS_TABLE] = tables[COLUMNS_TABLE] or form
@@ -79,9 +82,6 @@ def _read(path: str) -> Dict[str, Dict[str, Any]]:
             _look_at(name, tables[name])
         for name, keys in STATED.items():
             _look_at_stated(name, tables[name], keys)
-        check = tables[CHECK_TABLE]
-        for name in check.keys() & FILES:
-            check[name] = inputs.claimed(os.path.join(os.path.dirname(path), words(check[name])))
     return tables
 
 
