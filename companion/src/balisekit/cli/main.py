@@ -107,10 +107,10 @@ def main(arguments: Optional[List[str]] = None) -> int:
     """Runs a command line. The answer is the exit status."""
     if _is_closed():
         return _ended(NoAnswer(CLOSED), False, CLOSED)
-    options = argparse.Namespace(debug=False, command=None)
+    options, ends = argparse.Namespace(debug=False, command=None), arguments is None
     try:
         arguments = sys.argv[1:] if arguments is None else arguments
-        with _process(), _script_ahead(arguments):
+        with _process(ends), _script_ahead(arguments):
             try:
                 parser(arguments).parse_args(arguments, options)
             except SystemExit:  # help was written, or the options are wrong
@@ -176,8 +176,11 @@ def _claim(options: argparse.Namespace, replaces: bool) -> None:
 
 
 @contextmanager
-def _process() -> Iterator[None]:
-    """Raises Terminated for the first SIGTERM or SIGHUP, unless that is ignored. Cycles of objects stay in memory."""
+def _process(ends: bool) -> Iterator[None]:
+    """Raises Terminated for the first SIGTERM or SIGHUP, unless that is ignored. Cycles of objects stay in memory.
+
+    If the process then `ends`, they stay until its end.
+    """
 
     def terminate(number: int, frame: object) -> None:
         for other in handlers:
@@ -194,6 +197,8 @@ def _process() -> Iterator[None]:
     try:
         yield
     finally:
+        if ends:
+            gc.freeze()  # (the end of the process would visit and free them one by one)
         if collects:
             gc.enable()
         for number, handler in handlers.items():

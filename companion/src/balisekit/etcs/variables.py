@@ -36,9 +36,13 @@ class Around(NamedTuple):
 Words = Callable[[int, Around], str]
 
 
+UNITS = (1, 10, 100)
+"""Of distances in decimetres, by Q_SCALE."""
+
+
 def unit_dm(packet: Values) -> int:
     """The unit of the packet's distances in decimetres, by Q_SCALE."""
-    return (1, 10, 100)[int(packet.get("q_scale", 0))]
+    return UNITS[int(packet.get("q_scale", 0))]
 
 
 @lru_cache(maxsize=1 << 14)

@@ -33,7 +33,7 @@ from balisekit.engine.program import Record
 from balisekit.etcs import geometry
 from balisekit.etcs.geometry import DIRECTIONS, ELEMENT_KEYS, INFILL, NOMINAL, Site
 from balisekit.etcs.raw_packets import fields_of
-from balisekit.etcs.variables import Form, unit_dm
+from balisekit.etcs.variables import UNITS, Form
 from balisekit.rules.chainage import Chainage, Jump
 from balisekit.rules.location import BaliseGroup, Identity, Location
 from balisekit.rules.passages import DUPLICATE, HOLDING, Content, Said, packets_of
@@ -83,7 +83,7 @@ class Packet:
     @property
     def unit(self) -> int:
         """The unit of its distances in decimetres, by Q_SCALE."""
-        return unit_dm(self.form)
+        return UNITS[self.form.get("q_scale", 0)]
 
     @cached_property
     def end(self) -> int:
@@ -105,15 +105,13 @@ class Packet:
     def stretches(self) -> Tuple[Stretch, ...]:
         """Of a packet 21 or 27: its elements before the end mark. They are those of `profile`, made in less time."""
         distance, value, mark = ELEMENT_KEYS[self.number]
-        unit, is_speed, made = self.unit, self.number == SPEEDS, []
-        elements = self.form["elements"]
+        unit, elements = self.unit, self.form["elements"]
         places = [*accumulate([each[distance] * unit for each in elements])]
-        for each, begin, end in zip(elements, places, [*places[1:], None]):
-            own = each[value]
-            if own == mark:
-                break
-            made.append(Stretch(begin, end, own if is_speed or each["q_gdir"] else -own, each))
-        return tuple(made)
+        values = [each[value] for each in elements]
+        before = values[: values.index(mark)] if mark in values else values
+        if self.number != SPEEDS:
+            before = [own if each["q_gdir"] else -own for own, each in zip(before, elements)]
+        return tuple(map(Stretch, places, [*places[1:], None], before, elements))
 
     @property
     def lengths(self) -> int:

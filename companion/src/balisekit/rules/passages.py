@@ -284,14 +284,14 @@ def packets_of(forms: Sequence[Form], country: int) -> Said:
             content = Packet(place, number, links, begin, is_open)
             for index in HOLDING[direction]:
                 own[index].append(content)
-    return own, one_way, tuple(index in spoken for index in range(len(DIRECTIONS)))
+    return own, one_way, (0 in spoken, 1 in spoken)
 
 
 def _begin(packet: Form) -> Tuple[int, bool]:
     """Where the first element of a profile lies, and whether the profile is open."""
     distance, value, end_mark = ELEMENT_KEYS[packet["nid_packet"]]
     elements = packet["elements"]
-    return elements[0][distance] * unit_dm(packet), all(each[value] != end_mark for each in elements)
+    return elements[0][distance] * unit_dm(packet), end_mark not in [each[value] for each in elements]
 
 
 def _links(packet: Form, country: int) -> Iterator[Link]:

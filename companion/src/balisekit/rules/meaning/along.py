@@ -5,7 +5,7 @@ from bisect import bisect_left
 from decimal import Decimal
 from typing import Dict, Iterator, List, Mapping, NamedTuple, Optional, Sequence, Set, Tuple
 
-from balisekit.rules.decoded import AUTHORITIES, LINKING, Decoded, GroupData, Packet, Passage, allowance
+from balisekit.rules.decoded import LINKING, Decoded, GroupData, Packet, Passage, allowance
 from balisekit.rules.line import Line
 from balisekit.rules.rule import Options
 
@@ -101,7 +101,7 @@ def extents_of(decoded: Decoded) -> Mapping[Lane, Extent]:
     """From which place to which one the groups are that give an authority."""
     places: Dict[Lane, List[int]] = {}
     for data in decoded.groups:
-        own = {passage.way for passage in data.passages if any(packet.number in AUTHORITIES for packet in passage.said)}
+        own = {passage.way for passage in data.passages if passage.authorities}
         for way in own - {None} if data.place is not None else ():
             places.setdefault((data.group.track, way or 0), []).append(data.place or 0)
     return {lane: (min(some), max(some)) for lane, some in places.items()}

@@ -101,8 +101,9 @@ def _compared(
         if packets[0] is packets[1]:
             continue  # of a fixed balise
         apart = STEEPER if packets[0].number == GRADIENTS else 0
-        least = tolerance(line, options, *((each, len(each.stretches)) for each in packets))
-        for begin, end, *values in contrary(packets[0].stretches, packets[1].stretches, reach, apart):
+        differing = list(contrary(packets[0].stretches, packets[1].stretches, reach, apart))
+        least = tolerance(line, options, *((each, len(each.stretches)) for each in packets)) if differing else 0
+        for begin, end, *values in differing:
             place = one.place(begin + least)
             if end - begin > least and (place is None or not leaves(options, line.decoded, one, place)):
                 found.append(Contrary(packets, begin, end, (values[0], values[1])))

@@ -109,9 +109,9 @@ def _compare(
     decoded: Decoded, options: Options, ends: Sequence[End], target: Optional[GroupData] = None
 ) -> Iterator[Tuple[End, Remark]]:
     """The ends that differ from the most frequent one, of equally frequent ones from that nearest to the group."""
-    counts = Counter(end.place for end in ends)
-    if len(counts) < 2:
+    if len({end.place for end in ends}) < 2:
         return
+    counts = Counter(end.place for end in ends)
     at = target.place if target and target.place is not None else ends[0].place
     usual = max(ends, key=lambda each: (counts[each.place], -abs(each.place - at)))
     differing = [end for end in ends if end.differs(usual, decoded, options)]

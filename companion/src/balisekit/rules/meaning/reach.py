@@ -2,6 +2,7 @@
 from __future__ import annotations
 
 from bisect import bisect_left
+from collections import defaultdict
 from typing import Dict, List, Optional, Sequence, Tuple
 
 from balisekit.rules.decoded import Decoded, GroupData
@@ -45,7 +46,7 @@ class Reach:
 
 def lanes_of_links(decoded: Decoded) -> Dict[Lane, Reach]:
     """The links and groups of each track and way."""
-    lanes: Dict[Lane, Reach] = {}
+    lanes: Dict[Lane, Reach] = defaultdict(Reach)
     known = set()
     last: Dict[Tuple[GroupData, int], Sequence[Name]] = {}  # (aspects share the packets 5 of fixed balises)
     for passage in decoded.passages:
@@ -53,7 +54,7 @@ def lanes_of_links(decoded: Decoded) -> Dict[Lane, Reach]:
         way = passage.way or _shown_by(named, data)
         if way is None or data is None or data.place is None:
             continue
-        lane = lanes.setdefault((passage.track, way), Reach())
+        lane = lanes[passage.track, way]
         is_new = (data, way) not in known and not passage.message and passage.way is not None
         if is_new and data.group.linked and any(each.number < 254 for each in passage.said):
             known.add((data, way))

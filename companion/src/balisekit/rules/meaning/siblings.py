@@ -1,7 +1,6 @@
 """Aspects beside each other: which packets they have (E8), which authorities (E9), how far they go together (E10)."""
 from __future__ import annotations
 
-from collections import Counter
 from itertools import combinations
 from typing import Dict, FrozenSet, Iterator, List, Mapping, NamedTuple, Sequence, Set, Tuple
 
@@ -29,7 +28,7 @@ def said_of(data: GroupData) -> Tuple[Said, Moving]:
     moving: Moving = (set(), set())
     for passage in data.passages:
         index = DIRECTIONS.index(passage.direction)
-        own = NUMBERS.intersection(packet.number for packet in passage.said)
+        own = NUMBERS.intersection([packet.number for packet in passage.said])
         said[passage.aspect] = (own, said[passage.aspect][1]) if index == 0 else (said[passage.aspect][0], own)
         if any(packet.form["v_main"] for packet in passage.of(AUTHORITY)):
             moving[index].add(passage.aspect)
@@ -40,11 +39,10 @@ def turned_in(said: Said) -> Dict[str, List[int]]:
     """The aspects with packets only for one direction that all others, two at least, have only for the other one."""
     found: Dict[str, List[int]] = {}
     for number in sorted(NUMBERS):
-        has = {aspect: tuple(number in own for own in directions) for aspect, directions in said.items()}
-        counts = Counter(has.values())
-        for mine in ((True, False), (False, True)):
-            if counts[mine] == 1 and counts[mine[::-1]] >= SIBLINGS - 1 and not counts[True, True]:
-                found.setdefault(next(aspect for aspect in has if has[aspect] == mine), []).append(number)
+        ways = ([aspect for aspect, own in said.items() if number in own[index]] for index in (0, 1))
+        few, many = sorted(ways, key=len)
+        if len(few) == 1 and len(many) >= SIBLINGS - 1 and few[0] not in many:
+            found.setdefault(few[0], []).append(number)
     return {aspect: found[aspect] for aspect in said if aspect in found}
 
 
@@ -57,7 +55,7 @@ def lacking_in(said: Said, moving: Moving) -> Dict[Tuple[str, str, str], List[in
     either = moving[0] | moving[1]
     for index, direction in enumerate(DIRECTIONS):
         for number in sorted(NUMBERS):
-            among = [aspect for aspect in said if aspect in (either if number == AUTHORITY else moving[index])]
+            among = said.keys() & (either if number == AUTHORITY else moving[index])
             without = [aspect for aspect in among if number not in said[aspect][index]]
             if len(without) == 1 and len(among) >= SIBLINGS:
                 words = "" if number == AUTHORITY or moving[index] == either else " in it"
