@@ -830,3 +830,14 @@ def test_one_field_may_be_the_cause(
         (one,) = [line for line in out if f": {rule}: " in line] or [""]
         cause = f"; {named.get(rule)} is about the same V_STATIC of row {row}, and may be the cause: look there first"
         assert one.endswith(cause) == (rule in named), one
+
+
+def repeated(place: int, metres: int) -> Options:
+    """Kilometres that are given twice: from this place on they are `metres` less."""
+    before = Decimal(place) / 1000
+    return replace(ASKED, jumps=(Jump(before, before - Decimal(metres) / 1000),))
+
+
+def test_a_border_where_the_kilometres_are_repeated(found: Found) -> None:
+    """Its group has no place of its own, and may be what looks missing."""
+    assert not found("E18", Line(border=0), shifted(16_720, -100), repeated(16_720, 100))

@@ -50,6 +50,18 @@ class Chainage(NamedTuple):
             shift += before - after if at >= max(before, after) else 0
         return at + shift
 
+    def places(self, km: Decimal) -> Sequence[int]:
+        """All places of a kilometre: one that the kilometres repeat has several, and one in a gap has none."""
+        at, shift, found = decimetres(km), 0, []
+        begin: Optional[int] = None
+        for before, after in self.jumps:
+            if (begin is None or begin <= at) and at <= before:
+                found.append(at + shift)
+            shift, begin = shift + before - after, after
+        if begin is None or begin <= at:
+            found.append(at + shift)
+        return sorted(set(found))
+
     def words(self, place: int) -> str:
         """The kilometre of a place as it is written."""
         shift = 0

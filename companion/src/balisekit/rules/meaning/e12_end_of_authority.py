@@ -20,8 +20,8 @@ Correct data that gets it. Any that break one of these assumptions; usual cases 
 group end at one place: not on a calling-on route, at a limit of authority (V_LOA above 0), or by radio at a marker
 board. Each ends at a group: not in limited supervision, or at a buffer stop, board or border without a group of the
 table within 50 m. Trains stay on the track: not through a loop, or on a route to another one, if no `point` of the
-track plan says where. Kilometres and distances show the place on the track: not if they jump unstated, follow another
-axis, are rounded coarsely, or belong to signals or to tracks without names.
+track plan says where. Kilometres and distances show the place on the track: not if they are missing, repeat, jump
+unstated, follow another axis, are rounded coarsely, or belong to signals or to tracks without names.
 
 Example. At green the authority of signal 3 ends at km 16.050, and three others that lead to signal 5 end at km 16.000.
 

@@ -17,9 +17,9 @@ How to correct it. Correct D_LINK or the kilometre. Give jumps of the kilometres
 State a greater `--tolerance` if the kilometres follow another axis.
 
 Correct data that gets it. Any that break one of these assumptions; usual cases follow "not". Kilometres and distances
-show the place on the track: not if they jump unstated, follow another axis, are rounded coarsely, or belong to signals
-or to tracks without names. D_LINK is rounded to the nearest unit: not if always to one side. Trains stay on the track:
-not on a route to another one, or through a loop.
+show the place on the track: not if they are missing, repeat, jump unstated, follow another axis, are rounded coarsely,
+or belong to signals or to tracks without names. D_LINK is rounded to the nearest unit: not if always to one side.
+Trains stay on the track: not on a route to another one, or through a loop.
 
 Example. Signal 5 is 1,504 m from signal 4 by D_LINK and 1,500 m by the kilometres, and Q_LOCACC is 5 m.
 

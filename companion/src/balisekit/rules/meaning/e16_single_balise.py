@@ -19,8 +19,8 @@ How to correct it. Name the balise in the packets 5 of the groups before it, and
 Correct data that gets it. Any that break one of these assumptions; usual cases follow "not". The table has all links:
 not in level 2, also as an overlay of level 1, if radio sends them. Packets 5 that lead past a balise are for trains
 that pass it: not if it is on another route. Trains of one way of a track come to it from one side: not on a balloon
-loop or triangle. Kilometres and distances show the place on the track: not if they jump unstated, follow another axis,
-are rounded coarsely, or belong to signals or to tracks without names.
+loop or triangle. Kilometres and distances show the place on the track: not if they are missing, repeat, jump unstated,
+follow another axis, are rounded coarsely, or belong to signals or to tracks without names.
 
 Example. Infill balise 5 has a packet 12 for the nominal direction. Signals 3 and 4 lead past it and do not name it.
 

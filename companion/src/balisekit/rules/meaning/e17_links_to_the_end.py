@@ -22,7 +22,8 @@ if on no part, or not on this one, such as in rear of a level 2 area. Packets 5 
 only to the next signal, which has its own, or if groups that the table lacks have them. Groups ahead are for these
 trains: not those of level 2 or a national system (packet 44). Trains stay on the track: not through a loop, or on a
 route to another one, if no `point` of the track plan says where. Kilometres and distances show the place on the track:
-not if they jump unstated, follow another axis, are rounded coarsely, or belong to signals or to tracks without names.
+not if they are missing, repeat, jump unstated, follow another axis, are rounded coarsely, or belong to signals or to
+tracks without names.
 
 Example. The authority of signal 3 ends at km 16.000, and its packet 5 names groups to km 14.500 only.
 

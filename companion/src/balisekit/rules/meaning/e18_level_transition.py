@@ -5,8 +5,8 @@ orders it. Compared are packets of one track and way, each at most 500 m from th
 `--tolerance` (else 1 m) and rounding, and M_LEVELTR and NID_NTC must be the same in the same order. A place is that of
 D_LEVELTR, or of the group if that is 0 or 32,767 (now). Such a packet counts as right, or else the most frequent place.
 One that repeats it beyond the border agrees. Only a place between the first and the last group of the track needs one.
-A group whose direction is unknown, or with a refused telegram, may have it. A packet for both directions with a
-distance is E5 (SUBSET-026, 5.10 and 7.4.2).
+A group whose direction or place is unknown, or with a refused telegram, may have it, or one on another track to which
+packets 5 lead. A packet for both directions with a distance is E5 (SUBSET-026, 5.10 and 7.4.2).
 
 How urgent. At worst wrong information.
 
@@ -21,8 +21,8 @@ Correct data that gets it. Any that break one of these assumptions; usual cases 
 41 are for one border: not if there are two, one on another route, or orders for trains that start there. They have one
 place: not with D_LEVELTR 32,767 some metres from the border. They have one list of levels: not if announcement and
 border differ on purpose. A group of the table orders the change: not if only the last announcement does. Kilometres and
-distances show the place on the track: not if they jump unstated, follow another axis, are rounded coarsely, or belong
-to signals or to tracks without names.
+distances show the place on the track: not if they are missing, repeat, jump unstated, follow another axis, are rounded
+coarsely, or belong to signals or to tracks without names.
 
 Example. Signal 4 announces level 0 at km 16.750, and the group at the border, at km 16.700, has it at once.
 
@@ -103,7 +103,9 @@ def _unordered(decoded: Decoded, usual: Order, unknown: Sequence[Tuple[str, Opti
     track = usual.passage.track
     places = [place for own, place in unknown if own == track]
     is_near = any(place is None or abs(place - usual.place) <= NEAR for place in places)
-    if decoded.is_inside(track, usual.place) and not is_near:
+    targets = (each.target for each in decoded.reached(usual.passage))
+    may_leave = any(each and each.group.track != track for each in targets)
+    if decoded.is_inside(track, usual.place) and not is_near and not may_leave:
         sentence = (
             f"it announces {usual.words} at {decoded.km(track, usual.place)}, and no group within {NEAR // 10} m of "
             "that place has a packet 41 with D_LEVELTR 0 or 32,767 in this direction"

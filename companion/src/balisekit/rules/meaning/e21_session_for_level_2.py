@@ -14,7 +14,8 @@ What may happen. The train reaches the border without a movement authority by ra
 How to correct it. Put a packet 42 with Q_RBC 1 far enough before the border.
 
 Correct data that gets it. Any that break one of these assumptions; usual cases follow "not". The table has the packet
-42 of each train: not if it comes with a session, or opens one at the start of mission.
+42 of each train: not if it comes with a session, gets the packet between announcement and border, or opens one at the
+start of mission.
 
 Example. Signal 4 announces level 2 in 2,200 m, and no group before it has a packet 42.
 

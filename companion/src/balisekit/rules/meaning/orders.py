@@ -60,9 +60,10 @@ def orders_of(decoded: Decoded) -> Dict[Lane, List[Order]]:
 
 
 def without_direction(decoded: Decoded) -> Iterator[Tuple[str, Optional[int]]]:
-    """Tracks and places of groups that have an order at once, and a direction that the table does not show."""
+    """Tracks and places of groups that have an order at once, and a direction or place that the table does not show."""
     for passage in decoded.passages:
         group = passage.group.group if passage.group else None
-        if group and passage.way is None and (group.linked or group.balises > 1):
+        is_known = passage.way is not None and passage.place(0) is not None
+        if group and not is_known and (group.linked or group.balises > 1):
             if any(packet.form["d_leveltr"] in (0, NOW) for packet in passage.of(LEVELS)):
                 yield passage.track, passage.place(0)

@@ -89,10 +89,25 @@ class Placed:
         """The rows of a kind that have one place, for trains of one way of a track, in the order of the kilometres."""
         lane = kind, track, way
         if lane not in self._spots:
-            places = ((row, self.place(track, row.km)) for row in self.plan.places(kind, track, way))
-            found = [Spot(row, place) for row, place in places if place is not None]
+            found = [
+                Spot(row, place) for row in self.plan.places(kind, track, way) for place in self._places(row, kind)
+            ]
             self._spots[lane] = sorted(found, key=lambda spot: spot.place)
         return self._spots[lane]
+
+    def _places(self, row: PlanRow, kind: str) -> Sequence[int]:
+        """The place of a row, if it has one. A point where the kilometres are repeated may be at each of its places."""
+        if kind == "point":
+            return self.decoded.chainages.get(row.track, Chainage()).places(row.km)
+        place = self.place(row.track, row.km)
+        return [] if place is None else [place]
+
+    def is_lost(self, kind: str, passage: Passage, place: int, tolerance: int) -> bool:
+        """Whether a row without one place may be at this place: a jump repeats its kilometre."""
+        chainage = self.decoded.chainages.get(passage.track, Chainage())
+        rows = self.plan.places(kind, passage.track, passage.way or 0)
+        lost = [row for row in rows if chainage.place(row.km) is None]
+        return any(abs(each - place) <= tolerance for row in lost for each in chainage.places(row.km))
 
     def place(self, track: str, km: Optional[Decimal]) -> Optional[int]:
         """The place of a kilometre, if it has one."""

@@ -19,8 +19,9 @@ that V_STATIC must have: not that of a category. V_STATIC is the speed of the tr
 route, the aspect or a temporary restriction. Nor if it is for limited supervision, or unused, such as 0 beside a V_DIFF
 of each category. Profiles have the values and places of the track: not if merged, rounded or on the safe side, such as
 for an overlap, or without a short higher speed. Trains stay on the track: not through a loop, or on a route to another
-one, if no `point` of the track plan says where. Kilometres and distances show the place on the track: not if they jump
-unstated, follow another axis, are rounded coarsely, or belong to signals or to tracks without names.
+one, if no `point` of the track plan says where. Kilometres and distances show the place on the track: not if they are
+missing, repeat, jump unstated, follow another axis, are rounded coarsely, or belong to signals or to tracks without
+names.
 
 Example. The profile of signal B has 120 km/h from km 15.900 to km 15.950, where the plan has 100 km/h.
 """

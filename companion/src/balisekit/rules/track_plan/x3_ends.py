@@ -19,8 +19,8 @@ Correct data that gets it. Any that break one of these assumptions; usual cases 
 authority: not a marker board, buffer stop, level border, limit of authority (V_LOA above 0) or end of a calling-on
 route. Write such places into the plan. In limited supervision an authority may end at no signal. Trains stay on the
 track: not through a loop, or on a route to another one, if no `point` of the track plan says where. Kilometres and
-distances show the place on the track: not if they jump unstated, follow another axis, are rounded coarsely, or belong
-to signals or to tracks without names.
+distances show the place on the track: not if they are missing, repeat, jump unstated, follow another axis, are rounded
+coarsely, or belong to signals or to tracks without names.
 
 Example. The authority of signal A at green ends at km 15.350, and the nearest signal of the plan is at km 15.300.
 """
@@ -63,8 +63,10 @@ def find(line: Line, options: Options) -> Result:
     for saying in placed.sayings(*AUTHORITIES):
         if gives_way(saying.packet):
             end, why = _end(placed, saying)
-            counts[why] += 1
             tolerance = line.decoded.tolerance(options.tolerance, allowance(saying.packet, saying.packet.lengths))
+            if end and placed.is_lost("signal", saying.passage, end.place, tolerance):
+                end, why = None, NO_PLACE
+            counts[why] += 1
             if end and abs(end.place - end.signal.place) > tolerance:
                 found.setdefault((end.signal.row.number, end.place), []).append(end)
     return placed.result(["signal"], [_remark(placed, each) for each in found.values()], counts)

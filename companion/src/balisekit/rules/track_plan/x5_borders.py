@@ -7,8 +7,8 @@ ahead and beyond the last one in rear. NID_RBC 16,383 (the last known RBC) is no
 without it), one unit of Q_SCALE and one unit of the last decimal of the kilometres are allowed. A track with a border
 in the plan for one way needs all borders of that kind. If it begins in the area of an RBC, it also needs a row `rbc` in
 rear of the first group. A border of the plan within the table that no packet names is named at the nearest group,
-unless the track has a packet of its kind without a direction or after a packet 136, or a refused telegram. What follows
-a packet 136 is not compared (SUBSET-026, 7.4.2 and 7.5.1).
+unless the track has a packet of its kind without a direction, beyond a `point` or after a packet 136, or a refused
+telegram. What follows a packet 136 is not compared (SUBSET-026, 7.4.2 and 7.5.1).
 
 How urgent. At worst wrong information.
 
@@ -23,8 +23,8 @@ of all trains and routes: not those of trains that have no radio or start near o
 are exactly at the border: not D_LEVELTR 32,767 or D_RBCTR 0 some metres from it, or one repeated beyond it. Write such
 places into the plan. Packets have its levels: not if announcement and border differ on purpose. Groups of the table
 name each border: not if only radio does. Trains stay on the track: not through a loop, or on a route to another one, if
-no `point` of the track plan says where. Kilometres and distances show the place on the track: not if they jump
-unstated, follow another axis, are rounded coarsely, or belong to signals or to tracks without names.
+no `point` of the track plan says where. Kilometres and distances show the place on the track: not if they are missing,
+repeat, jump unstated, follow another axis, are rounded coarsely, or belong to signals or to tracks without names.
 
 Example. Group F announces level 2 at km 20.050, and the plan has the border at km 20.000.
 """
@@ -69,10 +69,12 @@ def find(line: Line, options: Options) -> Result:
         if border is None:
             continue
         spots, place, why = _wanted(placed, border)
+        tolerance = line.decoded.tolerance(options.tolerance, allowance(saying.packet))
+        if border.has_place and not why and placed.is_lost(border.kind, saying.passage, place, tolerance):
+            spots, why = (), NO_PLACE
         named.update(spot.row.number for spot in spots)
         counts[why] += 1
-        unplaced.update([(border.kind, saying.passage.track)] if why == NO_PLACE else [])
-        tolerance = line.decoded.tolerance(options.tolerance, allowance(saying.packet))
+        unplaced.update([(border.kind, saying.passage.track)] if why in (NO_PLACE, BEHIND_POINT) else [])
         if why or any(_is_there(border, place, spot, tolerance) and spot.row.value == border.text for spot in spots):
             continue
         elsewhere = None if _is_there(border, place, spots[0], tolerance) else place
