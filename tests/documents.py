@@ -54,7 +54,7 @@ def answer_to_message(digits):
 
 
 def test_messages(tests):
-    """L_MESSAGE counts the bytes. The expected number of messages are still messages with one bit turned."""
+    """L_MESSAGE counts the bytes. Of the messages with one bit turned, the expected number are still messages."""
     for count in range(3, len(MESSAGES[0][0]) // 2):
         found = answer_to_message(MESSAGES[0][0][:2 * count])
         tests.equal(f"the first {count} bytes of a message", found, "refused: message 0: length at 8 end 18\n")

@@ -454,7 +454,7 @@ def test_each_repeated_row_is_named(table: Write) -> None:
 
 
 def test_a_name_that_all_balises_of_groups_share_has_one_hint(table: Write) -> None:
-    """At the heading, before the rows. One group alone has none: it may be a row that was put in twice."""
+    """At the heading, before the rows. A single group has none: a row may be there twice."""
     rows = [f"{group},{aspect},S {group},{ALONE}" for group in "AB" for aspect in ("*", "x", "y")]
     for lines, hints in ((rows, 1), (rows[:3], 0), ([*rows[:3], *rows[4:]], 0)):
         with pytest.raises(TableErrors) as raised:

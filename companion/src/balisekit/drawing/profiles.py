@@ -86,9 +86,9 @@ class Sizes(NamedTuple):
     speed: int
     """The height of the greatest speed."""
     end: int
-    """How far the end of an authority stands out above and below its bar."""
+    """How far the end of an authority extends above and below its bar."""
     supervised: int
-    """How far the supervised location stands out above it."""
+    """How far the supervised location extends above it."""
     has_words: bool
     """Whether there is room for the words of lines: V_MAIN, and speeds of categories."""
 

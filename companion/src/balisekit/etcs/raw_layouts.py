@@ -23,7 +23,7 @@ from typing import Any, Dict, Iterator, List, Mapping, NamedTuple, Optional, Tup
 
 DATA = "raw_layouts.json"
 CERTAIN = 97
-"""From how many per cent on a layout is certain. No remark rests on another layout, but E5 omits some by it."""
+"""From how many per cent on a layout is certain. No remark rests on another one, but one can make E5 silent."""
 IMPLIED = ("Q_NEWCOUNTRY", "N_ITER")
 """Variables without a key, as in the program's JSON: other keys, and lengths of lists, give their values."""
 NUMBERS = re.compile(r"(\d+)(?: to (\d+))?(?: (.+))?")

@@ -62,7 +62,7 @@ class ListedPart(NamedTuple):
     behind: Sequence[str]
     """The lines after the entries: how many there are, or notes and what was compared."""
     none: str = "None"
-    """The text if there are no open entries."""
+    """The text if there are no entries."""
 
     @property
     def all(self) -> Sequence[Listed]:

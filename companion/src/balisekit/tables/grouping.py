@@ -262,7 +262,7 @@ def _look_at_counts(name: str, aspects: List[Aspect]) -> None:
 
 
 def _lacking(name: str, aspects: List[Aspect]) -> List[TableError]:
-    """A fault for each balise that lacks aspects, if the balises of the aspects can be told by a column."""
+    """A fault for each balise that lacks aspects, if a column identifies the balises of the aspects."""
     for column, words in KEYS.items():
         keys = [{row[COLUMN[column]]: row for row in aspect.rows} for aspect in aspects]
         if any(UNKNOWN & known.keys() or len(known) < len(aspect.rows) for known, aspect in zip(keys, aspects)):
