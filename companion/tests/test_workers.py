@@ -13,11 +13,19 @@ from typing import Callable, Iterator, List
 
 import pytest
 from cases_of_program import TOP
-from telegrams import ALONE
+from telegrams import ALONE, MESSAGE
+from test_limits import table_of
 
+from balisekit.engine.program import Program
 from balisekit.errors import NoAnswer, TableError
 from balisekit.io import workers
 from balisekit.io.workers import copies, shared
+from balisekit.rules import checking, meaning
+from balisekit.rules.applied import look_for
+from balisekit.rules.line import Line
+from balisekit.rules.results import read, results
+from balisekit.rules.rule import Options
+from balisekit.tables import messages as messages_file, reader
 
 Write = Callable[..., Path]
 MANY = 3500
@@ -142,16 +150,34 @@ def _runs(pid: int) -> bool:
         return False
 
 
+def test_results_as_bytes(program: Program, tmp_path: Path) -> None:
+    """What rules find in a line is read as about the groups, rows and messages of another line of the same table."""
+    (tmp_path / "m.txt").write_text(f"{MESSAGE}\n")
+    table = reader.read(str(table_of(tmp_path / "table.csv", program, 20)))
+    checked = checking.check(program, table, messages_file.read(str(tmp_path / "m.txt")))
+    options, line = Options(line_speed=80), Line.of(checked)
+    found = read(line, [each for part in (0, 1) for each in results(checked, options, meaning.RULES, part, 2)])
+    wanted = look_for(Line.of(checked, in_full=True), options, meaning.RULES)
+    assert repr({rule.name: found[rule.name] for rule in meaning.RULES}) == repr(
+        {rule.name: result for rule, result in wanted.results.items()}
+    )
+    locations = [remark.location for result in found.values() for remark in result.found]
+    assert len(locations) > 20 and all(line.groups[each.group.number] is each.group for each in locations if each.group)
+    assert look_for(line, options, meaning.RULES, known=found).results == {
+        rule: found[rule.name] for rule in meaning.RULES
+    }
+
+
 def test_few_items_threads_and_one_processor(monkeypatch: pytest.MonkeyPatch) -> None:
     """Then one process does all."""
     monkeypatch.setattr(threading, "active_count", lambda: 1)
     monkeypatch.setattr(os, "sched_getaffinity", lambda _: set(range(64)))
-    assert [copies(workers.LEAST + more) for more in (-1, 0)] == [0, workers.MOST]
+    assert [copies(workers.LEAST + more, *most) for more, *most in ((-1,), (0,), (0, 1))] == [0, workers.MOST, 1]
     monkeypatch.setattr(threading, "active_count", lambda: 2)
     assert copies(workers.LEAST) == 0
     monkeypatch.setattr(threading, "active_count", lambda: 1)
     monkeypatch.setattr(os, "sched_getaffinity", lambda _: {5})
-    assert copies(workers.LEAST) == 0
+    assert copies(workers.LEAST) == copies(workers.LEAST, 1) == 0
 
 
 def test_no_process(monkeypatch: pytest.MonkeyPatch) -> None:
@@ -208,6 +234,21 @@ def test_the_same_page(tracks: int, table: Write, tmp_path: Path) -> None:
         assert run.returncode == 1, said
         pages.append(target.read_bytes())
     assert pages[0] == pages[1] == pages[2] and pages[0].count(b'<figure class="strip') > 3 * tracks
+
+
+@needs_two
+def test_the_same_remarks(program: Program, tmp_path: Path) -> None:
+    """Whether one process applies all rules or several, with all that is said of groups, rows and messages."""
+    path, said = table_of(tmp_path / "table.csv", program, workers.LEAST + 20), []
+    (tmp_path / "m.txt").write_text(f"{MESSAGE}\n")
+    for processors in (1, 2):
+        target = tmp_path / f"{processors}.json"
+        words = ["--messages", tmp_path / "m.txt", "--line-speed", 80, "--json", target]
+        with _begin(processors, "check", path, *words) as run:
+            out, errors = run.communicate(timeout=300)
+        assert run.returncode == 1 and not errors
+        said.append((out, target.read_bytes()))
+    assert said[0] == said[1] and said[0][0].count(b": E2: ") > 100
 
 
 def _children(pid: int) -> List[int]:

@@ -21,13 +21,13 @@ Work = Callable[[int, int], Iterable[Any]]
 """Makes one part of the results, by the number of the part and the number of parts."""
 
 
-def copies(items: int) -> int:
+def copies(items: int, most: int = MOST) -> int:
     """How many copies of this process share this number of items. 0: the process makes them itself.
 
     That is so for few items, on one processor, and while other threads run: a copy would have their locks without them.
     """
     processors = len(os.sched_getaffinity(0))
-    return min(MOST, processors) if items >= LEAST and processors > 1 and threading.active_count() == 1 else 0
+    return min(most, processors) if items >= LEAST and processors > 1 and threading.active_count() == 1 else 0
 
 
 @contextmanager

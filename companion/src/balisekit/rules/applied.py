@@ -41,11 +41,18 @@ class Applied:
         return [rule for rule, result in self.results.items() if result.is_empty]
 
 
-def look_for(line: Line, options: Options, rules: Sequence[Rule], notes: Notes = no_notes) -> Applied:
-    """Applies these rules to a line."""
-    results = {rule: _with_causes(line, rule, rule.find(line, options)) for rule in rules}
+def look_for(
+    line: Line, options: Options, rules: Sequence[Rule], notes: Notes = no_notes, known: Mapping[str, Result] = {}
+) -> Applied:
+    """Applies these rules to a line. The results of some may be known, by their names."""
+    results = {rule: known.get(rule.name) or result_of(line, options, rule) for rule in rules}
     _name_causes({rule.name: rule for rule in results}, results)
     return Applied(line, results, (*notes(line), *(note for result in results.values() for note in result.notes)))
+
+
+def result_of(line: Line, options: Options, rule: Rule) -> Result:
+    """What a rule finds, and which findings of the program may be the cause."""
+    return _with_causes(line, rule, rule.find(line, options))
 
 
 def _name_causes(rules: Mapping[str, Rule], results: Dict[Rule, Result]) -> None:

@@ -7,9 +7,10 @@ from __future__ import annotations
 import time
 from dataclasses import dataclass
 from datetime import date
-from functools import cached_property
+from functools import cached_property, partial
 from typing import Iterator, Mapping, NamedTuple, Optional, Sequence, Tuple
 
+from balisekit.io.workers import copies, shared
 from balisekit.rules import links, meaning, track_plan
 from balisekit.rules.accepted import Acceptance, Entries, Item, Judged, identities, judge
 from balisekit.rules.applied import Applied, Notes, look_for, no_notes
@@ -18,9 +19,12 @@ from balisekit.rules.entries import Entry, entries, kilometre_of
 from balisekit.rules.line import Line
 from balisekit.rules.location import Identity
 from balisekit.rules.own import RULES
-from balisekit.rules.rule import Options, Remark, Rule
+from balisekit.rules.results import read, results
+from balisekit.rules.rule import Options, Remark, Result, Rule
 from balisekit.rules.statements.scene import BaliseName
 
+IN_FULL = 1
+"""How many copies of this process compare the contents of all telegrams: each needs much memory."""
 PROVED, PLAN = "F", "X"
 """The family of the program, and the one that needs a track plan."""
 
@@ -187,15 +191,20 @@ def _without_kilometres(family: Family) -> Family:
 
 def _looked_at(checked: Checked, applied: Sequence[Family], options: Options, began: Optional[float]) -> Iterator[Part]:
     """What the rules of each family find, as yet without entries."""
-    line: Optional[Line] = None
-    for family in applied:
-        begin, began = time.perf_counter() if began is None else began, None
-        if family.letter == PROVED:
-            yield Part(family, checked.findings, time.perf_counter() - begin)
-            continue
-        line = line or Line.of(checked, options.jumps, any(each.in_full for each in applied))
-        found = look_for(line, options, family.rules, family.notes)
-        yield Part(family, found.remarks, time.perf_counter() - begin, found)
+    in_full = [rule for family in applied if family.in_full for rule in family.rules]
+    count = copies(len(checked.table.groups), IN_FULL) if in_full else 0
+    with shared([partial(results, checked, options, in_full)], count) as (found_in_full,):
+        line: Optional[Line] = None
+        known: Mapping[str, Result] = {}
+        for family in applied:
+            begin, began = time.perf_counter() if began is None else began, None
+            if family.letter == PROVED:
+                yield Part(family, checked.findings, time.perf_counter() - begin)
+                continue
+            line = line or Line.of(checked, options.jumps, bool(in_full) and not count)
+            known = known or (read(line, found_in_full) if family.in_full and count else {})
+            found = look_for(line, options, family.rules, family.notes, known)
+            yield Part(family, found.remarks, time.perf_counter() - begin, found)
 
 
 def _with_entries(checked: Checked, part: Part, judged: Optional[Judged]) -> Part:
