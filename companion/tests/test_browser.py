@@ -2,10 +2,13 @@
 from __future__ import annotations
 
 import html
+import http.server
 import json
+import queue
 import re
 import shutil
 import subprocess
+import threading
 from pathlib import Path
 from typing import Any, List, Tuple
 
@@ -100,14 +103,38 @@ def test_what_is_folded_is_opened_at_its_place(
         assert seen.count("copy the digits</button>") == 2, "of this row, and of the refused one"
 
 
-FOLLOWED = """<script>
+FOLLOWED = """<img src="http://127.0.0.1:PORT/"><script>
 const steps = ["#pg5", "#found", "#r23p1", "#found", "#r15p1", "#yes"], tops = [];
-setInterval(() => {
-  if (location.hash) tops.push(document.querySelector(":target").getBoundingClientRect().top);
-  document.title = JSON.stringify(tops);
-  if (steps.length) document.querySelector(`a[href="${steps.shift()}"]`).click();
-}, 500);
+let frames = 0;
+function frame() {
+  if (++frames % 20 === 0) {
+    if (location.hash) tops.push(document.querySelector(":target").getBoundingClientRect().top);
+    if (!steps.length) return navigator.sendBeacon("http://127.0.0.1:PORT/", JSON.stringify(tops));
+    document.querySelector(`a[href="${steps.shift()}"]`).click();
+  }
+  requestAnimationFrame(frame);
+}
+frame();
 </script></body>"""
+"""A step each 20 frames. The page is loaded as soon as the picture comes, for which it waits until all are done."""
+
+
+class Handler(http.server.BaseHTTPRequestHandler):
+    """Takes what the page sends, and gives the picture only then."""
+
+    tops: "queue.Queue[List[float]]"
+
+    def do_GET(self) -> None:
+        self.tops.put(self.tops.get(timeout=200))
+        self.send_error(404)
+
+    def do_POST(self) -> None:
+        self.tops.put(json.loads(self.rfile.read(int(self.headers["Content-Length"]))))
+        self.send_response(204)
+        self.end_headers()
+
+    def log_message(self, format: str, *args: object) -> None:
+        """Nothing on standard error."""
 
 
 def test_links_lead_to_their_places(page: Path, tmp_path: Path) -> None:
@@ -115,12 +142,17 @@ def test_links_lead_to_their_places(page: Path, tmp_path: Path) -> None:
 
     Sections that are shown for the first time, and the button of a telegram that was opened, move it a little.
     """
-    text = re.sub('<meta http-equiv="Content-Security-Policy"[^>]*>', "", page.read_text("utf-8"))
-    (tmp_path / "page.html").write_text(text.replace("</body>", FOLLOWED), "utf-8")
-    words = "--dump-dom", "--virtual-time-budget=5000", "--window-size=1100,900"
-    seen = browse(tmp_path, tmp_path / "page.html", *words).stdout
-    tops = json.loads(seen.partition("<title>")[2].partition("</title>")[0])
-    assert len(tops) >= 6 and all(40 <= top < 200 for top in tops), tops
+    Handler.tops = queue.Queue()
+    with http.server.ThreadingHTTPServer(("127.0.0.1", 0), Handler) as server:
+        threading.Thread(target=server.serve_forever, daemon=True).start()
+        text = re.sub('<meta http-equiv="Content-Security-Policy"[^>]*>', "", page.read_text("utf-8"))
+        followed = FOLLOWED.replace("PORT", str(server.server_port))
+        (tmp_path / "page.html").write_text(text.replace("</body>", followed), "utf-8")
+        words = "--dump-dom", "--window-size=1100,900", "--host-resolver-rules=MAP * ~NOTFOUND, EXCLUDE 127.0.0.1"
+        browse(tmp_path, tmp_path / "page.html", *words)
+        server.shutdown()
+    tops = Handler.tops.get(timeout=1)
+    assert len(tops) == 6 and all(40 <= top < 200 for top in tops), tops
 
 
 PRINTED = """<script>
