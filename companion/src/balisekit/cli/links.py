@@ -27,7 +27,7 @@ def run(options: argparse.Namespace) -> int:
     program, table, messages = shared.inputs(options)
     shared.refuse_without_kilometres(table)
     checked = checking.check(program, table, messages, options.by_position)
-    outcome = apply(checked, LETTERS, line)
+    outcome = apply(checked, LETTERS, line, in_copy=False)
     links = next(part.applied for part in outcome.parts if part.applied)
     if options.json:
         write_json(options.json, {**as_json(checked, links), "entries": entries_json(outcome)})

@@ -48,7 +48,7 @@ def stated(options: argparse.Namespace) -> Options:
 def outcome(options: argparse.Namespace, line: Options, now: datetime, keep: bool = False) -> Outcome:
     """What the rules find in such a line, and what was accepted on this day if there is a file of entries.
 
-    With `keep` the records of all telegrams are kept, for callers that read them several times.
+    With `keep` the records of all telegrams are kept, and other data are not, for callers that draw pictures of them.
     """
     began = time.perf_counter()
     entries = accepted.read(options.accepted) if options.accepted else None
@@ -60,7 +60,7 @@ def outcome(options: argparse.Namespace, line: Options, now: datetime, keep: boo
     if keep:
         checked.accepted.keep()
     signed = (entries, now.date()) if entries else None
-    return apply(checked, asked, line, signed, began)
+    return apply(checked, asked, line, signed, began, in_copy=keep)
 
 
 def links_of(outcome: Outcome, options: Options) -> Links:

@@ -162,18 +162,20 @@ def apply(
     options: Options,
     signed: Optional[Tuple[Entries, date]] = None,
     began: Optional[float] = None,
+    in_copy: bool = True,
 ) -> Outcome:
     """What the rules of these families find. Rules over the line are not applied to a table without kilometres.
 
     `signed` has the accepted entries, and the day of the run. `began` is when the command began, by
-    time.perf_counter(): that time belongs to the first part.
+    time.perf_counter(): that time belongs to the first part. With `in_copy` a copy of this process applies the rules
+    that compare all that telegrams say, whose data take most of the memory, but the copy decodes all telegrams again.
     """
     has_kilometres = any(row.km is not None for row in checked.table.rows)
     known = [family for letter, family in FAMILIES.items() if letter in letters and (letter != PLAN or options.plan)]
     asked = [_asked_for(family, options) for family in known]
     able = [family if has_kilometres else _without_kilometres(family) for family in asked]
     applied = [family for family in able if family.rules or family.letter == PROVED]
-    parts = list(_looked_at(checked, applied, options, began))
+    parts = list(_looked_at(checked, applied, options, began, in_copy))
     items = [item for part in parts for item in part.items]
     judged = judge(items, checked, signed[0], signed[1], [family.letter for family in applied]) if signed else None
     return Outcome(checked, [_with_entries(checked, part, judged) for part in parts], judged, able != asked)
@@ -189,10 +191,12 @@ def _without_kilometres(family: Family) -> Family:
     return family._replace(rules=[rule for rule in family.rules if not rule.needs_kilometres])
 
 
-def _looked_at(checked: Checked, applied: Sequence[Family], options: Options, began: Optional[float]) -> Iterator[Part]:
+def _looked_at(
+    checked: Checked, applied: Sequence[Family], options: Options, began: Optional[float], in_copy: bool
+) -> Iterator[Part]:
     """What the rules of each family find, as yet without entries."""
     in_full = [rule for family in applied if family.in_full for rule in family.rules]
-    count = copies(len(checked.table.groups), IN_FULL) if in_full else 0
+    count = copies(len(checked.table.groups), IN_FULL) if in_full and in_copy else 0
     with shared([partial(results, checked, options, in_full)], count) as (found_in_full,):
         line: Optional[Line] = None
         known: Mapping[str, Result] = {}

@@ -20,8 +20,8 @@ How to correct it. Correct the link, or add the group to the table.
 
 Correct data that gets it. Any that break one of these assumptions; usual cases follow "not". The table lacks only
 groups beyond its ends: not those of a branch line that is linked from its middle. D_LINK shows that: not if the
-kilometres repeat or jump unstated, or the sender has no kilometre or direction. Nor if the group is within Q_LOCACC and
-`--tolerance` of the end, or has the NID_BG of another one.
+kilometres repeat or jump unstated, the sender has no kilometre or direction, or links lead to another track. Nor if the
+group is within Q_LOCACC and `--tolerance` of the end, or has the NID_BG of another one.
 
 Example. The reverse link of group B names group 5, and the table has no group 5.
 """

@@ -6,7 +6,7 @@ orders it. Compared are packets of one track and way, each at most 500 m from th
 D_LEVELTR, or of the group if that is 0 or 32,767 (now). Such a packet counts as right, or else the most frequent place.
 One that repeats it beyond the border agrees. Only a place between the first and the last group of the track needs one.
 A group whose direction or place is unknown, or with a refused telegram, may have it, or one on another track to which
-packets 5 lead. A packet for both directions with a distance is E5 (SUBSET-026, 5.10 and 7.4.2).
+its own packets 5 lead. A packet for both directions with a distance is E5 (SUBSET-026, 5.10 and 7.4.2).
 
 How urgent. At worst wrong information.
 
@@ -19,10 +19,12 @@ How to correct it. Correct each D_LEVELTR by the kilometre of the border. Put a 
 
 Correct data that gets it. Any that break one of these assumptions; usual cases follow "not". Within 500 m all packets
 41 are for one border: not if there are two, one on another route, or orders for trains that start there. They have one
-place: not with D_LEVELTR 32,767 some metres from the border. They have one list of levels: not if announcement and
-border differ on purpose. A group of the table orders the change: not if only the last announcement does. Kilometres and
-distances show the place on the track: not if they are missing, repeat, jump unstated, follow another axis, are rounded
-coarsely, or belong to signals or to tracks without names.
+place: not with D_LEVELTR 32,767 some metres from the border. Nor if more packets repeat the order beyond it, or the
+border's own is refused, or for a direction that is not known. They have one list of levels: not if announcement and
+border differ on purpose. A group of the table orders the change: not if only the last announcement does. Trains stay on
+the track: not through a loop, or on a route to another one. Kilometres and distances show the place on the track: not
+if they are missing, repeat, jump unstated, follow another axis, are rounded coarsely, or belong to signals or to tracks
+without names.
 
 Example. Signal 4 announces level 0 at km 16.750, and the group at the border, at km 16.700, has it at once.
 

@@ -15,7 +15,8 @@ How to correct it. Put a packet 42 with Q_RBC 1 far enough before the border.
 
 Correct data that gets it. Any that break one of these assumptions; usual cases follow "not". The table has the packet
 42 of each train: not if it comes with a session, gets the packet between announcement and border, or opens one at the
-start of mission.
+start of mission. Trains stay on the track: not if they get it on another one. Kilometres show the order of the groups:
+not if they are missing, repeat or jump unstated.
 
 Example. Signal 4 announces level 2 in 2,200 m, and no group before it has a packet 42.
 
