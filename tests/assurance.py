@@ -272,7 +272,18 @@ def test_statuses(tests):
         tests.holds(f"safety.md names: {name}", name in SAFETY)
 
 
-PARTS = test_proofs, test_memory, test_lists, test_failures_and_conditions, test_counts, test_answers, test_statuses
+def test_contracts(tests):
+    """proofs.md: tests/contracts.sh prints the contracts of each `pub fn`."""
+    if not (TOP / ".git").exists():
+        return
+    printed = subprocess.run(["tests/contracts.sh", "HEAD"], cwd=TOP, capture_output=True, text=True, check=True).stdout
+    found = ["git", "grep", "-hoE", "^ *pub fn [a-z0-9_]+", "HEAD", "--", "crates/*/src/*.rt"]
+    written = subprocess.run(found, cwd=TOP, capture_output=True, text=True, check=True).stdout
+    names = sorted(line.split()[-1] for line in written.splitlines())
+    tests.equal("contracts.sh prints each", sorted(re.findall(r"(?m)\| pub fn (\w+)", printed)), names)
+
+
+PARTS = test_contracts, test_proofs, test_memory, test_lists, test_failures_and_conditions, test_counts, test_answers, test_statuses
 
 
 if __name__ == "__main__":

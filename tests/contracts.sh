@@ -26,8 +26,8 @@ contracts='
     /^ *pub fn / || (open && /^ +(final )?fn /) { on = 1; text = block " |"; clauses = 0 }
     on && /^ *(requires|ensures) / { clauses = 1 }
     on && !/^ *(\/\/.*)?$/ { gsub(/^ +/, ""); text = text " " $0 }
-    on && (/^ *[{]$/ || (!clauses && /[{;]$/) || /};$/) { print text; on = 0 }'
+    on && (/^ *[{][}]?$/ || (!clauses && /[{;]$/) || /};$/) { print text; on = 0 }'
 
 git grep -l . "$commit" -- 'crates/*/src/*.rt' | grep -v '/tests' | while read -r file; do
     git show "$file" | awk "$contracts"
-done | sed 's/ {$//' | sort
+done | sed 's/ {}\{0,1\}$//' | sort

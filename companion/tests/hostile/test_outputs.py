@@ -193,10 +193,12 @@ def test_each_file_that_is_opened_is_an_input(
 def test_nor_does_it_replace_the_program_of_the_environment(
     room: Path, run: Run, monkeypatch: pytest.MonkeyPatch
 ) -> None:
+    (room / "ABOUT").write_text("version 1\n", "utf-8")
     before = _contents(room)
     monkeypatch.setenv("BALISECHECK", str(room / "prog"))
-    status, _, err = run("check", "t.csv", "--json", "prog", "--force")
-    assert status == 2 and err == ["balisekit: prog: it is an input: an output never replaces one"]
+    for name in ("prog", "ABOUT"):
+        status, _, err = run("check", "t.csv", "--json", name, "--force")
+        assert status == 2 and err == [f"balisekit: {name}: it is an input: an output never replaces one"]
     assert _contents(room) == before
 
 

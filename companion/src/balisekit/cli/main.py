@@ -172,7 +172,8 @@ def _claim(options: argparse.Namespace, replaces: bool) -> None:
                 stated(path, columns, CHECK_TABLE)
         program = options.program or os.environ.get("BALISECHECK") or "balisecheck"
         claimed(shutil.which(program) or "")
-        claimed(find_program.find(options.program))
+        found = claimed(find_program.find(options.program))
+        claimed(os.path.join(os.path.dirname(found), "ABOUT"))
 
 
 @contextmanager
