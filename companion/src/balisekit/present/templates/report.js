@@ -50,11 +50,11 @@
 
     function scroll() {
       if (!frames-- || location.hash !== hash) return;
-      if (folded) folded.open = true;
       target.scrollIntoView();
       requestAnimationFrame(scroll);
     }
 
+    if (folded) folded.open = true;
     if (target) requestAnimationFrame(scroll);
   }
 
