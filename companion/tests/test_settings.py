@@ -135,3 +135,4 @@ def test_places_do_not_jump() -> None:
         "20.200",
     ]
     assert Chainage().place(None) is None
+    assert Chainage.of([*jumps, *jumps], "") == chainage, "--jumps and the plan may state the same jump"

@@ -35,8 +35,8 @@ class Chainage(NamedTuple):
 
     @classmethod
     def of(cls, jumps: Sequence[Jump], track: str) -> Chainage:
-        """The kilometres of a track with those of the jumps that are on it."""
-        own = [(decimetres(jump.before), decimetres(jump.after)) for jump in jumps if jump.track == track]
+        """The kilometres of a track with those of the jumps that are on it, each once if the plan states it too."""
+        own = {(decimetres(jump.before), decimetres(jump.after)) for jump in jumps if jump.track == track}
         return cls(tuple(sorted(own)))
 
     def place(self, km: Optional[Decimal]) -> Optional[int]:
