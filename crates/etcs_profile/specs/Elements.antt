@@ -1,5 +1,5 @@
--- The body of packets 5, 21 and 27: a scale, a first element and further elements, which are links,
--- gradients or speeds. A gradient or a speed holds from its place onwards (SUBSET-026, 7.4.2).
+-- The body of the packets of profiles and of linking: a scale, a first element and further elements. In a
+-- profile an element holds from its place onwards (SUBSET-026, 7.4.2).
 use Rattle.std.specs.Prelude.{ℕ, Bool, List, ◌∷◌, refl}
 use Rattle.etcs_bits.specs.declared.variables.scale.Scale.{Scale}
 use Rattle.etcs_bits.specs.layout.Format.{Format, ◌then◌, several, struct}
