@@ -605,6 +605,45 @@ def test_e18_of_a_repeated_order(found: Found, metres: int, level: int, count: i
     assert len(made) == count, [each.sentence for each in made]
 
 
+def without_announcements(rows: List[Row]) -> None:
+    for row in (row for row in rows if row.group not in ("Border", "Again")):
+        row.form["packets"] = [each for each in row.form["packets"] if each["nid_packet"] != 41]
+
+
+def test_e18_of_more_orders_beyond_the_border(found: Found) -> None:
+    """Both balises of a group repeat the order: the first one along the way is that of the border."""
+
+    def twice(rows: List[Row]) -> None:
+        repeated_order(rows, 200, 0)
+        again = [row for row in rows if row.group == "Again"]
+        again[1].form["packets"] = copy.deepcopy(again[0].form["packets"])
+        without_announcements(rows)
+
+    assert not found("E18", BORDER, twice)
+
+
+def test_e18_of_a_refused_border(found: Found) -> None:
+    """The direction of the border is not known, and a group beyond it repeats its order. A wrong place is found."""
+    hidden = all_of(lambda rows: repeated_order(rows, 200, 0), at_one_kilometre("Border"))
+    assert not found("E18", BORDER, hidden)
+    (one,) = found("E18", BORDER, all_of(hidden, added("Signal 4", FIXED, "d_leveltr", 41, 50)))
+    assert rows_named(one)[0] == 14
+
+
+def to_track_2(rows: List[Row]) -> None:
+    """Signal 5, and the border of a route to it, are on another track with other kilometres."""
+    for row in rows:
+        row.track = "2" if row.place > 15_900 else "1"
+    for row in [row for row in rows if row.group == "Border"]:
+        form = {**copy.deepcopy(row.form), "nid_bg": 6001}
+        rows.append(Row("Other", f"Other {row.balise}", row.place - 300, "", row.balise, form, "1"))
+
+
+def test_e18_of_a_route_to_another_track(found: Found) -> None:
+    """The announcements are for the border of track 2. That of track 1 has no other ones."""
+    assert not found("E18", BORDER, to_track_2)
+
+
 def test_e18_levels(found: Found) -> None:
     (one,) = found("E18", BORDER, set_in("Signal 4", FIXED, 41, transitions=[{"m_leveltr": 2, "l_ackleveltr": 0}]))
     assert one.sentence == "the levels are level 1, and Border (km 16.700), row 22, has level 0 at km 16.700"
