@@ -397,6 +397,42 @@ def test_e15_compares_metres(found: Found) -> None:
     assert not found("E15", INFILL, lambda rows: form_of(rows, SITE, RED)["packets"].remove(profile))
 
 
+@pytest.mark.parametrize("length, timer, count", [(500, {}, 0), (501, {}, 1), (500, {"section_timer": 1}, 1)])
+def test_e15_of_merged_sections(found: Found, length: int, timer: Dict[str, int], count: int) -> None:
+    """Without timers the sum of the sections counts."""
+    timers = {key: {"t_sectiontimer": 60, "d_sectiontimerstoploc": 100} for key in timer}
+    end = change(INFILL.rows, SITE, GREEN, 12)["l_endsection"]
+    sections = [{"l_section": length, **timers}]
+    split = set_in(SITE, GREEN, 12, sections=sections, l_endsection=end - 500)
+    assert len(found("E15", INFILL, split)) == count
+
+
+@pytest.mark.parametrize("linked", [True, False])
+def test_e15_of_a_signal_without_kilometres(program: Program, tmp_path: Path, linked: bool) -> None:
+    """It is laid for the other direction. Q_LINKORIENTATION shows that, if a packet 5 names it."""
+    rows = INFILL.rows
+    for row in rows:
+        for each in row.form["packets"]:
+            if row.group == "Signal 4":
+                each["q_dir"] = 1 - each["q_dir"]
+            for link in each.get("links", ()):
+                link["q_linkorientation"] ^= link["nid_bg"] == 4
+        if row.group == SITE and not linked:
+            row.form["packets"] = [each for each in row.form["packets"] if each["nid_packet"] != 5]
+    other = {number: change(rows, "Signal 4", GREEN, number) for number in (12, 21, 27)}
+    contrary = [{**copy.deepcopy(each), "q_dir": 1 - each["q_dir"]} for each in other.values()]
+    contrary[0]["v_main"] = 7
+    form_of(rows, "Signal 4", GREEN)["packets"].extend(contrary)
+    head, *lines = table(program, rows).splitlines()
+    cells = [line.split(",") for line in lines]
+    made = [",".join([*row[:2], "" if row[0] == "Signal 4" else row[2], *row[3:]]) for row in cells]
+    path = tmp_path / "t.csv"
+    path.write_text("\n".join([head, *made]) + "\n", "utf-8")
+    checked = checking.check(program, reader.read(str(path)))
+    remarks = RULES["E15"].find(LineOfTable.of(checked), ASKED).found
+    assert not checked.refused and len(remarks) == (0 if linked else 1), [each.sentence for each in remarks]
+
+
 def test_e15_of_a_balise_without_direction(found: Found) -> None:
     """It is a single balise that no link names. It faces its signal, whose group is laid for the other direction."""
 
