@@ -6,7 +6,7 @@ from dataclasses import replace
 from decimal import Decimal
 from functools import partial
 from pathlib import Path
-from typing import Any, Callable, Dict, List, Sequence, Tuple
+from typing import Any, Callable, Dict, List, Optional, Sequence, Tuple
 
 import meaning_mistakes
 import pytest
@@ -180,7 +180,29 @@ def test_e12_without_links(found: Found) -> None:
     ]
     made = [found("E12", SHORT, each) for each in longer]
     assert [len(each) for each in made] == [1, 0, 1, 0]
-    assert "the nearest group, Signal 5 (km 16.000), is 60 m from there" in made[2][0].sentence
+    assert "the nearest group by the kilometres, Signal 5 (km 16.000), is 60 m from there" in made[2][0].sentence
+
+
+@pytest.mark.parametrize("has_km, link, count", [(True, 5, 1), (False, 5, 0), (False, 99, 0), (False, None, 1)])
+def test_e12_of_a_group_without_a_kilometre(
+    program: Program, tmp_path: Path, has_km: bool, link: Optional[int], count: int
+) -> None:
+    """The authority ends at it, by the packet 5 that names it. Another group is 90 m from there."""
+    rows = SHORT.rows
+    added("Signal 3", GREEN, "l_endsection", 12, 60)(rows)
+    links = change(rows, "Signal 3", FIXED, 5)["links"]
+    links[1].update(d_link=1560, nid_bg=link)
+    links[:] = [each for each in links if each["nid_bg"] is not None]
+    for row in [row for row in rows if row.group == "Signal 5" and row.aspect in (FIXED, RED)]:
+        form: Any = {**row.form, "nid_bg": 800, "m_mcount": 255, "packets": []}
+        rows.append(Row("Mark", f"Mark {row.balise}", row.place + 150, "", row.balise, form))
+    head, *lines = table(program, rows).splitlines()
+    cells = [line.split(",") for line in lines]
+    unplaced = [",".join([*row[:2], "" if row[0] == "Signal 5" else row[2], *row[3:]]) for row in cells]
+    path = tmp_path / "t.csv"
+    path.write_text("\n".join([head, *(lines if has_km else unplaced)]) + "\n", "utf-8")
+    remarks = RULES["E12"].find(LineOfTable.of(checking.check(program, reader.read(str(path)))), ASKED).found
+    assert len(remarks) == count, [each.sentence for each in remarks]
 
 
 def test_e12_is_silent_beyond_a_point(found: Found) -> None:

@@ -115,11 +115,11 @@ def _notes(line: Line, ends: Mapping[End, List[Identity]]) -> Iterator[str]:
     for (track, is_high), links in ends.items():
         last = line.placed[track][-1 if is_high else 0][1]
         where = f" of track {quoted(track)}" if track else ""
-        numbers = [str(number) for _, number in dict.fromkeys(links)]
+        numbers = listed([str(number) for _, number in dict.fromkeys(links)], NAMED)
         words = "1 link leads" if len(links) == 1 else f"{len(links)} links lead"
         yield (
-            f"along the track {words} beyond {last}, the {'last' if is_high else 'first'} group{where} by the kilometres, to "
-            f"NID_BG {listed(numbers, NAMED)}: L1 does not name them, since the table may be a section of a longer line"
+            f"along the track {words} beyond {last}, the {'last' if is_high else 'first'} group{where} by the "
+            f"kilometres, to NID_BG {numbers}: L1 does not name them, since the table may be a section of a longer line"
         )
 
 
