@@ -2,12 +2,12 @@
 
 What it says. An authority ends elsewhere than others that lead to the same group, or near a group and not at it. It
 ends at the kilometre of its group and the sum of L_SECTION and L_ENDSECTION of a packet 12 with V_MAIN above 0, or a
-packet 15. It leads to the group of its packets 5 that is nearest to its end, within 200 m. If none is so near, it is
-the last one before the end, if another one is beyond it. Without packets 5 ends at most 20 m from the next one are
-compared. A packet 12 is not at a group if the first balise of the nearest one is more than 50 m and at most 200 m away,
-and no packet 5 names a group there that has no kilometre or is not on the track. Such an end is named only between the
-first and the last signal of its track and way. Places may differ by `--tolerance` (else 1 m) and rounding (SUBSET-026,
-3.8 and 7.4.2).
+packet 15. It leads to the group of its packets 5 nearest to its end, within 200 m. If none is so near, it is the last
+one before the end, if another one is beyond it. Without packets 5 ends at most 20 m from the next one are compared. A
+packet 12 is not at a group if the first balise of the nearest one is more than 50 m and at most 200 m away, and no
+packet 5 names one there that has no kilometre or is not on the track. Such an end is named only between the first and
+last signal of its track and way. Places may differ by `--tolerance` (else 1 m) and rounding (SUBSET-026, 3.8 and
+7.4.2).
 
 How urgent. At worst wrong information: a train may pass the signal at which it has to stop.
 
