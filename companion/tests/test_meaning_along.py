@@ -618,6 +618,35 @@ def test_e17_of_a_linked_group_whose_kilometre_is_rounded_up(found: Found, metre
     assert ("Signal 2" in groups) == is_remarked
 
 
+@pytest.mark.parametrize("is_named", [True, False])
+def test_e17_of_a_group_without_a_kilometre(program: Program, tmp_path: Path, is_named: bool) -> None:
+    """It is in rear of signal 3, and its packet 5 leads to the end of that authority."""
+    rows = SHORT.rows
+    links = change(rows, "Signal 2", FIXED, 5)["links"]
+    full = copy.deepcopy(change(rows, "Signal 3", FIXED, 5))
+    middle = {**links[0], "d_link": 700, "nid_bg": 800}
+    if is_named:
+        links[:] = [middle, {**links[0], "d_link": links[0]["d_link"] - 700}]
+    full["links"].insert(0, {**links[0], "d_link": 800, "nid_bg": 3})
+    for row in rows:
+        row.form["packets"] = [
+            each for each in row.form["packets"] if row.group != "Signal 3" or each["nid_packet"] != 5
+        ]
+    for row in [row for row in rows if row.group == "Signal 5" and row.aspect in (FIXED, RED)]:
+        form: Any = {**row.form, "nid_bg": 800, "m_mcount": 255, "packets": [] if row.balise else [full]}
+        rows.append(Row("Links", f"Links {row.balise}", row.place, "", row.balise, form))
+    for group in ("Signal 1", "Signal 2"):
+        change(rows, group, FIXED, 5)["links"][2:] = []
+    head, *lines = table(program, rows).splitlines()
+    cells = [line.split(",") for line in lines]
+    unplaced = [",".join([*row[:2], "" if row[0] == "Links" else row[2], *row[3:]]) for row in cells]
+    path = tmp_path / "t.csv"
+    path.write_text("\n".join([head, *unplaced]) + "\n", "utf-8")
+    remarks = RULES["E17"].find(LineOfTable.of(checking.check(program, reader.read(str(path)))), ASKED).found
+    groups = [each.location.row.group for each in remarks if each.location.row]
+    assert ("Signal 3" in groups) != is_named, groups
+
+
 def test_e17_of_groups_that_are_not_linked(found: Found) -> None:
     """Groups with Q_LINK 0 need no link."""
 

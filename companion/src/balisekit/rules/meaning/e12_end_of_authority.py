@@ -116,10 +116,9 @@ def _compare(
     counts = Counter(end.place for end in ends)
     at = target.place if target and target.place is not None else ends[0].place
     usual = max(ends, key=lambda each: (counts[each.place], -abs(each.place - at)))
-    differing = [end for end in ends if end.differs(usual, decoded, options)]
     same = counts[usual.place]
     where = f" that lead{'s' if same == 1 else ''} to {target.group}" if target else " nearby"
-    for end in differing:
+    for end in (each for each in ends if each.differs(usual, decoded, options)):
         sentence = (
             f"the authority ends at {at_place(decoded, end.passage, end.place)} by L_SECTION and L_ENDSECTION; {same} "
             f"other{'s' if same > 1 else ''}{where}, such as that of {source(usual.passage, usual.packet)}, "
