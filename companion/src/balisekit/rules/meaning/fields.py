@@ -39,7 +39,8 @@ def fields_apart(one: Packet, other: Packet) -> Iterator[Apart]:
     Authorities without timers that end at one place may have other sections.
     """
     allowed = 0 if one.unit == other.unit else max(one.unit, other.unit)
-    own, theirs = one.form, other.form
+    own: Any = one.form
+    theirs: Any = other.form
     if (
         one.number in AUTHORITIES
         and abs(one.end - other.end) <= allowed
