@@ -422,9 +422,9 @@ def test_e15_compares_metres(found: Found) -> None:
 @pytest.mark.parametrize("length, timer, count", [(500, {}, 0), (501, {}, 1), (500, {"section_timer": 1}, 1)])
 def test_e15_of_merged_sections(found: Found, length: int, timer: Dict[str, int], count: int) -> None:
     """Without timers the sum of the sections counts."""
-    timers = {key: {"t_sectiontimer": 60, "d_sectiontimerstoploc": 100} for key in timer}
+    timers: Any = {key: {"t_sectiontimer": 60, "d_sectiontimerstoploc": 100} for key in timer}
     end = change(INFILL.rows, SITE, GREEN, 12)["l_endsection"]
-    sections = [{"l_section": length, **timers}]
+    sections: Any = [{"l_section": length, **timers}]
     split = set_in(SITE, GREEN, 12, sections=sections, l_endsection=end - 500)
     assert len(found("E15", INFILL, split)) == count
 
