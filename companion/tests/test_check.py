@@ -361,7 +361,7 @@ def test_a_document_without_refused_telegrams(run: Run, table: Write, tmp_path: 
 
 
 def test_explain_of_a_rule(run: Run, tmp_path: Path, monkeypatch: pytest.MonkeyPatch) -> None:
-    """Its whole page is written if no file has its name."""
+    """Its whole page is written, also if a file has its name: that file is a table by its path."""
     monkeypatch.chdir(tmp_path)
     names = ["F1", "F16", "L1", "L9", "E1", "E23", "X1", "X5"]
     for name in names:
@@ -374,7 +374,8 @@ def test_explain_of_a_rule(run: Run, tmp_path: Path, monkeypatch: pytest.MonkeyP
     unused = ["balisekit: --json is not used with the page of a rule"]
     assert run("check", "--explain", "E9", "--json", "j.json") == (2, [], unused)
     (tmp_path / "E9").write_text("", "utf-8")
-    assert run("check", "--explain", "E9")[0] == 2
+    assert run("check", "--explain", "E9") == (0, out, [])
+    assert run("check", "--explain", "./E9")[0] == run("check", "E9")[0] == 2
 
 
 def test_explain_is_what_the_document_says(run: Run, table: Write) -> None:

@@ -6,7 +6,7 @@ import re
 import shlex
 from decimal import Decimal
 from pathlib import Path
-from typing import Any, Callable, Dict, List, Sequence, Tuple
+from typing import Any, Callable, Dict, List, Optional, Sequence, Tuple
 
 import line_table
 import link_tables
@@ -153,7 +153,7 @@ OUT = "L1 does not name them, since the table may be a section of a longer line"
         (
             "EFGH",
             [
-                "note: 3 links lead beyond Signal D (km 16.900), the last group by the kilometres, to NID_BG 105, "
+                "note: along the track 3 links lead beyond Signal D (km 16.900), the last group by the kilometres, to NID_BG 105, "
                 f"106: {OUT}"
             ],
             0,
@@ -161,7 +161,7 @@ OUT = "L1 does not name them, since the table may be a section of a longer line"
         (
             "FGH",
             [
-                "note: 3 links lead beyond Signal E (km 18.250), the last group by the kilometres, to NID_BG 106, "
+                "note: along the track 3 links lead beyond Signal E (km 18.250), the last group by the kilometres, to NID_BG 106, "
                 f"107: {OUT}"
             ],
             0,
@@ -196,8 +196,67 @@ def test_links_that_lead_out_down_the_kilometres() -> None:
 
     where = 'beyond A (km 5.000), the first group of track "2" by the kilometres, to NID_BG 7'
     assert line_of_links(5) == line_of_links(500, 500, nid_bg=16_383) == []
-    assert line_of_links(6) == [f"1 link leads {where}: {OUT}"]
-    assert line_of_links(500, 500) == [f"2 links lead {where}: {OUT}"]
+    assert line_of_links(6) == [f"along the track 1 link leads {where}: {OUT}"]
+    assert line_of_links(500, 500) == [f"along the track 2 links lead {where}: {OUT}"]
+
+
+TRACKS = [("A", "0.000", "1"), ("B", "7.000", "2"), ("C", "1.000", "1"), ("D", "6.500", "2"), ("E", "5.000", "2")]
+"""The groups of two tracks."""
+
+
+@pytest.mark.parametrize(
+    "distances, to_b, sender, words",
+    [
+        (
+            (1000,),
+            False,
+            "rising",
+            '; along track "1" D_LINK leads from A (km 0.000) to km 1.000, where the table has C ',
+        ),
+        (
+            (500, 500),
+            True,
+            "rising",
+            '; along track "2" D_LINK leads from B (km 7.000) to km 6.500, where the table has D ',
+        ),
+        ((500, 500), True, "", '; along track "2" D_LINK leads from B (km 7.000) to km 6.500, where the table has D '),
+        ((500, 1000), True, "rising", ""),
+        ((500, 5000), True, "rising", None),
+    ],
+    ids=["on the track", "on the other track", "without direction", "between groups", "out of the other track"],
+)
+def test_l1_counts_from_the_last_linked_group(
+    distances: Sequence[int], to_b: bool, sender: str, words: Optional[str]
+) -> None:
+    """On another track it is Q_LINKORIENTATION that shows the way of the train."""
+    identities = [2, 9] if to_b else [9]
+    links = [link_tables.link(distance, to, int(to == 9)) for distance, to in zip(distances, identities)]
+    groups = [group(name, km, nominal="rising", track=track) for name, km, track in TRACKS]
+    groups[0] = group("A", "0.000", nominal=sender, track="1")
+    headers = [header(1, link_tables.linking(1, *links)), *map(header, (2, 3, 4, 5))]
+    made = compare(line_with(*[(each, [own]) for each, own in zip(groups, headers)]))
+    sentences = [each.sentence for each in made.remarks if each.rule == "L1"]
+    notes = [note for note in made.notes if " beyond " in note]
+    if words is None:
+        assert sentences == [] and [note.split(" by the kilometres")[0] for note in notes] == [
+            'along the track 1 link leads beyond E (km 5.000), the first group of track "2"'
+        ]
+        return
+    (sentence,) = sentences
+    assert notes == [] and ("; along" in sentence) == bool(words) and words in sentence
+
+
+def test_l1_knows_no_place_on_a_track_without_kilometres() -> None:
+    """The distance leads over a group of another track whose place is not known."""
+    links = [link_tables.link(500, 2, 1), link_tables.link(500, 9, 1)]
+    one = line_with(
+        (group("A", "0", nominal="rising", track="1"), [header(1, link_tables.linking(1, *links))]),
+        (group("B", "", nominal="rising", track="2"), [header(2)]),
+        (group("C", "1", nominal="rising", track="1"), [header(3)]),
+    )
+    assert [each.sentence for each in compare(one).remarks] == [
+        "group 9 of country or region 1 is linked, and no group of the table has that identity"
+    ]
 
 
 def test_a_group_of_another_country(run: Run) -> None:

@@ -6,7 +6,7 @@ from dataclasses import replace
 from decimal import Decimal
 from functools import partial
 from pathlib import Path
-from typing import Any, Callable, Dict, List, Sequence, Tuple
+from typing import Any, Callable, Dict, List, Optional, Sequence, Tuple
 
 import meaning_mistakes
 import pytest
@@ -180,7 +180,29 @@ def test_e12_without_links(found: Found) -> None:
     ]
     made = [found("E12", SHORT, each) for each in longer]
     assert [len(each) for each in made] == [1, 0, 1, 0]
-    assert "the nearest group, Signal 5 (km 16.000), is 60 m from there" in made[2][0].sentence
+    assert "the nearest group by the kilometres, Signal 5 (km 16.000), is 60 m from there" in made[2][0].sentence
+
+
+@pytest.mark.parametrize("has_km, link, count", [(True, 5, 1), (False, 5, 0), (False, 99, 0), (False, None, 1)])
+def test_e12_of_a_group_without_a_kilometre(
+    program: Program, tmp_path: Path, has_km: bool, link: Optional[int], count: int
+) -> None:
+    """The authority ends at it, by the packet 5 that names it. Another group is 90 m from there."""
+    rows = SHORT.rows
+    added("Signal 3", GREEN, "l_endsection", 12, 60)(rows)
+    links = change(rows, "Signal 3", FIXED, 5)["links"]
+    links[1].update(d_link=1560, nid_bg=link)
+    links[:] = [each for each in links if each["nid_bg"] is not None]
+    for row in [row for row in rows if row.group == "Signal 5" and row.aspect in (FIXED, RED)]:
+        form: Any = {**row.form, "nid_bg": 800, "m_mcount": 255, "packets": []}
+        rows.append(Row("Mark", f"Mark {row.balise}", row.place + 150, "", row.balise, form))
+    head, *lines = table(program, rows).splitlines()
+    cells = [line.split(",") for line in lines]
+    unplaced = [",".join([*row[:2], "" if row[0] == "Signal 5" else row[2], *row[3:]]) for row in cells]
+    path = tmp_path / "t.csv"
+    path.write_text("\n".join([head, *(lines if has_km else unplaced)]) + "\n", "utf-8")
+    remarks = RULES["E12"].find(LineOfTable.of(checking.check(program, reader.read(str(path)))), ASKED).found
+    assert len(remarks) == count, [each.sentence for each in remarks]
 
 
 def test_e12_is_silent_beyond_a_point(found: Found) -> None:
@@ -397,6 +419,42 @@ def test_e15_compares_metres(found: Found) -> None:
     assert not found("E15", INFILL, lambda rows: form_of(rows, SITE, RED)["packets"].remove(profile))
 
 
+@pytest.mark.parametrize("length, timer, count", [(500, {}, 0), (501, {}, 1), (500, {"section_timer": 1}, 1)])
+def test_e15_of_merged_sections(found: Found, length: int, timer: Dict[str, int], count: int) -> None:
+    """Without timers the sum of the sections counts."""
+    timers: Any = {key: {"t_sectiontimer": 60, "d_sectiontimerstoploc": 100} for key in timer}
+    end = change(INFILL.rows, SITE, GREEN, 12)["l_endsection"]
+    sections: Any = [{"l_section": length, **timers}]
+    split = set_in(SITE, GREEN, 12, sections=sections, l_endsection=end - 500)
+    assert len(found("E15", INFILL, split)) == count
+
+
+@pytest.mark.parametrize("linked", [True, False])
+def test_e15_of_a_signal_without_kilometres(program: Program, tmp_path: Path, linked: bool) -> None:
+    """It is laid for the other direction. Q_LINKORIENTATION shows that, if a packet 5 names it."""
+    rows = INFILL.rows
+    for row in rows:
+        for each in row.form["packets"]:
+            if row.group == "Signal 4":
+                each["q_dir"] = 1 - each["q_dir"]
+            for link in each.get("links", ()):
+                link["q_linkorientation"] ^= link["nid_bg"] == 4
+        if row.group == SITE and not linked:
+            row.form["packets"] = [each for each in row.form["packets"] if each["nid_packet"] != 5]
+    other = {number: change(rows, "Signal 4", GREEN, number) for number in (12, 21, 27)}
+    contrary = [{**copy.deepcopy(each), "q_dir": 1 - each["q_dir"]} for each in other.values()]
+    contrary[0]["v_main"] = 7
+    form_of(rows, "Signal 4", GREEN)["packets"].extend(contrary)
+    head, *lines = table(program, rows).splitlines()
+    cells = [line.split(",") for line in lines]
+    made = [",".join([*row[:2], "" if row[0] == "Signal 4" else row[2], *row[3:]]) for row in cells]
+    path = tmp_path / "t.csv"
+    path.write_text("\n".join([head, *made]) + "\n", "utf-8")
+    checked = checking.check(program, reader.read(str(path)))
+    remarks = RULES["E15"].find(LineOfTable.of(checked), ASKED).found
+    assert not checked.refused and len(remarks) == (0 if linked else 1), [each.sentence for each in remarks]
+
+
 def test_e15_of_a_balise_without_direction(found: Found) -> None:
     """It is a single balise that no link names. It faces its signal, whose group is laid for the other direction."""
 
@@ -560,6 +618,35 @@ def test_e17_of_a_linked_group_whose_kilometre_is_rounded_up(found: Found, metre
     assert ("Signal 2" in groups) == is_remarked
 
 
+@pytest.mark.parametrize("is_named", [True, False])
+def test_e17_of_a_group_without_a_kilometre(program: Program, tmp_path: Path, is_named: bool) -> None:
+    """It is in rear of signal 3, and its packet 5 leads to the end of that authority."""
+    rows = SHORT.rows
+    links = change(rows, "Signal 2", FIXED, 5)["links"]
+    full = copy.deepcopy(change(rows, "Signal 3", FIXED, 5))
+    middle = {**links[0], "d_link": 700, "nid_bg": 800}
+    if is_named:
+        links[:] = [middle, {**links[0], "d_link": links[0]["d_link"] - 700}]
+    full["links"].insert(0, {**links[0], "d_link": 800, "nid_bg": 3})
+    for row in rows:
+        row.form["packets"] = [
+            each for each in row.form["packets"] if row.group != "Signal 3" or each["nid_packet"] != 5
+        ]
+    for row in [row for row in rows if row.group == "Signal 5" and row.aspect in (FIXED, RED)]:
+        form: Any = {**row.form, "nid_bg": 800, "m_mcount": 255, "packets": [] if row.balise else [full]}
+        rows.append(Row("Links", f"Links {row.balise}", row.place, "", row.balise, form))
+    for group in ("Signal 1", "Signal 2"):
+        change(rows, group, FIXED, 5)["links"][2:] = []
+    head, *lines = table(program, rows).splitlines()
+    cells = [line.split(",") for line in lines]
+    unplaced = [",".join([*row[:2], "" if row[0] == "Links" else row[2], *row[3:]]) for row in cells]
+    path = tmp_path / "t.csv"
+    path.write_text("\n".join([head, *unplaced]) + "\n", "utf-8")
+    remarks = RULES["E17"].find(LineOfTable.of(checking.check(program, reader.read(str(path)))), ASKED).found
+    groups = [each.location.row.group for each in remarks if each.location.row]
+    assert ("Signal 3" in groups) != is_named, groups
+
+
 def test_e17_of_groups_that_are_not_linked(found: Found) -> None:
     """Groups with Q_LINK 0 need no link."""
 
@@ -603,6 +690,45 @@ def test_e18_of_a_repeated_order(found: Found, metres: int, level: int, count: i
     """An order at once beyond an equal one is none. One with other levels, or in rear of it, is one."""
     made = found("E18", BORDER, lambda rows: repeated_order(rows, metres, level))
     assert len(made) == count, [each.sentence for each in made]
+
+
+def without_announcements(rows: List[Row]) -> None:
+    for row in (row for row in rows if row.group not in ("Border", "Again")):
+        row.form["packets"] = [each for each in row.form["packets"] if each["nid_packet"] != 41]
+
+
+def test_e18_of_more_orders_beyond_the_border(found: Found) -> None:
+    """Both balises of a group repeat the order: the first one along the way is that of the border."""
+
+    def twice(rows: List[Row]) -> None:
+        repeated_order(rows, 200, 0)
+        again = [row for row in rows if row.group == "Again"]
+        again[1].form["packets"] = copy.deepcopy(again[0].form["packets"])
+        without_announcements(rows)
+
+    assert not found("E18", BORDER, twice)
+
+
+def test_e18_of_a_refused_border(found: Found) -> None:
+    """The direction of the border is not known, and a group beyond it repeats its order. A wrong place is found."""
+    hidden = all_of(lambda rows: repeated_order(rows, 200, 0), at_one_kilometre("Border"))
+    assert not found("E18", BORDER, hidden)
+    (one,) = found("E18", BORDER, all_of(hidden, added("Signal 4", FIXED, "d_leveltr", 41, 50)))
+    assert rows_named(one)[0] == 14
+
+
+def to_track_2(rows: List[Row]) -> None:
+    """Signal 5, and the border of a route to it, are on another track with other kilometres."""
+    for row in rows:
+        row.track = "2" if row.place > 15_900 else "1"
+    for row in [row for row in rows if row.group == "Border"]:
+        form = {**copy.deepcopy(row.form), "nid_bg": 6001}
+        rows.append(Row("Other", f"Other {row.balise}", row.place - 300, "", row.balise, form, "1"))
+
+
+def test_e18_of_a_route_to_another_track(found: Found) -> None:
+    """The announcements are for the border of track 2. That of track 1 has no other ones."""
+    assert not found("E18", BORDER, to_track_2)
 
 
 def test_e18_levels(found: Found) -> None:

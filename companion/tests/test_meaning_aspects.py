@@ -2,9 +2,11 @@
 from __future__ import annotations
 
 from dataclasses import replace
+from functools import partial
 from pathlib import Path
 from typing import Any, List, Sequence, Tuple
 
+import pytest
 from meaning_line import Line, Row, change
 from meaning_mistakes_of_groups import (
     FIXED,
@@ -268,6 +270,26 @@ def test_e10_as_far_as_both_name_the_same_groups(program: Program, tmp_path: Pat
     assert one.values["end_m"] == 1500 and "to 1500 m from the group" in one.sentence
     assert not found(program, path, "E10", unlinked, wrong)
     assert found(program, path, "E10", unlinked, wrong, packet_with(1, YELLOW, 12, l_endsection=3000))
+
+
+@pytest.mark.parametrize("identity, count", [(3, 1), (16_383, 0)])
+def test_e10_of_an_unknown_identity(program: Program, tmp_path: Path, identity: int, count: int) -> None:
+    """Routes may part before the group that NID_BG 16,383 leads to, in one packet 5 or in two equal ones."""
+
+    def parts(twice: bool, rows: List[Row]) -> None:
+        change(rows, "Signal 1", GREEN, 27)["elements"][0].update(v_static=24)
+        links = change(rows, "Signal 1", "*", 5)
+        links["links"] = [{**links["links"][0], "d_link": 3000, "nid_bg": identity}]
+        if twice:
+            for aspect, accuracy in ((YELLOW, 5), (GREEN, 6)):
+                own = {**links, "links": [{**links["links"][0], "q_locacc": accuracy}]}
+                next(row for row in rows if (row.group, row.aspect) == ("Signal 1", aspect)).form["packets"].append(own)
+            fixed = next(row for row in rows if (row.group, row.aspect) == ("Signal 1", "*")).form
+            fixed["packets"] = [each for each in fixed["packets"] if each["nid_packet"] != 5]
+
+    for twice in (False, True):
+        made = found(program, tmp_path / "t.csv", "E10", partial(parts, twice))
+        assert len(made) == count, [each.sentence for each in made]
 
 
 def test_e10_beyond_a_point(program: Program, tmp_path: Path) -> None:

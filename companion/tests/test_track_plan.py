@@ -318,6 +318,18 @@ def test_x4_of_an_aspect_without_authority(sound: Tuple[LineOfTable, List[Cells]
     assert result.notes == [f"{tmp_path / 'plan.csv'}: row {len(rows) + 1}: the table has no such aspect"]
 
 
+@pytest.mark.parametrize(
+    "way, words", [("rising", " for rising trains before its packet 136"), ("falling", " for falling trains")]
+)
+def test_x4_of_infill(program: Program, tmp_path: Path, way: str, words: str) -> None:
+    """What follows a packet 136 is no authority of the aspect, and the words say so."""
+    line = read(program, written(program, tmp_path / "t.csv", Line(infill=(4,))))
+    rows = implied_rows(line)
+    rows.append({**of_kind(rows, "aspect", name="Signal 5/green"), "name": "Infill of Signal 5/green", "way": way})
+    (found,) = results(line, rows, tmp_path)["X4"].found
+    assert found.sentence == f"the aspect has no packet 12{words}, and row {len(rows) + 1} of the plan has one"
+
+
 @pytest.mark.parametrize("metres, is_named", [(0, False), (20, True)])
 def test_x3_of_an_authority_without_length(program: Program, tmp_path: Path, metres: int, is_named: bool) -> None:
     """It ends at no signal, because it has no length."""

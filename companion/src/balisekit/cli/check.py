@@ -2,7 +2,6 @@
 from __future__ import annotations
 
 import argparse
-import os
 
 from balisekit.cli import options as shared, settings
 from balisekit.cli.outcome import add_only, outcome as outcome_of, stated
@@ -39,7 +38,7 @@ def add_options(parser: argparse.ArgumentParser) -> None:
 
 def run(options: argparse.Namespace) -> int:
     """Does it. The answer is the exit status."""
-    page = list(page_of(options.table)) if options.explain and not os.path.exists(options.table) else []
+    page = list(page_of(options.table)) if options.explain else []
     if page:
         shared.refuse_unused(options, "with the page of a rule", *FILES)
         shared.say(page)

@@ -260,7 +260,10 @@ class Line:
         return NO_KILOMETRE if lost and not why else why
 
     def allowed(self, link: Link, lengths: int, tolerance: Decimal) -> Decimal:
-        """By how many decimetres a sum of so many D_LINK may differ from the kilometres: Q_LOCACC, and rounding."""
+        """By how many decimetres a sum of `lengths` distances D_LINK may differ from the kilometres.
+
+        It adds Q_LOCACC, the tolerance, and the rounding of both.
+        """
         return (link.accuracy + tolerance) * 10 + self._resolution + rounding(link.unit, lengths)
 
     @cached_property

@@ -5,8 +5,9 @@ A step ends at a group of the table, and the next one begins there, as a train c
 from __future__ import annotations
 
 from bisect import bisect_left, insort
-from typing import Dict, Iterator, List, NamedTuple, Sequence, Tuple
+from typing import Dict, Iterator, List, NamedTuple, Optional, Sequence, Tuple
 
+from balisekit.etcs.geometry import NOMINAL, REVERSE
 from balisekit.rules.chainage import Chainage
 from balisekit.rules.line import Line
 from balisekit.rules.location import BaliseGroup, incomparable
@@ -66,6 +67,32 @@ class Jump(NamedTuple):
             f"{chainage.words(self.high)}, those of {rows} rows, are {metres:g} m "
             f"{'longer' if self.difference > 0 else 'shorter'} by D_LINK than by the kilometres"
         )
+
+
+class Counted(NamedTuple):
+    """From where the distance of a link counts, and where it leads."""
+
+    base: Optional[BaliseGroup]
+    """The last group before it that is in the table and has a place, or has led to another track."""
+    at: Optional[int]
+    """The place to which it leads on the track of that group, if the way of the train there is known."""
+    lengths: int
+    """Of how many D_LINK the distance is the sum."""
+
+
+def counted(line: Line, chain: Chain) -> Iterator[Tuple[Link, Counted]]:
+    """The links of a chain. On another track Q_LINKORIENTATION shows the way of the train."""
+    base, summed, lengths = chain.sender, 0, 0
+    along = base.along(chain.direction) if base else None
+    for link in chain.links:
+        summed, lengths, here = summed + link.distance, lengths + 1, link.target
+        begin = line.places[base.number] if base else None
+        yield link, Counted(base, None if begin is None or along is None else begin + along * summed, lengths)
+        stays = base is not None and here is not None and base.track == here.track
+        if here is not None and not (stays and line.places[here.number] is None):
+            if along is None or not stays:
+                along = here.along(NOMINAL if link.nominal else REVERSE)
+            base, summed, lengths = here, 0, 0
 
 
 def steps_of(line: Line) -> Iterator[Step]:

@@ -4,8 +4,8 @@ What it says. A packet 5 names a group, by NID_C and NID_BG, that no telegram re
 from the group before it. A link that may lead to a group without a read telegram is only counted. If the table has that
 NID_BG under another NID_C, the line names that group. Other links are not named one by one if by D_LINK they lead
 beyond an end of a track by more than Q_LOCACC and `--tolerance`. A note for each end counts them, because the table may
-be a section of a longer line. A link to NID_BG 16,383 names no group, and is not reported (SUBSET-026, 3.4.4 and
-7.4.2).
+be a section of a longer line. D_LINK counts from the last linked group of the table, along its track. A link to NID_BG
+16,383 names no group, and is not reported (SUBSET-026, 3.4.4 and 7.4.2).
 
 How urgent. At worst the train brakes or is tripped at each passage.
 
@@ -20,8 +20,8 @@ How to correct it. Correct the link, or add the group to the table.
 
 Correct data that gets it. Any that break one of these assumptions; usual cases follow "not". The table lacks only
 groups beyond its ends: not those of a branch line that is linked from its middle. D_LINK shows that: not if the
-kilometres repeat or jump unstated, the sender has no kilometre or direction, or links lead to another track. Nor if the
-group is within Q_LOCACC and `--tolerance` of the end, or has the NID_BG of another one.
+kilometres repeat or jump unstated, or no group before has a kilometre and direction. Nor if the group is within
+Q_LOCACC and `--tolerance` of the end, or has the NID_BG of another one.
 
 Example. The reverse link of group B names group 5, and the table has no group 5.
 """
@@ -31,6 +31,7 @@ from decimal import Decimal
 from typing import Dict, Iterator, List, Mapping, Optional, Set, Tuple, Union
 
 from balisekit.rules.line import Line
+from balisekit.rules.link_steps import counted
 from balisekit.rules.location import BaliseGroup, Identity
 from balisekit.rules.passages import Chain, Link
 from balisekit.rules.rule import REFUSED, Options, Remark, Result, Rule, Urgency
@@ -62,18 +63,11 @@ def find(line: Line, options: Options) -> Result:
 def _look_at(
     line: Line, chain: Chain, alike: Alike, leading: Set[Tuple[int, int]], tolerance: Decimal
 ) -> Iterator[Union[Remark, str, None]]:
-    """Distances are summed from the last group of the chain whose place is known."""
-    base, summed, lengths = chain.sender, 0, 0
-    along = base.along(chain.direction) if base else None
-    for link in chain.links:
-        summed, lengths = summed + link.distance, lengths + 1
+    """Each link to a group that is not in the table, and to no end of a track."""
+    for link, (base, at, lengths) in counted(line, chain):
         if link.target is not None or not link.known or (id(chain), link.number) in leading:
             yield None if link.known else ""
-            known = link.target is not None and not line.incomparable(base, link.target)
-            base, summed, lengths = (link.target, 0, 0) if known else (base, summed, lengths)
             continue
-        begin = line.places[base.number] if base else None
-        at = begin + along * summed if begin is not None and along is not None else None
         if line.nameless and _may_be_refused(line, base, at, line.allowed(link, lengths, tolerance)):
             yield REFUSED
             continue
@@ -83,7 +77,7 @@ def _look_at(
         if other and other.identity:
             sentence += f"; {other} has that NID_BG in country or region {other.identity[0]}"
         if base is not None and at is not None:
-            sentence += _there(line, base.track, at, link.accuracy + tolerance, other)
+            sentence += _there(line, base, at, link.accuracy + tolerance, other)
         yield Remark("L1", chain.at(link), sentence, named=[other] if other else [])
 
 
@@ -94,31 +88,26 @@ def _may_be_refused(line: Line, base: Optional[BaliseGroup], at: Optional[int], 
     return any(track != base.track for track in line.nameless) and abs(line.nearest(base.track, at)[0] - at) > allowed
 
 
-def _there(line: Line, track: str, place: int, within: Decimal, other: Optional[BaliseGroup]) -> str:
-    """The group of the table that is at the place of the linked group by D_LINK, or within `within` metres of it."""
-    near, group = line.nearest(track, place)
+def _there(line: Line, base: BaliseGroup, place: int, within: Decimal, other: Optional[BaliseGroup]) -> str:
+    """The group of the table that is at the place to which D_LINK leads, or within `within` metres of it."""
+    near, group = line.nearest(base.track, place)
     if group is other or group.identity is None or abs(near - place) > within * 10:
         return ""
     twice = ", which F14 finds used twice" if line.has(14, group) else ""
-    km, own = line.chainages[track].words(place), describe_identity(group.identity)
-    return f"; by D_LINK it is at km {km}, where the table has {group} as {own}{twice}"
+    km, own = line.chainages[base.track].words(place), describe_identity(group.identity)
+    track = f"track {quoted(base.track)}" if base.track else "the track"
+    return f"; along {track} D_LINK leads from {base} to km {km}, where the table has {group} as {own}{twice}"
 
 
 def _beyond(line: Line, chain: Chain, alike: Alike, tolerance: Decimal) -> Iterator[Tuple[End, Link]]:
-    """The links of a chain to groups that are not in the table, and by D_LINK are beyond the end of the track."""
-    sender = chain.sender
-    along = sender.along(chain.direction) if sender else None
-    begin = line.places[sender.number] if sender else None
-    if sender is None or begin is None or along is None:
-        return
-    groups, summed = line.placed[sender.track], 0
-    least, greatest = groups[0][0], groups[-1][0]
-    for link in chain.links:
-        summed += link.distance
-        if link.known and link.target is None and link.identity[1] not in alike:
-            at, allowed = begin + along * summed, (link.accuracy + tolerance) * 10
-            if not least - allowed <= at <= greatest + allowed:
-                yield (sender.track, at > greatest), link
+    """The links of a chain to groups that are not in the table, and by D_LINK are beyond the end of their track."""
+    for link, (base, at, _) in counted(line, chain):
+        if base is None or at is None or link.target is not None or not link.known or link.identity[1] in alike:
+            continue
+        (least, _), (greatest, _) = line.placed[base.track][0], line.placed[base.track][-1]
+        allowed = (link.accuracy + tolerance) * 10
+        if not least - allowed <= at <= greatest + allowed:
+            yield (base.track, at > greatest), link
 
 
 def _notes(line: Line, ends: Mapping[End, List[Identity]]) -> Iterator[str]:
@@ -126,11 +115,11 @@ def _notes(line: Line, ends: Mapping[End, List[Identity]]) -> Iterator[str]:
     for (track, is_high), links in ends.items():
         last = line.placed[track][-1 if is_high else 0][1]
         where = f" of track {quoted(track)}" if track else ""
-        numbers = [str(number) for _, number in dict.fromkeys(links)]
+        numbers = listed([str(number) for _, number in dict.fromkeys(links)], NAMED)
         words = "1 link leads" if len(links) == 1 else f"{len(links)} links lead"
         yield (
-            f"{words} beyond {last}, the {'last' if is_high else 'first'} group{where} by the kilometres, to "
-            f"NID_BG {listed(numbers, NAMED)}: L1 does not name them, since the table may be a section of a longer line"
+            f"along the track {words} beyond {last}, the {'last' if is_high else 'first'} group{where} by the "
+            f"kilometres, to NID_BG {numbers}: L1 does not name them, since the table may be a section of a longer line"
         )
 
 

@@ -92,6 +92,13 @@ def _names(decoded: Decoded, passage: Passage, packet: Packet) -> Sequence[Name]
     return found
 
 
+def is_named(decoded: Decoded, options: Options, end: End, within: int) -> bool:
+    """Whether packets 5 name a group at an end of authority whose place on the track the table does not show."""
+    within += decoded.tolerance(options.tolerance_of_places, allowance(end.packet, end.packet.lengths))
+    near = (each for at, each in names_of(decoded, end.passage) if abs(at - end.distance) <= within)
+    return any(each is None or each.place is None or each.group.track != end.passage.track for each in near)
+
+
 def lane_of(passage: Passage) -> Lane:
     """The track and the way of a passage whose way is known."""
     return passage.track, passage.way or 0

@@ -2,11 +2,12 @@
 
 What it says. An authority ends elsewhere than others that lead to the same group, or near a group and not at it. It
 ends at the kilometre of its group and the sum of L_SECTION and L_ENDSECTION of a packet 12 with V_MAIN above 0, or a
-packet 15. It leads to the group of its packets 5 that is nearest to its end, within 200 m. If none is so near, it is
-the last one before the end, if another one is beyond it. Without packets 5 ends at most 20 m from the next one are
-compared. A packet 12 is not at a group if the first balise of the nearest one is more than 50 m and at most 200 m away.
-Such an end is named only between the first and the last signal of its track and way. Places may differ by `--tolerance`
-(else 1 m) and rounding (SUBSET-026, 3.8 and 7.4.2).
+packet 15. It leads to the group of its packets 5 nearest to its end, within 200 m. If none is so near, it is the last
+one before the end, if another one is beyond it. Without packets 5 ends at most 20 m from the next one are compared. A
+packet 12 is not at a group if the first balise of the nearest one is more than 50 m and at most 200 m away, and no
+packet 5 names one there that has no kilometre or is not on the track. Such an end is named only between the first and
+last signal of its track and way. Places may differ by `--tolerance` (else 1 m) and rounding (SUBSET-026, 3.8 and
+7.4.2).
 
 How urgent. At worst wrong information: a train may pass the signal at which it has to stop.
 
@@ -19,8 +20,8 @@ How to correct it. Correct the sum of the lengths by the distance to the signal.
 Correct data that gets it. Any that break one of these assumptions; usual cases follow "not". All authorities to one
 group end at one place: not on a calling-on route, at a limit of authority (V_LOA above 0), or by radio at a marker
 board. Each ends at a group: not in limited supervision, or at a buffer stop, board or border without a group of the
-table within 50 m. Trains stay on the track: not through a loop, or on a route to another one, if no `point` of the
-track plan says where. Kilometres and distances show the place on the track: not if they are missing, repeat, jump
+table or of a packet 5 within 50 m. Trains stay on the track: not through a loop, or on a route to another one, if no
+`point` of the track plan says where. Kilometres and distances show the place on the track: not if they repeat, jump
 unstated, follow another axis, are rounded coarsely, or belong to signals or to tracks without names.
 
 Example. At green the authority of signal 3 ends at km 16.050, and three others that lead to signal 5 end at km 16.000.
@@ -36,7 +37,7 @@ from typing import Dict, Iterator, List, Optional, Sequence, Tuple
 from balisekit.etcs.variables import metres
 from balisekit.rules.decoded import Decoded, GroupData, allowance
 from balisekit.rules.line import Line
-from balisekit.rules.meaning.along import End, Lane, ends_of, extents_of, lane_of, leaves, names_of
+from balisekit.rules.meaning.along import End, Lane, ends_of, extents_of, is_named, lane_of, leaves, names_of
 from balisekit.rules.meaning.words import at_place, merged, source
 from balisekit.rules.rule import Options, Remark, Result, Rule, Urgency
 
@@ -56,7 +57,8 @@ def find(line: Line, options: Options) -> Result:
         if leaves(options, decoded, end.passage, end.place):
             continue
         target = _target(decoded, end)
-        if target is None or target.place is None or abs(target.place - end.place) > STANDS:
+        is_at = target is not None and target.place is not None and abs(target.place - end.place) <= STANDS
+        if not is_at and not is_named(decoded, options, end, STANDS):
             ends.append((lane, end))
         if target is not None:
             linked.setdefault((lane, target), []).append(end)
@@ -114,10 +116,9 @@ def _compare(
     counts = Counter(end.place for end in ends)
     at = target.place if target and target.place is not None else ends[0].place
     usual = max(ends, key=lambda each: (counts[each.place], -abs(each.place - at)))
-    differing = [end for end in ends if end.differs(usual, decoded, options)]
     same = counts[usual.place]
     where = f" that lead{'s' if same == 1 else ''} to {target.group}" if target else " nearby"
-    for end in differing:
+    for end in (each for each in ends if each.differs(usual, decoded, options)):
         sentence = (
             f"the authority ends at {at_place(decoded, end.passage, end.place)} by L_SECTION and L_ENDSECTION; {same} "
             f"other{'s' if same > 1 else ''}{where}, such as that of {source(usual.passage, usual.packet)}, "
@@ -139,7 +140,7 @@ def _between(decoded: Decoded, options: Options, end: End) -> Iterator[Remark]:
     if STANDS + tolerance < apart <= NEAR:
         sentence = (
             f"the authority ends at {at_place(decoded, end.passage, end.place)} by L_SECTION and L_ENDSECTION: the "
-            f"nearest group, {group.group}, is {metres(apart)} from there"
+            f"nearest group by the kilometres, {group.group}, is {metres(apart)} from there"
         )
         values = {"end_m": Decimal(end.place) / 10, "nearest_group_m": Decimal(group.place) / 10}
         yield Remark("E12", end.passage.at(end.packet), sentence, group.group, values)

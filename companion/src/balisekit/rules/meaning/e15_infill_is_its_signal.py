@@ -3,10 +3,10 @@
 What it says. What follows a packet 136 differs from its signal's aspect of the same name, or the signal is missing or
 not ahead. The signal is the group that the packet 136 names. Packets 12, 21, 27 and 80 are compared in all fields but
 Q_DIR and Q_SCALE, for the direction in which the train passes the signal. Distances are compared in metres; if Q_SCALE
-differs, the greater unit is allowed. Packets that only one of the groups has are passed over. A missing signal gets
-only a note if a group without a read telegram may be it. So it does if no group ahead of the infill group gives an
-authority in its direction: it may be beyond the table. The layouts of packets 80 and 136 are balisekit's own
-(SUBSET-026, 3.6.2 and 7.4.2).
+differs, the greater unit is allowed. Sections without timers count by their sum. Packets that only one of the groups
+has are passed over. A missing signal gets only a note if a group without a read telegram may be it. So it does if no
+group ahead of the infill group gives an authority in its direction: it may be beyond the table. The layouts of packets
+80 and 136 are balisekit's own (SUBSET-026, 3.6.2 and 7.4.2).
 
 How urgent. At worst wrong information.
 
@@ -19,10 +19,10 @@ How to correct it. If the signal is right, copy its packets after packet 136, as
 Correct data that gets it. Any that break one of these assumptions; usual cases follow "not". An aspect name means the
 same at the infill and its signal: not if it is a number, or that of a distant signal. Infill repeats its signal: not if
 it says less on purpose, such as a lower V_MAIN, shorter or merged profiles, or other timers. Nor if it has V_MAIN above
-0 and no length for a signal at danger. The table has the signal: not on a branch line. If the kilometres show no
-direction, or the tracks differ, both groups face the same way. Kilometres and distances show the place on the track:
-not if they are missing, repeat, jump unstated, follow another axis, are rounded coarsely, or belong to signals or to
-tracks without names.
+0 and no length for a signal at danger. The table has the signal: not on a branch line. If no packet 5 links the signal
+and the kilometres show no direction, or the tracks differ, both groups face the same way. Kilometres and distances show
+the place on the track: not if they repeat, jump unstated, follow another axis, are rounded coarsely, or belong to
+signals or to tracks without names.
 
 Example. At yellow the infill of signal 4 has L_ENDSECTION 1,350 m, and signal 4 has 1,500 m.
 
@@ -31,11 +31,11 @@ How sure. 88 %.
 from __future__ import annotations
 
 from decimal import Decimal
-from typing import Dict, Iterator, List, Optional, Sequence, Tuple
+from typing import Dict, Iterator, List, Optional, Tuple
 
-from balisekit.etcs.geometry import DIRECTIONS
+from balisekit.etcs.geometry import DIRECTIONS, NOMINAL, REVERSE
 from balisekit.etcs.variables import metres
-from balisekit.rules.decoded import GroupData, Packet, Passage
+from balisekit.rules.decoded import Decoded, GroupData, Packet, Passage
 from balisekit.rules.line import NOWHERE, Line
 from balisekit.rules.location import NOT_KNOWN, Identity
 from balisekit.rules.meaning.along import Extent, extents_of, lane_of, rear
@@ -59,7 +59,8 @@ def find(line: Line, options: Options) -> Result:
             identity = reference.form.get("nid_c", country), reference.form["nid_bg"]
             target = decoded.by_identity.get(identity)
             if target is not None:
-                found += list(_ahead(passage, passage.group, reference, target)) or list(_differences(passage, target))
+                ahead = list(_ahead(passage, passage.group, reference, target))
+                found += ahead or list(_differences(decoded, passage, target))
             elif identity[1] != NOT_KNOWN:
                 unknown.append((passage, reference, identity))
     extents, notes = extents_of(decoded) if unknown else {}, set()
@@ -102,29 +103,34 @@ def _ahead(passage: Passage, group: GroupData, reference: Packet, target: GroupD
         yield Remark("E15", passage.at(reference), sentence, target.group, {"ahead_m": Decimal(ahead) / 10})
 
 
-def _signal(passage: Passage, target: GroupData) -> Optional[Passage]:
+def _signal(decoded: Decoded, passage: Passage, target: GroupData) -> Optional[Passage]:
     """What the train gets from the named group, in the aspect with the same name.
 
     A passage whose way is not known goes towards the named group.
     """
     way, here = passage.way, passage.group
-    if way is None and here and here.group.track == target.group.track and None not in (here.place, target.place):
+    on_track = here is not None and here.group.track == target.group.track
+    if way is None and here and on_track and None not in (here.place, target.place):
         way = 1 if (target.place or 0) > (here.place or 0) else -1
-    direction = next((each for each in DIRECTIONS if way and target.group.along(each) == way), passage.direction)
-    same = (each for each in target.passages if each.aspect == passage.aspect and each.direction == direction)
+    shown = next((each for each in DIRECTIONS if way and target.group.along(each) == way), passage.direction)
+    if not on_track or way is None or target.group.rising is None:
+        links = (each.form for each in decoded.reached(passage) if each.target is target)
+        shown = next((NOMINAL if each["q_linkorientation"] else REVERSE for each in links), shown)
+    same = (each for each in target.passages if each.aspect == passage.aspect and each.direction == shown)
     return next(same, None)
 
 
-def _differences(passage: Passage, target: GroupData) -> Iterator[Remark]:
+def _differences(decoded: Decoded, passage: Passage, target: GroupData) -> Iterator[Remark]:
     """One remark on all packets of an aspect that differ from those of the signal."""
-    signal = _signal(passage, target)
+    signal = _signal(decoded, passage, target)
     words: List[str] = []
     others: List[int] = []
     values: Dict[str, Decimal] = {}
     first: Optional[Packet] = None
     fields: List[Field] = []
     for number in COMPARED if signal else ():
-        for packet, other in zip((each for each in passage.infill if each.number == number), _of(signal, number)):
+        own = [each for each in passage.infill if each.number == number]
+        for packet, other in zip(own, signal.of(number) if signal else ()):
             apart = next(fields_apart(packet, other), None)
             if signal and apart:
                 first = first or packet
@@ -136,10 +142,6 @@ def _differences(passage: Passage, target: GroupData) -> Iterator[Remark]:
     if first is not None:
         rows = tuple(dict.fromkeys(others))
         yield Remark("E15", passage.at(first), "; ".join(words), target.group, values, others=rows, beside=fields)
-
-
-def _of(signal: Optional[Passage], number: int) -> Sequence[Packet]:
-    return signal.of(number) if signal else []
 
 
 RULE = Rule("E15", "infill", __doc__ or "", find, Urgency.WRONG_INFORMATION)

@@ -2,12 +2,12 @@
 
 What it says. A packet 12 leads more than 50 m beyond the last group that packets 5 name, and another group is ahead.
 Its V_MAIN is above 0. The packets 5 are those of all aspects of the group, and of groups before it on that track and
-way. If the direction of one is not known, its first link shows it. The other group has Q_LINK 1, is at most 50 m beyond
-the end of the authority, and has packets for that direction other than 254 and 255. The rule is silent if the end is
-beyond the last such group of the track. It is also silent if the last link is NID_BG 16,383: the group with
-repositioning information there names the next ones. Nor does it speak if this group, or one before it at most 10 km in
-rear of the end, has a refused telegram. Packets 5 after a packet 136 do not count. A table without any packet 5 and
-without refused telegrams or messages gets one remark (SUBSET-026, 3.4.4).
+way. If the direction of one is not known, its first link shows it. D_LINK shows where one without a kilometre is. The
+other group has Q_LINK 1, is at most 50 m beyond the end of the authority, and has packets for that direction other than
+254 and 255. The rule is silent if the end is beyond the last such group of the track. It is also silent if the last
+link is NID_BG 16,383: the group with repositioning information there names the next ones. Nor does it speak if this
+group, or one before it at most 10 km in rear of the end, has a refused telegram. Packets 5 after a packet 136 do not
+count. A table without any packet 5 and without refused telegrams or messages gets one remark (SUBSET-026, 3.4.4).
 
 How urgent. At worst a wrong position of the train.
 
@@ -22,8 +22,8 @@ if on no part, or not on this one, such as in rear of a level 2 area. Packets 5 
 only to the next signal, which has its own, or if groups that the table lacks have them. Groups ahead are for these
 trains: not those of level 2 or a national system (packet 44). Trains stay on the track: not through a loop, or on a
 route to another one, if no `point` of the track plan says where. Kilometres and distances show the place on the track:
-not if they are missing, repeat, jump unstated, follow another axis, are rounded coarsely, or belong to signals or to
-tracks without names.
+not if they are missing and no packet 5 leads there, repeat, jump unstated, follow another axis, are rounded coarsely,
+or belong to signals or to tracks without names.
 
 Example. The authority of signal 3 ends at km 16.000, and its packet 5 names groups to km 14.500 only.
 

@@ -3,10 +3,11 @@
 What it says. Packets 41 for one level transition differ in its place or its levels, or no group there has one that
 orders it. Compared are packets of one track and way, each at most 500 m from the next one. Places may differ by
 `--tolerance` (else 1 m) and rounding, and M_LEVELTR and NID_NTC must be the same in the same order. A place is that of
-D_LEVELTR, or of the group if that is 0 or 32,767 (now). Such a packet counts as right, or else the most frequent place.
-One that repeats it beyond the border agrees. Only a place between the first and the last group of the track needs one.
-A group whose direction or place is unknown, or with a refused telegram, may have it, or one on another track to which
-its own packets 5 lead. A packet for both directions with a distance is E5 (SUBSET-026, 5.10 and 7.4.2).
+D_LEVELTR, or of the group if that is 0 or 32,767 (now). Of packets for now the one that most others announce counts as
+right, else the first along the way. Without one the most frequent place counts. A packet that repeats it beyond the
+border agrees. Only a place between the first and the last group of the track needs one. A group whose direction or
+place is unknown, or with a refused telegram, may have it, or one on another track to which its own packets 5 lead. A
+packet for both directions with a distance is E5 (SUBSET-026, 5.10 and 7.4.2).
 
 How urgent. At worst wrong information.
 
@@ -19,12 +20,11 @@ How to correct it. Correct each D_LEVELTR by the kilometre of the border. Put a 
 
 Correct data that gets it. Any that break one of these assumptions; usual cases follow "not". Within 500 m all packets
 41 are for one border: not if there are two, one on another route, or orders for trains that start there. They have one
-place: not with D_LEVELTR 32,767 some metres from the border. Nor if more packets repeat the order beyond it, or the
-border's own is refused, or for a direction that is not known. They have one list of levels: not if announcement and
+place: not with D_LEVELTR 32,767 some metres from the border. They have one list of levels: not if announcement and
 border differ on purpose. A group of the table orders the change: not if only the last announcement does. Trains stay on
-the track: not through a loop, or on a route to another one. Kilometres and distances show the place on the track: not
-if they are missing, repeat, jump unstated, follow another axis, are rounded coarsely, or belong to signals or to tracks
-without names.
+the track: not through a loop, or on a route to another one that no packet 5 shows. Kilometres and distances show the
+place on the track: not if they are missing, repeat, jump unstated, follow another axis, are rounded coarsely, or belong
+to signals or to tracks without names.
 
 Example. Signal 4 announces level 0 at km 16.750, and the group at the border, at km 16.700, has it at once.
 
@@ -44,6 +44,9 @@ from balisekit.rules.meaning.orders import NEAR, Order, orders_of, without_direc
 from balisekit.rules.meaning.words import at_place, merged, source
 from balisekit.rules.rule import Options, Remark, Result, Rule, Urgency
 
+Unknown = Sequence[Tuple[str, Optional[int]]]
+"""Tracks and places of groups that may order a level."""
+
 
 def find(line: Line, options: Options) -> Result:
     """Compares the orders for one place."""
@@ -51,9 +54,9 @@ def find(line: Line, options: Options) -> Result:
     unknown = [*without_direction(decoded), *unread_of(decoded)]
     for orders in orders_of(decoded).values():
         looked_at += len(orders)
-        for part in _parts(orders):
+        for part in _parts([order for order in orders if not _leaves(decoded, order)]):
             usual = _usual(part)
-            found += list(_compare(decoded, options, part, usual))
+            found += list(_compare(decoded, options, part, usual, unknown))
             found += [] if usual.is_now else list(_unordered(decoded, usual, unknown))
     return Result(merged(found), looked_at)
 
@@ -66,20 +69,37 @@ def _parts(orders: Sequence[Order]) -> Iterator[List[Order]]:
             yield part
             part = []
         part.append(order)
-    yield part
+    if part:
+        yield part
+
+
+def _leaves(decoded: Decoded, order: Order) -> bool:
+    """Whether packets 5 of an aspect with an announcement lead to another track before its place."""
+    data, distance = order.passage.group, abs(order.place - (order.passage.place(0) or 0))
+    if order.is_now or data is None:
+        return False
+    own = (each for each in data.passages if each.direction == order.passage.direction)
+    reached = (each for passage in own if order.packet in passage.said for each in decoded.reached(passage))
+    tracks = {each.target.group.track for each in reached if each.target and each.distance <= distance}
+    return not tracks <= {data.group.track}
 
 
 def _usual(orders: Sequence[Order]) -> Order:
-    """That at the border, or the most frequent one."""
-    counts = Counter(each.place for each in orders)
+    """The first order at once along the way of those that are announced most often, or the most frequent one."""
+    counts = Counter(each.place for each in orders if not each.is_now)
     return max(orders, key=lambda each: (each.is_now, counts[each.place], -each.along))
 
 
-def _compare(decoded: Decoded, options: Options, orders: Sequence[Order], usual: Order) -> Iterator[Remark]:
-    """The orders that differ from the usual one."""
+def _compare(
+    decoded: Decoded, options: Options, orders: Sequence[Order], usual: Order, unknown: Unknown
+) -> Iterator[Remark]:
+    """The orders that differ from the usual one. One that announces a group which may order the level is right."""
     track = usual.passage.track
+    hidden = [place for own, place in unknown if own == track and place is not None]
     for order in orders:
         tolerance = decoded.tolerance(options.tolerance_of_places, order.packet.unit, usual.packet.unit)
+        if usual.is_now and order.along < usual.along and any(abs(each - order.place) <= tolerance for each in hidden):
+            continue
         apart, where = abs(order.place - usual.place), order.passage.at(order.packet)
         others = (usual.packet.row.number,) if usual.packet.row else ()
         values = {"place_m": Decimal(order.place) / 10, "other_place_m": Decimal(usual.place) / 10}
@@ -100,7 +120,7 @@ def _compare(decoded: Decoded, options: Options, orders: Sequence[Order], usual:
         yield Remark("E18", where, sentence, None, values, others=others, marks=marks)
 
 
-def _unordered(decoded: Decoded, usual: Order, unknown: Sequence[Tuple[str, Optional[int]]]) -> Iterator[Remark]:
+def _unordered(decoded: Decoded, usual: Order, unknown: Unknown) -> Iterator[Remark]:
     """A place within the table at which no group orders the level. One without direction or telegram may do it."""
     track = usual.passage.track
     places = [place for own, place in unknown if own == track]

@@ -4,12 +4,13 @@ from __future__ import annotations
 from decimal import Decimal
 from typing import Any, Iterator, List, Mapping, NamedTuple, Optional, Sequence, Tuple
 
-from balisekit.etcs.variables import Around, value_words, variable_name
-from balisekit.rules.decoded import Packet
+from balisekit.etcs.variables import Around, Form, value_words, variable_name
+from balisekit.rules.decoded import AUTHORITIES, Packet
 from balisekit.rules.rule import Field
 from balisekit.tables.names import ordinal
 
 NOT_COMPARED = {"q_dir", "q_scale", "l_packet", "body", "nid_packet"}
+SECTIONS, TIMERS = {"sections", "l_endsection"}, ("section_timer", "end_timer")
 INFINITE = 32_767
 """A distance that has no unit."""
 
@@ -33,9 +34,25 @@ class Apart(NamedTuple):
 
 
 def fields_apart(one: Packet, other: Packet) -> Iterator[Apart]:
-    """The fields that differ. Distances may differ by the greater unit if Q_SCALE differs."""
+    """The fields that differ. Distances may differ by the greater unit if Q_SCALE differs.
+
+    Authorities without timers that end at one place may have other sections.
+    """
     allowed = 0 if one.unit == other.unit else max(one.unit, other.unit)
-    yield from _compared(one.form, other.form, (one, other), "", allowed)
+    own: Any = one.form
+    theirs: Any = other.form
+    if (
+        one.number in AUTHORITIES
+        and abs(one.end - other.end) <= allowed
+        and not (_has_timer(own) or _has_timer(theirs))
+    ):
+        own, theirs = ({key: form[key] for key in form if key not in SECTIONS} for form in (own, theirs))
+    yield from _compared(own, theirs, (one, other), "", allowed)
+
+
+def _has_timer(form: Form) -> bool:
+    """Whether a section of an authority has a timer."""
+    return any(key in part for part in (form, *form["sections"]) for key in TIMERS)
 
 
 def _compared(own: Any, theirs: Any, packets: Tuple[Packet, Packet], where: str, allowed: int) -> Iterator[Apart]:

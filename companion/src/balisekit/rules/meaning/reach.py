@@ -3,7 +3,7 @@ from __future__ import annotations
 
 from bisect import bisect_left
 from collections import defaultdict
-from typing import Dict, List, Optional, Sequence, Tuple
+from typing import Dict, List, Mapping, Optional, Sequence, Tuple
 
 from balisekit.rules.decoded import Decoded, GroupData
 from balisekit.rules.meaning.along import Lane, Name, names_of
@@ -49,6 +49,7 @@ def lanes_of_links(decoded: Decoded) -> Dict[Lane, Reach]:
     lanes: Dict[Lane, Reach] = defaultdict(Reach)
     known = set()
     last: Dict[Tuple[GroupData, int], Sequence[Name]] = {}  # (aspects share the packets 5 of fixed balises)
+    unplaced: Dict[GroupData, List[Tuple[Lane, int]]] = {}
     for passage in decoded.passages:
         data, named = passage.group, names_of(decoded, passage)
         way = passage.way or _shown_by(named, data)
@@ -62,10 +63,30 @@ def lanes_of_links(decoded: Decoded) -> Dict[Lane, Reach]:
         if named and last.get((data, way)) is not named:
             last[data, way] = named
             begin = data.place * way
-            lane.links.append((begin, max(_linked(each, way, begin + distance) for distance, each in named)))
+            own = [
+                (begin + distance, each if each and each.group.track == passage.track else None)
+                for distance, each in named
+            ]
+            lane.links.append((begin, max(_linked(each, way, at) for at, each in own)))
+            for at, each in own:
+                if each and each.place is None:
+                    unplaced.setdefault(each, []).append(((passage.track, way), at))
+    _continue(decoded, lanes, unplaced)
     for lane in lanes.values():
         lane.sort()
     return lanes
+
+
+def _continue(
+    decoded: Decoded, lanes: Dict[Lane, Reach], unplaced: Mapping[GroupData, Sequence[Tuple[Lane, int]]]
+) -> None:
+    """Adds the links of groups without a kilometre that are named by others: D_LINK shows where these are."""
+    for data, places in unplaced.items():
+        for passage in data.passages:
+            named = names_of(decoded, passage)
+            for lane, begin in places if named else ():
+                if passage.way in (None, lane[1]):
+                    lanes[lane].links.append((begin, begin + max(distance for distance, _ in named)))
 
 
 def _shown_by(named: Sequence[Name], data: Optional[GroupData]) -> Optional[int]:

@@ -7,6 +7,7 @@ from typing import Dict, FrozenSet, Iterator, List, Mapping, NamedTuple, Sequenc
 from balisekit.etcs.geometry import DIRECTIONS
 from balisekit.rules.decoded import GRADIENTS, LINKING, SPEEDS, GroupData, Packet, Passage, allowance
 from balisekit.rules.line import Line
+from balisekit.rules.location import NOT_KNOWN
 from balisekit.rules.meaning.sent import tolerance
 from balisekit.rules.rule import Options
 
@@ -67,11 +68,12 @@ def common_reach(line: Line, options: Options, one: Linked, other: Linked) -> in
     """How far the packets 5 of both name the same groups, or both authorities go if no packet 5 is there."""
     (here, mine), (there, its) = one, other
     if mine and [packet.form for packet in mine] == [packet.form for packet in its]:
-        return max([sum([link["d_link"] for link in packet.form["links"]]) * packet.unit for packet in mine])
+        known = ([link for link in each.form["links"] if link["nid_bg"] != NOT_KNOWN] for each in mine)
+        return max([sum([link["d_link"] for link in links]) * each.unit for links, each in zip(known, mine)])
     if mine or its:
         reach = 0
         for own, theirs in zip(line.decoded.reached(here), line.decoded.reached(there)):
-            if own.identity != theirs.identity:
+            if own.identity != theirs.identity or own.identity[1] == NOT_KNOWN:
                 break
             reach = min(own.distance, theirs.distance)
         return reach

@@ -124,7 +124,9 @@ def _lacking(site: Site, row: PlanRow) -> Remark:
     """An aspect of the plan that gives no authority for its way."""
     rows = next(each.rows for each in site.data.group.group.aspects if each.name == site.aspect)
     way = f" for {WAY_WORDS[row.way]} trains" if row.way else ""
-    sentence = f"the aspect has no packet 12{way}, and {plan_words(row, with_km=False)} has one"
+    own = (each for each in site.data.passages if each.aspect == site.aspect and row.way in (0, each.way))
+    infill = " before its packet 136" if any(each.number == AUTHORITY for one in own for each in one.infill) else ""
+    sentence = f"the aspect has no packet 12{way}{infill}, and {plan_words(row, with_km=False)} has one"
     where = site.data.location()
     return Remark("X4", where, sentence, rows=tuple(each.number for each in rows), aspects=(site.aspect,))
 
