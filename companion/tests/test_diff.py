@@ -133,6 +133,18 @@ def test_fill_and_case(run: Run, table: Write) -> None:
     assert status == 1 and "changed 0, in fill or case alone 2" in out[-1]
 
 
+def test_another_kilometre_is_noted(run: Run, table: Write) -> None:
+    """Of a group that of the first balise with another one. It is no difference."""
+    old, new = (
+        table("group,km,telegram", f"A,10.000,{FIRST}", f"A,{km},{SECOND}", name=f"{km}.csv")
+        for km in ("10.003", "10.004")
+    )
+    status, out, _ = run("diff", old, new)
+    assert status == 0 and [line for line in out if line.startswith("note: ")] == [
+        "note: A  (group 1 of country or region 1): km 10.003 -> 10.004"
+    ]
+
+
 def test_what_is_refused_is_not_compared(run: Run, table: Write) -> None:
     old = table("group,telegram", f"A,{ALONE}", f"A,{FAULTY}", name="old.csv")
     status, out, _ = run("diff", old, old)

@@ -120,8 +120,9 @@ def test_no_kilometres(run: Run, table: Write) -> None:
         'program: "yes: groups 2, messages 0"',
     ]
     assert not any("not applied" in line for line in run("check", path, "--only", "F")[1])
-    status, out, err = run("check", path, "--only", "L")
-    assert (status, out) == (2, []) and err[0].endswith("no row has a kilometre: links needs the column km")
+    for only in ("L", "L,X"):
+        status, out, err = run("check", path, "--only", only)
+        assert (status, out) == (2, []) and err[0].endswith("no row has a kilometre: links needs the column km")
 
 
 def test_a_rule_that_looks_at_nothing_is_no_success(run: Run, table: Write, program: Program, tmp_path: Path) -> None:

@@ -40,7 +40,7 @@ def stated(options: argparse.Namespace) -> Options:
     asked = _letters(options)
     settings.refuse_unused(options, asked)
     line = settings.of_line(options)
-    if asked == (PLAN,) and line.plan is None:
+    if set(asked) == {PLAN} and line.plan is None:
         raise TableError("--only X needs a track plan: give --plan FILE")
     return line
 
@@ -54,7 +54,7 @@ def outcome(options: argparse.Namespace, line: Options, now: datetime, keep: boo
     entries = accepted.read(options.accepted) if options.accepted else None
     program, table, messages = shared.inputs(options)
     asked = _letters(options)
-    if all(FAMILIES[letter].needs_kilometres for letter in asked):
+    if all(FAMILIES[letter].needs_kilometres for letter in asked if letter != PLAN or line.plan):
         shared.refuse_without_kilometres(table)
     checked = checking.check(program, table, messages, options.by_position, options.all)
     if keep:

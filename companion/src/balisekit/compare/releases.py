@@ -186,9 +186,11 @@ def _compare_group(answer: Difference, before: Group, after: Group, moved: Seque
 
 
 def _renamed(new: Side, before: Group, after: Group) -> Iterator[str]:
-    """What the table has of a group that differs, without any telegram."""
+    """What the table has of a group that differs, without any telegram: of its kilometres the first that differs."""
     one, other = before.aspects[0].rows[0], after.aspects[0].rows[0]
-    columns = (("name", before.name, after.name), ("km", one.km, other.km), ("track", one.track, other.track))
+    kilometres = [(was.km, now.km) for was, now in zip(before.aspects[0].rows, after.aspects[0].rows)]
+    km = next((pair for pair in kilometres if pair[0] != pair[1]), kilometres[0])
+    columns = (("name", before.name, after.name), ("km", *km), ("track", one.track, other.track))
     for column, was, now in columns:
         if was != now:
             values = ["none" if value in (None, "") else clean(str(value)) for value in (was, now)]
