@@ -112,7 +112,7 @@ def test_a_document_is_as_its_table(run: Run, tmp_path: Path) -> None:
     """The document that `check` has written, with its aspects by their indices."""
     run("check", LINE, "--document", tmp_path / "line.json")
     status, out, _ = run("diff", LINE, tmp_path / "line.json")
-    assert status == 2 and out[-1] == "INCOMPLETE: what was refused is not compared; " + NONE.replace(
+    assert status == 2 and out[-1] == "INCOMPLETE: the content of what was refused is not compared; " + NONE.replace(
         "removed 0;", "removed 1;", 1
     )
     run("check", LINKS / "line.csv", "--document", tmp_path / "links.json")
@@ -148,7 +148,7 @@ def test_another_kilometre_is_noted(run: Run, table: Write) -> None:
 def test_what_is_refused_is_not_compared(run: Run, table: Write) -> None:
     old = table("group,telegram", f"A,{ALONE}", f"A,{FAULTY}", name="old.csv")
     status, out, _ = run("diff", old, old)
-    assert status == 2 and out[-1] == "INCOMPLETE: what was refused is not compared; " + NONE
+    assert status == 2 and out[-1] == "INCOMPLETE: the content of what was refused is not compared; " + NONE
     assert [one.split(":")[0] for one in out if one.startswith("refused")] == ["refused in old", "refused in new"]
 
 

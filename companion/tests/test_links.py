@@ -22,7 +22,7 @@ from balisekit.present.links_text import compared, singular
 from balisekit.rules.chainage import Jump
 from balisekit.rules.line import BY_LINKS, Line, with_directions
 from balisekit.rules.links import RULES, compare
-from balisekit.rules.own import RULES as OWN
+from balisekit.rules.accepted import RULES as OWN
 from balisekit.rules.rule import CORRECT_DATA, REFUSED, Options
 from balisekit.tables.model import Aspect, Group, Message, Row
 

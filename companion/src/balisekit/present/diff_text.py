@@ -66,7 +66,7 @@ def last_line(found: Difference) -> str:
         + (f", exchanged {moved}" if moved else ""),
         f"findings new {len(found.findings_new)}, gone {len(found.findings_gone)}",
     ]
-    return ("" if found.whole else "INCOMPLETE: what was refused is not compared; ") + "; ".join(parts)
+    return ("" if found.whole else "INCOMPLETE: the content of what was refused is not compared; ") + "; ".join(parts)
 
 
 def as_json(found: Difference) -> Dict[str, Any]:

@@ -25,7 +25,7 @@ from balisekit.rules.accepted import keys
 from balisekit.rules.entries import Entry
 from balisekit.rules.families import PROVED, Outcome, items_of
 from balisekit.rules.rule import Urgency
-from balisekit.tables.lines import lines_of_rows
+from balisekit.tables.csv import lines_of_rows
 from balisekit.tables.names import clean
 
 SCHEMA = "https://docs.oasis-open.org/sarif/sarif/v2.1.0/errata01/os/schemas/sarif-schema-2.1.0.json"

@@ -17,9 +17,9 @@ from typing import Dict, Iterable, Iterator, List, Mapping, NamedTuple, Optional
 from balisekit.errors import TableError, TableErrors, faults_of
 from balisekit.io import inputs
 from balisekit.io.csv_writing import plain
-from balisekit.rules import own
+from balisekit.rules import links, meaning, track_plan
 from balisekit.rules.checking import Checked, Place
-from balisekit.rules.rule import Remark
+from balisekit.rules.rule import Remark, Rule
 from balisekit.tables import csv as csv_file
 from balisekit.tables.cells import headings
 from balisekit.tables.headings import Headings
@@ -51,7 +51,10 @@ ONE_TELEGRAM = ("F1", "F4", "F6", "F9", "L1", "L2", "L3", "L5", "L6", "L9")
 """The findings and remarks about one telegram only."""
 ALL_ASPECTS = ("F3", "F14", "F15", "F16")
 """The findings that compare aspects or groups. The others are about all telegrams of an aspect."""
-ON_CORRECT_DATA = ("F6", "F9", "F10", "F11", "F12", "F13", "F14", "F16", *own.ON_CORRECT_DATA)
+RULES: Mapping[str, Rule] = {rule.name: rule for rule in (*links.RULES, *meaning.RULES, *track_plan.RULES)}
+"""All rules of balisekit whose remarks can be accepted, by their names."""
+OWN_ON_CORRECT_DATA = (name for name, rule in RULES.items() if rule.has_correct_data)
+ON_CORRECT_DATA = ("F6", "F9", "F10", "F11", "F12", "F13", "F14", "F16", *OWN_ON_CORRECT_DATA)
 """The rules of the table of findings on correct data in docs/findings.md, and those whose pages name correct data."""
 Key = Tuple[str, ...]
 Item = Union[Place, Remark]

@@ -12,13 +12,12 @@ from typing import Iterator, Mapping, NamedTuple, Optional, Sequence, Tuple
 
 from balisekit.io.workers import copies, shared
 from balisekit.rules import links, meaning, track_plan
-from balisekit.rules.accepted import Acceptance, Entries, Item, Judged, identities, judge
+from balisekit.rules.accepted import RULES, Acceptance, Entries, Item, Judged, identities, judge
 from balisekit.rules.applied import Applied, Notes, look_for, no_notes
 from balisekit.rules.checking import Checked, Place
 from balisekit.rules.entries import Entry, entries, kilometre_of
 from balisekit.rules.line import Line
 from balisekit.rules.location import Identity
-from balisekit.rules.own import RULES
 from balisekit.rules.results import read, results
 from balisekit.rules.rule import Options, Remark, Result, Rule
 from balisekit.rules.statements.scene import BaliseName

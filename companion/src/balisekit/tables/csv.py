@@ -18,6 +18,7 @@ GREATEST_CELL = 100_000
 """In characters."""
 HEAD = 1 << 20
 """How many characters of a file that is read row by row are searched for its separator."""
+SEPARATOR_LINE = re.compile("sep=.(?:\r\n|\r|\n)", re.IGNORECASE)
 
 
 def read(content: bytes, headings: Headings = Headings()) -> Sheet:
@@ -57,6 +58,22 @@ def stream(content: bytes, headings: Headings) -> Tuple[Sheet, Callable[[], Iter
             raise TableError(_why(str(error)), row=number + 1) from error
 
     return Sheet(encoding, separator, list(islice(rows(), SEARCHED + 1))), rows
+
+
+def lines_of_rows(content: bytes, separator: str) -> List[Tuple[int, int]]:
+    """The first and the last line of each row of a file that has been read, counted from 1."""
+    text, _ = text_of(content)
+    file = io.StringIO(text, newline="")
+    before = 0
+    if SEPARATOR_LINE.match(text):
+        file.readline()
+        before = 1
+    lines: List[Tuple[int, int]] = []
+    rows, last = csv.reader(file, delimiter=separator, strict=True), before
+    for _ in rows:
+        lines.append((last + 1, before + rows.line_num))
+        last = before + rows.line_num
+    return lines
 
 
 def _separator(lines: Sequence[str], headings: Headings) -> str:

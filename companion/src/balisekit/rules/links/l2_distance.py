@@ -21,7 +21,8 @@ How to correct it. Correct D_LINK, or the kilometre of the table. If the kilomet
 Correct data that gets it. Any that break one of these assumptions; usual cases follow "not". Kilometres give the place
 on the track: not if they follow another axis, are rounded coarsely or belong to signals. Nor if they jump, and neither
 `--jumps` nor a track plan states it: all links over that place then differ by the same amount. Links stay on the track:
-not on a route through another one, or on a balloon loop, which leads back to a group that was passed.
+not on a route through another one, or on a balloon loop, which leads back to a group that was passed. Packets with
+Q_DIR 2 are for both directions: not on a track for one.
 
 Example. The link of group A to group B says 1,010 m, and their kilometres are 1,000 m apart.
 """

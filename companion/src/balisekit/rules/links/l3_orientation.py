@@ -16,8 +16,8 @@ rejects the message.
 
 How to correct it. Correct Q_LINKORIENTATION. If the order of the balises in the table is wrong, correct the table.
 
-Correct data that gets it. None, if each track has a name and is one straight chain of kilometres. Balloon loops are
-none, nor kilometres that turn, jump or are rounded within a group.
+Correct data that gets it. None, if each track has a name and is one straight chain of kilometres, and packets with
+Q_DIR 2 are for both directions. Balloon loops are none, nor kilometres that turn, jump or are rounded within a group.
 
 Example. Group B faces the other way, and the link of group A says that it is passed in nominal direction.
 """

@@ -18,10 +18,10 @@ How to correct it. Add the group to the packet 5, and correct the distance of th
 it without linking, set Q_LINK to 0.
 
 Correct data that gets it. Any that break one of these assumptions; usual cases follow "not". Trains that use a packet 5
-pass the groups between those that it names: not on another route. Such is a group with repositioning information
-(packet 16) to which NID_BG 16,383 leads. A group with Q_LINK 1 is for them: not one of level 2 or a national system
-(packet 44), if the packets 5 are for level 1. Groups are passed in the order of their kilometres: not if these jump
-back unstated.
+pass the groups between those that it names: not on another route, or if a later packet 5 names them in time. Such is a
+group with repositioning information (packet 16) to which NID_BG 16,383 leads. A group with Q_LINK 1 is for them: not
+one of level 2 or a national system (packet 44), if the packets 5 are for level 1. Groups are passed in the order of
+their kilometres: not if these jump back unstated.
 
 Example. Group A links only group C, and group B stands between them.
 """

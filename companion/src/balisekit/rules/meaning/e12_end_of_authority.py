@@ -4,10 +4,9 @@ What it says. An authority ends elsewhere than others that lead to the same grou
 ends at the kilometre of its group and the sum of L_SECTION and L_ENDSECTION of a packet 12 with V_MAIN above 0, or a
 packet 15. It leads to the group of its packets 5 nearest to its end, within 200 m. If none is so near, it is the last
 one before the end, if another one is beyond it. Without packets 5 ends at most 20 m from the next one are compared. A
-packet 12 is not at a group if the first balise of the nearest one is more than 50 m and at most 200 m away, and no
-packet 5 names one there that has no kilometre or is not on the track. Such an end is named only between the first and
-last signal of its track and way. Places may differ by `--tolerance` (else 1 m) and rounding (SUBSET-026, 3.8 and
-7.4.2).
+packet 12 is not at a group if the first balise of the nearest one is 50 m to 200 m away. None there that packets 5 name
+may lack a kilometre or be on another track. Such an end is named only between the first and last signal of its way.
+Places may differ by `--tolerance` (else 1 m) and rounding (SUBSET-026, 3.8 and 7.4.2).
 
 How urgent. At worst wrong information: a train may pass the signal at which it has to stop.
 
@@ -19,10 +18,11 @@ How to correct it. Correct the sum of the lengths by the distance to the signal.
 
 Correct data that gets it. Any that break one of these assumptions; usual cases follow "not". All authorities to one
 group end at one place: not on a calling-on route, at a limit of authority (V_LOA above 0), or by radio at a marker
-board. Each ends at a group: not in limited supervision, or at a buffer stop, board or border without a group of the
-table or of a packet 5 within 50 m. Trains stay on the track: not through a loop, or on a route to another one, if no
-`point` of the track plan says where. Kilometres and distances show the place on the track: not if they repeat, jump
-unstated, follow another axis, are rounded coarsely, or belong to signals or to tracks without names.
+board. Nor if one ends at a signal up to 200 m beyond its links. Each ends at a group: not in limited supervision, or at
+a buffer stop, board or border without a group of the table or of a packet 5 within 50 m. Trains stay on the track: not
+through a loop, or on a route to another one, if no `point` of the track plan says where. Kilometres and distances show
+the place on the track: not if they repeat, jump unstated, follow another axis, are rounded coarsely, or belong to
+signals or to tracks without names. Packets with Q_DIR 2 are for both directions: not on a track for one.
 
 Example. At green the authority of signal 3 ends at km 16.050, and three others that lead to signal 5 end at km 16.000.
 

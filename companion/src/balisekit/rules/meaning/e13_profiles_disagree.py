@@ -20,7 +20,7 @@ V_STATIC is the speed of the track: not if it includes that of the route, the as
 it is for limited supervision, or unused, such as 0 beside a V_DIFF of each category. Trains stay on the track: not
 through a loop, or on a route to another one, if no `point` of the track plan says where. Kilometres and distances show
 the place on the track: not if they are missing, repeat, jump unstated, follow another axis, are rounded coarsely, or
-belong to signals or to tracks without names.
+belong to signals or to tracks without names. Packets with Q_DIR 2 are for both directions: not on a track for one.
 
 Example. From km 14.500 to km 15.200 signal 3 says 500 km/h, and signal 4 says 100 km/h.
 

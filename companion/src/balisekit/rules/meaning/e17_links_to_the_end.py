@@ -23,7 +23,7 @@ only to the next signal, which has its own, or if groups that the table lacks ha
 trains: not those of level 2 or a national system (packet 44). Trains stay on the track: not through a loop, or on a
 route to another one, if no `point` of the track plan says where. Kilometres and distances show the place on the track:
 not if they are missing and no packet 5 leads there, repeat, jump unstated, follow another axis, are rounded coarsely,
-or belong to signals or to tracks without names.
+or belong to signals or to tracks without names. Packets with Q_DIR 2 are for both directions: not on a track for one.
 
 Example. The authority of signal 3 ends at km 16.000, and its packet 5 names groups to km 14.500 only.
 
@@ -52,10 +52,9 @@ def find(line: Line, options: Options) -> Result:
         if line.lost_messages or any(unread_of(decoded)):
             return Result([], len(ends))
         before = " before a packet 136" if LINKING in decoded.sent else ""
-        have = "authorities have" if len(ends) > 1 else "authority has"
-        sentence = f"no group or message has a packet 5 (linking){before}, and {len(ends)} {have} a V_MAIN above 0"
+        sentence = f"no group or message has a packet 5 (linking){before}, and there are authorities with V_MAIN above 0"
         first = ends[0].passage
-        return Result([Remark("E17", first.at(), sentence, values={"authorities": Decimal(len(ends))})], len(ends))
+        return Result([Remark("E17", first.at(), sentence)], len(ends))
     lanes = lanes_of_links(decoded)
     found = [
         remark
@@ -90,7 +89,7 @@ def _look_at(decoded: Decoded, options: Options, lane: Reach, end: End) -> Itera
     if reach >= place - LESS or not lane.groups or place > lane.groups[-1] or _is_repositioned(passage):
         return
     if lane.group_between(reach, place + LESS) and not leaves(options, decoded, passage, end.place):
-        linked = f"lead to {decoded.km(passage.track, reach * way)} only" if reach > begin else "name no group"
+        linked = f"lead to {decoded.km(passage.track, reach * way)} only" if reach > begin else "lead no farther"
         sentence = (
             f"the authority ends at {decoded.km(passage.track, end.place)}, and the packets 5 of this group and of "
             f"those before it {linked}: the last {metres(place - reach)} are without links"

@@ -18,7 +18,7 @@ Correct data that gets it. Any that break one of these assumptions; usual cases 
 its place: not the steepest or mean value of a longer stretch. Safe gradients near a summit or a valley are so, and may
 both go down. Trains stay on the track: not on a route to another one, or through a loop. Kilometres and distances show
 the place on the track: not if they are missing, repeat, jump unstated, follow another axis, are rounded coarsely, or
-belong to signals or to tracks without names.
+belong to signals or to tracks without names. Packets with Q_DIR 2 are for both directions: not on a track for one.
 
 Example. From km 14.500 to km 15.200 signal 3 says +8 per mille, and signal R4 of the other direction says +8 per mille.
 

@@ -16,7 +16,7 @@ How to correct it. Put a packet 42 with Q_RBC 1 far enough before the border.
 Correct data that gets it. Any that break one of these assumptions; usual cases follow "not". The table has the packet
 42 of each train: not if it comes with a session, gets the packet between announcement and border, or opens one at the
 start of mission. Trains stay on the track: not if they get it on another one. Kilometres show the order of the groups:
-not if they are missing, repeat or jump unstated.
+not if they are missing, repeat or jump unstated. Packets with Q_DIR 2 are for both directions: not on a track for one.
 
 Example. Signal 4 announces level 2 in 2,200 m, and no group before it has a packet 42.
 

@@ -18,7 +18,7 @@ Correct data that gets it. Any that break one of these assumptions; usual cases 
 restriction: not if two have it, or one on another route. All packets state the whole of it exactly: not if D_TSR or
 L_TSR is on the safe side, or depends on the aspect or route. Kilometres and distances show the place on the track: not
 if they are missing, repeat, jump unstated, follow another axis, are rounded coarsely, or belong to signals or to tracks
-without names.
+without names. Packets with Q_DIR 2 are for both directions: not on a track for one.
 
 Example. Signal 3 has restriction 7 at km 14.000 with 40 km/h, and signal 4 has it at km 14.100.
 

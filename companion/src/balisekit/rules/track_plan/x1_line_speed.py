@@ -21,7 +21,7 @@ of each category. Profiles have the values and places of the track: not if merge
 for an overlap, or without a short higher speed. Trains stay on the track: not through a loop, or on a route to another
 one, if no `point` of the track plan says where. Kilometres and distances show the place on the track: not if they are
 missing, repeat, jump unstated, follow another axis, are rounded coarsely, or belong to signals or to tracks without
-names.
+names. Packets with Q_DIR 2 are for both directions: not on a track for one.
 
 Example. The profile of signal B has 120 km/h from km 15.900 to km 15.950, where the plan has 100 km/h.
 """

@@ -20,7 +20,7 @@ gradient of each place: not a mean of several, or a safe gradient. That may be t
 or one of a stop aspect or overlap. Write safe gradients into the plan, a row for each way. Trains stay on the track:
 not through a loop, or on a route to another one, if no `point` of the track plan says where. Kilometres and distances
 show the place on the track: not if they are missing, repeat, jump unstated, follow another axis, are rounded coarsely,
-or belong to signals or to tracks without names.
+or belong to signals or to tracks without names. Packets with Q_DIR 2 are for both directions: not on a track for one.
 
 Example. The profile of signal C has +5 ‰ from km 14.200 to km 16.000, where the plan has -5 ‰: the sign is wrong.
 """

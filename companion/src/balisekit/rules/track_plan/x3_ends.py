@@ -20,7 +20,8 @@ authority: not a marker board, buffer stop, level border, limit of authority (V_
 route. Write such places into the plan. In limited supervision an authority may end at no signal. Trains stay on the
 track: not through a loop, or on a route to another one, if no `point` of the track plan says where. Kilometres and
 distances show the place on the track: not if they are missing, repeat, jump unstated, follow another axis, are rounded
-coarsely, or belong to signals or to tracks without names.
+coarsely, or belong to signals or to tracks without names. Packets with Q_DIR 2 are for both directions: not on a track
+for one.
 
 Example. The authority of signal A at green ends at km 15.350, and the nearest signal of the plan is at km 15.300.
 """

@@ -25,6 +25,7 @@ places into the plan. Packets have its levels: not if announcement and border di
 name each border: not if only radio does. Trains stay on the track: not through a loop, or on a route to another one, if
 no `point` of the track plan says where. Kilometres and distances show the place on the track: not if they are missing,
 repeat, jump unstated, follow another axis, are rounded coarsely, or belong to signals or to tracks without names.
+Packets with Q_DIR 2 are for both directions: not on a track for one.
 
 Example. Group F announces level 2 at km 20.050, and the plan has the border at km 20.000.
 """
