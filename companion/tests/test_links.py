@@ -153,16 +153,16 @@ OUT = "L1 does not name them, since the table may be a section of a longer line"
         (
             "EFGH",
             [
-                "note: along the track 3 links lead beyond Signal D (km 16.900), the last group by the kilometres, to NID_BG 105, "
-                f"106: {OUT}"
+                "note: along the track 3 links lead beyond Signal D (km 16.900), the last group by the kilometres, "
+                f"to NID_BG 105, 106: {OUT}"
             ],
             0,
         ),
         (
             "FGH",
             [
-                "note: along the track 3 links lead beyond Signal E (km 18.250), the last group by the kilometres, to NID_BG 106, "
-                f"107: {OUT}"
+                "note: along the track 3 links lead beyond Signal E (km 18.250), the last group by the kilometres, "
+                f"to NID_BG 106, 107: {OUT}"
             ],
             0,
         ),

@@ -566,7 +566,7 @@ def test_e17(found: Found) -> None:
     ]
     assert "and the packets 5 of this group and of those before it lead to km 11.500 only" in made[0].sentence
     (one,) = found("E17", SHORT, without_links)
-    assert one.sentence == "no group or message has a packet 5 (linking), and there are authorities with V_MAIN above 0"
+    assert one.sentence == "no group or message has a packet 5 (linking), and authorities have a V_MAIN above 0"
 
 
 def test_e17_without_links_that_count_from_their_group(found: Found) -> None:
@@ -582,7 +582,7 @@ def test_e17_without_links_that_count_from_their_group(found: Found) -> None:
     assert one.sentence.startswith("no group or message has a packet 5 (linking) before a packet 136, and ")
     stops = only(lambda row: row.aspect in (FIXED, RED) or (row.group, row.aspect) == ("Signal 2", GREEN))
     (one,) = found("E17", SHORT, all_of(without_links, stops))
-    assert one.sentence.endswith(" and there are authorities with V_MAIN above 0")
+    assert one.sentence.endswith(" and authorities have a V_MAIN above 0")
 
 
 def test_e17_of_a_balise_that_is_linked_from_outside(found: Found) -> None:

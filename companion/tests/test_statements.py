@@ -511,9 +511,9 @@ TURNED = (
 WRONG_ORDER = "; F1 is found in Signal G: rows in a wrong order may be the cause"
 LINKS: Dict[Mistake, Dict[str, str]] = {
     identity_twice: {
-        "L1": f"{BEFORE}group 108 of country or region 352 is linked, and no group of the table has that identity; along "
-        "the track D_LINK leads from Signal G (km 21.400) to km 22.900, where the table has Signal H (km 22.900) as group 101 of country or region 352, "
-        "which F14 finds used twice"
+        "L1": f"{BEFORE}group 108 of country or region 352 is linked, and no group of the table has that identity; "
+        "along the track D_LINK leads from Signal G (km 21.400) to km 22.900, where the table has Signal H (km 22.900) "
+        "as group 101 of country or region 352, which F14 finds used twice"
     },
     exchanged: {
         "L2": f"{BEFORE}Signal H (km 22.900) is 1500 m from Signal G (km 21.403) by D_LINK, and 1497 m in rear of it "

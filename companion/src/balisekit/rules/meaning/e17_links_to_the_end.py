@@ -52,9 +52,8 @@ def find(line: Line, options: Options) -> Result:
         if line.lost_messages or any(unread_of(decoded)):
             return Result([], len(ends))
         before = " before a packet 136" if LINKING in decoded.sent else ""
-        sentence = f"no group or message has a packet 5 (linking){before}, and there are authorities with V_MAIN above 0"
-        first = ends[0].passage
-        return Result([Remark("E17", first.at(), sentence)], len(ends))
+        sentence = f"no group or message has a packet 5 (linking){before}, and authorities have a V_MAIN above 0"
+        return Result([Remark("E17", ends[0].passage.at(), sentence)], len(ends))
     lanes = lanes_of_links(decoded)
     found = [
         remark
