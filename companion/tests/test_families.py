@@ -131,7 +131,7 @@ def test_a_rule_that_looks_at_nothing_is_no_success(run: Run, table: Write, prog
     lines = [f"{row['group']},{row['km'].split('.')[0]},{row['telegram']}" for row in rows if row["group"] in "AB"]
     status, out, _ = run("check", table("group,km,telegram", *lines))
     assert status == 2 and out[-1].startswith("INCOMPLETE: L3 compared none of ")
-    assert '; program: "yes: groups 2, messages 0"; links: ' in out[-1]
+    assert '; program: "yes: groups 2, messages 0"; remarks: ' in out[-1]
     status, out, _ = run("check", table("group,km,telegram", *lines, f"X,20,{SPARE}"))
     said = "INCOMPLETE: 1 of 5 telegrams refused, 1 of 3 groups left out; L3 compared none of "
     assert status == 2 and out[-1].startswith(said)
