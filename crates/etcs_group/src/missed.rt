@@ -21,8 +21,8 @@ impl Missed {
     }
 }
 
-/// The partner of the balise at this index: the neighbour that its duplicate flag names, by index, if it is in
-/// the group (SUBSET-026, 3.16.2).
+/// The partner of the balise at this index: the neighbour that its duplicate flag names, by index, if it is
+/// in the group (this project's rule, after SUBSET-026, 3.16.2).
 pub fn partner(telegrams: &[Telegram], place: usize) -> Option<usize>
     requires { length telegrams.now ≤ 8 }
     ensures { result ≡ partner_of telegrams.now place }
