@@ -15,10 +15,10 @@ use Rattle.etcs_profile.specs.declared.track.TrackPacket.{TrackPacket}
 use Rattle.etcs_radio.specs.declared.message.Message.{Message}
 use Rattle.etcs_radio.specs.declared.message.Message.TheVariants as messages
 use Rattle.etcs_group.specs.Group.{Telegrams, Aspects}
-use Rattle.etcs_group.specs.Places.{At}
+use Rattle.etcs_group.specs.Places.{At, element_passes}
 use Rattle.etcs_check.specs.Aspects.{is_ambiguous, is_used, site_spot}
 use Rattle.etcs_check.specs.Line.{none_and, directions, rules_at, cells_at, cells_of, group_cells, message_cells, group_findings, message_findings, group_at, group_list, message_at, message_list, findings}
-use Rattle.etcs_check.specs.Facts.{passes_at, packets_alone, packets_at, speech_of, speech_in, is_short_profile, packet_fact, aspect_fact, whole_fact, group_fact, message_fact, fact_at, StatesFact}
+use Rattle.etcs_check.specs.Facts.{packets_alone, packets_at, speech_of, speech_in, is_short_profile, packet_fact, aspect_fact, whole_fact, group_fact, message_fact, fact_at, StatesFact}
 use Rattle.etcs_check.specs.Findings.{all_rules, balise_fact, finding_of, for_each, is_unmodelled, pair_differs}
 use Rattle.etcs_check.specs.Laws.{FindingsAreTheFactsInOrder}
 use Rattle.etcs_check.specs.Order.{site_order, site_place, rule_number, direction_order, none_first, order_of, is_of, by_rule, IsListOf}
@@ -30,7 +30,8 @@ use Rattle.etcs_check.specs.declared.finding.Rule.TheVariants as rules
 use Rattle.etcs_check.specs.declared.finding.Site.{Site}
 use Rattle.etcs_check.specs.declared.finding.Site.TheVariants as sites
 use Rattle.etcs_check.specs.declared.finding.Spot.{Spot}
-use Rattle.etcs_check.proofs.FactLemmas.{passed, passes_as, packet_stands}
+use Rattle.etcs_group.proofs.PlaceLemmas.{element_passes-at}
+use Rattle.etcs_check.proofs.FactLemmas.{passed, packet_stands}
 use Rattle.etcs_check.proofs.MemberLemmas.{IsListed, each-at, each-listed, rules-listed, made_of, At-append_cases, filter-at, at-filter, flat_map-at, at-flat_map, At-append_left, At-append_right}
 use Rattle.etcs_check.proofs.OrderLemmas.{AreOrdered, AreOrdered-filter, IsBlock, no_block, fact_block, joined, under, blocks, each_block, rising, one_list}
 
@@ -194,10 +195,10 @@ cell_listed spot count packets rule run b k h g =
     at-flat_map (λ run. flat_map (λ b. flat_map (rules_at spot run b) (none_and (length (packets b)))) (none_and count)) directions d.0 run t.0 f d.1 t.1
 
 -- a place at which an element passes a test is in the list, and a balise with a packet is in the group
-place_of : {X : Type 0} (xs : List X) (i : ℕ) (test : X → Bool) → passes_at xs i test ≡ true → i < length xs
+place_of : {X : Type 0} (xs : List X) (i : ℕ) (test : X → Bool) → element_passes xs i test ≡ true → i < length xs
 place_of xs i test h = let r = passed xs i test h in slice_get_within xs i r.0 r.1
 
-packet_of : (group : Telegrams) (b k : ℕ) (test : TrackPacket → Bool) → passes_at (packets_at group (Some b)) k test ≡ true → (b < length group) × (k < length (packets_at group (Some b)))
+packet_of : (group : Telegrams) (b k : ℕ) (test : TrackPacket → Bool) → element_passes (packets_at group (Some b)) k test ≡ true → (b < length group) × (k < length (packets_at group (Some b)))
 packet_of group b k test h =
     let r = passed (packets_at group (Some b)) k test h in
     let s = packet_stands group b k r.0 r.1 in
@@ -360,12 +361,12 @@ module _ (groups : List Aspects) (messages : List Message) where
         let r = each-at (group_at groups) groups i f p in
         let s = group_states (sites.Group r.0) (is_used (take r.0 groups) r.1) r.1 r.2 f r.4 in
         subst (λ s. fact_at groups messages s f ≡ true) (sym s.0)
-        (passes_as groups r.0 (λ aspects. group_fact (is_used (take r.0 groups) aspects) aspects f.rule f.aspect f.dir f.balise f.packet) r.1 r.3 ∙ s.1)
+        (element_passes-at groups r.0 (λ aspects. group_fact (is_used (take r.0 groups) aspects) aspects f.rule f.aspect f.dir f.balise f.packet) r.1 r.3 ∙ s.1)
     | inr q ↦
         let r = each-at message_at messages q.0 f q.1 in
         let s = message_states (sites.Message r.0) r.1 r.2 f r.4 in
         subst (λ s. fact_at groups messages s f ≡ true) (sym s.0)
-        (passes_as messages r.0 (λ m. message_fact m f.rule f.aspect f.dir f.balise f.packet) r.1 r.3 ∙ s.1)
+        (element_passes-at messages r.0 (λ m. message_fact m f.rule f.aspect f.dir f.balise f.packet) r.1 r.3 ∙ s.1)
   ]
 
 -- ---- the law

@@ -1,18 +1,23 @@
 -- The counters of earlier aspects, and the table in which they are marked.
-use Rattle.std.proofs.Common.{◌≡◌, ℕ, ◌+◌, ◌&&◌, ◌||◌, ltb, List, [], replicate, take, sym, ap, ◌∙◌, arith}
+use Rattle.std.proofs.Common.{◌≡◌, ℕ, ◌+◌, ◌<◌, ◌&&◌, ◌||◌, ltb, List, [], replicate, take, sym, ap, ◌∙◌, arith}
 use Rattle.std.specs.List.{list_any}
 use Rattle.std.proofs.lemmas.Bool.{cases_Bool, ltb-true, and_left}
 use Rattle.std.proofs.lemmas.List.Folds.{list_any_more}
 use Rattle.std.proofs.lemmas.Option.{slice_get_within, get_or_from_slice_get}
 use mathlib.Core.Logic.{inl, inr}
 use Rattle.etcs_telegram.specs.Record.{Telegram}
+use Rattle.etcs_group.specs.Group.{Aspects}
 use Rattle.etcs_group.specs.Places.{At}
-use Rattle.etcs_check.specs.Walk.{is_taken, HasCounters}
+use Rattle.etcs_check.specs.Walk.{is_taken}
 use Rattle.etcs_check.specs.Findings.{has_counter, is_counter_taken}
 use Rattle.etcs_check.specs.Identities.{is_marked}
 use Rattle.etcs_check.proofs.IdentityLemmas.{unmarked, or_swap}
 
 -- ---- the table
+
+-- Only the counters of these aspects are marked.
+abbrev pub HasCounters : List ℕ → Aspects → Type 0
+HasCounters table aspects = (n : ℕ) → n < 256 → is_marked table n ≡ list_any (has_counter n) aspects
 
 pub taken_as : (table : List ℕ) (before : List (List Telegram)) (t : Telegram) → HasCounters table before → is_taken table t ≡ is_counter_taken before t
 taken_as table before t has = elim (cases_Bool (ltb t.header.counter 254)) [

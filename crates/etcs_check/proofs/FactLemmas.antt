@@ -10,8 +10,9 @@ use Rattle.etcs_profile.specs.declared.reach.Reach.{Reach}
 use Rattle.etcs_telegram.specs.Record.{Telegram}
 use Rattle.etcs_group.specs.Group.{Telegrams, Aspects}
 use Rattle.etcs_group.specs.Packets.{is_silent, group_message}
-use Rattle.etcs_group.specs.Places.{At}
-use Rattle.etcs_check.specs.Facts.{passes_at, packets_at, speech_of, is_short_profile, aspect_fact, whole_fact, fact_of_aspect, group_fact}
+use Rattle.etcs_group.specs.Places.{At, element_passes}
+use Rattle.etcs_group.proofs.PlaceLemmas.{element_passes-at, element_passes-none}
+use Rattle.etcs_check.specs.Facts.{packets_at, speech_of, is_short_profile, aspect_fact, whole_fact, fact_of_aspect, group_fact}
 use Rattle.etcs_check.specs.Findings.{is_said_and_short}
 use Rattle.etcs_check.specs.Violation.{NamesAspect}
 use Rattle.etcs_check.specs.Soundness.{first_aspect}
@@ -19,23 +20,12 @@ use Rattle.etcs_check.specs.declared.finding.Rule.{Rule}
 
 -- ---- tests of the element at a place
 
-pub passed : {X : Type 0} (xs : List X) (i : ℕ) (test : X → Bool) → passes_at xs i test ≡ true → (x : X) × At xs i x × (test x ≡ true)
+pub passed : {X : Type 0} (xs : List X) (i : ℕ) (test : X → Bool) → element_passes xs i test ≡ true → (x : X) × At xs i x × (test x ≡ true)
 passed {X} xs i test h = go (slice_get xs i) refl h
   where
     go : (o : Option X) → slice_get xs i ≡ o → option_map_or test o false ≡ true → (x : X) × At xs i x × (test x ≡ true)
     go None e h = absurd (both_ways false refl h)
     go (Some x) e h = (x, e, h)
-
-pub failing : {X : Type 0} (xs : List X) (i : ℕ) (test : X → Bool) → ((x : X) → At xs i x → test x ≡ false) → passes_at xs i test ≡ false
-failing {X} xs i test h = go (slice_get xs i) refl
-  where
-    go : (o : Option X) → slice_get xs i ≡ o → option_map_or test o false ≡ false
-    go None e = refl
-    go (Some x) e = h x e
-
--- the element there decides
-pub passes_as : {X : Type 0} (xs : List X) (i : ℕ) (test : X → Bool) (x : X) → At xs i x → passes_at xs i test ≡ test x
-passes_as xs i test x at = ap (λ o. option_map_or test o false) at
 
 -- ---- packets of a balise
 
@@ -50,21 +40,21 @@ packet_stands group b k p h = go (slice_get group b) refl h
     go None e h = absurd (none-some p h)
     go (Some t) e h = (t, e, h)
 
-pub packet_as : (group : Telegrams) (b k : ℕ) (test : TrackPacket → Bool) (t : Telegram) (p : TrackPacket) → At group b t → At t.packets k p → passes_at (packets_at group (Some b)) k test ≡ test p
-packet_as group b k test t p at at' = ap (λ l. passes_at l k test) (packets_as group b t at) ∙ passes_as t.packets k test p at'
+pub packet_as : (group : Telegrams) (b k : ℕ) (test : TrackPacket → Bool) (t : Telegram) (p : TrackPacket) → At group b t → At t.packets k p → element_passes (packets_at group (Some b)) k test ≡ test p
+packet_as group b k test t p at at' = ap (λ l. element_passes l k test) (packets_as group b t at) ∙ element_passes-at t.packets k test p at'
 
 module _ (reach : TrackPacket → Option Reach) (group : Telegrams) (run : Run) (b : ℕ) where
   short_as : (t : Telegram) (p : TrackPacket) → At group b t → is_short_profile reach (speech_of group) run (Some b) p ≡ is_said_and_short reach (group_message run group) run (is_silent run t.header.dup (length group) b) p
   short_as t p at =
-      ap (λ q. is_said_and_short reach (group_message run group) run q p) (passes_as group b (λ (t : Telegram). is_silent run t.header.dup (length group) b) t at)
+      ap (λ q. is_said_and_short reach (group_message run group) run q p) (element_passes-at group b (λ (t : Telegram). is_silent run t.header.dup (length group) b) t at)
 
   pub profile_as : (k : ℕ) (t : Telegram) (p : TrackPacket) → At group b t → At t.packets k p
-      → passes_at (packets_at group (Some b)) k (is_short_profile reach (speech_of group) run (Some b)) ≡ is_said_and_short reach (group_message run group) run (is_silent run t.header.dup (length group) b) p
+      → element_passes (packets_at group (Some b)) k (is_short_profile reach (speech_of group) run (Some b)) ≡ is_said_and_short reach (group_message run group) run (is_silent run t.header.dup (length group) b) p
   profile_as k t p at at' = packet_as group b k (is_short_profile reach (speech_of group) run (Some b)) t p at at' ∙ short_as t p at
 
   pub none_short : (k : ℕ) → ((t : Telegram) (p : TrackPacket) → At group b t → At t.packets k p → is_said_and_short reach (group_message run group) run (is_silent run t.header.dup (length group) b) p ≡ false)
-      → passes_at (packets_at group (Some b)) k (is_short_profile reach (speech_of group) run (Some b)) ≡ false
-  none_short k h = failing (packets_at group (Some b)) k (is_short_profile reach (speech_of group) run (Some b)) (λ p at.
+      → element_passes (packets_at group (Some b)) k (is_short_profile reach (speech_of group) run (Some b)) ≡ false
+  none_short k h = element_passes-none (packets_at group (Some b)) k (is_short_profile reach (speech_of group) run (Some b)) (λ p at.
       let s = packet_stands group b k p at in
       short_as s.0 p s.1 ∙ h s.0 p s.1 s.2)
 
@@ -91,7 +81,7 @@ module _ (used : Bool) (aspects : Aspects) where
   pub aspect_stands : (a : ℕ) (group : Telegrams) → At aspects a group → (rule : Rule) (aspect : Option ℕ) (run : Option Run) (b k : Option ℕ) → NamesAspect aspects a aspect
       → aspect_fact (first_aspect aspects) (take a aspects) group rule run b k ≡ true → group_fact used aspects rule aspect run b k ≡ true
   aspect_stands a group at rule aspect run b k names h =
-      let here : fact_of_aspect aspects a rule run b k ≡ true = passes_as aspects a (λ group. aspect_fact (first_aspect aspects) (take a aspects) group rule run b k) group at ∙ h in
+      let here : fact_of_aspect aspects a rule run b k ≡ true = element_passes-at aspects a (λ group. aspect_fact (first_aspect aspects) (take a aspects) group rule run b k) group at ∙ h in
       elim (cases_lt 1 (length aspects)) [
         | inl many ↦ subst (λ o. group_fact used aspects rule o run b k ≡ true) (sym (names.0 many)) (and_from (ltb 1 (length aspects)) _ (lt-ltb 1 (length aspects) many) here)
         | inr few ↦

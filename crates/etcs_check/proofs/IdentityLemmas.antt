@@ -11,6 +11,7 @@ use Rattle.std.proofs.lemmas.Option.{none-some, slice_get_within, get_or_from_sl
 use mathlib.Core.Logic.{inl, inr}
 use Rattle.etcs_bits.specs.declared.variables.identity.Identity.{Identity}
 use Rattle.etcs_telegram.specs.Record.{Telegram}
+use Rattle.etcs_group.specs.Group.{Aspects}
 use Rattle.etcs_group.specs.Places.{At}
 use Rattle.etcs_group.proofs.PlaceLemmas.{At-take, at_list_any, list_any-none}
 use Rattle.etcs_check.specs.Duplicates.{same_identity}
@@ -21,7 +22,7 @@ use Rattle.etcs_check.specs.declared.finding.Rule.TheVariants as rules
 use Rattle.etcs_check.specs.declared.finding.Site.TheVariants as sites
 use Rattle.etcs_check.proofs.CellLemmas.{group_silent}
 use Rattle.etcs_check.proofs.FindingLemmas.{for_each-says}
-use Rattle.etcs_check.specs.Identities.{number_of_identity, identity_number, HasIdentity, HaveIdentities, has_bit, is_marked, is_among, HasSeen, HasNoRepeat, HasRepeat}
+use Rattle.etcs_check.specs.Identities.{number_of_identity, identity_number, HasIdentity, HaveIdentities, has_bit, is_marked, is_among, HasNoRepeat, HasRepeat}
 use Rattle.etcs_check.specs.Soundness.{identity_of, group_identity}
 use Rattle.etcs_check.proofs.NoteLemmas.{each_stands}
 use Rattle.etcs_check.proofs.NumberLemmas.{identity_same, same_identity-says, same_identity-is}
@@ -87,6 +88,10 @@ unmarked n p lt =
     ap (λ v. has_bit v (p % 64)) (get_or-replicate n (p / 64) 0 0 word) ∙ ap (λ v. eqb v 1) (bit_at-zero (p % 64))
 
 -- ---- one more group
+
+-- Of the n identities from base on, only the identities of these groups are marked.
+abbrev pub HasSeen : ℕ → ℕ → List ℕ → List Aspects → Type 0
+HasSeen base n table groups = (p : ℕ) → p < n → is_marked table p ≡ is_among groups (base + p)
 
 pub among_more : (groups : List (List (List Telegram))) (i : ℕ) (g : List (List Telegram)) (x : ℕ) → At groups i g → is_among (take (i + 1) groups) x ≡ (is_among (take i groups) x || eqb (identity_number g) x)
 among_more groups i g x at =

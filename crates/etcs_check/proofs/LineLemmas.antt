@@ -14,7 +14,7 @@ use Rattle.etcs_radio.specs.declared.message.Message.{Message}
 use Rattle.etcs_radio.specs.declared.message.Message.TheVariants as messages
 use Rattle.etcs_telegram.specs.Record.{Telegram}
 use Rattle.etcs_group.specs.Places.{At}
-use Rattle.etcs_group.proofs.PlaceLemmas.{some_at, At-take, at_take}
+use Rattle.etcs_group.proofs.PlaceLemmas.{element_passes-at, some_at, At-take, at_take}
 use Rattle.etcs_group.specs.Group.{is_modelled}
 use Rattle.etcs_group.specs.Controlled.{IsControlled}
 use Rattle.etcs_check.specs.Aspects.{is_used}
@@ -32,7 +32,7 @@ use Rattle.etcs_check.specs.declared.finding.Site.{Site}
 use Rattle.etcs_check.specs.declared.finding.Site.TheVariants as sites
 use Rattle.etcs_check.proofs.AspectLemmas.{first_long, sound_group, group_parts}
 use Rattle.etcs_check.proofs.CellLemmas.{HasNoGroupFact, each_fact_is_listed, findings_state, message_states}
-use Rattle.etcs_check.proofs.FactLemmas.{passed, passes_as, group_means, aspect_stands}
+use Rattle.etcs_check.proofs.FactLemmas.{passed, group_means, aspect_stands}
 use Rattle.etcs_check.proofs.IdentityLemmas.{identity-at, unused-is, unused-says}
 use Rattle.etcs_check.proofs.MemberLemmas.{none_at, at-filter, filter-at}
 use Rattle.etcs_check.proofs.PartLemmas.{aspect_holds, aspect_unbroken, whole_holds, whole_unbroken, message_holds, message_unbroken, message_whole}
@@ -128,18 +128,18 @@ module _ (groups : List (List (List Telegram))) (messages : List Message) where
   group_law g aspects at controlled =
       let used = is_used (take g groups) aspects in (
         λ silent. silent_sound (IsNew groups g aspects) used aspects controlled (new-says groups g aspects controlled) (λ rule aspect run b k.
-            sym (passes_as groups g (λ aspects. group_fact (is_used (take g groups) aspects) aspects rule aspect run b k) aspects at)
+            sym (element_passes-at groups g (λ aspects. group_fact (is_used (take g groups) aspects) aspects rule aspect run b k) aspects at)
             ∙ silent (record { rule = rule; site = sites.Group g; aspect = aspect; dir = run; balise = b; packet = k }) refl),
-        λ sound f e. passes_as groups g (λ aspects. group_fact (is_used (take g groups) aspects) aspects f.rule f.aspect f.dir f.balise f.packet) aspects at
+        λ sound f e. element_passes-at groups g (λ aspects. group_fact (is_used (take g groups) aspects) aspects f.rule f.aspect f.dir f.balise f.packet) aspects at
             ∙ sound_silent (IsNew groups g aspects) used aspects controlled (new-is groups g aspects) sound f.rule f.aspect f.dir f.balise f.packet,
       )
 
   pub message_law : (i : ℕ) (m : Message) → At messages i m → IsSilent groups messages (sites.Message i) ↔ IsSoundMessage m
   message_law i m at = (
     λ silent. message_sound m (λ rule run b k. message_holds m rule run b k (
-        sym (passes_as messages i (λ m. message_fact m rule None run b k) m at)
+        sym (element_passes-at messages i (λ m. message_fact m rule None run b k) m at)
         ∙ silent (record { rule = rule; site = sites.Message i; aspect = None; dir = run; balise = b; packet = k }) refl)),
-    λ sound f e. passes_as messages i (λ m. message_fact m f.rule f.aspect f.dir f.balise f.packet) m at ∙ false_from_ne_true _ (λ h.
+    λ sound f e. element_passes-at messages i (λ m. message_fact m f.rule f.aspect f.dir f.balise f.packet) m at ∙ false_from_ne_true _ (λ h.
         both_ways _ (message_unbroken m f.rule f.dir f.balise f.packet (sound_message m sound f.rule f.dir f.balise f.packet))
         (subst (λ o. message_fact m f.rule o f.dir f.balise f.packet ≡ true) (message_whole m f.rule f.aspect f.dir f.balise f.packet h) h)),
   )

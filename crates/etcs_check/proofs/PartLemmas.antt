@@ -10,18 +10,19 @@ use Rattle.etcs_profile.specs.declared.reach.Reach.{Reach}
 use Rattle.etcs_radio.specs.declared.message.Message.{Message}
 use Rattle.etcs_radio.specs.declared.message.Message.TheVariants as messages
 use Rattle.etcs_telegram.specs.Record.{Telegram}
-use Rattle.etcs_group.specs.Places.{At}
+use Rattle.etcs_group.specs.Places.{At, element_passes}
 use Rattle.etcs_group.specs.Packets.{is_silent, group_message}
 use Rattle.etcs_group.specs.Controlled.{IsControlled}
 use Rattle.etcs_check.specs.Profiles.{gradient_reach, speed_reach}
 use Rattle.etcs_check.specs.Soundness.{first_aspect}
 use Rattle.etcs_check.specs.Findings.{header_differs, mark_differs, balise_fact, pair_differs, is_unmodelled}
 use Rattle.etcs_check.specs.Aspects.{is_ambiguous}
-use Rattle.etcs_check.specs.Facts.{passes_at, packets_at, speech_of, speech_in, is_short_profile, packet_fact, aspect_fact, whole_fact, message_fact}
+use Rattle.etcs_check.specs.Facts.{packets_at, speech_of, speech_in, is_short_profile, packet_fact, aspect_fact, whole_fact, message_fact}
 use Rattle.etcs_check.specs.Violation.{AspectPart, GroupPart, PacketsPart, MessagePart, IsLongAt}
 use Rattle.etcs_check.specs.declared.finding.Rule.{Rule}
 use Rattle.etcs_check.specs.declared.finding.Rule.TheVariants as rules
-use Rattle.etcs_check.proofs.FactLemmas.{passes_as, failing, packet_stands, packet_as, profile_as, none_short}
+use Rattle.etcs_group.proofs.PlaceLemmas.{element_passes-at, element_passes-none}
+use Rattle.etcs_check.proofs.FactLemmas.{packet_stands, packet_as, profile_as, none_short}
 use Rattle.etcs_check.proofs.FormedLemmas.{alike-says, inside-says, answered-says, counter-says, first_counter-is, alike_first, inside-is, answered-is, equal-is}
 use Rattle.etcs_check.proofs.ProfileLemmas.{one-from_lacks, lacks-from_one, at-long, long-at}
 use Rattle.etcs_check.proofs.SoundLemmas.{pair-equal, pair-says}
@@ -41,17 +42,17 @@ module _ (aspects : List (List Telegram)) (a : ℕ) (group : List Telegram) wher
   abbrev fact : Rule → ℕ → Telegram → Bool
   fact rule = balise_fact (first_aspect aspects) (take a aspects) group rule
 
-  at : (rule : Rule) (b : ℕ) → passes_at group b (fact rule b) ≡ false → (t : Telegram) → At group b t → fact rule b t ≡ false
-  at rule b none t here = sym (passes_as group b (fact rule b) t here) ∙ none
+  at : (rule : Rule) (b : ℕ) → element_passes group b (fact rule b) ≡ false → (t : Telegram) → At group b t → fact rule b t ≡ false
+  at rule b none t here = sym (element_passes-at group b (fact rule b) t here) ∙ none
 
-  none_at : (rule : Rule) (b : ℕ) → ((t : Telegram) → At group b t → fact rule b t ≡ false) → passes_at group b (fact rule b) ≡ false
-  none_at rule b h = failing group b (fact rule b) h
+  none_at : (rule : Rule) (b : ℕ) → ((t : Telegram) → At group b t → fact rule b t ≡ false) → element_passes group b (fact rule b) ≡ false
+  none_at rule b h = element_passes-none group b (fact rule b) h
 
-  long_at : (reach : TrackPacket → Option Reach) (run : Run) (b k : ℕ) → passes_at (packets_at group (Some b)) k (is_short_profile reach (speech_of group) run (Some b)) ≡ false → IsLongAt reach group run b k
+  long_at : (reach : TrackPacket → Option Reach) (run : Run) (b k : ℕ) → element_passes (packets_at group (Some b)) k (is_short_profile reach (speech_of group) run (Some b)) ≡ false → IsLongAt reach group run b k
   long_at reach run b k none t p here there =
       at-long reach (group_message run group) run (is_silent run t.header.dup (length group) b) p (sym (profile_as reach group run b k t p here there) ∙ none)
 
-  none_short_at : (reach : TrackPacket → Option Reach) (run : Run) (b k : ℕ) → IsLongAt reach group run b k → passes_at (packets_at group (Some b)) k (is_short_profile reach (speech_of group) run (Some b)) ≡ false
+  none_short_at : (reach : TrackPacket → Option Reach) (run : Run) (b k : ℕ) → IsLongAt reach group run b k → element_passes (packets_at group (Some b)) k (is_short_profile reach (speech_of group) run (Some b)) ≡ false
   none_short_at reach run b k part = none_short reach group run b k (λ t p here there.
       long-at reach (group_message run group) run (is_silent run t.header.dup (length group) b) p (part t p here there))
 
@@ -65,7 +66,7 @@ module _ (aspects : List (List Telegram)) (a : ℕ) (group : List Telegram) wher
   aspect_holds rules.CountersDiffer None (Some b) None none = λ j t u here low first.
       same_Some t.header.counter u.header.counter (sym (counter-says group t (at rules.CountersDiffer b none t here) low) ∙ first_counter-is group j u first)
   aspect_holds rules.DuplicatesDiffer (Some run) (Some b) None none = λ t u here next.
-      pair-equal run t u (ap (pair_differs run t) (sym next) ∙ sym (passes_as group b (λ t. pair_differs run t (slice_get group (b + 1))) t here) ∙ none)
+      pair-equal run t u (ap (pair_differs run t) (sym next) ∙ sym (element_passes-at group b (λ t. pair_differs run t (slice_get group (b + 1))) t here) ∙ none)
   aspect_holds rules.NotModelled None (Some b) (Some k) none = λ t p here there. not-false _ (sym (packet_as group b k is_unmodelled t p here there) ∙ none)
   aspect_holds rules.NoGradient (Some run) None None none = one-from_lacks gradient_reach (group_message run group) none
   aspect_holds rules.GradientShort (Some run) (Some b) (Some k) none = long_at gradient_reach run b k none
@@ -84,10 +85,10 @@ module _ (aspects : List (List Telegram)) (a : ℕ) (group : List Telegram) wher
   aspect_unbroken rules.MarkUnanswered None (Some b) None part = none_at rules.MarkUnanswered b (λ t here. answered-is group b part)
   aspect_unbroken rules.CounterUnfit None (Some b) None part = none_at rules.CounterUnfit b (λ t here. ne_eqb _ _ (part t here))
   aspect_unbroken rules.CountersDiffer None (Some b) None part = none_at rules.CountersDiffer b (λ t here. equal-is group b t here (λ j u low first. part j t u here low first))
-  aspect_unbroken rules.DuplicatesDiffer (Some run) (Some b) None part = failing group b (λ t. pair_differs run t (slice_get group (b + 1))) (λ t here. false_from_ne_true _ (λ differs.
+  aspect_unbroken rules.DuplicatesDiffer (Some run) (Some b) None part = element_passes-none group b (λ t. pair_differs run t (slice_get group (b + 1))) (λ t here. false_from_ne_true _ (λ differs.
       let p = pair-says run t (slice_get group (b + 1)) differs in
       p.4 (part t p.0 here p.1 p.2 p.3)))
-  aspect_unbroken rules.NotModelled None (Some b) (Some k) part = failing (packets_at group (Some b)) k is_unmodelled (λ p here.
+  aspect_unbroken rules.NotModelled None (Some b) (Some k) part = element_passes-none (packets_at group (Some b)) k is_unmodelled (λ p here.
       let s = packet_stands group b k p here in
       not_from_true _ (part s.0 p s.1 s.2))
   aspect_unbroken rules.NoGradient (Some run) None None part = lacks-from_one gradient_reach (group_message run group) part
@@ -101,7 +102,7 @@ module _ (aspects : List (List Telegram)) (a : ℕ) (group : List Telegram) wher
   aspect_unbroken rules.NotModelled None None (Some k) part = refl
   aspect_unbroken rules.GradientShort (Some run) None (Some k) part = refl
   aspect_unbroken rules.SpeedShort (Some run) None (Some k) part = refl
-  aspect_unbroken rule None (Some b) None part = failing group b (fact rule b) (λ t here. refl)
+  aspect_unbroken rule None (Some b) None part = element_passes-none group b (fact rule b) (λ t here. refl)
   aspect_unbroken rule run b k part = refl
 
 -- ---- a group as a whole
@@ -110,35 +111,35 @@ module _ (new : Type 0) (used : Bool) (aspects : List (List Telegram)) (controll
   pub whole_holds : (used ≡ false → new) → (rule : Rule) (run : Option Run) (b k : Option ℕ) → whole_fact used aspects rule run b k ≡ false → GroupPart new aspects rule run b k
   whole_holds is_new rules.IdentityUsed None None None none = is_new none
   whole_holds is_new rules.NotToldApart None (Some b) None none = λ many.
-      told_place aspects controlled many b (λ f at. sym (passes_as (first_aspect aspects) b (is_ambiguous aspects b) f at) ∙ none)
+      told_place aspects controlled many b (λ f at. sym (element_passes-at (first_aspect aspects) b (is_ambiguous aspects b) f at) ∙ none)
   whole_holds is_new rule run b k none = tt
 
   pub whole_unbroken : (new → used ≡ false) → (rule : Rule) (run : Option Run) (b k : Option ℕ) → GroupPart new aspects rule run b k → whole_fact used aspects rule run b k ≡ false
   whole_unbroken unused rules.IdentityUsed None None None part = unused part
-  whole_unbroken unused rules.NotToldApart None (Some b) None part = failing (first_aspect aspects) b (is_ambiguous aspects b) (λ t at. untold-is aspects controlled b t at part)
+  whole_unbroken unused rules.NotToldApart None (Some b) None part = element_passes-none (first_aspect aspects) b (is_ambiguous aspects b) (λ t at. untold-is aspects controlled b t at part)
   whole_unbroken unused rule run b k part = refl
 
 -- ---- messages
 
 module _ (packets : List TrackPacket) where
   packets_hold : (rule : Rule) (run : Option Run) (b k : Option ℕ) → packet_fact (speech_in packets) rule run b k ≡ false → PacketsPart packets rule run b k
-  packets_hold rules.NotModelled None None (Some k) none = λ p at. not-false _ (sym (passes_as packets k is_unmodelled p at) ∙ none)
+  packets_hold rules.NotModelled None None (Some k) none = λ p at. not-false _ (sym (element_passes-at packets k is_unmodelled p at) ∙ none)
   packets_hold rules.NoGradient (Some run) None None none = one-from_lacks gradient_reach (filter (holds run) packets) none
   packets_hold rules.GradientShort (Some run) None (Some k) none = λ p at.
-      at-long gradient_reach (filter (holds run) packets) run false p (sym (passes_as packets k (is_short_profile gradient_reach (speech_in packets) run None) p at) ∙ none) refl
+      at-long gradient_reach (filter (holds run) packets) run false p (sym (element_passes-at packets k (is_short_profile gradient_reach (speech_in packets) run None) p at) ∙ none) refl
   packets_hold rules.NoSpeed (Some run) None None none = one-from_lacks speed_reach (filter (holds run) packets) none
   packets_hold rules.SpeedShort (Some run) None (Some k) none = λ p at.
-      at-long speed_reach (filter (holds run) packets) run false p (sym (passes_as packets k (is_short_profile speed_reach (speech_in packets) run None) p at) ∙ none) refl
+      at-long speed_reach (filter (holds run) packets) run false p (sym (element_passes-at packets k (is_short_profile speed_reach (speech_in packets) run None) p at) ∙ none) refl
   packets_hold rule run b k none = tt
 
   packets_unbroken : (rule : Rule) (run : Option Run) (b k : Option ℕ) → PacketsPart packets rule run b k → packet_fact (speech_in packets) rule run b k ≡ false
-  packets_unbroken rules.NotModelled None None (Some k) part = failing packets k is_unmodelled (λ p at. not_from_true _ (part p at))
+  packets_unbroken rules.NotModelled None None (Some k) part = element_passes-none packets k is_unmodelled (λ p at. not_from_true _ (part p at))
   packets_unbroken rules.NoGradient (Some run) None None part = lacks-from_one gradient_reach (filter (holds run) packets) part
   packets_unbroken rules.GradientShort (Some run) None (Some k) part =
-      failing packets k (is_short_profile gradient_reach (speech_in packets) run None) (λ p at. long-at gradient_reach (filter (holds run) packets) run false p (λ _. part p at))
+      element_passes-none packets k (is_short_profile gradient_reach (speech_in packets) run None) (λ p at. long-at gradient_reach (filter (holds run) packets) run false p (λ _. part p at))
   packets_unbroken rules.NoSpeed (Some run) None None part = lacks-from_one speed_reach (filter (holds run) packets) part
   packets_unbroken rules.SpeedShort (Some run) None (Some k) part =
-      failing packets k (is_short_profile speed_reach (speech_in packets) run None) (λ p at. long-at speed_reach (filter (holds run) packets) run false p (λ _. part p at))
+      element_passes-none packets k (is_short_profile speed_reach (speech_in packets) run None) (λ p at. long-at speed_reach (filter (holds run) packets) run false p (λ _. part p at))
   packets_unbroken rules.NotModelled None (Some b) (Some k) part = refl
   packets_unbroken rules.GradientShort (Some run) (Some b) (Some k) part = refl
   packets_unbroken rules.SpeedShort (Some run) (Some b) (Some k) part = refl

@@ -12,11 +12,11 @@ use Rattle.etcs_profile.specs.declared.track.TrackPacket.{TrackPacket}
 use Rattle.etcs_telegram.specs.Record.{Telegram}
 use Rattle.etcs_group.specs.Group.{Telegrams, Aspects}
 use Rattle.etcs_group.specs.Packets.{is_silent, group_message}
-use Rattle.etcs_group.specs.Places.{At}
+use Rattle.etcs_group.specs.Places.{At, element_passes}
 use Rattle.etcs_check.specs.Aspects.{is_ambiguous, site_spot}
 use Rattle.etcs_check.specs.Line.{none_and, directions, rules_at, cells_at, cells_of, group_cells}
 use Rattle.etcs_check.specs.Walk.{unmodelled_at, unmodelled_in, ambiguous_at, pair_at}
-use Rattle.etcs_check.specs.Facts.{passes_at, packets_at, packets_alone, speech_in, is_short_profile, packet_fact, aspect_fact, whole_fact, fact_of_aspect, group_fact}
+use Rattle.etcs_check.specs.Facts.{packets_at, packets_alone, speech_in, is_short_profile, packet_fact, aspect_fact, whole_fact, fact_of_aspect, group_fact}
 use Rattle.etcs_check.specs.Findings.{all_rules, balise_fact, finding_of, for_each, for_directions, is_said_and_short, is_unmodelled, lacks, noted, pair_differs}
 use Rattle.etcs_check.specs.Profiles.{gradient_reach, speed_reach}
 use Rattle.etcs_check.specs.Soundness.{first_aspect}
@@ -25,7 +25,8 @@ use Rattle.etcs_check.specs.declared.finding.Rule.{Rule}
 use Rattle.etcs_check.specs.declared.finding.Rule.TheVariants as rules
 use Rattle.etcs_check.specs.declared.finding.Site.{Site}
 use Rattle.etcs_check.specs.declared.finding.Spot.{Spot}
-use Rattle.etcs_check.proofs.FactLemmas.{passes_as, failing, packets_as, packet_as, profile_as}
+use Rattle.etcs_group.proofs.PlaceLemmas.{element_passes-at, element_passes-none}
+use Rattle.etcs_check.proofs.FactLemmas.{packets_as, packet_as, profile_as}
 use Rattle.etcs_check.proofs.SaidLemmas.{or_false}
 use Rattle.etcs_check.proofs.FindingLemmas.{for_each-same}
 
@@ -144,8 +145,8 @@ module _ (p : Finding → Bool) (spot : Spot) where
 -- the result of the test of an aspect at each place
 module _ (first : Telegrams) (before : Aspects) (group : Telegrams) where
   pub says_balise : (b : ℕ) (t : Telegram) → At group b t → (rule : Rule) → aspect_fact first before group rule None (Some b) None ≡ balise_fact first before group rule b t
-  says_balise b t at rules.PositionWrong = passes_as group b (balise_fact first before group rules.PositionWrong b) t at
-  says_balise b t at rule = passes_as group b (balise_fact first before group rule b) t at
+  says_balise b t at rules.PositionWrong = element_passes-at group b (balise_fact first before group rules.PositionWrong b) t at
+  says_balise b t at rule = element_passes-at group b (balise_fact first before group rule b) t at
 
   pub says_packet : (b : ℕ) (t : Telegram) (k : ℕ) (q : TrackPacket) → At group b t → At t.packets k q → (rule : Rule) → aspect_fact first before group rule None (Some b) (Some k) ≡ unmodelled_test q rule
   says_packet b t k q at at' rules.NotModelled = packet_as group b k is_unmodelled t q at at'
@@ -160,7 +161,7 @@ module _ (first : Telegrams) (before : Aspects) (group : Telegrams) where
   pair_test run b t rule = false
 
   pub says_pair : (run : Run) (b : ℕ) (t : Telegram) → At group b t → (rule : Rule) → aspect_fact first before group rule (Some run) (Some b) None ≡ pair_test run b t rule
-  says_pair run b t at rules.DuplicatesDiffer = passes_as group b (λ t. pair_differs run t (slice_get group (b + 1))) t at
+  says_pair run b t at rules.DuplicatesDiffer = element_passes-at group b (λ t. pair_differs run t (slice_get group (b + 1))) t at
   says_pair run b t at rule = refl
 
   pub says_profile : (run : Run) (b : ℕ) (t : Telegram) (k : ℕ) (q : TrackPacket) → At group b t → At t.packets k q → (rule : Rule)
@@ -201,7 +202,7 @@ module _ (p : Finding → Bool) (spot : Spot) (packets : List TrackPacket) (same
   no_rule rule = refl
 
   packet_says : (k : ℕ) (q : TrackPacket) → At packets k q → (rule : Rule) → packet_fact (speech_in packets) rule None None (Some k) ≡ unmodelled_test q rule
-  packet_says k q at rules.NotModelled = passes_as packets k is_unmodelled q at
+  packet_says k q at rules.NotModelled = element_passes-at packets k is_unmodelled q at
   packet_says k q at rule = refl
 
   said_says : (run : Run) (rule : Rule) → packet_fact (speech_in packets) rule (Some run) None None ≡ lack_test (filter (holds run) packets) rule
@@ -209,8 +210,8 @@ module _ (p : Finding → Bool) (spot : Spot) (packets : List TrackPacket) (same
   said_says run rule = refl
 
   profile_says : (run : Run) (k : ℕ) (q : TrackPacket) → At packets k q → (rule : Rule) → packet_fact (speech_in packets) rule (Some run) None (Some k) ≡ short_test (filter (holds run) packets) run false q rule
-  profile_says run k q at rules.GradientShort = passes_as packets k (is_short_profile gradient_reach (speech_in packets) run None) q at
-  profile_says run k q at rules.SpeedShort = passes_as packets k (is_short_profile speed_reach (speech_in packets) run None) q at
+  profile_says run k q at rules.GradientShort = element_passes-at packets k (is_short_profile gradient_reach (speech_in packets) run None) q at
+  profile_says run k q at rules.SpeedShort = element_passes-at packets k (is_short_profile speed_reach (speech_in packets) run None) q at
   profile_says run k q at rule = refl
 
   cells_in : (run : Option Run) → filter p (flat_map (rules_at spot run None) (none_and (length packets)) ++ []) ≡ filter p (rules_at spot run None None) ++ for_each packets (λ k q. filter p (rules_at spot run None (Some k)))
@@ -254,10 +255,10 @@ module _ (used : Bool) (aspects : Aspects) (site : Site) where
 
     few_is : (rule : Rule) (run : Option Run) (b k : Option ℕ) → (not (ltb 1 (length aspects)) && fact_of_aspect aspects 0 rule run b k) ≡ aspect_fact only [] only rule run b k
     few_is rule run b k = ap (λ q. not q && fact_of_aspect aspects 0 rule run b k) (le-ltb 1 (length aspects) few)
-        ∙ passes_as aspects 0 (λ group. aspect_fact only (take 0 aspects) group rule run b k) only at
+        ∙ element_passes-at aspects 0 (λ group. aspect_fact only (take 0 aspects) group rule run b k) only at
 
-    unambiguous : (b : ℕ) → passes_at only b (is_ambiguous aspects b) ≡ false
-    unambiguous b = failing only b (is_ambiguous aspects b) (λ t at. and_left (ltb 1 (length aspects)) _ (le-ltb 1 (length aspects) few))
+    unambiguous : (b : ℕ) → element_passes only b (is_ambiguous aspects b) ≡ false
+    unambiguous b = element_passes-none only b (is_ambiguous aspects b) (λ t at. and_left (ltb 1 (length aspects)) _ (le-ltb 1 (length aspects) few))
 
     pub few_alone : (rule : Rule) (b : ℕ) (k : Option ℕ) → of_group (finding_of rule (site_spot site) None (Some b) k) ≡ aspect_fact only [] only rule None (Some b) k
     few_alone rules.NotToldApart b None = ap (λ q. q || (not (ltb 1 (length aspects)) && fact_of_aspect aspects 0 rules.NotToldApart None (Some b) None)) (unambiguous b) ∙ few_is rules.NotToldApart None (Some b) None
@@ -291,7 +292,7 @@ module _ (used : Bool) (aspects : Aspects) (site : Site) where
     pub named_is : (a : ℕ) (group : Telegrams) → At aspects a group → (rule : Rule) (run : Option Run) (b k : Option ℕ)
         → of_group (finding_of rule (record { site = site; aspect = Some a }) run b k) ≡ aspect_fact (first_aspect aspects) (take a aspects) group rule run b k
     named_is a group at rule run b k = ap (λ q. q && fact_of_aspect aspects a rule run b k) (lt-ltb 1 (length aspects) many)
-        ∙ passes_as aspects a (λ group. aspect_fact (first_aspect aspects) (take a aspects) group rule run b k) group at
+        ∙ element_passes-at aspects a (λ group. aspect_fact (first_aspect aspects) (take a aspects) group rule run b k) group at
 
     abbrev pub named_leaves : (a : ℕ) (group : Telegrams) → At aspects a group → Leaves of_group (record { site = site; aspect = Some a }) group
     named_leaves a group at = leaves_of (first_aspect aspects) (take a aspects) group of_group (record { site = site; aspect = Some a }) []
@@ -310,7 +311,7 @@ module _ (used : Bool) (aspects : Aspects) (site : Site) where
     says_whole rule = refl
 
     pub says_ambiguous : (b : ℕ) (t : Telegram) → At (first_aspect aspects) b t → (rule : Rule) → whole_fact used aspects rule None (Some b) None ≡ ambiguous_test b t rule
-    says_ambiguous b t at rules.NotToldApart = passes_as (first_aspect aspects) b (is_ambiguous aspects b) t at
+    says_ambiguous b t at rules.NotToldApart = element_passes-at (first_aspect aspects) b (is_ambiguous aspects b) t at
     says_ambiguous b t at rule = refl
 
     pub says_no_packet : (b k : ℕ) (rule : Rule) → whole_fact used aspects rule None (Some b) (Some k) ≡ false

@@ -28,7 +28,8 @@ use Rattle.etcs_check.specs.declared.finding.Rule.TheVariants as rules
 use Rattle.etcs_check.specs.declared.finding.Site.{Site}
 use Rattle.etcs_check.specs.declared.finding.Site.TheVariants as sites
 use Rattle.etcs_check.proofs.CellLemmas.{each_fact_is_listed, findings_state}
-use Rattle.etcs_check.proofs.FactLemmas.{passed, passes_as, group_means, aspect_stands}
+use Rattle.etcs_group.proofs.PlaceLemmas.{element_passes-at}
+use Rattle.etcs_check.proofs.FactLemmas.{passed, group_means, aspect_stands}
 use Rattle.etcs_check.proofs.LineLemmas.{new-is, new-says, no_finding_means_sound_line}
 use Rattle.etcs_check.proofs.PairLemmas.{duplicates-equal, only-covered}
 use Rattle.etcs_check.proofs.PartLemmas.{aspect_holds, aspect_unbroken, whole_holds, whole_unbroken, message_holds, message_unbroken, message_whole}
@@ -95,14 +96,14 @@ module _ (groups : List (List (List Telegram))) (messages : List Message) (f : F
   parts_hold (sites.Group g) none = λ aspects at.
       let used = is_used (take g groups) aspects in
       let silent : group_fact used aspects f.rule f.aspect f.dir f.balise f.packet ≡ false =
-      sym (passes_as groups g (λ aspects. group_fact (is_used (take g groups) aspects) aspects f.rule f.aspect f.dir f.balise f.packet) aspects at) ∙ none in (
+      sym (element_passes-at groups g (λ aspects. group_fact (is_used (take g groups) aspects) aspects f.rule f.aspect f.dir f.balise f.packet) aspects at) ∙ none in (
         λ whole. whole_holds (IsNew groups g aspects) used aspects (controlled g aspects at) (new-says groups g aspects (controlled g aspects at)) f.rule f.dir f.balise f.packet
             (or_parts (whole_fact used aspects f.rule f.dir f.balise f.packet) _ (subst (λ o. group_fact used aspects f.rule o f.dir f.balise f.packet ≡ false) whole silent)).0,
         λ a group there names. aspect_holds aspects a group f.rule f.dir f.balise f.packet (false_from_ne_true _ (λ h.
             both_ways _ silent (aspect_stands used aspects a group there f.rule f.aspect f.dir f.balise f.packet names h))),
       )
   parts_hold (sites.Message i) none = λ m at whole. message_holds m f.rule f.dir f.balise f.packet
-      (subst (λ o. message_fact m f.rule o f.dir f.balise f.packet ≡ false) whole (sym (passes_as messages i (λ m. message_fact m f.rule f.aspect f.dir f.balise f.packet) m at) ∙ none))
+      (subst (λ o. message_fact m f.rule o f.dir f.balise f.packet ≡ false) whole (sym (element_passes-at messages i (λ m. message_fact m f.rule f.aspect f.dir f.balise f.packet) m at) ∙ none))
 
 pub findings_are_facts : FindingsAreFacts
 findings_are_facts groups messages i f h =

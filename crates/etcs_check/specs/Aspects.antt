@@ -1,11 +1,12 @@
 -- The facts against a controlled group, whose lineside unit selects among aspects (this project's rules,
 -- after SUBSET-026, 3.16.2). Each aspect has facts of its own. The group as a whole has the facts about its
 -- identity, and about the counters that distinguish its aspects.
-use Rattle.std.specs.Prelude.{ℕ, ◌==◌, ◌&&◌, ◌||◌, nat_lt, Bool, false, not, List, length, slice_get, None}
+use Rattle.std.specs.Prelude.{ℕ, ◌==◌, ◌&&◌, ◌||◌, nat_lt, Bool, false, not, List, length, None}
 use Rattle.std.specs.List.{list_any, list_all}
 use Rattle.std.specs.Option.{option_map_or}
 use Rattle.etcs_telegram.specs.Record.{Telegram}
 use Rattle.etcs_group.specs.Group.{Aspects}
+use Rattle.etcs_group.specs.Places.{element_passes}
 use Rattle.etcs_check.specs.Duplicates.{same_identity, same_telegram}
 use Rattle.etcs_check.specs.Soundness.{group_identity}
 use Rattle.etcs_check.specs.declared.finding.Site.{Site}
@@ -24,7 +25,7 @@ is_used earlier aspects = list_any (λ h. have_one_identity h aspects) earlier
 
 -- each aspect has a telegram at place b that passes the test
 abbrev pub all_at : (Telegram → Bool) → ℕ → Aspects → Bool
-all_at test b aspects = list_all (λ group. option_map_or test (slice_get group b) false) aspects
+all_at test b aspects = list_all (λ group. element_passes group b test) aspects
 
 -- telegram u has the counter 255, and t is the same telegram
 abbrev pub is_steady : Telegram → Telegram → Bool

@@ -10,6 +10,7 @@ use Rattle.etcs_radio.specs.declared.message.Message.{Message}
 use Rattle.etcs_radio.specs.declared.message.Message.TheVariants as messages
 use Rattle.etcs_group.specs.Group.{Telegrams, Aspects}
 use Rattle.etcs_group.specs.Packets.{is_silent, group_message}
+use Rattle.etcs_group.specs.Places.{element_passes}
 use Rattle.etcs_check.specs.Aspects.{is_used, is_ambiguous}
 use Rattle.etcs_check.specs.Findings.{balise_fact, pair_differs, is_unmodelled, lacks, is_said_and_short}
 use Rattle.etcs_check.specs.Profiles.{gradient_reach, speed_reach}
@@ -19,10 +20,6 @@ use Rattle.etcs_check.specs.declared.finding.Rule.{Rule}
 use Rattle.etcs_check.specs.declared.finding.Rule.TheVariants as rules
 use Rattle.etcs_check.specs.declared.finding.Site.{Site}
 use Rattle.etcs_check.specs.declared.finding.Site.TheVariants as sites
-
--- there is an element at place i of the list, and it passes the test
-abbrev pub passes_at : {X : Type 0} → List X → ℕ → (X → Bool) → Bool
-passes_at xs i test = option_map_or test (slice_get xs i) false
 
 -- ---- packets, and the packets of the message
 
@@ -39,7 +36,7 @@ packets_at group (Some b) = option_map_or (λ t. t.packets) (slice_get group b) 
 packets_at group None = []
 
 abbrev pub is_silent_at : Telegrams → Run → Option ℕ → Bool
-is_silent_at group run (Some b) = passes_at group b (λ t. is_silent run t.header.dup (length group) b)
+is_silent_at group run (Some b) = element_passes group b (λ t. is_silent run t.header.dup (length group) b)
 is_silent_at group run None = false
 
 abbrev pub speech_of : Telegrams → Speech
@@ -65,13 +62,13 @@ abbrev pub is_short_profile : (TrackPacket → Option Reach) → Speech → Run 
 is_short_profile reach speech run b p = is_said_and_short reach (speech.said run) run (speech.silent run b) p
 
 abbrev pub packet_fact : Speech → Rule → Option Run → Option ℕ → Option ℕ → Bool
-packet_fact speech rules.NotModelled None b (Some k) = passes_at (speech.packets b) k is_unmodelled
+packet_fact speech rules.NotModelled None b (Some k) = element_passes (speech.packets b) k is_unmodelled
 packet_fact speech rules.NoGradient (Some run) None None = lacks gradient_reach (speech.said run)
 packet_fact speech rules.GradientShort (Some run) b (Some k) =
-    passes_at (speech.packets b) k (is_short_profile gradient_reach speech run b)
+    element_passes (speech.packets b) k (is_short_profile gradient_reach speech run b)
 packet_fact speech rules.NoSpeed (Some run) None None = lacks speed_reach (speech.said run)
 packet_fact speech rules.SpeedShort (Some run) b (Some k) =
-    passes_at (speech.packets b) k (is_short_profile speed_reach speech run b)
+    element_passes (speech.packets b) k (is_short_profile speed_reach speech run b)
 packet_fact speech rule run b k = false
 
 -- ---- aspects, groups, messages and lines
@@ -79,22 +76,22 @@ packet_fact speech rule run b k = false
 -- a fact about an aspect, which is compared with `first`, aspect 0, and with the aspects before it
 abbrev pub aspect_fact : Telegrams → Aspects → Telegrams → Rule → Option Run → Option ℕ → Option ℕ → Bool
 aspect_fact first before group rules.DuplicatesDiffer (Some run) (Some b) None =
-    passes_at group b (λ t. pair_differs run t (slice_get group (b + 1)))
+    element_passes group b (λ t. pair_differs run t (slice_get group (b + 1)))
 aspect_fact first before group rule None (Some b) None =
-    passes_at group b (balise_fact first before group rule b)
+    element_passes group b (balise_fact first before group rule b)
 aspect_fact first before group rule run b k = packet_fact (speech_of group) rule run b k
 
 -- a fact about a group as a whole; `used` says whether an earlier group has its identity
 abbrev pub whole_fact : Bool → Aspects → Rule → Option Run → Option ℕ → Option ℕ → Bool
 whole_fact used aspects rules.IdentityUsed None None None = used
 whole_fact used aspects rules.NotToldApart None (Some b) None =
-    passes_at (first_aspect aspects) b (is_ambiguous aspects b)
+    element_passes (first_aspect aspects) b (is_ambiguous aspects b)
 whole_fact used aspects rule run b k = false
 
 -- a fact about aspect a of a group
 abbrev pub fact_of_aspect : Aspects → ℕ → Rule → Option Run → Option ℕ → Option ℕ → Bool
 fact_of_aspect aspects a rule run b k =
-    passes_at aspects a (λ group. aspect_fact (first_aspect aspects) (take a aspects) group rule run b k)
+    element_passes aspects a (λ group. aspect_fact (first_aspect aspects) (take a aspects) group rule run b k)
 
 -- A fact about a group: if no aspect is named, about the whole group or its only aspect, otherwise about the
 -- named aspect. A single aspect is never named.
@@ -110,10 +107,10 @@ message_fact (messages.Movement m) rule None run b k = packet_fact (speech_in m.
 message_fact m rule aspect run b k = false
 
 abbrev pub fact_at : List Aspects → List Message → Site → Finding → Bool
-fact_at groups messages (sites.Group g) f = passes_at groups g
+fact_at groups messages (sites.Group g) f = element_passes groups g
     (λ aspects. group_fact (is_used (take g groups) aspects) aspects f.rule f.aspect f.dir f.balise f.packet)
 fact_at groups messages (sites.Message i) f =
-    passes_at messages i (λ m. message_fact m f.rule f.aspect f.dir f.balise f.packet)
+    element_passes messages i (λ m. message_fact m f.rule f.aspect f.dir f.balise f.packet)
 
 -- the finding states a fact against the line, as a test
 abbrev pub is_fact : List Aspects → List Message → Finding → Bool

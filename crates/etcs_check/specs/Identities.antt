@@ -37,10 +37,6 @@ is_marked table p = has_bit (slice_index table (p / 64)) (p % 64)
 abbrev pub is_among : List Aspects → ℕ → Bool
 is_among groups n = list_any (λ h. identity_number h == n) groups
 
--- Of the n identities from base on, only the identities of these groups are marked.
-abbrev pub HasSeen : ℕ → ℕ → List ℕ → List Aspects → Type 0
-HasSeen base n table groups = (p : ℕ) → p < n → is_marked table p ≡ is_among groups (base + p)
-
 -- No group whose identity is one of the n from base on has the identity of an earlier group.
 abbrev pub HasNoRepeat : ℕ → ℕ → List Aspects → Type 0
 HasNoRepeat base n groups = (i : ℕ) (g : Aspects) → At groups i g

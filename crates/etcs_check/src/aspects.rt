@@ -1,7 +1,7 @@
 //! The rules by which the aspects of a controlled group are distinguished.
 
-ghost use Rattle.std.specs.Prelude.{◌≡◌, ◌≢◌, ◌<◌, ◌≤◌, ◌++◌, ◌||◌, [], ℕ, false, length, slice_get, Some, OnOk, OnErr};
-ghost use Rattle.std.specs.Option.{option_map_or};
+ghost use Rattle.std.specs.Prelude.{◌≡◌, ◌≢◌, ◌<◌, ◌≤◌, ◌++◌, ◌||◌, [], ℕ, length, Some, OnOk, OnErr};
+ghost use Rattle.etcs_group.specs.Places.{element_passes};
 ghost use Rattle.etcs_telegram.specs.Record.{Telegram};
 ghost use Rattle.etcs_check.specs.Aspects.{all_at, has_aspect_counter, is_steady, is_ambiguous, site_spot};
 ghost use Rattle.etcs_check.specs.Findings.{for_each, has_counter};
@@ -35,7 +35,7 @@ pub(crate) fn first_aspect(aspects: &[Group]) -> &[Telegram]
 
 // Whether an aspect has this telegram at the place, and its counter is 255.
 fn is_steady_in(wanted: &Telegram, group: &[Telegram], place: usize) -> bool
-    ensures { result ≡ option_map_or (is_steady wanted.now) (slice_get group.now place) false }
+    ensures { result ≡ element_passes group.now place (is_steady wanted.now) }
 {
     match group.get(place) {
         Some(telegram) => {
@@ -59,7 +59,7 @@ fn is_steady(wanted: &Telegram, aspects: &[Group], place: usize) -> bool
 
 // Whether an aspect has a counter below 254 at the place.
 fn has_aspect_counter_in(group: &[Telegram], place: usize) -> bool
-    ensures { result ≡ option_map_or has_aspect_counter (slice_get group.now place) false }
+    ensures { result ≡ element_passes group.now place has_aspect_counter }
 {
     match group.get(place) {
         Some(telegram) => telegram.header.counter.number() < 254,

@@ -4,31 +4,15 @@ ghost use Rattle.std.specs.Prelude.{◌≡◌, ◌≢◌, ◌<◌, ◌≤◌, �
 ghost use Rattle.etcs_group.specs.Group.{partner_of};
 ghost use Rattle.etcs_check.specs.Duplicates.{same_mark};
 ghost use Rattle.etcs_check.specs.Findings.{balise_fact, counter_differs, first_counter, differs_from, is_outside, is_unanswered, header_differs, is_unmodelled, mark_differs};
-ghost use Rattle.etcs_check.specs.Walk.{alone_found, balise_found, balise_test, unmodelled_in};
+ghost use Rattle.etcs_check.specs.Walk.{alone_found, balise_test, unmodelled_in};
 ghost use Rattle.etcs_check.specs.declared.finding.Spot.{Spot as SomeSpot};
 
 use crate::aspects::is_taken;
 use crate::finding::{Finding, Rule, Spot, push_if};
-use crate::packet_summary::packets;
 use etcs_bits::{Dup, Memory};
+use etcs_group::partner;
 use etcs_packet::TrackPacket;
 use etcs_telegram::Telegram;
-
-// The place that the duplicate flag of the balise at this place names, if it is in the group.
-fn partner(group: &[Telegram], place: usize) -> Option<usize>
-    requires { length group.now ≤ 8 }
-    ensures { result ≡ partner_of group.now place }
-{
-    if place >= group.len() {
-        return None;
-    }
-    let telegram = &group[place];
-    match telegram.header.dup {
-        Dup::Next if place + 1 < group.len() => Some(place + 1),
-        Dup::Previous if place > 0 => Some(place - 1),
-        _ => None,
-    }
-}
 
 // Whether the number is absent or differs from `wanted`.
 fn differs_from(number: Option<usize>, wanted: usize) -> bool
@@ -220,7 +204,7 @@ fn has_alone(
 }
 
 // Appends a finding for each rule about single balises that the balise breaks.
-fn push_alone(
+pub(crate) fn push_alone(
     found: &mut Vec<Finding>,
     spot: Spot,
     first: &[Telegram],
@@ -280,25 +264,4 @@ pub(crate) fn push_unmodelled(
         )?;
     }
     Ok(())
-}
-
-// Appends the findings about the balise at this place, and about its packets.
-pub(crate) fn push_balise(
-    found: &mut Vec<Finding>,
-    spot: Spot,
-    first: &[Telegram],
-    table: &[u64],
-    group: &[Telegram],
-    place: usize,
-    telegram: &Telegram,
-) -> Result<(), Memory>
-    requires within { place < length group.now }
-    requires few { length group.now ≤ 8 }
-    requires long { length table.now ≡ 4 }
-    ensures ok { OnOk result (found.new.items
-        ≡ found.old.items ++ balise_found first.now table.now spot group.now place telegram.now) }
-    ensures memory { OnErr result (balise_found first.now table.now spot group.now place telegram.now ≢ []) }
-{
-    push_alone(found, spot, first, table, group, place, telegram)?;
-    push_unmodelled(found, spot, Some(place), packets(telegram))
 }

@@ -1,8 +1,12 @@
 //! The rules about movement authorities and the profiles that they need.
 
-ghost use Rattle.std.specs.Prelude.{◌≡◌, ◌≢◌, ◌<◌, ◌++◌, [], length, Some, OnOk, OnErr};
-ghost use Rattle.etcs_check.specs.Findings.{lies_past};
+ghost use Rattle.std.specs.Prelude.{◌≡◌, ◌≢◌, ◌<◌, ◌++◌, [], ℕ, length, Option, Some, OnOk, OnErr};
+ghost use Rattle.std.specs.Option.{option_map_or};
+ghost use Rattle.etcs_profile.specs.Track.{holds};
+ghost use Rattle.etcs_profile.specs.declared.run.Run.{Run as SomeRun};
+ghost use Rattle.etcs_check.specs.Findings.{finding_of, lies_past, noted};
 ghost use Rattle.etcs_check.specs.Walk.{lacks_found, short_at_packet, short_by_balise, short_found};
+ghost use Rattle.etcs_check.specs.declared.finding.Spot.{Spot as SomeSpot};
 
 use crate::finding::{Finding, Rule, Spot, push_if};
 use crate::packet_summary::{PacketSummary, is_silent, packets};
@@ -45,6 +49,19 @@ fn ends_before(reach: Reach, limit: u64) -> bool
     }
 }
 
+// The rule that the packet breaks if it holds, as a profile that ends before the location.
+fn early_rule(packet: &TrackPacket, limit: u64) -> Option<Rule>
+    ensures { (spot : SomeSpot) (run : SomeRun) (b : Option ℕ) (k : ℕ)
+        → short_at_packet spot run (Some limit) b k packet.now ≡ option_map_or
+        (λ rule. noted (holds run packet.now) (finding_of rule spot (Some run) b (Some k))) result [] }
+{
+    match packet {
+        TrackPacket::Gradient(it) if ends_before(it.reach(), limit) => Some(Rule::GradientShort),
+        TrackPacket::Speed(it) if ends_before(it.reach(), limit) => Some(Rule::SpeedShort),
+        _ => None,
+    }
+}
+
 // Appends the finding about a packet, if it is a profile that holds and ends before the location.
 #[inline(always)]
 fn push_early(
@@ -59,32 +76,12 @@ fn push_early(
     ensures ok { OnOk result (found.new.items ≡ found.old.items ++ short_at_packet spot run (Some limit) balise place packet.now) }
     ensures memory { OnErr result (short_at_packet spot run (Some limit) balise place packet.now ≢ []) }
 {
-    match packet {
-        TrackPacket::Gradient(profile) => {
-            let fact = ends_before(profile.reach(), limit) && packet.holds_in(run);
-            push_if(
-                found,
-                fact,
-                Rule::GradientShort,
-                spot,
-                Some(run),
-                balise,
-                Some(place),
-            )
+    match early_rule(packet, limit) {
+        Some(rule) => {
+            let fact = packet.holds_in(run);
+            push_if(found, fact, rule, spot, Some(run), balise, Some(place))
         }
-        TrackPacket::Speed(profile) => {
-            let fact = ends_before(profile.reach(), limit) && packet.holds_in(run);
-            push_if(
-                found,
-                fact,
-                Rule::SpeedShort,
-                spot,
-                Some(run),
-                balise,
-                Some(place),
-            )
-        }
-        _ => Ok(()),
+        None => Ok(()),
     }
 }
 

@@ -1,11 +1,12 @@
 -- Places of a list, tests of the elements there, and the least number that passes.
-use Rattle.std.proofs.Common.{◌≡◌, ℕ, zero, suc, ◌+◌, ◌-◌, ◌<◌, ◌≤◌, Bool, true, false, cond, List, [], ◌∷◌, length, get_or, reverse, take, Option, Some, None, refl, sym, ap, ◌∙◌, arith, add-one}
+use Rattle.std.proofs.Common.{◌≡◌, ℕ, zero, suc, ◌+◌, ◌-◌, ◌<◌, ◌≤◌, Bool, true, false, cond, List, [], ◌∷◌, length, get_or, slice_get, reverse, take, Option, Some, None, refl, sym, ap, ◌∙◌, arith, add-one}
 use Rattle.std.specs.List.{list_any, find, range_with_len}
+use Rattle.std.specs.Option.{option_map_or}
 use Rattle.std.proofs.lemmas.Option.{slice_get_within, none-some, same_Some, slice_get-get_or, get_or_from_slice_get}
 use Rattle.std.proofs.lemmas.List.{get_or-reverse, length-reverse}
 use Rattle.std.proofs.lemmas.Bool.{or_left, or_right, or_cases, cases_order}
 use mathlib.Core.Logic.{inl, inr}
-use Rattle.etcs_group.specs.Places.{At, least}
+use Rattle.etcs_group.specs.Places.{At, element_passes, least}
 
 -- ---- places
 
@@ -28,7 +29,18 @@ At-reverse xs i x h =
     let e : get_or xs j x ≡ x = sym (get_or-reverse xs i x lt) ∙ get_or_from_slice_get (reverse xs) i x x h in
     (j, slice_get-get_or xs j x lt' ∙ ap Some e, omega arith)
 
--- ---- tests of members
+-- ---- tests of an element, and of members
+
+-- the element there decides
+pub element_passes-at : {X : Type 0} (xs : List X) (i : ℕ) (test : X → Bool) (x : X) → At xs i x → element_passes xs i test ≡ test x
+element_passes-at xs i test x at = ap (λ o. option_map_or test o false) at
+
+pub element_passes-none : {X : Type 0} (xs : List X) (i : ℕ) (test : X → Bool) → ((x : X) → At xs i x → test x ≡ false) → element_passes xs i test ≡ false
+element_passes-none {X} xs i test h = go (slice_get xs i) refl
+  where
+    go : (o : Option X) → slice_get xs i ≡ o → option_map_or test o false ≡ false
+    go None e = refl
+    go (Some x) e = h x e
 
 pub at_list_any : {X : Type 0} (p : X → Bool) (xs : List X) (i : ℕ) (x : X) → At xs i x → p x ≡ true → list_any p xs ≡ true
 at_list_any p [] i x h e = absurd (none-some x h)

@@ -15,30 +15,19 @@ use Rattle.etcs_profile.specs.declared.run.Run.TheVariants as runs
 use Rattle.etcs_telegram.specs.Record.{Telegram}
 use Rattle.etcs_group.specs.declared.refused.Refused.{Refused}
 use Rattle.etcs_group.specs.declared.refused.Refused.TheVariants as reasons
-use Rattle.etcs_group.specs.Places.{At, least}
+use Rattle.etcs_group.specs.Places.{At, element_passes, least}
 use Rattle.etcs_group.specs.Group.{AreAlike, HasOneCounter}
-use Rattle.etcs_group.specs.Assembly.{IsAccepted, comes_after, passes_at, agree, disagrees_at, is_misplaced_at, is_absent, positions_of, is_miscounted_at, refusal_of}
+use Rattle.etcs_group.specs.Assembly.{IsAccepted, comes_after, agree, disagrees_at, is_misplaced_at, is_absent, positions_of, is_miscounted_at, refusal_of}
 use Rattle.etcs_group.specs.Laws.{AcceptedOrRefused}
-use Rattle.etcs_group.proofs.PlaceLemmas.{some_at, one_at, at_list_any, list_any-none, At-take, at_take, least-none, least-none_says}
+use Rattle.etcs_group.proofs.PlaceLemmas.{element_passes-at, element_passes-none, some_at, one_at, at_list_any, list_any-none, At-take, at_take, least-none, least-none_says}
 
--- ---- tests of a place
+-- ---- tests of two places
 
-pub passes-at : (s : List Telegram) (i : ℕ) (test : Telegram → Bool) (t : Telegram) → At s i t → passes_at s i test ≡ test t
-passes-at s i test t at = ap (λ o. option_map_or test o false) at
+pub pair-at : (s : List Telegram) (i j : ℕ) (test : Telegram → Telegram → Bool) (t u : Telegram) → At s i t → At s j u → element_passes s i (λ t. element_passes s j (test t)) ≡ test t u
+pair-at s i j test t u a b = element_passes-at s i (λ t. element_passes s j (test t)) t a ∙ element_passes-at s j (test t) u b
 
-pub passes-none : (s : List Telegram) (i : ℕ) (test : Telegram → Bool) → ((t : Telegram) → At s i t → test t ≡ false) → passes_at s i test ≡ false
-passes-none s i test h = go (slice_get s i) refl
-  where
-    go : (o : Option Telegram) → slice_get s i ≡ o → option_map_or test o false ≡ false
-    go None e = refl
-    go (Some t) e = h t e
-
--- two places
-pub pair-at : (s : List Telegram) (i j : ℕ) (test : Telegram → Telegram → Bool) (t u : Telegram) → At s i t → At s j u → passes_at s i (λ t. passes_at s j (test t)) ≡ test t u
-pair-at s i j test t u a b = passes-at s i (λ t. passes_at s j (test t)) t a ∙ passes-at s j (test t) u b
-
-pair-none : (s : List Telegram) (i j : ℕ) (test : Telegram → Telegram → Bool) → ((t u : Telegram) → At s i t → At s j u → test t u ≡ false) → passes_at s i (λ t. passes_at s j (test t)) ≡ false
-pair-none s i j test h = passes-none s i (λ t. passes_at s j (test t)) (λ t a. passes-none s j (test t) (λ u b. h t u a b))
+pair-none : (s : List Telegram) (i j : ℕ) (test : Telegram → Telegram → Bool) → ((t u : Telegram) → At s i t → At s j u → test t u ≡ false) → element_passes s i (λ t. element_passes s j (test t)) ≡ false
+pair-none s i j test h = element_passes-none s i (λ t. element_passes s j (test t)) (λ t a. element_passes-none s j (test t) (λ u b. h t u a b))
 
 -- ---- telegrams that agree
 
@@ -98,11 +87,11 @@ disagrees-none s h k i = pair-none s 0 i (λ first t. not (agree first.header t.
 -- whether a telegram at place i is misplaced
 abbrev pub misplaces : Run → List Telegram → ℕ → Telegram → Bool
 misplaces run s i u =
-    ltb u.header.total u.header.position || (ltb 0 i && passes_at s (i - 1) (λ t. not (comes_after run t u)))
+    ltb u.header.total u.header.position || (ltb 0 i && element_passes s (i - 1) (λ t. not (comes_after run t u)))
 
 pub misplaced-none : (run : Run) (s : List Telegram) → ((i : ℕ) (t : Telegram) → At s i t → t.header.position ≤ t.header.total) → ((i j : ℕ) (t u : Telegram) → i < j → At s i t → At s j u → comes_after run t u ≡ true) → (i : ℕ) → is_misplaced_at run s i ≡ false
-misplaced-none run s h k i = passes-none s i (misplaces run s i) (λ u at. or_from _ _ (le-ltb _ _ (h i u at)) (elim (cases_lt 0 i) [
-  | inl lt ↦ and_right (ltb 0 i) _ (passes-none s (i - 1) (λ t. not (comes_after run t u)) (λ t e. not_from_true _ (k (i - 1) i t u (omega arith) e at)))
+misplaced-none run s h k i = element_passes-none s i (misplaces run s i) (λ u at. or_from _ _ (le-ltb _ _ (h i u at)) (elim (cases_lt 0 i) [
+  | inl lt ↦ and_right (ltb 0 i) _ (element_passes-none s (i - 1) (λ t. not (comes_after run t u)) (λ t e. not_from_true _ (k (i - 1) i t u (omega arith) e at)))
   | inr ge ↦ and_left _ _ (le-ltb _ _ ge)
 ]))
 
@@ -122,7 +111,7 @@ miscounts-none earlier t h k = or_from _ _ (ne_eqb _ _ h) (elim (cases_lt t.head
 ])
 
 pub miscounted-none : (s : List Telegram) → HasOneCounter s → (i : ℕ) → is_miscounted_at s i ≡ false
-miscounted-none s one i = passes-none s i (miscounts (take i s)) (λ t e. miscounts-none (take i s) t (one.agrees i t e) (λ j u f a b. one.equal j i u t (At-take i s j u f).1 e a b))
+miscounted-none s one i = element_passes-none s i (miscounts (take i s)) (λ t e. miscounts-none (take i s) t (one.agrees i t e) (λ j u f a b. one.equal j i u t (At-take i s j u f).1 e a b))
 
 -- the first of the reasons other than Nothing
 abbrev pub reason_in : Run → List Telegram → Option Refused
@@ -205,8 +194,8 @@ misplaces-says run s i t u at h =
     let there : ltb 0 (suc i) ≡ true = lt-ltb 0 (suc i) (omega arith) in
     let at' : At s (suc i - 1) t = subst (λ n. At s n t) (sym before) at in
     let two = (or_parts (ltb u.header.total u.header.position) _ h).1 in
-    not-false _ (sym (passes-at s (suc i - 1) (λ t. not (comes_after run t u)) t at')
-    ∙ sym (ap (λ b. b && passes_at s (suc i - 1) (λ t. not (comes_after run t u))) there) ∙ two)
+    not-false _ (sym (element_passes-at s (suc i - 1) (λ t. not (comes_after run t u)) t at')
+    ∙ sym (ap (λ b. b && element_passes s (suc i - 1) (λ t. not (comes_after run t u))) there) ∙ two)
 
 pub accepted_from-refusal : (run : Run) (s : List Telegram) → refusal_of run s ≡ None → IsAccepted run s
 accepted_from-refusal run [] h = absurd (none-some _ (sym h))
@@ -223,9 +212,9 @@ accepted_from-refusal run (x ∷ xs) h =
     let like : (i : ℕ) (t : Telegram) → At s i t → AreAlike x t × (x.header.total ≡ t.header.total) =
     λ i t e. agree-says x t (not-false _ (sym (pair-at s 0 i (λ first t. not (agree first.header t.header)) x t refl e) ∙ same i (slice_get_within s i t e))) in
     let ordered : (i : ℕ) (t : Telegram) → At s i t → misplaces run s i t ≡ false =
-    λ i t e. sym (passes-at s i (misplaces run s i) t e) ∙ placed i (slice_get_within s i t e) in
+    λ i t e. sym (element_passes-at s i (misplaces run s i) t e) ∙ placed i (slice_get_within s i t e) in
     let fits : (i : ℕ) (t : Telegram) → At s i t → miscounts (take i s) t ≡ false =
-    λ i t e. sym (passes-at s i (miscounts (take i s)) t e) ∙ counted i (slice_get_within s i t e) in
+    λ i t e. sym (element_passes-at s i (miscounts (take i s)) t e) ∙ counted i (slice_get_within s i t e) in
     let earlier : (i j : ℕ) (t u : Telegram) → i < j → At s i t → At s j u → t.header.counter < 254 → u.header.counter < 254 → t.header.counter ≡ u.header.counter =
     λ i j t u lt e f m n. (miscounts-says (take j s) u (fits j u f)).1 i t (at_take j s i t lt e) m n in
     record {

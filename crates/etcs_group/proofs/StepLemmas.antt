@@ -8,10 +8,11 @@ use Rattle.etcs_profile.specs.declared.run.Run.{Run}
 use Rattle.etcs_profile.specs.declared.track.TrackPacket.{TrackPacket}
 use Rattle.etcs_telegram.specs.Record.{Telegram}
 use Rattle.etcs_group.specs.declared.refused.Refused.TheVariants as reasons
-use Rattle.etcs_group.specs.Places.{At, least}
-use Rattle.etcs_group.specs.Assembly.{comes_after, names, passes_at, disagrees_at, is_misplaced_at, is_absent, is_miscounted_at, positions_of, refusal_of}
+use Rattle.etcs_group.specs.Places.{At, element_passes, least}
+use Rattle.etcs_group.specs.Assembly.{comes_after, names, disagrees_at, is_misplaced_at, is_absent, is_miscounted_at, positions_of, refusal_of}
 use Rattle.etcs_group.specs.Packets.{held_packets, given_at}
-use Rattle.etcs_group.proofs.RefusalLemmas.{refusal-some, passes-at, misplaces, miscounts}
+use Rattle.etcs_group.proofs.PlaceLemmas.{element_passes-at}
+use Rattle.etcs_group.proofs.RefusalLemmas.{refusal-some, misplaces, miscounts}
 
 -- a fact that holds anyway holds of an error
 pub on_err : {A E : Type 0} (r : Result A E) (P : Type 0) → P → OnErr r P
@@ -37,10 +38,10 @@ module _ (run : Run) (s : List Telegram) (long : 0 < length s) (same : None ≡ 
 -- the one before
 pub misplaced-is : (run : Run) (s : List Telegram) (i : ℕ) (t u : Telegram) → 0 < i → At s (i - 1) t → At s i u → ltb u.header.total u.header.position ≡ false → not (comes_after run t u) ≡ is_misplaced_at run s i
 misplaced-is run s i t u there a b inside = sym (
-    passes-at s i (misplaces run s i) u b
-    ∙ ap (λ x. x || (ltb 0 i && passes_at s (i - 1) (λ t. not (comes_after run t u)))) inside
-    ∙ ap (λ x. x && passes_at s (i - 1) (λ t. not (comes_after run t u))) (lt-ltb 0 i there)
-    ∙ passes-at s (i - 1) (λ t. not (comes_after run t u)) t a
+    element_passes-at s i (misplaces run s i) u b
+    ∙ ap (λ x. x || (ltb 0 i && element_passes s (i - 1) (λ t. not (comes_after run t u)))) inside
+    ∙ ap (λ x. x && element_passes s (i - 1) (λ t. not (comes_after run t u))) (lt-ltb 0 i there)
+    ∙ element_passes-at s (i - 1) (λ t. not (comes_after run t u)) t a
     )
 
 pub miscounted-is : (s : List Telegram) (i : ℕ) (t : Telegram) (counter : ℕ) (answer : Bool) → At s i t → t.header.counter ≡ counter → counter < 254 → list_any (λ u. ltb u.header.counter 254 && not (eqb u.header.counter counter)) (take i s) ≡ answer → is_miscounted_at s i ≡ answer
@@ -48,7 +49,7 @@ miscounted-is s i t counter answer at same small h =
     let other : counter ≢ 254 = omega arith in
     let e : eqb counter 254 ≡ false = ne_eqb counter 254 other in
     let f : ltb counter 254 ≡ true = lt-ltb counter 254 small in
-    passes-at s i (miscounts (take i s)) t at ∙ rw (same, e, f) h
+    element_passes-at s i (miscounts (take i s)) t at ∙ rw (same, e, f) h
 
 -- ---- packets
 

@@ -12,7 +12,7 @@ use Rattle.etcs_telegram.specs.declared.header.Header.{Header}
 use Rattle.etcs_telegram.specs.Record.{Telegram}
 use Rattle.etcs_group.specs.declared.refused.Refused.{Refused}
 use Rattle.etcs_group.specs.declared.refused.Refused.TheVariants as reasons
-use Rattle.etcs_group.specs.Places.{At, least}
+use Rattle.etcs_group.specs.Places.{At, element_passes, least}
 use Rattle.etcs_group.specs.Group.{AreAlike, HasOneCounter, named_by, Telegrams}
 
 -- ---- accepted
@@ -44,10 +44,6 @@ pub record IsAccepted (run : Run) (s : Telegrams) : Type 0 where
 
 -- ---- refused
 
--- the telegram at place i passes the test; past the end of the list none does
-abbrev pub passes_at : Telegrams → ℕ → (Telegram → Bool) → Bool
-passes_at s i test = option_map_or test (slice_get s i) false
-
 -- two headers have the same version, identity, total and link flag
 abbrev pub agree : Header → Header → Bool
 agree g h =
@@ -57,13 +53,13 @@ agree g h =
 
 -- the telegram at the place differs from the one at place 0 in one of these
 abbrev pub disagrees_at : Telegrams → ℕ → Bool
-disagrees_at s i = passes_at s 0 (λ first. passes_at s i (λ t. not (agree first.header t.header)))
+disagrees_at s i = element_passes s 0 (λ first. element_passes s i (λ t. not (agree first.header t.header)))
 
 -- its position is above its total, or it does not come after the telegram at the place before it
 abbrev pub is_misplaced_at : Run → Telegrams → ℕ → Bool
 is_misplaced_at run s i =
-    passes_at s i (λ u. nat_lt u.header.total u.header.position
-    || (nat_lt 0 i && passes_at s (i - 1) (λ t. not (comes_after run t u))))
+    element_passes s i (λ u. nat_lt u.header.total u.header.position
+    || (nat_lt 0 i && element_passes s (i - 1) (λ t. not (comes_after run t u))))
 
 -- the number of positions, by the total of place 0
 abbrev pub positions_of : Telegrams → ℕ
@@ -72,7 +68,7 @@ positions_of s = option_map_or (λ t. t.header.total + 1) (slice_get s 0) 0
 -- its counter is 254, or it is below 254 and differs from one below 254 at an earlier place
 abbrev pub is_miscounted_at : Telegrams → ℕ → Bool
 is_miscounted_at s i =
-    passes_at s i (λ t. (t.header.counter == 254) || (nat_lt t.header.counter 254
+    element_passes s i (λ t. (t.header.counter == 254) || (nat_lt t.header.counter 254
     && list_any (λ u. nat_lt u.header.counter 254 && not (u.header.counter == t.header.counter)) (take i s)))
 
 -- Why a list is refused, if it is: the first of these reasons, at its least place or position.

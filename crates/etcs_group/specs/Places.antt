@@ -1,11 +1,16 @@
 -- Places of a list, counted from 0, and the elements there.
-use Rattle.std.specs.Prelude.{◌≡◌, ℕ, ◌<◌, Bool, List, map, find, slice_get, Option, Some}
+use Rattle.std.specs.Prelude.{◌≡◌, ℕ, ◌<◌, Bool, false, List, map, find, slice_get, Option, Some}
 use Rattle.std.specs.List.{range_with_len}
 use Rattle.std.specs.Borrow.{Bor}
+use Rattle.std.specs.Option.{option_map_or}
 
 -- x is at place i
 abbrev pub At : {X : Type 0} → List X → ℕ → X → Type 0
 At xs i x = slice_get xs i ≡ Some x
+
+-- the element at place i passes the test; past the end of the list none does
+abbrev pub element_passes : {X : Type 0} → List X → ℕ → (X → Bool) → Bool
+element_passes xs i test = option_map_or test (slice_get xs i) false
 
 -- the least of the numbers below n that passes the test
 abbrev pub least : ℕ → (ℕ → Bool) → Option ℕ

@@ -22,6 +22,6 @@ mod refused;
 pub use assembly::assemble;
 pub use controlled::Controlled;
 pub use group::Group;
-pub use missed::{Missed, is_covered};
+pub use missed::{Missed, is_covered, partner};
 pub use mixture::Mixture;
 pub use refused::Refused;

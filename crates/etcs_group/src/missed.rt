@@ -21,8 +21,9 @@ impl Missed {
     }
 }
 
-// The partner of the balise at this index.
-fn partner(telegrams: &[Telegram], place: usize) -> Option<usize>
+/// The partner of the balise at this index: the neighbour that its duplicate flag names, by index, if it is
+/// in the group (this project's rule, after SUBSET-026, 3.16.2).
+pub fn partner(telegrams: &[Telegram], place: usize) -> Option<usize>
     requires { length telegrams.now ≤ 8 }
     ensures { result ≡ partner_of telegrams.now place }
 {
@@ -52,8 +53,7 @@ fn is_served(telegrams: &[Telegram], missed: Missed, place: usize) -> bool
     }
 }
 
-/// Whether each missed balise has a partner that is read. The partner of a balise is the neighbour that
-/// its duplicate flag names, by index, if it is in the group. A bit past the group's end is never covered.
+/// Whether each missed balise has a [`partner`] that is read. A bit past the group's end is never covered.
 /// (This project's rule, after SUBSET-026, 3.16.2.)
 pub fn is_covered(group: &Group, missed: Missed) -> bool
     ensures { IsTrue result ↔ IsCovered group.now (is_missed missed.0) }

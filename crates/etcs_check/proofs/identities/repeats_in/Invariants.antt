@@ -2,7 +2,8 @@ use Rattle.std.proofs.Common.{◌≡◌, ℕ, ◌+◌, ◌<◌, ◌≤◌, false
 use Rattle.etcs_telegram.specs.Record.{Telegram}
 use Rattle.etcs_group.specs.Places.{At}
 use Rattle.etcs_check.specs.Aspects.{is_used}
-use Rattle.etcs_check.specs.Identities.{HasSeen, HasIdentity, identity_number}
+use Rattle.etcs_check.specs.Identities.{HasIdentity, identity_number}
+use Rattle.etcs_check.proofs.IdentityLemmas.{HasSeen}
 use Rattle.etcs_check.proofs.identities.repeats_in.Given as goal
 
 -- the identities of the part that were seen are marked, and none was used before
