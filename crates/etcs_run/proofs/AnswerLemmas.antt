@@ -1,7 +1,7 @@
 -- What was written for a line when a write failed.
 use Rattle.std.proofs.Common.{◌≡◌, ◌+◌, ◌++◌, ℕ, List, [], take, drop, Option, Result, Ok, Err, sym, ap, ◌∙◌, append_assoc, refl}
 use Rattle.std.proofs.lemmas.List.{append-nil, take-append-drop}
-use Rattle.etcs_run.specs.TextLineMeaning.{Meaning, refusal_of}
+use Rattle.etcs_run.specs.TextLineMeaning.{Meaning, line_refusal}
 use Rattle.etcs_run.specs.Output.{Output, after_line, answered, answers}
 use Rattle.etcs_run.specs.Ran.{AnswersNextLine, AnswersLine, WritesBytes}
 use Rattle.etcs_run.specs.TextLines.{trimmed}
@@ -32,7 +32,7 @@ pub begins_answered : (n : ℕ) {meaning : Result (List ℕ) (List ℕ)} {bytes 
 begins_answered n is rest = (rest.0, rw is refl)
 
 -- the refusal of a line is a beginning of the answer to the line
-pub begins_refused : (n : ℕ) (words : List ℕ) {bytes : List ℕ} → bytes ≡ refusal_of n words
+pub begins_refused : (n : ℕ) (words : List ℕ) {bytes : List ℕ} → bytes ≡ line_refusal n words
     → (rest : Output) → (more : List ℕ) × ((answered n (Err words) rest).0 ≡ bytes ++ more)
 begins_refused n words {bytes} is rest = ([], sym is ∙ sym (append-nil bytes))
 

@@ -21,7 +21,7 @@ use Rattle.etcs_document.specs.declared.refusal.StreamFault.TheVariants.{BelowTh
 use Rattle.etcs_telegram.specs.declared.error.TextError.TheVariants.{NotHex}
 use Rattle.etcs_run.specs.Output.{Output, answered, prepend}
 use Rattle.etcs_run.specs.RadioHeld.{Feeds}
-use Rattle.etcs_run.specs.RadioStream.{Continuation, bytes_output, line_for, refused_message, stream_answers, message_output, cut_output}
+use Rattle.etcs_run.specs.RadioStream.{Continuation, bytes_output, message_json, refused_message, stream_answers, message_output, cut_output}
 use Rattle.etcs_run.specs.Ran.{AnswersNextLine, AnswersLine, Writes, WritesBytes}
 use Rattle.etcs_run.specs.TextLines.{trimmed}
 use Rattle.etcs_run.specs.declared.error.RunError.{RunError}
@@ -36,7 +36,7 @@ use Rattle.etcs_run.proofs.StreamLemmas.{Appends-none, Appends-then}
 -- a message came out
 pub fed_ready : (n : ℕ) (held piece whole rest : List ℕ)
     → cut_from held piece ≡ after_message whole (cut_from [] rest) → (continuation : Continuation)
-    → bytes_output n held piece continuation ≡ message_output n (line_for (message_of whole)) (bytes_output (n + 1) [] rest continuation)
+    → bytes_output n held piece continuation ≡ message_output n (message_json (message_of whole)) (bytes_output (n + 1) [] rest continuation)
 fed_ready n held piece whole rest is continuation = ap (λ (cut : Cut). cut_output n cut continuation) is
 
 -- the splitter waits for more bytes
@@ -112,7 +112,7 @@ module _ {held bytes now : List ℕ} {at used : ℕ} (call : Takes held bytes no
 
   pub left_ready : (n : ℕ) → state_of now ≡ Ready → (continuation : Continuation)
       → bytes_output n held (drop at bytes) continuation
-      ≡ message_output n (line_for (message_of now)) (bytes_output (n + 1) [] (drop (at + used) bytes) continuation)
+      ≡ message_output n (message_json (message_of now)) (bytes_output (n + 1) [] (drop (at + used) bytes) continuation)
   left_ready n ready = fed_ready n held (drop at bytes) now (drop (at + used) bytes) (one_came ready)
 
 -- ---- what was written so far

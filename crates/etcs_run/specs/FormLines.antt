@@ -30,8 +30,8 @@ or_no_json (Some d) = Ok d
 or_no_json None = Err (line_words Json)
 
 -- the JSON value of the bytes: exactly one, in UTF-8
-unfoldable pub value_in : List ℕ → Result Data (List ℕ)
-value_in bytes = if is_utf8 bytes then or_no_json (read bytes) else Err (line_words Json)
+unfoldable pub parsed_value : List ℕ → Result Data (List ℕ)
+parsed_value bytes = if is_utf8 bytes then or_no_json (read bytes) else Err (line_words Json)
 
 -- the record that was read from a form, or the form's first fault in words
 abbrev pub or_fault : {X : Type 0} → Result X Fault → Result X (List ℕ)
@@ -39,8 +39,8 @@ or_fault (Ok x) = Ok x
 or_fault (Err f) = Err (form_fault_words f)
 
 -- the record whose form the line is, or the reason why there is none
-abbrev pub record_in : {X : Type 0} → Shape X → List ℕ → Result X (List ℕ)
-record_in shape line = value_in line then λ d. or_fault (shape.of d)
+abbrev pub parsed_record : {X : Type 0} → Shape X → List ℕ → Result X (List ℕ)
+parsed_record shape line = parsed_value line then λ d. or_fault (shape.of d)
 
 -- the text with the end of the line, unless the record is too big to have one
 abbrev pub text_unless : Bool → List ℕ → Result (List ℕ) (List ℕ)
@@ -52,7 +52,7 @@ telegram_line t = text_unless (nat_lt (user_bits t.size) (used_bits t)) (telegra
 
 -- what a line means as the form of a telegram: its text, or the reason why there is none
 unfoldable pub telegram_encoded : Meaning
-telegram_encoded line = record_in (object telegram) line then telegram_line
+telegram_encoded line = parsed_record (object telegram) line then telegram_line
 
 -- the line of a message; it is too big if its bits are more than 1,023 bytes have
 unfoldable pub message_line : Message → Result (List ℕ) (List ℕ)
@@ -60,4 +60,4 @@ message_line m = text_unless (nat_lt 8184 (message_bits m)) (message_text m)
 
 -- what a line means as the form of a radio message
 unfoldable pub message_encoded : Meaning
-message_encoded line = record_in message line then message_line
+message_encoded line = parsed_record message line then message_line

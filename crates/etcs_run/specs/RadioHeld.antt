@@ -13,12 +13,12 @@ abbrev pub messages_written : RadioDecoding → ℕ
 messages_written d = d.number
 
 -- the bytes that are held of the next message
-abbrev pub kept_by : RadioDecoding → List ℕ
-kept_by d = d.splitter
+abbrev pub kept_bytes : RadioDecoding → List ℕ
+kept_bytes d = d.splitter
 
 -- a lower bound of the bytes read so far
 abbrev pub least_read : RadioDecoding → ℕ
-least_read d = messages_written d + length (kept_by d)
+least_read d = messages_written d + length (kept_bytes d)
 
 -- What is written for some bytes and later: this text and then the later output, this text and
 -- the end, or more than this text.

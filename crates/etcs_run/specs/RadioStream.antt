@@ -18,8 +18,8 @@ use Rattle.etcs_document.specs.declared.refusal.LineFault.TheVariants.{Text}
 use Rattle.etcs_document.specs.declared.refusal.Refusal.TheVariants.{Message}
 use Rattle.etcs_document.specs.declared.refusal.StreamFault.{StreamFault}
 use Rattle.etcs_document.specs.declared.refusal.StreamFault.TheVariants.{BelowThree, CutOff, Fault}
-use Rattle.etcs_run.specs.JsonLine.{json_line_of}
-use Rattle.etcs_run.specs.TextLineMeaning.{refusal_of}
+use Rattle.etcs_run.specs.JsonLine.{json_line_text}
+use Rattle.etcs_run.specs.TextLineMeaning.{line_refusal}
 use Rattle.etcs_run.specs.Output.{Output, prepend}
 use Rattle.etcs_run.specs.TextLines.{trimmed}
 use Rattle.etcs_run.specs.declared.status.Status.TheVariants.{Done, Refused}
@@ -31,9 +31,9 @@ abbrev pub refused_message : ℕ → StreamFault → Output
 refused_message number why = (refusal_words (Message number why), Refused)
 
 -- the JSON line of a message that was read, or its first fault
-abbrev pub line_for : Result RadioMessage FirstFault → Result (List ℕ) FirstFault
-line_for (Ok m) = Ok (json_line_of message m)
-line_for (Err fault) = Err fault
+abbrev pub message_json : Result RadioMessage FirstFault → Result (List ℕ) FirstFault
+message_json (Ok m) = Ok (json_line_text message m)
+message_json (Err fault) = Err fault
 
 -- the JSON line of the message with this number, and then the rest; or the message's refusal
 abbrev pub message_output : ℕ → Result (List ℕ) FirstFault → Output → Output
@@ -55,7 +55,7 @@ unless_failed _ number held rest = rest number held
 abbrev pub messages_output : ℕ → List (List ℕ) → List ℕ → Continuation → Output
 messages_output number [] held rest = unless_failed (state_of held) number held rest
 messages_output number (bytes ∷ messages) held rest =
-    message_output number (line_for (message_of bytes)) (messages_output (number + 1) messages held rest)
+    message_output number (message_json (message_of bytes)) (messages_output (number + 1) messages held rest)
 
 -- what came out of the splitter, its messages in order, and then what is written later
 abbrev pub cut_output : ℕ → Cut → Continuation → Output
@@ -70,7 +70,7 @@ bytes_output number held bytes rest = cut_output number (cut_from held bytes) re
 -- what is written for the bytes of a line, or the refusal of a line that is not hexadecimal text
 abbrev pub after_bytes : ℕ → Result (List ℕ) FromHexError → (List ℕ → Output) → Output
 after_bytes line (Ok bytes) rest = rest bytes
-after_bytes line (Err why) rest = (refusal_of line (line_words (Text NotHex)), Refused)
+after_bytes line (Err why) rest = (line_refusal line (line_words (Text NotHex)), Refused)
 
 -- what is written at the end of the input: a message that has begun is cut off
 abbrev pub at_end : ℕ → List ℕ → Output

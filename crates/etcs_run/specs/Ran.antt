@@ -7,7 +7,7 @@
 --   the status for such a writer.
 use Rattle.std.specs.Prelude.{◌≡◌, ◌≤◌, ◌+◌, ◌++◌, ◌⊎◌, ℕ, Bool, true, List, [], ◌∷◌, take, length, Option, Result, Ok, Err, IfSome, OnOk}
 use Rattle.std.specs.Io.KnownBytes.{Appends, Consumes, IsAtEnd}
-use Rattle.etcs_run.specs.Counted.{CountsFlush, CountsNone, CountsOne, flushes_of, inner_of, is_flushed}
+use Rattle.etcs_run.specs.Counted.{CountsFlush, CountsNone, CountsOne, flush_count, wrapped, is_flushed}
 use Rattle.etcs_run.specs.Output.{Output, prepend}
 use Rattle.etcs_run.specs.declared.counted.Counted.{Counted}
 use Rattle.etcs_run.specs.declared.error.RunError.{RunError}
@@ -42,8 +42,8 @@ pub record Ran (remaining_old remaining_new contents_old contents_new : Option (
 abbrev pub Runs : {R W : Type 0} → (R → Option (List ℕ)) → (W → Option (List ℕ)) → Counted R
     → Counted R → Counted W → Counted W → (List ℕ → Output) → Result Status RunError → Type 0
 Runs remaining contents reader_old reader_new writer_old writer_new output result =
-    Ran (remaining (inner_of reader_old)) (remaining (inner_of reader_new))
-    (contents (inner_of writer_old)) (contents (inner_of writer_new)) output result
+    Ran (remaining (wrapped reader_old)) (remaining (wrapped reader_new))
+    (contents (wrapped writer_old)) (contents (wrapped writer_new)) output result
 
 -- a text was written: this output, or a beginning of it
 pub record Writes (old new : Option (List ℕ)) (output : Output) (result : Result Status RunError)
@@ -56,13 +56,13 @@ pub record Writes (old new : Option (List ℕ)) (output : Output) (result : Resu
 abbrev pub Answers : {R W : Type 0} → (R → Option (List ℕ)) → (W → Option (List ℕ)) → Counted R
     → Counted W → Counted W → (List ℕ → Output) → Result Status RunError → Type 0
 Answers remaining contents reader writer_old writer_new output result =
-    IfSome (remaining (inner_of reader)) (λ input.
-    Writes (contents (inner_of writer_old)) (contents (inner_of writer_new)) (output input) result)
+    IfSome (remaining (wrapped reader)) (λ input.
+    Writes (contents (wrapped writer_old)) (contents (wrapped writer_new)) (output input) result)
 
 -- a status is returned only after everything written was flushed, by the only flush of the run
 abbrev pub EndsFlushed : {X W : Type 0} → Result X RunError → Counted W → Counted W → Type 0
 EndsFlushed result old new =
-    OnOk result (is_flushed new ≡ true) × CountsFlush (flushes_of old) (flushes_of new) result
+    OnOk result (is_flushed new ≡ true) × CountsFlush (flush_count old) (flush_count new) result
 
 -- a failed device is counted once, at the reader or at the writer, and nothing else is counted
 abbrev pub CountsOneDevice : {R W X : Type 0} → Result X RunError → Counted R → Counted R

@@ -2,8 +2,8 @@
 
 ghost use Rattle.std.specs.Prelude.{◌≡◌, string_bytes, IfOk, OnErr, OnOk};
 ghost use Rattle.std.specs.Io.KnownBytes.{IsAtEnd};
-ghost use Rattle.etcs_run.specs.Checking.{check_output, refused_as, reported, status_for};
-ghost use Rattle.etcs_run.specs.Counted.{CanCount, CountsNone, CountsOne, inner_of};
+ghost use Rattle.etcs_run.specs.Checking.{check_output, refused_as, reported, check_status};
+ghost use Rattle.etcs_run.specs.Counted.{CanCount, CountsNone, CountsOne, wrapped};
 ghost use Rattle.etcs_run.specs.Ran.{CountsOneDevice, EndsFlushed, Runs};
 
 use crate::counted::Counted;
@@ -19,7 +19,7 @@ use std::io::{Read, Write};
 
 // The status of a check.
 fn status_of(findings: &[Finding]) -> Status
-    ensures { result ≡ status_for findings.now }
+    ensures { result ≡ check_status findings.now }
 {
     if findings.is_empty() {
         Status::Done
@@ -81,8 +81,8 @@ pub fn check_input<R: Read, W: Write>(
     ensures counts { CountsOneDevice result reader.old reader.new writer.old writer.new }
 
     // The writer is called only after the end of the input was reached.
-    ensures to_end { OnOk result (IsAtEnd (R.remaining (inner_of reader.new))) }
-    ensures cut_off { CountsOne writer.old writer.new → IsAtEnd (R.remaining (inner_of reader.new)) }
+    ensures to_end { OnOk result (IsAtEnd (R.remaining (wrapped reader.new))) }
+    ensures cut_off { CountsOne writer.old writer.new → IsAtEnd (R.remaining (wrapped reader.new)) }
     ensures unwritten { OnErr result (CountsNone writer.old writer.new → writer.new ≡ writer.old) }
 {
     let document = read_whole(alloc, reader)?;

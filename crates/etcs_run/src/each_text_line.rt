@@ -2,8 +2,8 @@
 
 ghost use Rattle.std.specs.Prelude.{◌≡◌, [], Err, IfOk, string_bytes};
 ghost use Rattle.etcs_document.specs.Refusal.{line_words};
-ghost use Rattle.etcs_run.specs.Counted.{CanCount, FlushesNone, inner_of};
-ghost use Rattle.etcs_run.specs.TextLineMeaning.{refusal_of};
+ghost use Rattle.etcs_run.specs.Counted.{CanCount, FlushesNone, wrapped};
+ghost use Rattle.etcs_run.specs.TextLineMeaning.{line_refusal};
 ghost use Rattle.etcs_run.specs.LineReading.{CountsDevice};
 ghost use Rattle.etcs_run.specs.TextLines.{trimmed};
 ghost use Rattle.etcs_run.specs.Output.{after_line, answered};
@@ -34,9 +34,9 @@ pub(crate) fn trim(line: &[u8]) -> &[u8]
 }
 
 // The refusal of the line with this number, with its `\n`. Lines count from 1.
-#[tactic(auto, unfolding(crate::specs::TextLineMeaning::refusal_of, etcs_document::specs::Refusal::refusal_words))]
+#[tactic(auto, unfolding(crate::specs::TextLineMeaning::line_refusal, etcs_document::specs::Refusal::refusal_words))]
 fn refusal(alloc: Global, number: u64, why: LineFault) -> Result<String, Memory>
-    ensures { IfOk result (λ s. string_bytes s ≡ refusal_of number (line_words why)) }
+    ensures { IfOk result (λ s. string_bytes s ≡ line_refusal number (line_words why)) }
 {
     refusal_text(alloc, &Refusal::Line(number, why))
 }
@@ -49,7 +49,7 @@ pub(crate) fn refuse_line<W: Write>(
     writer: &mut Counted<W>,
 ) -> Result<ControlFlow, RunError>
     requires { CanCount writer.old }
-    ensures answers_line { AnswersLine (W.contents (inner_of writer.old)) (W.contents (inner_of writer.new))
+    ensures answers_line { AnswersLine (W.contents (wrapped writer.old)) (W.contents (wrapped writer.new))
         (answered number (Err (line_words why))) result }
     ensures counts { CountsDevice result writer.old writer.new }
     ensures unflushed { FlushesNone writer.old writer.new }
@@ -73,7 +73,7 @@ fn answer_line<M: TextLineMeaning, W: Write>(
     writer: &mut Counted<W>,
 ) -> Result<ControlFlow, RunError>
     requires { CanCount writer.old }
-    ensures answers_line { AnswersLine (W.contents (inner_of writer.old)) (W.contents (inner_of writer.new))
+    ensures answers_line { AnswersLine (W.contents (wrapped writer.old)) (W.contents (wrapped writer.new))
         (answered number (M.meaning line.now)) result }
     ensures counts { CountsDevice result writer.old writer.new }
     ensures unflushed { FlushesNone writer.old writer.new }
@@ -100,7 +100,7 @@ fn answer_or_skip<M: TextLineMeaning, W: Write>(
     writer: &mut Counted<W>,
 ) -> Result<ControlFlow, RunError>
     requires { CanCount writer.old }
-    ensures answers_line { AnswersLine (W.contents (inner_of writer.old)) (W.contents (inner_of writer.new))
+    ensures answers_line { AnswersLine (W.contents (wrapped writer.old)) (W.contents (wrapped writer.new))
         (after_line M.meaning number (trimmed line.now)) result }
     ensures counts { CountsDevice result writer.old writer.new }
     ensures unflushed { FlushesNone writer.old writer.new }
@@ -154,7 +154,7 @@ impl<M: TextLineMeaning> TextLineCommand for EachTextLine<M> {
         writer: &mut Counted<W>,
     ) -> Result<ControlFlow, RunError>
         requires { CanCount writer.old }
-        ensures answers_line { AnswersNextLine (W.contents (inner_of writer.old)) (W.contents (inner_of writer.new))
+        ensures answers_line { AnswersNextLine (W.contents (wrapped writer.old)) (W.contents (wrapped writer.new))
             (answers M.meaning) (answers M.meaning) number line.now result }
         ensures counts { CountsDevice result writer.old writer.new }
         ensures unflushed { FlushesNone writer.old writer.new }

@@ -3,7 +3,7 @@
 
 ghost use Rattle.std.specs.Prelude.{◌≡◌, ◌++◌, codes, IfOk};
 ghost use Rattle.serde_json.specs.View.{view};
-ghost use Rattle.etcs_run.specs.FormLines.{message_line, or_fault, record_in, telegram_line, value_in};
+ghost use Rattle.etcs_run.specs.FormLines.{message_line, or_fault, parsed_record, telegram_line, parsed_value};
 ghost use Rattle.etcs_run.specs.TextLineMeaning.{Gives};
 
 use crate::text_line_meaning::{TextLineMeaning, Unwritten};
@@ -20,7 +20,7 @@ use std::alloc::Global;
 
 // The JSON value of a line.
 fn value_of(alloc: Global, line: &[u8]) -> Result<Value, Unwritten>
-    ensures { Gives view result (value_in line.now) }
+    ensures { Gives view result (parsed_value line.now) }
 {
     match Value::from_slice(alloc, line) {
         Ok(value) => Ok(value),
@@ -46,7 +46,7 @@ fn record_of<T: Form, N: Node>(alloc: Global, node: &N) -> Result<T, Unwritten>
 
 // The record whose form the line is, if the line is too long for a tape.
 fn record_of_value<T: Form>(alloc: Global, line: &[u8]) -> Result<T, Unwritten>
-    ensures { Gives (λ x. x) result (record_in T.shape line.now) }
+    ensures { Gives (λ x. x) result (parsed_record T.shape line.now) }
 {
     let value = value_of(alloc, line)?;
     record_of(alloc, &&value)
@@ -58,7 +58,7 @@ fn record_in_line<T: Form>(
     scratch: &mut Scratch,
     line: &[u8],
 ) -> Result<T, Unwritten>
-    ensures { Gives (λ x. x) result (record_in T.shape line.now) }
+    ensures { Gives (λ x. x) result (parsed_record T.shape line.now) }
 {
     let Ok(text) = str::from_utf8(line) else {
         return Err(Unwritten::Refused(LineFault::Json));

@@ -2,7 +2,7 @@
 
 ghost use Rattle.std.specs.Prelude.{◌≡◌, IfErr};
 ghost use Rattle.std.specs.Io.KnownBytes.{Keeps};
-ghost use Rattle.etcs_run.specs.Counted.{CanCount, FlushesNone, inner_of};
+ghost use Rattle.etcs_run.specs.Counted.{CanCount, FlushesNone, wrapped};
 ghost use Rattle.etcs_run.specs.LineReading.{CountsDevice};
 ghost use Rattle.etcs_run.specs.Ran.{EndsFlushed, Writes, WritesBytes};
 
@@ -18,7 +18,7 @@ use std::io::Write;
 // Not `write_all`: its contract does not state what was written before a failure.
 pub fn put<W: Write>(writer: &mut Counted<W>, text: &[u8]) -> Result<(), RunError>
     requires { CanCount writer.old }
-    ensures written { WritesBytes (W.contents (inner_of writer.old)) (W.contents (inner_of writer.new))
+    ensures written { WritesBytes (W.contents (wrapped writer.old)) (W.contents (wrapped writer.new))
         text.now result }
     ensures counts { CountsDevice result writer.old writer.new }
     ensures unflushed { FlushesNone writer.old writer.new }
@@ -40,7 +40,7 @@ pub fn put<W: Write>(writer: &mut Counted<W>, text: &[u8]) -> Result<(), RunErro
 /// remains written.
 pub fn finish<W: Write>(writer: &mut Counted<W>) -> Result<(), RunError>
     requires { CanCount writer.old }
-    ensures kept { Keeps (W.contents (inner_of writer.old)) (W.contents (inner_of writer.new)) }
+    ensures kept { Keeps (W.contents (wrapped writer.old)) (W.contents (wrapped writer.new)) }
     ensures flushed { EndsFlushed result writer.old writer.new }
     ensures counts { CountsDevice result writer.old writer.new }
     ensures device { IfErr result (λ e. e ≡ RunError.Device) }
@@ -61,7 +61,7 @@ pub fn write_out<W: Write>(
     status: Status,
 ) -> Result<Status, RunError>
     requires { CanCount writer.old }
-    ensures writes { Writes (W.contents (inner_of writer.old)) (W.contents (inner_of writer.new))
+    ensures writes { Writes (W.contents (wrapped writer.old)) (W.contents (wrapped writer.new))
         (text.now, status) result }
     ensures flushed { EndsFlushed result writer.old writer.new }
     ensures counts { CountsDevice result writer.old writer.new }

@@ -2,10 +2,10 @@
 
 ghost use Rattle.std.specs.Prelude.{◌≡◌, None, Some, IfErr, OnOk, map};
 ghost use Rattle.std.specs.Io.KnownBytes.{IsAtEnd};
-ghost use Rattle.etcs_run.specs.Command.{command_of};
-ghost use Rattle.etcs_run.specs.Counted.{CanCount, inner_of};
+ghost use Rattle.etcs_run.specs.Command.{parsed_command};
+ghost use Rattle.etcs_run.specs.Counted.{CanCount, wrapped};
 ghost use Rattle.etcs_run.specs.LineReading.{CountsDevice};
-ghost use Rattle.etcs_run.specs.Commands.{of_command, output_of, usage_line};
+ghost use Rattle.etcs_run.specs.Commands.{of_command, program_output, usage_line};
 ghost use Rattle.etcs_run.specs.Output.{each_text_line};
 ghost use Rattle.etcs_run.specs.Ran.{Answers, CountsOneDevice, EndsFlushed, Runs, Writes};
 
@@ -29,7 +29,7 @@ const USAGE: &str = "refused: usage is balisecheck check, decode [--radio] or en
 // Writes the usage line, and flushes the writer.
 fn refuse_words<W: Write>(writer: &mut Counted<W>) -> Result<Status, RunError>
     requires { CanCount writer.old }
-    ensures writes { Writes (W.contents (inner_of writer.old)) (W.contents (inner_of writer.new))
+    ensures writes { Writes (W.contents (wrapped writer.old)) (W.contents (wrapped writer.new))
         (usage_line, Status.Refused) result }
     ensures flushed { EndsFlushed result writer.old writer.new }
     ensures counts { CountsDevice result writer.old writer.new }
@@ -70,7 +70,7 @@ fn dispatch<R: Read, W: Write>(
         (of_command command) result }
     ensures unread { command ≡ None → reader.new ≡ reader.old }
     ensures to_end { command ≡ Some Command.Check
-        → OnOk result (IsAtEnd (R.remaining (inner_of reader.new))) }
+        → OnOk result (IsAtEnd (R.remaining (wrapped reader.new))) }
     ensures flushed { EndsFlushed result writer.old writer.new }
     ensures counts { CountsOneDevice result reader.old reader.new writer.old writer.new }
 {
@@ -111,16 +111,16 @@ pub fn run<'a, R: Read, W: Write>(
 
     // For a reader with a known input and a writer with known contents.
     ensures known { Answers R.remaining W.contents reader.old writer.old writer.new
-        (output_of (map (λ w. w.now) words.entry.now)) result }
+        (program_output (map (λ w. w.now) words.entry.now)) result }
 
     // For every input that begins with what was read.
     ensures ran { Runs R.remaining W.contents reader.old reader.new writer.old writer.new
-        (output_of (map (λ w. w.now) words.entry.now)) result }
-    ensures unread { command_of (map (λ w. w.now) words.entry.now) ≡ None → reader.new ≡ reader.old }
+        (program_output (map (λ w. w.now) words.entry.now)) result }
+    ensures unread { parsed_command (map (λ w. w.now) words.entry.now) ≡ None → reader.new ≡ reader.old }
 
     // `check` reads its input to the end.
-    ensures to_end { command_of (map (λ w. w.now) words.entry.now) ≡ Some Command.Check
-        → OnOk result (IsAtEnd (R.remaining (inner_of reader.new))) }
+    ensures to_end { parsed_command (map (λ w. w.now) words.entry.now) ≡ Some Command.Check
+        → OnOk result (IsAtEnd (R.remaining (wrapped reader.new))) }
     ensures flushed { EndsFlushed result writer.old writer.new }
 
     // Only a failed device is counted, and `Device` is never returned for anything else.

@@ -4,10 +4,10 @@ ghost use Rattle.std.specs.Prelude.{◌≡◌, ◌+◌, ◌<◌, ◌≤◌, ◌^
 ghost use Rattle.etcs_bits.specs.layout.Results.{Means};
 ghost use Rattle.etcs_radio.specs.Meaning.{message_of};
 ghost use Rattle.etcs_radio.specs.Splitter.{state_of};
-ghost use Rattle.etcs_run.specs.Counted.{CanCount, FlushesNone, inner_of};
+ghost use Rattle.etcs_run.specs.Counted.{CanCount, FlushesNone, wrapped};
 ghost use Rattle.etcs_run.specs.LineReading.{CountsDevice};
-ghost use Rattle.etcs_run.specs.RadioHeld.{Feeds, least_read, kept_by, messages_written};
-ghost use Rattle.etcs_run.specs.RadioStream.{bytes_output, line_for, refused_message, message_output};
+ghost use Rattle.etcs_run.specs.RadioHeld.{Feeds, least_read, kept_bytes, messages_written};
+ghost use Rattle.etcs_run.specs.RadioStream.{bytes_output, message_json, refused_message, message_output};
 ghost use Rattle.etcs_run.specs.Ran.{AnswersLine, Writes};
 
 use crate::control_flow::ControlFlow;
@@ -35,7 +35,7 @@ fn refuse<W: Write>(
     writer: &mut Counted<W>,
 ) -> Result<Status, RunError>
     requires { CanCount writer.old }
-    ensures writes { Writes (W.contents (inner_of writer.old)) (W.contents (inner_of writer.new))
+    ensures writes { Writes (W.contents (wrapped writer.old)) (W.contents (wrapped writer.new))
         (refused_message number why) result }
     ensures counts { CountsDevice result writer.old writer.new }
     ensures unflushed { FlushesNone writer.old writer.new }
@@ -51,7 +51,7 @@ fn refuse<W: Write>(
 
 // The JSON line of the message of these bytes. `room` is the buffer of an earlier line.
 fn message_line(alloc: Global, room: Vec<u8>, bytes: &[u8]) -> Result<Vec<u8>, DecodeError>
-    ensures { Means (λ line. line.items) result (line_for (message_of bytes.now)) }
+    ensures { Means (λ line. line.items) result (message_json (message_of bytes.now)) }
 {
     let message = decode(alloc, bytes)?;
     match json_line(room, &message) {
@@ -70,8 +70,8 @@ fn write_message<W: Write>(
     writer: &mut Counted<W>,
 ) -> Result<ControlFlow, RunError>
     requires { CanCount writer.old }
-    ensures answers_line { AnswersLine (W.contents (inner_of writer.old)) (W.contents (inner_of writer.new))
-        (message_output number (line_for (message_of bytes.now))) result }
+    ensures answers_line { AnswersLine (W.contents (wrapped writer.old)) (W.contents (wrapped writer.new))
+        (message_output number (message_json (message_of bytes.now))) result }
     ensures counts { CountsDevice result writer.old writer.new }
     ensures unflushed { FlushesNone writer.old writer.new }
 {
@@ -106,7 +106,7 @@ impl RadioDecoding {
     /// The command, before its first line. Allocates nothing yet.
     pub fn new(alloc: Global) -> RadioDecoding
         ensures number { messages_written result ≡ 0 }
-        ensures kept { kept_by result ≡ [] }
+        ensures kept { kept_bytes result ≡ [] }
     {
         RadioDecoding {
             splitter: Splitter::new(),
@@ -122,13 +122,13 @@ impl RadioDecoding {
         alloc: Global,
         writer: &mut Counted<W>,
     ) -> Result<ControlFlow, RunError>
-        requires ready { state_of (kept_by self.old) ≡ State.Ready }
+        requires ready { state_of (kept_bytes self.old) ≡ State.Ready }
         requires numbered { messages_written self.old + 1 < 2 ^ 64 }
         requires writes { CanCount writer.old }
-        ensures answers_line { AnswersLine (W.contents (inner_of writer.old)) (W.contents (inner_of writer.new))
-            (message_output (messages_written self.old) (line_for (message_of (kept_by self.old)))) result }
+        ensures answers_line { AnswersLine (W.contents (wrapped writer.old)) (W.contents (wrapped writer.new))
+            (message_output (messages_written self.old) (message_json (message_of (kept_bytes self.old)))) result }
         ensures next { result ≡ Ok ControlFlow.Next → messages_written self.new ≡ messages_written self.old + 1 }
-        ensures cleared { result ≡ Ok ControlFlow.Next → kept_by self.new ≡ [] }
+        ensures cleared { result ≡ Ok ControlFlow.Next → kept_bytes self.new ≡ [] }
         ensures bounded { OnOk result (least_read self.new ≤ least_read self.old) }
         ensures counts { CountsDevice result writer.old writer.new }
         ensures unflushed { FlushesNone writer.old writer.new }
@@ -153,9 +153,9 @@ impl RadioDecoding {
     ) -> Result<ControlFlow, RunError>
         requires numbered { least_read self.old + length bytes.now < 2 ^ 64 }
         requires writes { CanCount writer.old }
-        ensures feeds { Feeds (W.contents (inner_of writer.old)) (W.contents (inner_of writer.new))
-            (bytes_output (messages_written self.old) (kept_by self.old) bytes.now) (messages_written self.new)
-            (kept_by self.new) result }
+        ensures feeds { Feeds (W.contents (wrapped writer.old)) (W.contents (wrapped writer.new))
+            (bytes_output (messages_written self.old) (kept_bytes self.old) bytes.now) (messages_written self.new)
+            (kept_bytes self.new) result }
         ensures bounded { OnOk result (least_read self.new ≤ least_read self.old + length bytes.now) }
         ensures counts { CountsDevice result writer.old writer.new }
         ensures unflushed { FlushesNone writer.old writer.new }
@@ -183,7 +183,7 @@ impl RadioDecoding {
 impl TextLineCommand for RadioDecoding {
     ghost use Rattle.etcs_run.specs.RadioStream.{stream_answers};
 
-    ghost answers = { λ d. stream_answers (messages_written d) (kept_by d) };
+    ghost answers = { λ d. stream_answers (messages_written d) (kept_bytes d) };
 
     ghost count_bound = { least_read };
 

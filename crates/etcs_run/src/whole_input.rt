@@ -1,7 +1,7 @@
 //! `read_whole`: reads an input to its end.
 
 ghost use Rattle.std.specs.Prelude.{◌≡◌, ◌<◌, true, length, vec_items, IfOk, IfErr};
-ghost use Rattle.etcs_run.specs.Counted.{CanCount, budget_of, inner_of};
+ghost use Rattle.etcs_run.specs.Counted.{CanCount, read_budget, wrapped};
 ghost use Rattle.etcs_run.specs.LineReading.{CountsDevice};
 ghost use Rattle.etcs_run.specs.WholeInput.{ReadsMore, ReadsAllInput};
 
@@ -32,12 +32,12 @@ fn read_more<R: Read>(
 ) -> Result<bool, RunError>
     requires room { 0 < length block.old }
     requires reads { CanCount reader.old }
-    ensures read { ReadsMore (R.remaining (inner_of reader.old)) (R.remaining (inner_of reader.new))
+    ensures read { ReadsMore (R.remaining (wrapped reader.old)) (R.remaining (wrapped reader.new))
         input.old.items input.new.items result }
     ensures counts { CountsDevice result reader.old reader.new }
 
     // Each read that gives bytes lowers the budget.
-    ensures lowers_budget { IfOk result (λ more. more ≡ true → budget_of reader.new < budget_of reader.old) }
+    ensures lowers_budget { IfOk result (λ more. more ≡ true → read_budget reader.new < read_budget reader.old) }
 {
     let count = match reader.read(block) {
         Ok(count) => count,
@@ -56,8 +56,8 @@ fn read_more<R: Read>(
 /// of them is returned.
 pub fn read_whole<R: Read>(alloc: Global, reader: &mut Counted<R>) -> Result<Vec<u8>, RunError>
     requires { CanCount reader.old }
-    ensures read { ReadsAllInput vec_items (R.remaining (inner_of reader.old))
-        (R.remaining (inner_of reader.new)) result }
+    ensures read { ReadsAllInput vec_items (R.remaining (wrapped reader.old))
+        (R.remaining (wrapped reader.new)) result }
     ensures counts { CountsDevice result reader.old reader.new }
 {
     let mut block = new_block(alloc)?;
