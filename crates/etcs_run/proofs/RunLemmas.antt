@@ -263,19 +263,28 @@ Ran-known (Some input) {r = Some rest} {output} {result} ran = record {
       subst P (sym ran.consumed) (ran.says rest ran.met);
 }
 
--- one line was written completely
-pub Writes-whole : {c c1 c2 : Option (List ℕ)} {bytes line : List ℕ} {status : Status} {u : Unit {0}}
-    → WritesBytes c c1 bytes (Ok u) → bytes ≡ line → Keeps c1 c2 → Writes c c2 (line, status) (Ok status)
-Writes-whole {c} {c1} {c2} {bytes} {line} {status} written is keeps = record {
-  text = take written.count bytes ++ [];
-  appended = Appends-then c c1 c2 _ _ written.appended (Appends-kept c1 c2 keeps);
+-- a text was written completely
+pub Writes-whole : {c c1 : Option (List ℕ)} {bytes line : List ℕ} {status : Status} {u : Unit {0}}
+    → WritesBytes c c1 bytes (Ok u) → bytes ≡ line → Writes c c1 (line, status) (Ok status)
+Writes-whole {bytes} {line} {status} written is = record {
+  text = take written.count bytes;
+  appended = written.appended;
   says =
       let whole : take written.count bytes ≡ line =
       take_all written.count bytes (omega (arith, written.whole)) ∙ is in
-      ap (λ s. (s, status)) (sym (append-nil _ ∙ whole));
+      ap (λ s. (s, status)) (sym whole);
 }
 
--- a beginning of that line was written
+-- then it was flushed
+pub Writes-kept : {c c1 c2 : Option (List ℕ)} {output : Output} {result : Result Status RunError}
+    → Writes c c1 output result → Keeps c1 c2 → Writes c c2 output result
+Writes-kept {c} {c1} {c2} {output} {result} writes keeps = record {
+  text = writes.text ++ [];
+  appended = Appends-then c c1 c2 _ _ writes.appended (Appends-kept c1 c2 keeps);
+  says = rw (append-nil writes.text) writes.says;
+}
+
+-- a beginning of that text was written
 pub Writes-begun : {c c1 : Option (List ℕ)} {bytes line : List ℕ} {status : Status}
     {result : Result (Unit {0}) RunError} (e : RunError) → WritesBytes c c1 bytes result → bytes ≡ line
     → Writes c c1 (line, status) (Err e)

@@ -2,6 +2,8 @@
 -- first that is refused. The answer to that line is its refusal, which ends the run. Lines count
 -- from 1. An empty line is skipped, but counted.
 use Rattle.std.specs.Prelude.{◌+◌, ◌++◌, ℕ, List, [], ◌∷◌, Result, Ok, Err}
+use Rattle.etcs_document.specs.Refusal.{refusal_words}
+use Rattle.etcs_document.specs.declared.refusal.Refusal.{Refusal}
 use Rattle.etcs_run.specs.TextLines.{split_lines, trimmed}
 use Rattle.etcs_run.specs.TextLineMeaning.{Meaning, line_refusal}
 use Rattle.etcs_run.specs.declared.status.Status.{Status}
@@ -10,6 +12,10 @@ use Rattle.etcs_run.specs.declared.status.Status.TheVariants.{Done, Refused}
 -- a text and a status
 abbrev pub Output : Type 0
 Output = List ℕ × Status
+
+-- a refusal, which ends the run
+abbrev pub refusal_output : Refusal → Output
+refusal_output why = (refusal_words why, Refused)
 
 -- a text, and then an output
 abbrev pub prepend : List ℕ → Output → Output

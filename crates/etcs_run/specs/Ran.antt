@@ -81,32 +81,26 @@ pub record WritesBytes (old new : Option (List ℕ)) (bytes : List ℕ)
   pub appended : Appends old new (take count bytes)
   pub whole : OnOk result (count ≡ length bytes)
 
--- The output from a line onwards: this text and then the rest, this text and the end, or more than
--- this text.
-abbrev pub IsAnswerSoFar : Result ControlFlow RunError → List ℕ → (Output → Output) → Type 0
-IsAnswerSoFar (Ok Next) text after = (rest : Output) → after rest ≡ prepend text rest
-IsAnswerSoFar (Ok (Stop status)) text after = (rest : Output) → after rest ≡ (text, status)
-IsAnswerSoFar (Err _) text after = (rest : Output) → (more : List ℕ) × ((after rest).0 ≡ text ++ more)
+-- What is written from here on: this text and then what is written later, this text and the end, or more
+-- than this text.
+abbrev pub IsAnswerSoFar : Result ControlFlow RunError → List ℕ → Output → Output → Type 0
+IsAnswerSoFar (Ok Next) text now later = now ≡ prepend text later
+IsAnswerSoFar (Ok (Stop status)) text now later = now ≡ (text, status)
+IsAnswerSoFar (Err _) text now later = (more : List ℕ) × (now.0 ≡ text ++ more)
 
--- this text was written, and it is the answer to the line, or a beginning of it
-pub record AnswersLine (old new : Option (List ℕ)) (after : Output → Output)
+-- this text was written, and it is the answer, or a beginning of it, whatever the rest is
+pub record WritesAnswer {X : Type 0} (old new : Option (List ℕ)) (now later : X → Output)
     (result : Result ControlFlow RunError) : Type 0 where
   pub text : List ℕ
   pub appended : Appends old new text
-  pub says : IsAnswerSoFar result text after
+  pub says : (rest : X) → IsAnswerSoFar result text (now rest) (later rest)
 
--- What is written from a line onwards: this text and then what is written from the next line
--- onwards, this text and the end, or more than this text.
-abbrev pub IsNextAnswerSoFar : Result ControlFlow RunError → List ℕ → Output → Output → Type 0
-IsNextAnswerSoFar (Ok Next) text now later = now ≡ prepend text later
-IsNextAnswerSoFar (Ok (Stop status)) text now later = now ≡ (text, status)
-IsNextAnswerSoFar (Err _) text now later = (more : List ℕ) × (now.0 ≡ text ++ more)
+-- the answer to a line, before any output
+abbrev pub AnswersLine : Option (List ℕ) → Option (List ℕ) → (Output → Output) → Result ControlFlow RunError → Type 0
+AnswersLine old new after result = WritesAnswer old new after (λ rest. rest) result
 
--- This text was written, and it is the answer to the line, or a beginning of it, whatever lines
--- after it.
-pub record AnswersNextLine (old new : Option (List ℕ)) (before after : ℕ → List (List ℕ) → Output)
-    (number : ℕ) (line : List ℕ) (result : Result ControlFlow RunError) : Type 0 where
-  pub text : List ℕ
-  pub appended : Appends old new text
-  pub says : (lines : List (List ℕ))
-      → IsNextAnswerSoFar result text (before number (line ∷ lines)) (after (number + 1) lines)
+-- the answer to a line, before the answers to any lines
+abbrev pub AnswersNextLine : Option (List ℕ) → Option (List ℕ) → (ℕ → List (List ℕ) → Output)
+    → (ℕ → List (List ℕ) → Output) → ℕ → List ℕ → Result ControlFlow RunError → Type 0
+AnswersNextLine old new before after number line result =
+    WritesAnswer old new (λ lines. before number (line ∷ lines)) (after (number + 1)) result

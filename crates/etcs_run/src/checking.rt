@@ -2,8 +2,10 @@
 
 ghost use Rattle.std.specs.Prelude.{◌≡◌, string_bytes, IfOk, OnErr, OnOk};
 ghost use Rattle.std.specs.Io.KnownBytes.{IsAtEnd};
-ghost use Rattle.etcs_run.specs.Checking.{check_output, refused_as, reported, check_status};
+ghost use Rattle.etcs_document.specs.declared.refusal.Refusal.TheVariants.{Document};
+ghost use Rattle.etcs_run.specs.Checking.{check_output, check_status, reported};
 ghost use Rattle.etcs_run.specs.Counted.{CanCount, CountsNone, CountsOne, wrapped};
+ghost use Rattle.etcs_run.specs.Output.{refusal_output};
 ghost use Rattle.etcs_run.specs.Ran.{CountsOneDevice, EndsFlushed, Runs};
 
 use crate::counted::Counted;
@@ -41,7 +43,7 @@ fn report_on(alloc: Global, checked: &Checked) -> Result<(String, Status), Memor
 
 // The refusal of a document, and the status.
 fn refuse(alloc: Global, why: LineError) -> Result<(String, Status), Memory>
-    ensures { IfOk result (λ a. (string_bytes a.0, a.1) ≡ refused_as why) }
+    ensures { IfOk result (λ a. (string_bytes a.0, a.1) ≡ refusal_output (Document why)) }
 {
     let text = refusal_text(alloc, &Refusal::Document(why))?;
     Ok((text, Status::Refused))

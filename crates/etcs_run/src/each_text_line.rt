@@ -1,9 +1,8 @@
 //! `EachTextLine`: a command that answers each line by its meaning.
 
-ghost use Rattle.std.specs.Prelude.{◌≡◌, [], Err, IfOk, string_bytes};
+ghost use Rattle.std.specs.Prelude.{◌≡◌, [], Err};
 ghost use Rattle.etcs_document.specs.Refusal.{line_words};
 ghost use Rattle.etcs_run.specs.Counted.{CanCount, FlushesNone, wrapped};
-ghost use Rattle.etcs_run.specs.TextLineMeaning.{line_refusal};
 ghost use Rattle.etcs_run.specs.LineReading.{CountsDevice};
 ghost use Rattle.etcs_run.specs.TextLines.{trimmed};
 ghost use Rattle.etcs_run.specs.Output.{after_line, answered};
@@ -12,12 +11,11 @@ ghost use Rattle.etcs_run.specs.Ran.{AnswersNextLine, AnswersLine};
 use crate::control_flow::ControlFlow;
 use crate::counted::Counted;
 use crate::error::RunError;
-use crate::output::put;
+use crate::output::{put, refuse};
 use crate::status::Status;
 use crate::text_line_command::TextLineCommand;
 use crate::text_line_meaning::{TextLineMeaning, Unwritten};
-use etcs_bits::Memory;
-use etcs_document::{LineFault, Refusal, refusal_text};
+use etcs_document::{LineFault, Refusal};
 use std::alloc::Global;
 use std::io::Write;
 use std::mem;
@@ -33,15 +31,8 @@ pub(crate) fn trim(line: &[u8]) -> &[u8]
     }
 }
 
-// The refusal of the line with this number, with its `\n`. Lines count from 1.
+// Writes the refusal of the line with this number. Lines count from 1.
 #[tactic(auto, unfolding(crate::specs::TextLineMeaning::line_refusal, etcs_document::specs::Refusal::refusal_words))]
-fn refusal(alloc: Global, number: u64, why: LineFault) -> Result<String, Memory>
-    ensures { IfOk result (λ s. string_bytes s ≡ line_refusal number (line_words why)) }
-{
-    refusal_text(alloc, &Refusal::Line(number, why))
-}
-
-// Writes the refusal of the line with this number.
 pub(crate) fn refuse_line<W: Write>(
     alloc: Global,
     number: u64,
@@ -54,13 +45,8 @@ pub(crate) fn refuse_line<W: Write>(
     ensures counts { CountsDevice result writer.old writer.new }
     ensures unflushed { FlushesNone writer.old writer.new }
 {
-    match refusal(alloc, number, why) {
-        Ok(text) => {
-            put(writer, text.as_bytes())?;
-            Ok(ControlFlow::Stop(Status::Refused))
-        }
-        Err(_) => Err(RunError::Memory),
-    }
+    let status = refuse(alloc, &Refusal::Line(number, why), writer)?;
+    Ok(ControlFlow::Stop(status))
 }
 
 // Writes the text of a line, or its refusal. `room` is the buffer of an earlier text.

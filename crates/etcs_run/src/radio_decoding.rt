@@ -7,47 +7,25 @@ ghost use Rattle.etcs_radio.specs.Splitter.{state_of};
 ghost use Rattle.etcs_run.specs.Counted.{CanCount, FlushesNone, wrapped};
 ghost use Rattle.etcs_run.specs.LineReading.{CountsDevice};
 ghost use Rattle.etcs_run.specs.RadioHeld.{Feeds, least_read, kept_bytes, messages_written};
-ghost use Rattle.etcs_run.specs.RadioStream.{bytes_output, message_json, refused_message, message_output};
-ghost use Rattle.etcs_run.specs.Ran.{AnswersLine, Writes};
+ghost use Rattle.etcs_run.specs.RadioStream.{bytes_output, message_json, message_output};
+ghost use Rattle.etcs_run.specs.Ran.{AnswersLine};
 
 use crate::control_flow::ControlFlow;
 use crate::counted::Counted;
 use crate::each_text_line::{refuse_line, trim};
 use crate::error::RunError;
 use crate::json_line::json_line;
-use crate::output::put;
+use crate::output::{put, refuse};
 use crate::status::Status;
 use crate::text_line_command::TextLineCommand;
 use etcs_bits::DecodeError;
-use etcs_document::{LineFault, Refusal, StreamFault, refusal_text};
+use etcs_document::{LineFault, Refusal, StreamFault};
 use etcs_radio::{Splitter, State, decode};
 use etcs_telegram::TextError;
 use hex::FromHexError;
 use std::alloc::Global;
 use std::io::Write;
 use std::mem;
-
-// Writes the refusal of the message with this number.
-fn refuse<W: Write>(
-    alloc: Global,
-    number: u64,
-    why: StreamFault,
-    writer: &mut Counted<W>,
-) -> Result<Status, RunError>
-    requires { CanCount writer.old }
-    ensures writes { Writes (W.contents (wrapped writer.old)) (W.contents (wrapped writer.new))
-        (refused_message number why) result }
-    ensures counts { CountsDevice result writer.old writer.new }
-    ensures unflushed { FlushesNone writer.old writer.new }
-{
-    match refusal_text(alloc, &Refusal::Message(number, why)) {
-        Ok(text) => {
-            put(writer, text.as_bytes())?;
-            Ok(Status::Refused)
-        }
-        Err(_) => Err(RunError::Memory),
-    }
-}
 
 // The JSON line of the message of these bytes. `room` is the buffer of an earlier line.
 fn message_line(alloc: Global, room: Vec<u8>, bytes: &[u8]) -> Result<Vec<u8>, DecodeError>
@@ -84,7 +62,11 @@ fn write_message<W: Write>(
         }
         Err(DecodeError::Memory) => Err(RunError::Memory),
         Err(DecodeError::Fault(fault)) => {
-            let status = refuse(alloc, number, StreamFault::Fault(fault), writer)?;
+            let status = refuse(
+                alloc,
+                &Refusal::Message(number, StreamFault::Fault(fault)),
+                writer,
+            )?;
             Ok(ControlFlow::Stop(status))
         }
     }
@@ -167,7 +149,11 @@ impl RadioDecoding {
             match fed.state {
                 State::More => return Ok(ControlFlow::Next),
                 State::Failed => {
-                    let status = refuse(alloc, self.number, StreamFault::BelowThree, writer)?;
+                    let status = refuse(
+                        alloc,
+                        &Refusal::Message(self.number, StreamFault::BelowThree),
+                        writer,
+                    )?;
                     return Ok(ControlFlow::Stop(status));
                 }
                 State::Ready => {
@@ -211,7 +197,11 @@ impl TextLineCommand for RadioDecoding {
         if self.splitter.held() == 0 {
             Ok(Status::Done)
         } else {
-            refuse(alloc, self.number, StreamFault::CutOff, writer)
+            refuse(
+                alloc,
+                &Refusal::Message(self.number, StreamFault::CutOff),
+                writer,
+            )
         }
     }
 }

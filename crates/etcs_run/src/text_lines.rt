@@ -1,14 +1,18 @@
 //! `TextLines`: the lines of a reader, read in blocks.
 
-ghost use Rattle.std.specs.Prelude.{◌≤◌, ◌<◌, vec_len};
+ghost use Rattle.std.specs.Prelude.{◌≤◌, ◌<◌, vec_len, IfOk};
 
 use crate::counted::Counted;
 use crate::error::RunError;
 use std::alloc::{AllocError, Global};
 use std::io::Read;
 
-/// The size of a read, in bytes.
-const ROOM: usize = 65_536;
+/// A buffer for one read.
+pub(crate) fn new_block(alloc: Global) -> Result<Vec<u8>, AllocError>
+    ensures { IfOk result (λ block. 0 < vec_len block) }
+{
+    vec![in alloc; 0; 65_536]
+}
 
 /// The last line, and the bytes that were read and belong to no line yet.
 ///
@@ -43,7 +47,7 @@ impl TextLines {
         ensures line { IfOk result (λ l. last_line l ≡ []) }
     {
         Ok(TextLines {
-            block: vec![in alloc; 0; ROOM]?,
+            block: new_block(alloc)?,
             from: 0,
             to: 0,
             line: Vec::new(alloc),

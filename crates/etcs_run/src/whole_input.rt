@@ -1,28 +1,15 @@
 //! `read_whole`: reads an input to its end.
 
-ghost use Rattle.std.specs.Prelude.{◌≡◌, ◌<◌, true, length, vec_items, IfOk, IfErr};
+ghost use Rattle.std.specs.Prelude.{◌≡◌, ◌<◌, true, length, vec_items, IfOk};
 ghost use Rattle.etcs_run.specs.Counted.{CanCount, read_budget, wrapped};
 ghost use Rattle.etcs_run.specs.LineReading.{CountsDevice};
 ghost use Rattle.etcs_run.specs.WholeInput.{ReadsMore, ReadsAllInput};
 
 use crate::counted::Counted;
 use crate::error::RunError;
+use crate::text_lines::new_block;
 use std::alloc::Global;
 use std::io::Read;
-
-/// The size of a read, in bytes.
-const ROOM: usize = 65_536;
-
-// A buffer for one read.
-fn new_block(alloc: Global) -> Result<Vec<u8>, RunError>
-    ensures room { IfOk result (λ block. 0 < length block.items) }
-    ensures memory { IfErr result (λ e. e ≡ RunError.Memory) }
-{
-    match vec![in alloc; 0; ROOM] {
-        Ok(block) => Ok(block),
-        Err(_) => Err(RunError::Memory),
-    }
-}
 
 // Appends the result of one read. Returns whether it gave any bytes; if not, the end was reached.
 fn read_more<R: Read>(
@@ -60,7 +47,9 @@ pub fn read_whole<R: Read>(alloc: Global, reader: &mut Counted<R>) -> Result<Vec
         (R.remaining (wrapped reader.new)) result }
     ensures counts { CountsDevice result reader.old reader.new }
 {
-    let mut block = new_block(alloc)?;
+    let Ok(mut block) = new_block(alloc) else {
+        return Err(RunError::Memory);
+    };
     let mut input = Vec::new(alloc);
     'reading: while read_more(block.as_mut_slice(), &mut input, reader)? {}
     Ok(input)
