@@ -1,13 +1,12 @@
 -- What was written for a line when a write failed.
-use Rattle.std.proofs.Common.{◌≡◌, ◌+◌, ◌++◌, ℕ, List, [], take, drop, Option, Result, Ok, Err, sym, ap, ◌∙◌, append_assoc, refl}
-use Rattle.std.proofs.lemmas.List.{append-nil, take-append-drop}
-use Rattle.etcs_run.specs.TextLineMeaning.{Meaning, refusal_of}
+use Rattle.std.proofs.Common.{◌≡◌, ◌+◌, ◌++◌, ℕ, List, take, drop, Option, Result, Ok, Err, subst, sym, ap, ◌∙◌, append_assoc, refl}
+use Rattle.std.proofs.lemmas.List.{take-append-drop}
+use Rattle.etcs_run.specs.TextLineMeaning.{Meaning}
 use Rattle.etcs_run.specs.Output.{Output, after_line, answered, answers}
-use Rattle.etcs_run.specs.Ran.{AnswersNextLine, AnswersLine, WritesBytes}
+use Rattle.etcs_run.specs.Ran.{AnswersNextLine, AnswersLine, IsAnswerSoFar, WritesAnswer, WritesBytes}
 use Rattle.etcs_run.specs.TextLines.{trimmed}
 use Rattle.etcs_run.specs.declared.error.RunError.{RunError}
 use Rattle.etcs_run.specs.declared.control_flow.ControlFlow.{ControlFlow}
-use Rattle.etcs_run.specs.declared.control_flow.ControlFlow.TheVariants.{Next, Stop}
 
 -- The text to be written is a beginning of the answer. So is the part of it that was written.
 pub put_failed : {old new : Option (List ℕ)} {bytes : List ℕ} {after : Output → Output}
@@ -31,16 +30,26 @@ pub begins_answered : (n : ℕ) {meaning : Result (List ℕ) (List ℕ)} {bytes 
     → (more : List ℕ) × ((answered n meaning rest).0 ≡ bytes ++ more)
 begins_answered n is rest = (rest.0, rw is refl)
 
--- the refusal of a line is a beginning of the answer to the line
-pub begins_refused : (n : ℕ) (words : List ℕ) {bytes : List ℕ} → bytes ≡ refusal_of n words
-    → (rest : Output) → (more : List ℕ) × ((answered n (Err words) rest).0 ≡ bytes ++ more)
-begins_refused n words {bytes} is rest = ([], sym is ∙ sym (append-nil bytes))
+-- an answer before the outputs that a function gives
+pub WritesAnswer-at : {X Y : Type 0} {old new : Option (List ℕ)} {now later : X → Output} {result : Result ControlFlow RunError}
+    (f : Y → X) → WritesAnswer old new now later result
+    → WritesAnswer old new (λ y. now (f y)) (λ y. later (f y)) result
+WritesAnswer-at f answer = record { text = answer.text; appended = answer.appended; says = λ y. answer.says (f y) }
+
+-- an answer of the same text
+pub WritesAnswer-as : {X : Type 0} {old new : Option (List ℕ)} {now other later : X → Output} {result : Result ControlFlow RunError}
+    → ((x : X) → other x ≡ now x) → WritesAnswer old new now later result → WritesAnswer old new other later result
+WritesAnswer-as {later} {result} same answer = record {
+  text = answer.text;
+  appended = answer.appended;
+  says = λ x.
+      let P : Output → Type 0 = λ o. IsAnswerSoFar result answer.text o (later x) in
+      subst P (sym (same x)) (answer.says x);
+}
 
 -- the answer of a command that carries nothing from line to line
 pub next_answer_of : {old new : Option (List ℕ)} (meaning : Meaning) (number : ℕ) (line : List ℕ) (result : Result ControlFlow RunError)
     → AnswersLine old new (after_line meaning number (trimmed line)) result
     → AnswersNextLine old new (answers meaning) (answers meaning) number line result
 unfolding answers
-next_answer_of meaning number line (Ok Next) line_answer = record { text = line_answer.text; appended = line_answer.appended; says = λ lines. line_answer.says (answers meaning (number + 1) lines) }
-next_answer_of meaning number line (Ok (Stop status)) line_answer = record { text = line_answer.text; appended = line_answer.appended; says = λ lines. line_answer.says (answers meaning (number + 1) lines) }
-next_answer_of meaning number line (Err e) line_answer = record { text = line_answer.text; appended = line_answer.appended; says = λ lines. line_answer.says (answers meaning (number + 1) lines) }
+next_answer_of meaning number line result line_answer = WritesAnswer-at (answers meaning (number + 1)) line_answer

@@ -6,14 +6,15 @@ use Rattle.etcs_document.specs.Verdict.{Summary, summary_of_text}
 use Rattle.etcs_schema.specs.declared.error.FormError.TheVariants as forms
 use Rattle.etcs_document.specs.declared.line_error.LineError.{LineError}
 use Rattle.etcs_document.specs.declared.line_error.LineError.TheVariants as errors
+use Rattle.etcs_document.specs.declared.refusal.Refusal.TheVariants.{Document}
 use Rattle.etcs_radio.specs.declared.error.RadioTextError.TheVariants as radio
 use Rattle.etcs_telegram.specs.declared.error.TextError.TheVariants as texts
-use Rattle.etcs_run.specs.Checking.{check_output, checked, refused_as, reported}
-use Rattle.etcs_run.specs.Output.{Output}
+use Rattle.etcs_run.specs.Checking.{check_output, checked, reported}
+use Rattle.etcs_run.specs.Output.{Output, refusal_output}
 
 -- a document that is refused, unless memory ran out, has this fault, in the same words
 pub document_refused : (why : LineError) (reading : Result Summary DocumentFault) → why ≢ errors.Memory → Fails why reading
-    → checked reading ≡ refused_as why
+    → checked reading ≡ refusal_output (Document why)
 unfolding refusal_words document_words
 document_refused errors.Memory reading other fails = absurd (other refl)
 document_refused errors.NotJson reading other fails = ap checked fails
@@ -46,7 +47,7 @@ is_reported document is = sym (ap checked is)
 
 -- a document that is refused is answered by its refusal
 pub is_refused : (why : LineError) (document : List ℕ) → why ≢ errors.Memory
-    → Fails why (summary_of_text document) → refused_as why ≡ check_output document
+    → Fails why (summary_of_text document) → refusal_output (Document why) ≡ check_output document
 unfolding check_output
 is_refused why document other fails = sym (document_refused why (summary_of_text document) other fails)
 

@@ -3,10 +3,10 @@ use Rattle.std.proofs.Common.{◌≡◌, ◌++◌, ◌==◌, ◌↔◌, ℕ, Boo
 use Rattle.std.proofs.lemmas.List.{append-nil}
 use Rattle.std.proofs.lemmas.Bool.Decides.{nat_tests}
 use Rattle.std.specs.Io.KnownBytes.{Consumes, IsAtEnd}
-use Rattle.etcs_run.specs.TextLines.{IsLine, lines_of}
-use Rattle.etcs_run.specs.LineReading.{GivesLine, Grows, MovesTo, Reads, held_of}
+use Rattle.etcs_run.specs.TextLines.{IsLine, split_lines}
+use Rattle.etcs_run.specs.LineReading.{GivesLine, Grows, MovesLine, Reads, held_bytes}
 use Rattle.etcs_run.specs.declared.text_lines.TextLines.{TextLines}
-use Rattle.etcs_run.proofs.LineLemmas.{IsLine-append, lines_of-last, lines_of-line, no_first}
+use Rattle.etcs_run.proofs.LineLemmas.{IsLine-append, split_lines-last, split_lines-line, no_first}
 use Rattle.etcs_run.proofs.StreamLemmas.{Consumes-then}
 
 -- The state while a line is searched. These bytes were read, none if the end was reached before. The
@@ -58,8 +58,8 @@ Filling-cut {start} {line} {now} {rest} front filling grown plain cut = record {
       filling.whole ∙ ap (λ r. line ++ r) cut ∙ sym (append_assoc line front (10 ∷ rest))
       ∙ ap (λ r. r ++ 10 ∷ rest) (sym grown) in
       let plain_now : IsLine now = rw grown (IsLine-append line front filling.plain plain) in
-      ap (λ r. lines_of (r ++ t)) whole ∙ ap lines_of (append_assoc now (10 ∷ rest) t)
-      ∙ lines_of-line now (rest ++ t) plain_now;
+      ap (λ r. split_lines (r ++ t)) whole ∙ ap split_lines (append_assoc now (10 ∷ rest) t)
+      ∙ split_lines-line now (rest ++ t) plain_now;
 }
 
 is_long : (x : ℕ) (line : List ℕ) → not (length (x ∷ line) == 0) ≡ true
@@ -71,7 +71,7 @@ last_gives : (line bytes : List ℕ) (ended found : Bool) → found ≡ not (len
 last_gives [] bytes ended found is same plain end = rw is (end, same, refl)
 last_gives (x ∷ line) bytes ended found is same plain end = rw (is ∙ is_long x line) (λ t may.
     let nothing : t ≡ [] = may end in
-    rw (nothing, same, append-nil) (lines_of-last x line plain))
+    rw (nothing, same, append-nil) (split_lines-last x line plain))
 
 -- the end was reached, and nothing is held
 pub Filling-end : {a b : Option (List ℕ)} {had_ended : Bool} {start line held : List ℕ}
@@ -86,14 +86,14 @@ Filling-end {line} {ended} {found} filling none end is =
     }
 
 -- the bytes that were moved if there was no `\n`
-pub moved_on : {b : Bool} {old new : TextLines} → b ≡ false → MovesTo (Ok b) old new
-    → Grows old new (held_of old) × (held_of new ≡ [])
+pub moved_on : {b : Bool} {old new : TextLines} → b ≡ false → MovesLine (Ok b) old new
+    → Grows old new (held_bytes old) × (held_bytes new ≡ [])
 moved_on {b = true} is moved = cc
 moved_on {b = false} is moved = moved
 
 -- the bytes that were moved if there was one
-pub moved_cut : {b : Bool} {old new : TextLines} → b ≡ true → MovesTo (Ok b) old new
-    → (front : List ℕ) × Grows old new front × (held_of old ≡ front ++ 10 ∷ held_of new)
+pub moved_cut : {b : Bool} {old new : TextLines} → b ≡ true → MovesLine (Ok b) old new
+    → (front : List ℕ) × Grows old new front × (held_bytes old ≡ front ++ 10 ∷ held_bytes new)
 moved_cut {b = true} is moved = moved
 moved_cut {b = false} is moved = cc
 
@@ -124,5 +124,5 @@ found_exactly (Some left) (Some rest) {held} true reads met = (
   λ nothing.
       let all : (held ++ reads.bytes) ++ rest ≡ [] =
       append_assoc held reads.bytes rest ∙ ap (λ s. held ++ s) (sym reads.consumed) ∙ nothing in
-      absurd (no_first (sym (ap lines_of all) ∙ reads.gives rest met)),
+      absurd (no_first (sym (ap split_lines all) ∙ reads.gives rest met)),
 )

@@ -23,21 +23,21 @@ use Rattle.etcs_telegram.specs.Telegram.{IsTooBig, used_bits}
 use Rattle.etcs_telegram.specs.Text.{HasHeaderFault, IsCanonicalText, IsHexadecimal, IsReasonDecoded, TextFails}
 use Rattle.etcs_telegram.specs.declared.error.TextError.{TextError}
 use Rattle.etcs_telegram.specs.declared.error.TextError.TheVariants as texts
-use Rattle.etcs_run.specs.FormLines.{◌then◌, message_line, or_fault, or_no_json, record_in, telegram_line, text_unless, value_in}
+use Rattle.etcs_run.specs.FormLines.{◌then◌, message_line, or_fault, or_no_json, parsed_record, telegram_line, text_unless, parsed_value}
 use Rattle.etcs_run.specs.HexText.{message_text, telegram_text}
 use Rattle.etcs_run.specs.TextLineMeaning.{Gives}
-use Rattle.etcs_run.specs.TelegramLines.{IsEarly, line_for}
+use Rattle.etcs_run.specs.TelegramLines.{IsEarly, telegram_json}
 use Rattle.etcs_run.specs.declared.text_line_meaning.Unwritten.{Unwritten}
 use Rattle.etcs_run.proofs.HexTextLemmas.{canonical_message, canonical_telegram}
 
 -- a text that is refused, unless memory ran out, has this reason
 pub text_refused : (why : TextError) (meaning : Result Telegram TextError) → why ≢ texts.Memory → TextFails why meaning
-    → line_for meaning ≡ Err (line_words (Text why))
+    → telegram_json meaning ≡ Err (line_words (Text why))
 text_refused texts.Memory meaning other fails = absurd (other refl)
-text_refused texts.NotHex meaning other fails = ap line_for fails
-text_refused texts.WrongSize meaning other fails = ap line_for fails
-text_refused texts.PadBits meaning other fails = ap line_for fails
-text_refused (texts.Fault f) meaning other fails = ap line_for fails
+text_refused texts.NotHex meaning other fails = ap telegram_json fails
+text_refused texts.WrongSize meaning other fails = ap telegram_json fails
+text_refused texts.PadBits meaning other fails = ap telegram_json fails
+text_refused (texts.Fault f) meaning other fails = ap telegram_json fails
 
 -- a reason that is found before any packet is read is the one that is reported
 pub refused_early : (result : Result Telegram TextError) (text : List ℕ) (why : TextError) → IsEarly why text
@@ -64,14 +64,14 @@ form_refused (forms.Range path) read other fails = ap or_fault fails
 -- ---- the JSON value of a line
 
 -- the bytes are UTF-8, and they are read
-pub value_read : (line : List ℕ) (d : Data) → IsUtf8 line → read line ≡ Some d → value_in line ≡ Ok d
-unfolding value_in
+pub value_read : (line : List ℕ) (d : Data) → IsUtf8 line → read line ≡ Some d → parsed_value line ≡ Ok d
+unfolding parsed_value
 value_read line d utf8 is =
     ap (λ (b : Bool). if b then or_no_json (read line) else Err (line_words Json)) (is_utf8-from_IsUtf8 line utf8)
     ∙ ap or_no_json is
 
 -- the line's record is the record of the text's value
-pub text_read : {X : Type 0} (shape : Shape X) (line text : List ℕ) (d found : Data) → text ≡ line → IsUtf8 line → read text ≡ Some d → found ≡ d → record_in shape line ≡ or_fault (shape.of found)
+pub text_read : {X : Type 0} (shape : Shape X) (line text : List ℕ) (d found : Data) → text ≡ line → IsUtf8 line → read text ≡ Some d → found ≡ d → parsed_record shape line ≡ or_fault (shape.of found)
 text_read shape line text d found same utf8 is shown =
     ap (λ value. value then λ e. or_fault (shape.of e)) (value_read line d utf8 (ap read (sym same) ∙ is)) ∙ ap (λ e. or_fault (shape.of e)) (sym shown)
 
@@ -81,12 +81,12 @@ no_value_by line true utf8 none = ap or_no_json (none (IsUtf8-from_is_utf8 line 
 no_value_by line false utf8 none = refl
 
 -- the bytes are not UTF-8, or they are not read
-pub no_value : (line : List ℕ) → (IsUtf8 line → read line ≡ None) → value_in line ≡ Err (line_words Json)
-unfolding value_in
+pub no_value : (line : List ℕ) → (IsUtf8 line → read line ≡ None) → parsed_value line ≡ Err (line_words Json)
+unfolding parsed_value
 no_value line none = no_value_by line (is_utf8 line) refl none
 
 -- a line that is not JSON has no record
-pub no_record : {X : Type 0} (shape : Shape X) (line : List ℕ) → (IsUtf8 line → read line ≡ None) → record_in shape line ≡ Err (line_words Json)
+pub no_record : {X : Type 0} (shape : Shape X) (line : List ℕ) → (IsUtf8 line → read line ≡ None) → parsed_record shape line ≡ Err (line_words Json)
 no_record shape line none = ap (λ value. value then λ e. or_fault (shape.of e)) (no_value line none)
 
 -- a call gives what an equal meaning is

@@ -11,7 +11,7 @@ use Rattle.etcs_radio.specs.Text.{IsCanonicalText as IsMessageText}
 use Rattle.etcs_radio.proofs.EncodeLemmas.{message_width}
 use Rattle.etcs_telegram.specs.Record.{Telegram}
 use Rattle.etcs_telegram.specs.Text.{IsCanonicalText, no_pads}
-use Rattle.etcs_run.specs.HexText.{bytes_for, bytes_of_bits, message_bits_in, message_text, telegram_text}
+use Rattle.etcs_run.specs.HexText.{byte_count, bytes_of_bits, padded_bits, message_text, telegram_text}
 
 -- the first eight bits are the first byte
 first_byte : (b : ℕ) (bits : List Bool) → bytes_of_bits (num 8 b ++ bits) ≡ num_of_bits (num 8 b) ∷ bytes_of_bits bits
@@ -34,11 +34,11 @@ canonical_telegram t text x =
     x.written ∙ ap encode_lower (sym (bytes_again x.bytes x.in_range) ∙ ap bytes_of_bits bits)
 
 -- the least number of bytes for the bits
-fewest : (bits n : ℕ) → bits ≤ 8 * n → 8 * n < bits + 8 → n ≡ bytes_for bits
+fewest : (bits n : ℕ) → bits ≤ 8 * n → 8 * n < bits + 8 → n ≡ byte_count bits
 fewest bits n enough few = omega arith
 
 -- the number of bytes of a message
-message_count : (m : Message) (bytes : List ℕ) → IsMessageEncoding m bytes → length bytes ≡ bytes_for (message_bits m)
+message_count : (m : Message) (bytes : List ℕ) → IsMessageEncoding m bytes → length bytes ≡ byte_count (message_bits m)
 message_count m bytes x =
     let k = 8 * length bytes - message_bits m in
     let enough : message_bits m ≤ 8 * length bytes = omega (
@@ -54,5 +54,5 @@ message_count m bytes x =
 pub canonical_message : (m : Message) (text : List ℕ) → IsMessageText m text → text ≡ message_text m
 unfolding message_text
 canonical_message m text x =
-    let bits = x.encoding.canonical ∙ ap (λ n. message_bits_in n m) (message_count m x.bytes x.encoding) in
+    let bits = x.encoding.canonical ∙ ap (λ n. padded_bits n m) (message_count m x.bytes x.encoding) in
     x.written ∙ ap encode_lower (sym (bytes_again x.bytes x.encoding.in_range) ∙ ap bytes_of_bits bits)

@@ -3,7 +3,7 @@ use Rattle.std.proofs.Common.{◌≡◌, ◌<◌, ◌≤◌, ◌+◌, ◌-◌, �
 use Rattle.std.proofs.lemmas.List.{drop-take, drop-drop}
 use Rattle.std.proofs.Math.Seq.{take-length}
 use Rattle.memchr.specs.Find.{NoneBefore}
-use Rattle.etcs_run.specs.TextLines.{HasLine, IsLine, lines_of, onto_first}
+use Rattle.etcs_run.specs.TextLines.{HasLine, IsLine, split_lines, onto_first}
 
 false_unless_true : (b : Bool) → (b ≡ true → ⊥) → b ≡ false
 false_unless_true true not_true = absurd (not_true refl)
@@ -81,16 +81,16 @@ IsLine-append [] b before after = after
 IsLine-append (x ∷ a) b before after = (before.0, IsLine-append a b before.1 after)
 
 -- a line that ends at a `\n` comes first
-pub lines_of-line : (a s : List ℕ) → IsLine a → lines_of (a ++ 10 ∷ s) ≡ a ∷ lines_of s
-unfolding lines_of
-lines_of-line [] s plain = refl
-lines_of-line (x ∷ a) s plain = rw (plain.0, lines_of-line a s plain.1) refl
+pub split_lines-line : (a s : List ℕ) → IsLine a → split_lines (a ++ 10 ∷ s) ≡ a ∷ split_lines s
+unfolding split_lines
+split_lines-line [] s plain = refl
+split_lines-line (x ∷ a) s plain = rw (plain.0, split_lines-line a s plain.1) refl
 
 -- a last line that has no `\n` is the only one
-pub lines_of-last : (x : ℕ) (a : List ℕ) → IsLine (x ∷ a) → lines_of (x ∷ a) ≡ (x ∷ a) ∷ lines_of []
-unfolding lines_of
-lines_of-last x [] plain = rw plain.0 refl
-lines_of-last x (y ∷ a) plain = rw plain.0 (ap (onto_first x) (lines_of-last y a plain.1))
+pub split_lines-last : (x : ℕ) (a : List ℕ) → IsLine (x ∷ a) → split_lines (x ∷ a) ≡ (x ∷ a) ∷ split_lines []
+unfolding split_lines
+split_lines-last x [] plain = rw plain.0 refl
+split_lines-last x (y ∷ a) plain = rw plain.0 (ap (onto_first x) (split_lines-last y a plain.1))
 
 -- bytes without a `\n` have no complete line
 no_line_end : (front rest : List ℕ) → IsLine (front ++ 10 ∷ rest) → ⊥
@@ -101,6 +101,6 @@ pub no_line_in : {start held : List ℕ} → HasLine start → held ≡ start �
 no_line_in has same plain = no_line_end has.0 has.1 (subst IsLine (same ∙ has.2) plain)
 
 -- an input without a byte has no line
-pub no_first : {line : List ℕ} {lines : List (List ℕ)} → lines_of [] ≡ line ∷ lines → ⊥
-unfolding lines_of
+pub no_first : {line : List ℕ} {lines : List (List ℕ)} → split_lines [] ≡ line ∷ lines → ⊥
+unfolding split_lines
 no_first is = cc is

@@ -1,7 +1,6 @@
 -- How the bytes of a stream of radio messages are answered, message by message. `all` is what must be
 -- written for all bytes of a line, and `left` for the remaining bytes.
 use Rattle.std.proofs.Common.{◌≡◌, ◌≢◌, ◌≤◌, ◌+◌, ◌-◌, ◌++◌, ℕ, Bool, true, false, if◌then◌else◌, List, [], ◌∷◌, length, Option, Result, Ok, Err, refl, sym, ap, ◌∙◌, append_assoc, take, drop, arith, length-append, length-drop, length-take, drop-drop, subst, OnOk, ◌⊎◌, inl, inr}
-use Rattle.std.proofs.lemmas.List.{take_all}
 use Rattle.std.specs.Io.BufRead.{ends_with_byte}
 use Rattle.std.specs.Io.KnownBytes.{Appends}
 use Rattle.hex.proofs.HexLemmas.{decode_of-ok}
@@ -17,18 +16,20 @@ use Rattle.etcs_radio.proofs.CuttingLemmas.{call-others, call-ready}
 use Rattle.etcs_radio.proofs.StateLemmas.{ready-whole, ready_is_not_more}
 use Rattle.etcs_document.specs.Refusal.{line_words, refusal_words}
 use Rattle.etcs_document.specs.declared.refusal.LineFault.TheVariants.{Text}
+use Rattle.etcs_document.specs.declared.refusal.Refusal.TheVariants.{Message}
 use Rattle.etcs_document.specs.declared.refusal.StreamFault.TheVariants.{BelowThree, CutOff}
 use Rattle.etcs_telegram.specs.declared.error.TextError.TheVariants.{NotHex}
-use Rattle.etcs_run.specs.Output.{Output, answered, prepend}
+use Rattle.etcs_run.specs.Output.{Output, answered, prepend, refusal_output}
 use Rattle.etcs_run.specs.RadioHeld.{Feeds}
-use Rattle.etcs_run.specs.RadioStream.{Continuation, bytes_output, line_for, refused_message, stream_answers, message_output, cut_output}
-use Rattle.etcs_run.specs.Ran.{AnswersNextLine, AnswersLine, Writes, WritesBytes}
+use Rattle.etcs_run.specs.RadioStream.{Continuation, bytes_output, message_json, stream_answers, message_output, cut_output}
+use Rattle.etcs_run.specs.Ran.{AnswersNextLine, AnswersLine, Writes}
 use Rattle.etcs_run.specs.TextLines.{trimmed}
 use Rattle.etcs_run.specs.declared.error.RunError.{RunError}
 use Rattle.etcs_run.specs.declared.status.Status.{Status}
 use Rattle.etcs_run.specs.declared.status.Status.TheVariants.{Done}
 use Rattle.etcs_run.specs.declared.control_flow.ControlFlow.{ControlFlow}
 use Rattle.etcs_run.specs.declared.control_flow.ControlFlow.TheVariants.{Next, Stop}
+use Rattle.etcs_run.proofs.AnswerLemmas.{WritesAnswer-as, WritesAnswer-at}
 use Rattle.etcs_run.proofs.StreamLemmas.{Appends-none, Appends-then}
 
 -- ---- what remains to be written after one call of the splitter
@@ -36,7 +37,7 @@ use Rattle.etcs_run.proofs.StreamLemmas.{Appends-none, Appends-then}
 -- a message came out
 pub fed_ready : (n : ℕ) (held piece whole rest : List ℕ)
     → cut_from held piece ≡ after_message whole (cut_from [] rest) → (continuation : Continuation)
-    → bytes_output n held piece continuation ≡ message_output n (line_for (message_of whole)) (bytes_output (n + 1) [] rest continuation)
+    → bytes_output n held piece continuation ≡ message_output n (message_json (message_of whole)) (bytes_output (n + 1) [] rest continuation)
 fed_ready n held piece whole rest is continuation = ap (λ (cut : Cut). cut_output n cut continuation) is
 
 -- the splitter waits for more bytes
@@ -49,7 +50,7 @@ ready_is_not_failed e = grind arith
 
 -- no message begins with the bytes that are held
 pub fed_failed : (n : ℕ) (held piece after : List ℕ) → cut_from held piece ≡ none_with after
-    → state_of after ≡ Failed → (continuation : Continuation) → bytes_output n held piece continuation ≡ refused_message n BelowThree
+    → state_of after ≡ Failed → (continuation : Continuation) → bytes_output n held piece continuation ≡ refusal_output (Message n BelowThree)
 fed_failed n held piece after is failed continuation =
     ap (λ (cut : Cut). cut_output n cut continuation) is ∙ rw failed refl
 
@@ -106,13 +107,13 @@ module _ {held bytes now : List ℕ} {at used : ℕ} (call : Takes held bytes no
       fed_more n held (drop at bytes) now (none_came (λ ready. ready_is_not_more (sym ready ∙ waits))) waits
 
   pub left_failed : (n : ℕ) → state_of now ≡ Failed → (continuation : Continuation)
-      → bytes_output n held (drop at bytes) continuation ≡ refused_message n BelowThree
+      → bytes_output n held (drop at bytes) continuation ≡ refusal_output (Message n BelowThree)
   left_failed n failed =
       fed_failed n held (drop at bytes) now (none_came (λ ready. ready_is_not_failed (sym ready ∙ failed))) failed
 
   pub left_ready : (n : ℕ) → state_of now ≡ Ready → (continuation : Continuation)
       → bytes_output n held (drop at bytes) continuation
-      ≡ message_output n (line_for (message_of now)) (bytes_output (n + 1) [] (drop (at + used) bytes) continuation)
+      ≡ message_output n (message_json (message_of now)) (bytes_output (n + 1) [] (drop (at + used) bytes) continuation)
   left_ready n ready = fed_ready n held (drop at bytes) now (drop (at + used) bytes) (one_came ready)
 
 -- ---- what was written so far
@@ -179,18 +180,6 @@ Feeds-more n held feeding is = record {
 
 -- ---- refusals
 
--- a text was written completely
-pub written_whole : {c c1 : Option (List ℕ)} {bytes line : List ℕ} {status : Status} {u : Unit {0}}
-    → WritesBytes c c1 bytes (Ok u) → bytes ≡ line → Writes c c1 (line, status) (Ok status)
-written_whole {bytes} {line} {status} written is = record {
-  text = take written.count bytes;
-  appended = written.appended;
-  says =
-      let whole : take written.count bytes ≡ line =
-      take_all written.count bytes (omega (arith, written.whole)) ∙ is in
-      ap (λ s. (s, status)) (sym whole);
-}
-
 -- the complete output ends the run, whatever would follow
 pub answer_of_output : {c c1 : Option (List ℕ)} {output : Output} {status : Status}
     → Writes c c1 output (Ok status) → AnswersLine c c1 (λ _. output) (Ok (Stop status))
@@ -201,17 +190,6 @@ pub answer_of_beginning : {c c1 : Option (List ℕ)} {output : Output} {e : RunE
     → Writes c c1 output (Err e) → AnswersLine c c1 (λ _. output) (Err x)
 answer_of_beginning x writes = record { text = writes.text; appended = writes.appended; says = λ rest. writes.says }
 
--- a line whose answer is equal
-pub AnswersLine-as : {c c1 : Option (List ℕ)} {after other : Output → Output} (result : Result ControlFlow RunError)
-    → ((rest : Output) → other rest ≡ after rest) → AnswersLine c c1 after result → AnswersLine c c1 other result
-AnswersLine-as (Ok Next) same line_answer = record { text = line_answer.text; appended = line_answer.appended; says = λ rest. same rest ∙ line_answer.says rest }
-AnswersLine-as (Ok (Stop status)) same line_answer = record { text = line_answer.text; appended = line_answer.appended; says = λ rest. same rest ∙ line_answer.says rest }
-AnswersLine-as (Err e) same line_answer = record {
-  text = line_answer.text;
-  appended = line_answer.appended;
-  says = λ rest. let cut = line_answer.says rest in (cut.0, ap (λ o. o.0) (same rest) ∙ cut.1);
-}
-
 -- ---- lines
 
 -- the bytes of a line were fed
@@ -220,9 +198,8 @@ pub line_fed : {c c1 : Option (List ℕ)} (n : ℕ) (held : List ℕ) (later : �
     → decode_of (trimmed line) ≡ Ok bytes → Feeds c c1 (bytes_output n held bytes) later kept result
     → AnswersNextLine c c1 (stream_answers n held) (stream_answers later kept) number line result
 unfolding stream_answers
-line_fed n held later kept number line bytes (Ok Next) is feeds = record { text = feeds.text; appended = feeds.appended; says = λ lines. rw is (feeds.says (λ m h. stream_answers m h (number + 1) lines)) }
-line_fed n held later kept number line bytes (Ok (Stop status)) is feeds = record { text = feeds.text; appended = feeds.appended; says = λ lines. rw is (feeds.says (λ m h. stream_answers m h (number + 1) lines)) }
-line_fed n held later kept number line bytes (Err e) is feeds = record { text = feeds.text; appended = feeds.appended; says = λ lines. rw is (feeds.says (λ m h. stream_answers m h (number + 1) lines)) }
+line_fed n held later kept number line bytes result is feeds =
+    WritesAnswer-as (λ lines. rw is refl) (WritesAnswer-at (λ lines m h. stream_answers m h (number + 1) lines) feeds)
 
 -- a text was not read, and memory did not run out
 pub not_read : {text other : List ℕ} {why : FromHexError} → other ≡ text → why ≢ OutOfMemory
@@ -237,18 +214,8 @@ pub line_refused : {c c1 : Option (List ℕ)} (n : ℕ) (held : List ℕ) (later
     → AnswersLine c c1 (answered number (Err (line_words (Text NotHex)))) result
     → AnswersNextLine c c1 (stream_answers n held) (stream_answers later kept) number line result
 unfolding stream_answers
-line_refused n held later kept number line why (Ok Next) is line_answer = record { text = line_answer.text; appended = line_answer.appended; says = λ lines. rw is (line_answer.says (stream_answers later kept (number + 1) lines)) }
-line_refused n held later kept number line why (Ok (Stop status)) is line_answer = record { text = line_answer.text; appended = line_answer.appended; says = λ lines. rw is (line_answer.says (stream_answers later kept (number + 1) lines)) }
-line_refused n held later kept number line why (Err e) is line_answer = record { text = line_answer.text; appended = line_answer.appended; says = λ lines. rw is (line_answer.says (stream_answers later kept (number + 1) lines)) }
-
--- memory ran out before anything was written for the line
-pub line_unread : {c : Option (List ℕ)} (before after : ℕ → List (List ℕ) → Output) (number : ℕ)
-    (line : List ℕ) (e : RunError) → AnswersNextLine c c before after number line (Err e)
-line_unread {c} before after number line e = record {
-  text = [];
-  appended = Appends-none c;
-  says = λ lines. ((before number (line ∷ lines)).0, refl);
-}
+line_refused n held later kept number line why result is line_answer =
+    WritesAnswer-as (λ lines. rw is refl) (WritesAnswer-at (stream_answers later kept (number + 1)) line_answer)
 
 -- ---- counting
 
@@ -284,7 +251,7 @@ ends_done {c} n held number none = record { text = []; appended = Appends-none c
 
 -- a message has begun
 pub ends_cut_off : {c c1 : Option (List ℕ)} (n : ℕ) (held : List ℕ) (number : ℕ)
-    {result : Result Status RunError} → held ≢ [] → Writes c c1 (refused_message n CutOff) result
+    {result : Result Status RunError} → held ≢ [] → Writes c c1 (refusal_output (Message n CutOff)) result
     → Writes c c1 (stream_answers n held number []) result
 unfolding stream_answers
 ends_cut_off n [] number some writes = absurd (some refl)

@@ -5,7 +5,7 @@ use Rattle.std.proofs.lemmas.List.{append-nil, take_all, take-append-drop}
 use Rattle.std.specs.Io.KnownBytes.{Appends, Consumes, IsAtEnd, Keeps}
 use Rattle.etcs_run.specs.LineReading.{CountsDevice, Reads}
 use Rattle.etcs_run.specs.Ran.{MayFollow}
-use Rattle.etcs_run.specs.TextLines.{lines_of}
+use Rattle.etcs_run.specs.TextLines.{split_lines}
 use Rattle.etcs_run.specs.Output.{Output, line_by_line, prepend}
 use Rattle.etcs_run.specs.Ran.{CountsOneDevice, IsOutputSoFar, Ran, AnswersNextLine, Writes, WritesBytes}
 use Rattle.etcs_run.specs.declared.counted.Counted.{Counted}
@@ -32,7 +32,7 @@ Answers = ℕ → List (List ℕ) → Output
 
 -- what remains to be written after n lines
 abbrev pub left_of : Answers → ℕ → List ℕ → List ℕ → Output
-left_of answers n held rest = answers (n + 1) (lines_of (held ++ rest))
+left_of answers n held rest = answers (n + 1) (split_lines (held ++ rest))
 
 -- nothing is read yet, and everything remains to be written
 pub Running-start : {r c : Option (List ℕ)} {ended : Bool} {held : List ℕ} (answers : Answers)
@@ -59,7 +59,7 @@ module _ {r0 r r1 c0 c : Option (List ℕ)} {before after : Bool} {output : List
   -- a line was found, and its answer is not written yet
   pub Running-line : (answers : Answers) (n : ℕ) → Running r0 r c0 c before output (left_of answers n held)
       → Reads r r1 before held line now after (Ok true) → (before ≡ true → after ≡ true)
-      → Running r0 r1 c0 c after output (λ rest. answers (n + 1) (line ∷ lines_of (now ++ rest)))
+      → Running r0 r1 c0 c after output (λ rest. answers (n + 1) (line ∷ split_lines (now ++ rest)))
   Running-line answers n run read stays = record {
     bytes = run.bytes ++ read.bytes;
     consumed = Consumes-then r0 r r1 _ _ run.consumed read.consumed;
@@ -67,7 +67,7 @@ module _ {r0 r r1 c0 c : Option (List ℕ)} {before after : Bool} {output : List
     appended = run.appended;
     says = λ rest may.
         let first = run.says (read.bytes ++ rest) (may_before _ rest read.quiet stays may) in
-        let lines = sym (ap lines_of (append_assoc held read.bytes rest)) ∙ read.gives rest may in
+        let lines = sym (ap split_lines (append_assoc held read.bytes rest)) ∙ read.gives rest may in
         regroup output run.bytes read.bytes rest ∙ first
         ∙ ap (λ ls. prepend run.text (answers (n + 1) ls)) lines;
   }
@@ -76,7 +76,7 @@ module _ {r0 r r1 c0 c : Option (List ℕ)} {before after : Bool} {output : List
   pub Running-end : (answers : Answers) (n : ℕ) → Running r0 r c0 c before output (left_of answers n held)
       → Reads r r1 before held line now after (Ok false) → (before ≡ true → after ≡ true)
       → Running r0 r1 c0 c after output (λ _. answers (n + 1) [])
-  unfolding lines_of
+  unfolding split_lines
   Running-end answers n run read stays = record {
     bytes = run.bytes ++ read.bytes;
     consumed = Consumes-then r0 r r1 _ _ run.consumed read.consumed;
@@ -87,7 +87,7 @@ module _ {r0 r r1 c0 c : Option (List ℕ)} {before after : Bool} {output : List
         let nothing : (held ++ read.bytes) ++ rest ≡ [] = rw (read.gives.1, may read.gives.0) refl in
         let nothing_left = sym (append_assoc held read.bytes rest) ∙ nothing in
         regroup output run.bytes read.bytes rest ∙ first
-        ∙ ap (λ s. prepend run.text (answers (n + 1) (lines_of s))) nothing_left;
+        ∙ ap (λ s. prepend run.text (answers (n + 1) (split_lines s))) nothing_left;
   }
 
   -- a read failed, or the line did not fit in memory
@@ -110,7 +110,7 @@ module _ {r0 r r1 c0 c : Option (List ℕ)} {before after : Bool} {output : List
 
 module _ {r0 r c0 c c1 : Option (List ℕ)} {ended : Bool} {output : List ℕ → Output}
     (before after : Answers) (n : ℕ) {line : List ℕ} (now : List ℕ)
-    (run : Running r0 r c0 c ended output (λ rest. before (n + 1) (line ∷ lines_of (now ++ rest)))) where
+    (run : Running r0 r c0 c ended output (λ rest. before (n + 1) (line ∷ split_lines (now ++ rest)))) where
   -- a line was answered
   pub Running-answered : AnswersNextLine c c1 before after (n + 1) line (Ok Next)
       → Running r0 r c0 c1 ended output (left_of after (n + 1) now)
@@ -120,8 +120,8 @@ module _ {r0 r c0 c c1 : Option (List ℕ)} {ended : Bool} {output : List ℕ �
     text = run.text ++ line_answer.text;
     appended = Appends-then c0 c c1 _ _ run.appended line_answer.appended;
     says = λ rest may.
-        let later = after ((n + 1) + 1) (lines_of (now ++ rest)) in
-        run.says rest may ∙ ap (prepend run.text) (line_answer.says (lines_of (now ++ rest)))
+        let later = after ((n + 1) + 1) (split_lines (now ++ rest)) in
+        run.says rest may ∙ ap (prepend run.text) (line_answer.says (split_lines (now ++ rest)))
         ∙ ap (λ s. (s, later.1)) (sym (append_assoc run.text line_answer.text later.0));
   }
 
@@ -136,7 +136,7 @@ module _ {r0 r c0 c c1 : Option (List ℕ)} {ended : Bool} {output : List ℕ �
     text = run.text ++ line_answer.text;
     appended = Appends-then c0 c c1 _ _ run.appended line_answer.appended;
     says = λ rest may.
-        run.says rest may ∙ ap (prepend run.text) (line_answer.says (lines_of (now ++ rest)));
+        run.says rest may ∙ ap (prepend run.text) (line_answer.says (split_lines (now ++ rest)));
   }
 
   -- a write failed, or memory ran out
@@ -150,7 +150,7 @@ module _ {r0 r c0 c c1 : Option (List ℕ)} {ended : Bool} {output : List ℕ �
     text = run.text ++ line_answer.text;
     appended = Appends-then c0 c c1 _ _ run.appended line_answer.appended;
     says = λ rest may.
-        let cut = line_answer.says (lines_of (now ++ rest)) in (
+        let cut = line_answer.says (split_lines (now ++ rest)) in (
           cut.0,
           ap (λ o. o.0) (run.says rest may) ∙ ap (λ s. run.text ++ s) cut.1
               ∙ sym (append_assoc run.text line_answer.text cut.0),
@@ -263,19 +263,28 @@ Ran-known (Some input) {r = Some rest} {output} {result} ran = record {
       subst P (sym ran.consumed) (ran.says rest ran.met);
 }
 
--- one line was written completely
-pub Writes-whole : {c c1 c2 : Option (List ℕ)} {bytes line : List ℕ} {status : Status} {u : Unit {0}}
-    → WritesBytes c c1 bytes (Ok u) → bytes ≡ line → Keeps c1 c2 → Writes c c2 (line, status) (Ok status)
-Writes-whole {c} {c1} {c2} {bytes} {line} {status} written is keeps = record {
-  text = take written.count bytes ++ [];
-  appended = Appends-then c c1 c2 _ _ written.appended (Appends-kept c1 c2 keeps);
+-- a text was written completely
+pub Writes-whole : {c c1 : Option (List ℕ)} {bytes line : List ℕ} {status : Status} {u : Unit {0}}
+    → WritesBytes c c1 bytes (Ok u) → bytes ≡ line → Writes c c1 (line, status) (Ok status)
+Writes-whole {bytes} {line} {status} written is = record {
+  text = take written.count bytes;
+  appended = written.appended;
   says =
       let whole : take written.count bytes ≡ line =
       take_all written.count bytes (omega (arith, written.whole)) ∙ is in
-      ap (λ s. (s, status)) (sym (append-nil _ ∙ whole));
+      ap (λ s. (s, status)) (sym whole);
 }
 
--- a beginning of that line was written
+-- then it was flushed
+pub Writes-kept : {c c1 c2 : Option (List ℕ)} {output : Output} {result : Result Status RunError}
+    → Writes c c1 output result → Keeps c1 c2 → Writes c c2 output result
+Writes-kept {c} {c1} {c2} {output} {result} writes keeps = record {
+  text = writes.text ++ [];
+  appended = Appends-then c c1 c2 _ _ writes.appended (Appends-kept c1 c2 keeps);
+  says = rw (append-nil writes.text) writes.says;
+}
+
+-- a beginning of that text was written
 pub Writes-begun : {c c1 : Option (List ℕ)} {bytes line : List ℕ} {status : Status}
     {result : Result (Unit {0}) RunError} (e : RunError) → WritesBytes c c1 bytes result → bytes ≡ line
     → Writes c c1 (line, status) (Err e)

@@ -35,19 +35,19 @@ abbrev pub has_radio : List Row → Bool
 has_radio rows = option_map_or (λ v. bytes_eq v (codes "true")) (first_of (codes "radio") rows) false
 
 -- the command `decode`, of telegrams or of radio messages
-abbrev pub decode_of : Bool → Command
-decode_of radio = if radio then DecodeRadio else Decode
+abbrev pub decode_command : Bool → Command
+decode_command radio = if radio then DecodeRadio else Decode
 
 -- the command `encode`, of telegrams or of radio messages
-abbrev pub encode_of : Bool → Command
-encode_of radio = if radio then EncodeRadio else Encode
+abbrev pub encode_command : Bool → Command
+encode_command radio = if radio then EncodeRadio else Encode
 
 -- the command of this name, with or without the flag
 abbrev pub command_named : Text → Bool → Option Command
 command_named name radio =
     if bytes_eq name (codes "check") then Some Check
-    else (if bytes_eq name (codes "decode") then Some (decode_of radio)
-    else (if bytes_eq name (codes "encode") then Some (encode_of radio) else None))
+    else (if bytes_eq name (codes "decode") then Some (decode_command radio)
+    else (if bytes_eq name (codes "encode") then Some (encode_command radio) else None))
 
 -- the command of the subcommand that was found
 abbrev pub entered : Option (Text × List Row) → Option Command
@@ -60,6 +60,6 @@ unless_fault [] command = command
 unless_fault (_ ∷ _) command = None
 
 -- the command that the words give, or none; the first word is the program's name
-unfoldable pub command_of : List Text → Option Command
-command_of words =
+unfoldable pub parsed_command : List Text → Option Command
+parsed_command words =
     unless_fault (fault_of command_line words) (entered (subcommand_of command_line words))

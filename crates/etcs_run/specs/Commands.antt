@@ -1,28 +1,27 @@
 -- What each command writes for an input, and what is written for words that are not a command.
-use Rattle.std.specs.Prelude.{ℕ, List, [], codes, Option, Some, None}
+use Rattle.std.specs.Prelude.{ℕ, List, [], Option, Some, None}
+use Rattle.etcs_json.specs.AnyMessage.{message}
+use Rattle.etcs_json.specs.Telegrams.{telegram}
+use Rattle.etcs_schema.specs.Shape.{object}
+use Rattle.etcs_document.specs.declared.refusal.Refusal.TheVariants.{Usage}
 use Rattle.etcs_run.specs.Checking.{check_output}
-use Rattle.etcs_run.specs.Command.{command_of}
-use Rattle.etcs_run.specs.FormLines.{message_encoded, telegram_encoded}
-use Rattle.etcs_run.specs.Output.{Output, each_text_line, line_by_line}
+use Rattle.etcs_run.specs.Command.{parsed_command}
+use Rattle.etcs_run.specs.FormLines.{encoded, message_line, telegram_line}
+use Rattle.etcs_run.specs.Output.{Output, each_text_line, line_by_line, refusal_output}
 use Rattle.etcs_run.specs.RadioStream.{stream_answers}
-use Rattle.etcs_run.specs.TelegramLines.{decoded_of}
+use Rattle.etcs_run.specs.TelegramLines.{telegram_decoded}
 use Rattle.etcs_run.specs.declared.command.Command.{Command}
 use Rattle.etcs_run.specs.declared.command.Command.TheVariants.{Check, Decode, DecodeRadio, Encode, EncodeRadio}
-use Rattle.etcs_run.specs.declared.status.Status.TheVariants.{Refused}
-
--- the line that is written if the words are not a command
-unfoldable pub usage_line : List ℕ
-usage_line = codes "refused: usage is balisecheck check, decode [--radio] or encode [--radio]\n"
 
 -- what is written for a command and an input, or for no command
 abbrev pub of_command : Option Command → List ℕ → Output
 of_command (Some Check) input = check_output input
-of_command (Some Decode) input = each_text_line decoded_of input
+of_command (Some Decode) input = each_text_line telegram_decoded input
 of_command (Some DecodeRadio) input = line_by_line (stream_answers 0 []) input
-of_command (Some Encode) input = each_text_line telegram_encoded input
-of_command (Some EncodeRadio) input = each_text_line message_encoded input
-of_command None input = (usage_line, Refused)
+of_command (Some Encode) input = each_text_line (encoded (object telegram) telegram_line) input
+of_command (Some EncodeRadio) input = each_text_line (encoded message message_line) input
+of_command None input = refusal_output Usage
 
 -- what is written for some words and an input
-unfoldable pub output_of : List (List ℕ) → List ℕ → Output
-output_of words input = of_command (command_of words) input
+unfoldable pub program_output : List (List ℕ) → List ℕ → Output
+program_output words input = of_command (parsed_command words) input

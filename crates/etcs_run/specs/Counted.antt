@@ -5,36 +5,36 @@ use Rattle.std.specs.Prelude.{◌≡◌, ◌<◌, ◌+◌, ◌-◌, ◌^◌, ℕ
 use Rattle.etcs_run.specs.declared.counted.Counted.{Counted}
 
 -- the number of failed calls
-abbrev pub failures_of : {T : Type 0} → Counted T → ℕ
-failures_of counted = counted.failures
+abbrev pub failure_count : {T : Type 0} → Counted T → ℕ
+failure_count counted = counted.failures
 
 -- the remaining budget, in bytes of the buffers that are passed to reads
-abbrev pub budget_of : {T : Type 0} → Counted T → ℕ
-budget_of counted = counted.budget
+abbrev pub read_budget : {T : Type 0} → Counted T → ℕ
+read_budget counted = counted.budget
 
 -- the number of flushes that succeeded
-abbrev pub flushes_of : {T : Type 0} → Counted T → ℕ
-flushes_of counted = counted.flushes
+abbrev pub flush_count : {T : Type 0} → Counted T → ℕ
+flush_count counted = counted.flushes
 
 -- whether everything written has been flushed
 abbrev pub is_flushed : {T : Type 0} → Counted T → Bool
 is_flushed counted = counted.is_flushed
 
 -- the reader or writer that is counted
-abbrev pub inner_of : {T : Type 0} → Counted T → T
-inner_of counted = counted.inner
+abbrev pub wrapped : {T : Type 0} → Counted T → T
+wrapped counted = counted.inner
 
 -- one more failure can still be counted
 abbrev pub CanCount : {T : Type 0} → Counted T → Type 0
-CanCount counted = failures_of counted < 2 ^ 64 - 1
+CanCount counted = failure_count counted < 2 ^ 64 - 1
 
 -- no call has failed in between
 abbrev pub CountsNone : {T : Type 0} → Counted T → Counted T → Type 0
-CountsNone old new = failures_of new ≡ failures_of old
+CountsNone old new = failure_count new ≡ failure_count old
 
 -- one call has failed in between
 abbrev pub CountsOne : {T : Type 0} → Counted T → Counted T → Type 0
-CountsOne old new = failures_of new ≡ failures_of old + 1
+CountsOne old new = failure_count new ≡ failure_count old + 1
 
 -- a failed call adds one, up to the type's greatest value, and no other call adds any
 abbrev pub CountsFailure : {X E : Type 0} → ℕ → ℕ → Result X E → Type 0
@@ -48,4 +48,4 @@ CountsFlush old new result =
 
 -- nothing has been flushed in between
 abbrev pub FlushesNone : {T : Type 0} → Counted T → Counted T → Type 0
-FlushesNone old new = flushes_of new ≡ flushes_of old
+FlushesNone old new = flush_count new ≡ flush_count old

@@ -9,11 +9,9 @@ use Rattle.etcs_telegram.specs.Sizes.{user_bits}
 use Rattle.etcs_telegram.specs.Telegram.{used_bits}
 use Rattle.serde_json.specs.Data.{Data}
 use Rattle.serde_json.specs.Read.{read}
-use Rattle.etcs_json.specs.AnyMessage.{message}
 use Rattle.etcs_schema.specs.Fault.{Fault}
 use Rattle.etcs_document.specs.Refusal.{form_fault_words, line_words}
-use Rattle.etcs_schema.specs.Shape.{Shape, object}
-use Rattle.etcs_json.specs.Telegrams.{telegram}
+use Rattle.etcs_schema.specs.Shape.{Shape}
 use Rattle.etcs_document.specs.declared.refusal.LineFault.TheVariants.{Json, TooBig}
 use Rattle.etcs_run.specs.HexText.{message_text, telegram_text}
 use Rattle.etcs_run.specs.TextLineMeaning.{Meaning}
@@ -30,8 +28,8 @@ or_no_json (Some d) = Ok d
 or_no_json None = Err (line_words Json)
 
 -- the JSON value of the bytes: exactly one, in UTF-8
-unfoldable pub value_in : List ℕ → Result Data (List ℕ)
-value_in bytes = if is_utf8 bytes then or_no_json (read bytes) else Err (line_words Json)
+unfoldable pub parsed_value : List ℕ → Result Data (List ℕ)
+parsed_value bytes = if is_utf8 bytes then or_no_json (read bytes) else Err (line_words Json)
 
 -- the record that was read from a form, or the form's first fault in words
 abbrev pub or_fault : {X : Type 0} → Result X Fault → Result X (List ℕ)
@@ -39,8 +37,8 @@ or_fault (Ok x) = Ok x
 or_fault (Err f) = Err (form_fault_words f)
 
 -- the record whose form the line is, or the reason why there is none
-abbrev pub record_in : {X : Type 0} → Shape X → List ℕ → Result X (List ℕ)
-record_in shape line = value_in line then λ d. or_fault (shape.of d)
+abbrev pub parsed_record : {X : Type 0} → Shape X → List ℕ → Result X (List ℕ)
+parsed_record shape line = parsed_value line then λ d. or_fault (shape.of d)
 
 -- the text with the end of the line, unless the record is too big to have one
 abbrev pub text_unless : Bool → List ℕ → Result (List ℕ) (List ℕ)
@@ -50,14 +48,10 @@ text_unless too_big text = if too_big then Err (line_words TooBig) else Ok (text
 unfoldable pub telegram_line : Telegram → Result (List ℕ) (List ℕ)
 telegram_line t = text_unless (nat_lt (user_bits t.size) (used_bits t)) (telegram_text t)
 
--- what a line means as the form of a telegram: its text, or the reason why there is none
-unfoldable pub telegram_encoded : Meaning
-telegram_encoded line = record_in (object telegram) line then telegram_line
-
 -- the line of a message; it is too big if its bits are more than 1,023 bytes have
 unfoldable pub message_line : Message → Result (List ℕ) (List ℕ)
 message_line m = text_unless (nat_lt 8184 (message_bits m)) (message_text m)
 
--- what a line means as the form of a radio message
-unfoldable pub message_encoded : Meaning
-message_encoded line = record_in message line then message_line
+-- what a line means as the form of a record: the record's text, or the reason why there is none
+unfoldable pub encoded : {X : Type 0} → Shape X → (X → Result (List ℕ) (List ℕ)) → Meaning
+encoded shape text line = parsed_record shape line then text

@@ -24,13 +24,13 @@ unfoldable pub telegram_text : Telegram → List ℕ
 telegram_text t = digits_of_bits (canonical_bits t ++ no_pads t.size)
 
 -- the number of bytes for this number of bits
-abbrev pub bytes_for : ℕ → ℕ
-bytes_for bits = (bits + 7) / 8
+abbrev pub byte_count : ℕ → ℕ
+byte_count bits = (bits + 7) / 8
 
 -- the bits of a message of n bytes: its head and its packets, and then zeros
-abbrev pub message_bits_in : ℕ → Message → List Bool
-message_bits_in n m = join (message_rows n m) ++ replicate (8 * n - message_bits m) false
+abbrev pub padded_bits : ℕ → Message → List Bool
+padded_bits n m = join (message_rows n m) ++ replicate (8 * n - message_bits m) false
 
 -- the text of a message, in the least number of bytes
 unfoldable pub message_text : Message → List ℕ
-message_text m = digits_of_bits (message_bits_in (bytes_for (message_bits m)) m)
+message_text m = digits_of_bits (padded_bits (byte_count (message_bits m)) m)

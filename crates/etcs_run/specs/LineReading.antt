@@ -3,21 +3,21 @@
 -- terminal may give more bytes after an end.
 use Rattle.std.specs.Prelude.{◌≡◌, ◌++◌, ◌-◌, ℕ, Bool, true, false, List, [], ◌∷◌, take, drop, Option, Result, Ok, Err}
 use Rattle.std.specs.Io.KnownBytes.{Consumes, IsAtEnd}
-use Rattle.etcs_run.specs.Counted.{CountsNone, CountsOne, inner_of}
+use Rattle.etcs_run.specs.Counted.{CountsNone, CountsOne, wrapped}
 use Rattle.etcs_run.specs.Ran.{MayFollow}
-use Rattle.etcs_run.specs.TextLines.{IsLine, lines_of}
+use Rattle.etcs_run.specs.TextLines.{IsLine, split_lines}
 use Rattle.etcs_run.specs.declared.counted.Counted.{Counted}
 use Rattle.etcs_run.specs.declared.error.RunError.{RunError}
 use Rattle.etcs_run.specs.declared.error.RunError.TheVariants.{Memory, Device}
 use Rattle.etcs_run.specs.declared.text_lines.TextLines.{TextLines}
 
 -- the bytes that were read and belong to no line yet
-abbrev pub held_of : TextLines → List ℕ
-held_of lines = take (lines.to - lines.from) (drop lines.from lines.block.items)
+abbrev pub held_bytes : TextLines → List ℕ
+held_bytes lines = take (lines.to - lines.from) (drop lines.from lines.block.items)
 
 -- the last line
-abbrev pub line_of : TextLines → List ℕ
-line_of lines = lines.line.items
+abbrev pub last_line : TextLines → List ℕ
+last_line lines = lines.line.items
 
 -- whether the end of the input was reached
 abbrev pub has_ended : TextLines → Bool
@@ -25,7 +25,7 @@ has_ended lines = lines.has_ended
 
 -- if the end was reached and the reader's bytes are known, none of them remains
 abbrev pub IsEndMet : {R : Type 0} → (R → Option (List ℕ)) → Bool → Counted R → Type 0
-IsEndMet remaining ended reader = ended ≡ true → IsAtEnd (remaining (inner_of reader))
+IsEndMet remaining ended reader = ended ≡ true → IsAtEnd (remaining (wrapped reader))
 
 -- a device that failed is counted once, and nothing else is counted
 abbrev pub CountsDevice : {X T : Type 0} → Result X RunError → Counted T → Counted T → Type 0
@@ -35,15 +35,15 @@ CountsDevice (Err Device) old new = CountsOne old new
 
 -- the line has grown by these bytes, which contain no `\n`
 pub record Grows (old new : TextLines) (front : List ℕ) : Type 0 where
-  pub line : line_of new ≡ line_of old ++ front
+  pub line : last_line new ≡ last_line old ++ front
   pub plain : IsLine front
 
 -- the line has grown by the held bytes before a `\n`, or by all of them if there is none
-abbrev pub MovesTo : Result Bool RunError → TextLines → TextLines → Type 0
-MovesTo (Err _) old new = Unit {0}
-MovesTo (Ok true) old new =
-    (front : List ℕ) × Grows old new front × (held_of old ≡ front ++ 10 ∷ held_of new)
-MovesTo (Ok false) old new = Grows old new (held_of old) × (held_of new ≡ [])
+abbrev pub MovesLine : Result Bool RunError → TextLines → TextLines → Type 0
+MovesLine (Err _) old new = Unit {0}
+MovesLine (Ok true) old new =
+    (front : List ℕ) × Grows old new front × (held_bytes old ≡ front ++ 10 ∷ held_bytes new)
+MovesLine (Ok false) old new = Grows old new (held_bytes old) × (held_bytes new ≡ [])
 
 -- The line is the first one of the bytes held and read, whatever follows them. Or there is no
 -- line: the end was reached, and no byte remains.
@@ -51,7 +51,7 @@ abbrev pub GivesLine : Result Bool RunError → List ℕ → List ℕ → List �
 GivesLine (Err _) bytes line held ended = Unit {0}
 GivesLine (Ok true) bytes line held ended =
     (rest : List ℕ) → MayFollow ended rest
-    → lines_of (bytes ++ rest) ≡ line ∷ lines_of (held ++ rest)
+    → split_lines (bytes ++ rest) ≡ line ∷ split_lines (held ++ rest)
 GivesLine (Ok false) bytes line held ended = (ended ≡ true) × (bytes ≡ []) × (held ≡ [])
 
 -- These bytes were read, none if the end was reached before. Together with the bytes held before, they

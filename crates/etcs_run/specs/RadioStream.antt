@@ -13,32 +13,27 @@ use Rattle.etcs_radio.specs.declared.message.Message.{Message as RadioMessage}
 use Rattle.etcs_radio.specs.declared.splitter.State.{State}
 use Rattle.etcs_radio.specs.declared.splitter.State.TheVariants.{Failed}
 use Rattle.etcs_json.specs.AnyMessage.{message}
-use Rattle.etcs_document.specs.Refusal.{line_words, refusal_words}
+use Rattle.etcs_document.specs.Refusal.{line_words}
 use Rattle.etcs_document.specs.declared.refusal.LineFault.TheVariants.{Text}
 use Rattle.etcs_document.specs.declared.refusal.Refusal.TheVariants.{Message}
-use Rattle.etcs_document.specs.declared.refusal.StreamFault.{StreamFault}
 use Rattle.etcs_document.specs.declared.refusal.StreamFault.TheVariants.{BelowThree, CutOff, Fault}
-use Rattle.etcs_run.specs.JsonLine.{json_line_of}
-use Rattle.etcs_run.specs.TextLineMeaning.{refusal_of}
-use Rattle.etcs_run.specs.Output.{Output, prepend}
+use Rattle.etcs_run.specs.JsonLine.{json_line_text}
+use Rattle.etcs_run.specs.TextLineMeaning.{line_refusal}
+use Rattle.etcs_run.specs.Output.{Output, prepend, refusal_output}
 use Rattle.etcs_run.specs.TextLines.{trimmed}
 use Rattle.etcs_run.specs.declared.status.Status.TheVariants.{Done, Refused}
 
 -- ---- one message
 
--- the refusal of the message with this number, which ends the run
-abbrev pub refused_message : ℕ → StreamFault → Output
-refused_message number why = (refusal_words (Message number why), Refused)
-
 -- the JSON line of a message that was read, or its first fault
-abbrev pub line_for : Result RadioMessage FirstFault → Result (List ℕ) FirstFault
-line_for (Ok m) = Ok (json_line_of message m)
-line_for (Err fault) = Err fault
+abbrev pub message_json : Result RadioMessage FirstFault → Result (List ℕ) FirstFault
+message_json (Ok m) = Ok (json_line_text message m)
+message_json (Err fault) = Err fault
 
 -- the JSON line of the message with this number, and then the rest; or the message's refusal
 abbrev pub message_output : ℕ → Result (List ℕ) FirstFault → Output → Output
 message_output number (Ok line) rest = prepend line rest
-message_output number (Err fault) rest = refused_message number (Fault fault)
+message_output number (Err fault) rest = refusal_output (Message number (Fault fault))
 
 -- ---- the bytes of one line
 
@@ -48,14 +43,14 @@ Continuation = ℕ → List ℕ → Output
 
 -- what is written later, unless no message begins with the bytes that are held
 abbrev pub unless_failed : State → ℕ → List ℕ → Continuation → Output
-unless_failed Failed number held rest = refused_message number BelowThree
+unless_failed Failed number held rest = refusal_output (Message number BelowThree)
 unless_failed _ number held rest = rest number held
 
 -- the messages that came out of the splitter, in order, and then what is written later
 abbrev pub messages_output : ℕ → List (List ℕ) → List ℕ → Continuation → Output
 messages_output number [] held rest = unless_failed (state_of held) number held rest
 messages_output number (bytes ∷ messages) held rest =
-    message_output number (line_for (message_of bytes)) (messages_output (number + 1) messages held rest)
+    message_output number (message_json (message_of bytes)) (messages_output (number + 1) messages held rest)
 
 -- what came out of the splitter, its messages in order, and then what is written later
 abbrev pub cut_output : ℕ → Cut → Continuation → Output
@@ -70,12 +65,12 @@ bytes_output number held bytes rest = cut_output number (cut_from held bytes) re
 -- what is written for the bytes of a line, or the refusal of a line that is not hexadecimal text
 abbrev pub after_bytes : ℕ → Result (List ℕ) FromHexError → (List ℕ → Output) → Output
 after_bytes line (Ok bytes) rest = rest bytes
-after_bytes line (Err why) rest = (refusal_of line (line_words (Text NotHex)), Refused)
+after_bytes line (Err why) rest = (line_refusal line (line_words (Text NotHex)), Refused)
 
 -- what is written at the end of the input: a message that has begun is cut off
 abbrev pub at_end : ℕ → List ℕ → Output
 at_end number [] = ([], Done)
-at_end number (byte ∷ held) = refused_message number CutOff
+at_end number (byte ∷ held) = refusal_output (Message number CutOff)
 
 -- what is written for the lines, the first of which has the number `line`; `number` is the number of messages
 -- before them, and `held` is the beginning of the next message

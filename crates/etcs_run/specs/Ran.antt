@@ -7,7 +7,7 @@
 --   the status for such a writer.
 use Rattle.std.specs.Prelude.{◌≡◌, ◌≤◌, ◌+◌, ◌++◌, ◌⊎◌, ℕ, Bool, true, List, [], ◌∷◌, take, length, Option, Result, Ok, Err, IfSome, OnOk}
 use Rattle.std.specs.Io.KnownBytes.{Appends, Consumes, IsAtEnd}
-use Rattle.etcs_run.specs.Counted.{CountsFlush, CountsNone, CountsOne, flushes_of, inner_of, is_flushed}
+use Rattle.etcs_run.specs.Counted.{CountsFlush, CountsNone, CountsOne, flush_count, wrapped, is_flushed}
 use Rattle.etcs_run.specs.Output.{Output, prepend}
 use Rattle.etcs_run.specs.declared.counted.Counted.{Counted}
 use Rattle.etcs_run.specs.declared.error.RunError.{RunError}
@@ -42,8 +42,8 @@ pub record Ran (remaining_old remaining_new contents_old contents_new : Option (
 abbrev pub Runs : {R W : Type 0} → (R → Option (List ℕ)) → (W → Option (List ℕ)) → Counted R
     → Counted R → Counted W → Counted W → (List ℕ → Output) → Result Status RunError → Type 0
 Runs remaining contents reader_old reader_new writer_old writer_new output result =
-    Ran (remaining (inner_of reader_old)) (remaining (inner_of reader_new))
-    (contents (inner_of writer_old)) (contents (inner_of writer_new)) output result
+    Ran (remaining (wrapped reader_old)) (remaining (wrapped reader_new))
+    (contents (wrapped writer_old)) (contents (wrapped writer_new)) output result
 
 -- a text was written: this output, or a beginning of it
 pub record Writes (old new : Option (List ℕ)) (output : Output) (result : Result Status RunError)
@@ -56,13 +56,13 @@ pub record Writes (old new : Option (List ℕ)) (output : Output) (result : Resu
 abbrev pub Answers : {R W : Type 0} → (R → Option (List ℕ)) → (W → Option (List ℕ)) → Counted R
     → Counted W → Counted W → (List ℕ → Output) → Result Status RunError → Type 0
 Answers remaining contents reader writer_old writer_new output result =
-    IfSome (remaining (inner_of reader)) (λ input.
-    Writes (contents (inner_of writer_old)) (contents (inner_of writer_new)) (output input) result)
+    IfSome (remaining (wrapped reader)) (λ input.
+    Writes (contents (wrapped writer_old)) (contents (wrapped writer_new)) (output input) result)
 
 -- a status is returned only after everything written was flushed, by the only flush of the run
 abbrev pub EndsFlushed : {X W : Type 0} → Result X RunError → Counted W → Counted W → Type 0
 EndsFlushed result old new =
-    OnOk result (is_flushed new ≡ true) × CountsFlush (flushes_of old) (flushes_of new) result
+    OnOk result (is_flushed new ≡ true) × CountsFlush (flush_count old) (flush_count new) result
 
 -- a failed device is counted once, at the reader or at the writer, and nothing else is counted
 abbrev pub CountsOneDevice : {R W X : Type 0} → Result X RunError → Counted R → Counted R
@@ -81,32 +81,26 @@ pub record WritesBytes (old new : Option (List ℕ)) (bytes : List ℕ)
   pub appended : Appends old new (take count bytes)
   pub whole : OnOk result (count ≡ length bytes)
 
--- The output from a line onwards: this text and then the rest, this text and the end, or more than
--- this text.
-abbrev pub IsAnswerSoFar : Result ControlFlow RunError → List ℕ → (Output → Output) → Type 0
-IsAnswerSoFar (Ok Next) text after = (rest : Output) → after rest ≡ prepend text rest
-IsAnswerSoFar (Ok (Stop status)) text after = (rest : Output) → after rest ≡ (text, status)
-IsAnswerSoFar (Err _) text after = (rest : Output) → (more : List ℕ) × ((after rest).0 ≡ text ++ more)
+-- What is written from here on: this text and then what is written later, this text and the end, or more
+-- than this text.
+abbrev pub IsAnswerSoFar : Result ControlFlow RunError → List ℕ → Output → Output → Type 0
+IsAnswerSoFar (Ok Next) text now later = now ≡ prepend text later
+IsAnswerSoFar (Ok (Stop status)) text now later = now ≡ (text, status)
+IsAnswerSoFar (Err _) text now later = (more : List ℕ) × (now.0 ≡ text ++ more)
 
--- this text was written, and it is the answer to the line, or a beginning of it
-pub record AnswersLine (old new : Option (List ℕ)) (after : Output → Output)
+-- this text was written, and it is the answer, or a beginning of it, whatever the rest is
+pub record WritesAnswer {X : Type 0} (old new : Option (List ℕ)) (now later : X → Output)
     (result : Result ControlFlow RunError) : Type 0 where
   pub text : List ℕ
   pub appended : Appends old new text
-  pub says : IsAnswerSoFar result text after
+  pub says : (rest : X) → IsAnswerSoFar result text (now rest) (later rest)
 
--- What is written from a line onwards: this text and then what is written from the next line
--- onwards, this text and the end, or more than this text.
-abbrev pub IsNextAnswerSoFar : Result ControlFlow RunError → List ℕ → Output → Output → Type 0
-IsNextAnswerSoFar (Ok Next) text now later = now ≡ prepend text later
-IsNextAnswerSoFar (Ok (Stop status)) text now later = now ≡ (text, status)
-IsNextAnswerSoFar (Err _) text now later = (more : List ℕ) × (now.0 ≡ text ++ more)
+-- the answer to a line, before any output
+abbrev pub AnswersLine : Option (List ℕ) → Option (List ℕ) → (Output → Output) → Result ControlFlow RunError → Type 0
+AnswersLine old new after result = WritesAnswer old new after (λ rest. rest) result
 
--- This text was written, and it is the answer to the line, or a beginning of it, whatever lines
--- after it.
-pub record AnswersNextLine (old new : Option (List ℕ)) (before after : ℕ → List (List ℕ) → Output)
-    (number : ℕ) (line : List ℕ) (result : Result ControlFlow RunError) : Type 0 where
-  pub text : List ℕ
-  pub appended : Appends old new text
-  pub says : (lines : List (List ℕ))
-      → IsNextAnswerSoFar result text (before number (line ∷ lines)) (after (number + 1) lines)
+-- the answer to a line, before the answers to any lines
+abbrev pub AnswersNextLine : Option (List ℕ) → Option (List ℕ) → (ℕ → List (List ℕ) → Output)
+    → (ℕ → List (List ℕ) → Output) → ℕ → List ℕ → Result ControlFlow RunError → Type 0
+AnswersNextLine old new before after number line result =
+    WritesAnswer old new (λ lines. before number (line ∷ lines)) (after (number + 1)) result

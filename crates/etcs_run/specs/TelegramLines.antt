@@ -10,17 +10,17 @@ use Rattle.etcs_document.specs.Refusal.{line_words}
 use Rattle.etcs_schema.specs.Shape.{object}
 use Rattle.etcs_json.specs.Telegrams.{telegram}
 use Rattle.etcs_document.specs.declared.refusal.LineFault.TheVariants.{Text}
-use Rattle.etcs_run.specs.JsonLine.{json_line_of}
+use Rattle.etcs_run.specs.JsonLine.{json_line_text}
 use Rattle.etcs_run.specs.TextLineMeaning.{Meaning}
 
 -- the line that is written for a telegram that was read, or the reason why none was
-abbrev pub line_for : Result Telegram TextError → Result (List ℕ) (List ℕ)
-line_for (Ok t) = Ok (json_line_of (object telegram) t)
-line_for (Err why) = Err (line_words (Text why))
+abbrev pub telegram_json : Result Telegram TextError → Result (List ℕ) (List ℕ)
+telegram_json (Ok t) = Ok (json_line_text (object telegram) t)
+telegram_json (Err why) = Err (line_words (Text why))
 
 -- what a line of hexadecimal text means: a JSON line, or the reason why it is refused
-unfoldable pub decoded_of : Meaning
-decoded_of text = line_for (telegram_of_text text)
+unfoldable pub telegram_decoded : Meaning
+telegram_decoded text = telegram_json (telegram_of_text text)
 
 -- the text is refused for this reason before any packet is read
 abbrev pub IsEarly : TextError → List ℕ → Type 0

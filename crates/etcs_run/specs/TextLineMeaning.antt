@@ -10,8 +10,8 @@ abbrev pub Meaning : Type 0
 Meaning = List ℕ → Result (List ℕ) (List ℕ)
 
 -- the refusal of the line with this number, for a reason in these words
-unfoldable pub refusal_of : ℕ → List ℕ → List ℕ
-refusal_of number words = codes "refused: line " ++ (decimal number ++ (codes ": " ++ (words ++ codes "\n")))
+unfoldable pub line_refusal : ℕ → List ℕ → List ℕ
+line_refusal number words = codes "refused: line " ++ (decimal number ++ (codes ": " ++ (words ++ codes "\n")))
 
 -- What a call returned, seen through `view`, is what the line means, unless memory ran out. The words of a
 -- refusal's reason are the words of the meaning.

@@ -9,9 +9,9 @@ onto_first byte [] = (byte ∷ []) ∷ []
 onto_first byte (line ∷ lines) = (byte ∷ line) ∷ lines
 
 -- the lines, in order
-unfoldable pub lines_of : List ℕ → List (List ℕ)
-lines_of [] = []
-lines_of (byte ∷ text) = if byte == 10 then [] ∷ lines_of text else onto_first byte (lines_of text)
+unfoldable pub split_lines : List ℕ → List (List ℕ)
+split_lines [] = []
+split_lines (byte ∷ text) = if byte == 10 then [] ∷ split_lines text else onto_first byte (split_lines text)
 
 -- a line without a `\r` at its end; only one is removed
 abbrev pub trimmed : List ℕ → List ℕ

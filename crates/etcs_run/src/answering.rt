@@ -2,7 +2,7 @@
 
 ghost use Rattle.std.specs.Prelude.{◌≡◌, [], false};
 ghost use Rattle.etcs_run.specs.Counted.{CanCount, FlushesNone};
-ghost use Rattle.etcs_run.specs.LineReading.{has_ended, held_of};
+ghost use Rattle.etcs_run.specs.LineReading.{has_ended, held_bytes};
 ghost use Rattle.etcs_run.specs.Output.{line_by_line};
 ghost use Rattle.etcs_run.specs.Ran.{CountsOneDevice, EndsFlushed, Runs};
 
@@ -24,7 +24,7 @@ fn answer_lines<C: TextLineCommand, R: Read, W: Write>(
     reader: &mut Counted<R>,
     writer: &mut Counted<W>,
 ) -> Result<Status, RunError>
-    requires fresh { (held_of lines.old ≡ []) × (has_ended lines.old ≡ false) }
+    requires fresh { (held_bytes lines.old ≡ []) × (has_ended lines.old ≡ false) }
     requires uncounted { C.count_bound command.old ≡ 0 }
     requires reads { CanCount reader.old }
     requires writes { CanCount writer.old }

@@ -2,8 +2,10 @@
 
 ghost use Rattle.std.specs.Prelude.{◌≡◌, string_bytes, IfOk, OnErr, OnOk};
 ghost use Rattle.std.specs.Io.KnownBytes.{IsAtEnd};
-ghost use Rattle.etcs_run.specs.Checking.{check_output, refused_as, reported, status_for};
-ghost use Rattle.etcs_run.specs.Counted.{CanCount, CountsNone, CountsOne, inner_of};
+ghost use Rattle.etcs_document.specs.declared.refusal.Refusal.TheVariants.{Document};
+ghost use Rattle.etcs_run.specs.Checking.{check_output, check_status, reported};
+ghost use Rattle.etcs_run.specs.Counted.{CanCount, CountsNone, CountsOne, wrapped};
+ghost use Rattle.etcs_run.specs.Output.{refusal_output};
 ghost use Rattle.etcs_run.specs.Ran.{CountsOneDevice, EndsFlushed, Runs};
 
 use crate::counted::Counted;
@@ -19,7 +21,7 @@ use std::io::{Read, Write};
 
 // The status of a check.
 fn status_of(findings: &[Finding]) -> Status
-    ensures { result ≡ status_for findings.now }
+    ensures { result ≡ check_status findings.now }
 {
     if findings.is_empty() {
         Status::Done
@@ -41,7 +43,7 @@ fn report_on(alloc: Global, checked: &Checked) -> Result<(String, Status), Memor
 
 // The refusal of a document, and the status.
 fn refuse(alloc: Global, why: LineError) -> Result<(String, Status), Memory>
-    ensures { IfOk result (λ a. (string_bytes a.0, a.1) ≡ refused_as why) }
+    ensures { IfOk result (λ a. (string_bytes a.0, a.1) ≡ refusal_output (Document why)) }
 {
     let text = refusal_text(alloc, &Refusal::Document(why))?;
     Ok((text, Status::Refused))
@@ -81,8 +83,8 @@ pub fn check_input<R: Read, W: Write>(
     ensures counts { CountsOneDevice result reader.old reader.new writer.old writer.new }
 
     // The writer is called only after the end of the input was reached.
-    ensures to_end { OnOk result (IsAtEnd (R.remaining (inner_of reader.new))) }
-    ensures cut_off { CountsOne writer.old writer.new → IsAtEnd (R.remaining (inner_of reader.new)) }
+    ensures to_end { OnOk result (IsAtEnd (R.remaining (wrapped reader.new))) }
+    ensures cut_off { CountsOne writer.old writer.new → IsAtEnd (R.remaining (wrapped reader.new)) }
     ensures unwritten { OnErr result (CountsNone writer.old writer.new → writer.new ≡ writer.old) }
 {
     let document = read_whole(alloc, reader)?;

@@ -3,7 +3,7 @@
 ghost use Rattle.std.specs.Prelude.{◌≡◌, false, IfOk, map};
 ghost use Rattle.clap.specs.declared.builder.command.Command.TheViews.{out-Command};
 ghost use Rattle.clap.specs.Words.{app_of, found_of, new_app, rows_of, subcommand_rows_of, with_rule};
-ghost use Rattle.etcs_run.specs.Command.{command_line, command_of, decode_of, encode_of, entered, has_radio, radio};
+ghost use Rattle.etcs_run.specs.Command.{command_line, parsed_command, decode_command, encode_command, entered, has_radio, radio};
 
 use clap::error::ErrorKind;
 use clap::{Arg, ArgAction, ArgMatches, Command as CommandLine};
@@ -64,7 +64,7 @@ fn is_radio(matches: &ArgMatches<'_>) -> bool
 
 // The command `decode`, of telegrams or of radio messages.
 fn decoding(radio: bool) -> Command
-    ensures { result ≡ decode_of radio }
+    ensures { result ≡ decode_command radio }
 {
     if radio {
         Command::DecodeRadio
@@ -75,7 +75,7 @@ fn decoding(radio: bool) -> Command
 
 // The command `encode`, of telegrams or of radio messages.
 fn encoding(radio: bool) -> Command
-    ensures { result ≡ encode_of radio }
+    ensures { result ≡ encode_command radio }
 {
     if radio {
         Command::EncodeRadio
@@ -103,7 +103,7 @@ fn entered_command(matches: &ArgMatches<'_>) -> Option<Command>
 /// A request for help is not a command, so the texts of `clap` are never printed. Fails only if memory runs
 /// out; then no command is returned.
 pub fn read_command<'a>(alloc: Global, words: &'a [&'a str]) -> Result<Option<Command>, AllocError>
-    ensures { IfOk result (λ c. c ≡ command_of (map (λ w. w.now) words.entry.now)) }
+    ensures { IfOk result (λ c. c ≡ parsed_command (map (λ w. w.now) words.entry.now)) }
 {
     let grammar = grammar(alloc)?;
     match grammar.try_get_matches_from(words) {

@@ -3,8 +3,8 @@
 ghost use Rattle.std.specs.Prelude.{◌≡◌, ◌<◌, ◌≤◌, ◌+◌, ◌-◌, ◌^◌, false, length, max, IfOk, IsErr, is_ok};
 ghost use Rattle.std.specs.Io.{ReadsAtMost, WritesAtMost};
 ghost use Rattle.std.specs.Io.KnownBytes.{Keeps, ReadConsumes, WriteAppends};
-ghost use Rattle.etcs_run.specs.Counted.{CountsFailure, CountsFlush, budget_of};
-ghost use Rattle.etcs_run.specs.Counted.{failures_of, flushes_of, inner_of, is_flushed};
+ghost use Rattle.etcs_run.specs.Counted.{CountsFailure, CountsFlush, read_budget};
+ghost use Rattle.etcs_run.specs.Counted.{failure_count, flush_count, wrapped, is_flushed};
 
 use std::io::{Error, ErrorKind, Read, Result, Write};
 
@@ -33,10 +33,10 @@ impl<T> Counted<T> {
     /// it may still buffer what was written to it before.
     #[inline]
     pub fn new(inner: T) -> Counted<T>
-        ensures inner { inner_of result ≡ inner }
-        ensures failures { failures_of result ≡ 0 }
-        ensures budget { budget_of result ≡ 2 ^ 64 - 1 }
-        ensures flushes { flushes_of result ≡ 0 }
+        ensures inner { wrapped result ≡ inner }
+        ensures failures { failure_count result ≡ 0 }
+        ensures budget { read_budget result ≡ 2 ^ 64 - 1 }
+        ensures flushes { flush_count result ≡ 0 }
         ensures flushed { is_flushed result ≡ false }
     {
         Counted {
@@ -51,7 +51,7 @@ impl<T> Counted<T> {
     /// The number of calls that have failed. The count stops at 2^64 - 1.
     #[inline]
     pub fn failures(&self) -> u64
-        ensures { result ≡ failures_of self.now }
+        ensures { result ≡ failure_count self.now }
     {
         // Reads, writes and flushes alike.
         self.failures
@@ -60,7 +60,7 @@ impl<T> Counted<T> {
     /// The remaining budget, in bytes of the buffers that are passed to reads.
     #[inline]
     pub(crate) fn budget(&self) -> u64
-        ensures { result ≡ budget_of self.now }
+        ensures { result ≡ read_budget self.now }
     {
         self.budget
     }
@@ -75,25 +75,25 @@ impl<T> Counted<T> {
 }
 
 impl<R: Read> Read for Counted<R> {
-    ghost remaining = { λ c. R.remaining (inner_of c) };
+    ghost remaining = { λ c. R.remaining (wrapped c) };
 
     /// Reads once. If the budget does not suffice, the read fails and the reader is not called. Every
     /// other failed read lowers the budget too.
     #[inline]
     fn read(&mut self, buf: &mut [u8]) -> Result<usize>
         ensures bound { ReadsAtMost result buf.new }
-        ensures bytes { ReadConsumes (R.remaining (inner_of self.old))
-            (R.remaining (inner_of self.new)) result buf.new }
+        ensures bytes { ReadConsumes (R.remaining (wrapped self.old))
+            (R.remaining (wrapped self.new)) result buf.new }
 
         // What the call costs, and what it adds to the count.
-        ensures counts { CountsFailure (failures_of self.old) (failures_of self.new) result }
-        ensures lowers_budget { max (length buf.old) 1 ≤ budget_of self.old
-            → budget_of self.new + max (length buf.old) 1 ≡ budget_of self.old }
-        ensures spent { budget_of self.old < max (length buf.old) 1
-            → IsErr result × (inner_of self.new ≡ inner_of self.old)
-            × (budget_of self.new ≡ budget_of self.old) }
+        ensures counts { CountsFailure (failure_count self.old) (failure_count self.new) result }
+        ensures lowers_budget { max (length buf.old) 1 ≤ read_budget self.old
+            → read_budget self.new + max (length buf.old) 1 ≡ read_budget self.old }
+        ensures spent { read_budget self.old < max (length buf.old) 1
+            → IsErr result × (wrapped self.new ≡ wrapped self.old)
+            × (read_budget self.new ≡ read_budget self.old) }
         ensures same_flushed { is_flushed self.new ≡ is_flushed self.old }
-        ensures same_flushes { flushes_of self.new ≡ flushes_of self.old }
+        ensures same_flushes { flush_count self.new ≡ flush_count self.old }
     {
         let cost = (buf.len() as u64).max(1);
         if self.budget < cost {
@@ -110,20 +110,20 @@ impl<R: Read> Read for Counted<R> {
 }
 
 impl<W: Write> Write for Counted<W> {
-    ghost contents = { λ c. W.contents (inner_of c) };
+    ghost contents = { λ c. W.contents (wrapped c) };
 
     /// Writes once. A write fails if it takes no byte of a piece that is not empty. After any write,
     /// failed or not, the writer counts as not flushed.
     #[inline]
     fn write(&mut self, buf: &[u8]) -> Result<usize>
         ensures bound { WritesAtMost result buf.now }
-        ensures bytes { WriteAppends (W.contents (inner_of self.old))
-            (W.contents (inner_of self.new)) result buf.now }
-        ensures counts { CountsFailure (failures_of self.old) (failures_of self.new) result }
+        ensures bytes { WriteAppends (W.contents (wrapped self.old))
+            (W.contents (wrapped self.new)) result buf.now }
+        ensures counts { CountsFailure (failure_count self.old) (failure_count self.new) result }
         ensures takes { IfOk result (λ n. 0 < length buf.now → 0 < n) }
         ensures unflushed { is_flushed self.new ≡ false }
-        ensures same_flushes { flushes_of self.new ≡ flushes_of self.old }
-        ensures same_budget { budget_of self.new ≡ budget_of self.old }
+        ensures same_flushes { flush_count self.new ≡ flush_count self.old }
+        ensures same_budget { read_budget self.new ≡ read_budget self.old }
     {
         self.is_flushed = false;
         match self.inner.write(buf) {
@@ -143,11 +143,11 @@ impl<W: Write> Write for Counted<W> {
     /// written.
     #[inline]
     fn flush(&mut self) -> Result<()>
-        ensures bytes { Keeps (W.contents (inner_of self.old)) (W.contents (inner_of self.new)) }
-        ensures counts { CountsFailure (failures_of self.old) (failures_of self.new) result }
+        ensures bytes { Keeps (W.contents (wrapped self.old)) (W.contents (wrapped self.new)) }
+        ensures counts { CountsFailure (failure_count self.old) (failure_count self.new) result }
         ensures flushed { is_flushed self.new ≡ is_ok result }
-        ensures flushes { CountsFlush (flushes_of self.old) (flushes_of self.new) result }
-        ensures same_budget { budget_of self.new ≡ budget_of self.old }
+        ensures flushes { CountsFlush (flush_count self.old) (flush_count self.new) result }
+        ensures same_budget { read_budget self.new ≡ read_budget self.old }
     {
         let result = self.inner.flush();
         self.is_flushed = result.is_ok();

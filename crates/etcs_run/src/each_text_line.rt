@@ -1,9 +1,8 @@
 //! `EachTextLine`: a command that answers each line by its meaning.
 
-ghost use Rattle.std.specs.Prelude.{◌≡◌, [], Err, IfOk, string_bytes};
+ghost use Rattle.std.specs.Prelude.{◌≡◌, [], Err};
 ghost use Rattle.etcs_document.specs.Refusal.{line_words};
-ghost use Rattle.etcs_run.specs.Counted.{CanCount, FlushesNone, inner_of};
-ghost use Rattle.etcs_run.specs.TextLineMeaning.{refusal_of};
+ghost use Rattle.etcs_run.specs.Counted.{CanCount, FlushesNone, wrapped};
 ghost use Rattle.etcs_run.specs.LineReading.{CountsDevice};
 ghost use Rattle.etcs_run.specs.TextLines.{trimmed};
 ghost use Rattle.etcs_run.specs.Output.{after_line, answered};
@@ -12,12 +11,11 @@ ghost use Rattle.etcs_run.specs.Ran.{AnswersNextLine, AnswersLine};
 use crate::control_flow::ControlFlow;
 use crate::counted::Counted;
 use crate::error::RunError;
-use crate::output::put;
+use crate::output::{put, refuse};
 use crate::status::Status;
 use crate::text_line_command::TextLineCommand;
 use crate::text_line_meaning::{TextLineMeaning, Unwritten};
-use etcs_bits::Memory;
-use etcs_document::{LineFault, Refusal, refusal_text};
+use etcs_document::{LineFault, Refusal};
 use std::alloc::Global;
 use std::io::Write;
 use std::mem;
@@ -33,15 +31,8 @@ pub(crate) fn trim(line: &[u8]) -> &[u8]
     }
 }
 
-// The refusal of the line with this number, with its `\n`. Lines count from 1.
-#[tactic(auto, unfolding(crate::specs::TextLineMeaning::refusal_of, etcs_document::specs::Refusal::refusal_words))]
-fn refusal(alloc: Global, number: u64, why: LineFault) -> Result<String, Memory>
-    ensures { IfOk result (λ s. string_bytes s ≡ refusal_of number (line_words why)) }
-{
-    refusal_text(alloc, &Refusal::Line(number, why))
-}
-
-// Writes the refusal of the line with this number.
+// Writes the refusal of the line with this number. Lines count from 1.
+#[tactic(auto, unfolding(crate::specs::TextLineMeaning::line_refusal, etcs_document::specs::Refusal::refusal_words))]
 pub(crate) fn refuse_line<W: Write>(
     alloc: Global,
     number: u64,
@@ -49,18 +40,13 @@ pub(crate) fn refuse_line<W: Write>(
     writer: &mut Counted<W>,
 ) -> Result<ControlFlow, RunError>
     requires { CanCount writer.old }
-    ensures answers_line { AnswersLine (W.contents (inner_of writer.old)) (W.contents (inner_of writer.new))
+    ensures answers_line { AnswersLine (W.contents (wrapped writer.old)) (W.contents (wrapped writer.new))
         (answered number (Err (line_words why))) result }
     ensures counts { CountsDevice result writer.old writer.new }
     ensures unflushed { FlushesNone writer.old writer.new }
 {
-    match refusal(alloc, number, why) {
-        Ok(text) => {
-            put(writer, text.as_bytes())?;
-            Ok(ControlFlow::Stop(Status::Refused))
-        }
-        Err(_) => Err(RunError::Memory),
-    }
+    let status = refuse(alloc, &Refusal::Line(number, why), writer)?;
+    Ok(ControlFlow::Stop(status))
 }
 
 // Writes the text of a line, or its refusal. `room` is the buffer of an earlier text.
@@ -73,7 +59,7 @@ fn answer_line<M: TextLineMeaning, W: Write>(
     writer: &mut Counted<W>,
 ) -> Result<ControlFlow, RunError>
     requires { CanCount writer.old }
-    ensures answers_line { AnswersLine (W.contents (inner_of writer.old)) (W.contents (inner_of writer.new))
+    ensures answers_line { AnswersLine (W.contents (wrapped writer.old)) (W.contents (wrapped writer.new))
         (answered number (M.meaning line.now)) result }
     ensures counts { CountsDevice result writer.old writer.new }
     ensures unflushed { FlushesNone writer.old writer.new }
@@ -100,7 +86,7 @@ fn answer_or_skip<M: TextLineMeaning, W: Write>(
     writer: &mut Counted<W>,
 ) -> Result<ControlFlow, RunError>
     requires { CanCount writer.old }
-    ensures answers_line { AnswersLine (W.contents (inner_of writer.old)) (W.contents (inner_of writer.new))
+    ensures answers_line { AnswersLine (W.contents (wrapped writer.old)) (W.contents (wrapped writer.new))
         (after_line M.meaning number (trimmed line.now)) result }
     ensures counts { CountsDevice result writer.old writer.new }
     ensures unflushed { FlushesNone writer.old writer.new }
@@ -154,7 +140,7 @@ impl<M: TextLineMeaning> TextLineCommand for EachTextLine<M> {
         writer: &mut Counted<W>,
     ) -> Result<ControlFlow, RunError>
         requires { CanCount writer.old }
-        ensures answers_line { AnswersNextLine (W.contents (inner_of writer.old)) (W.contents (inner_of writer.new))
+        ensures answers_line { AnswersNextLine (W.contents (wrapped writer.old)) (W.contents (wrapped writer.new))
             (answers M.meaning) (answers M.meaning) number line.now result }
         ensures counts { CountsDevice result writer.old writer.new }
         ensures unflushed { FlushesNone writer.old writer.new }

@@ -1,9 +1,9 @@
-//! `EncodingTelegrams` and `EncodingMessages`: a line of JSON, the form of a telegram or of a radio
-//! message, becomes a line of hexadecimal text. Each line is read once, into a tape of its tokens.
+//! `Encoding`: a line of JSON, the form of a telegram or of a radio message, becomes a line of hexadecimal
+//! text. Each line is read once, into a tape of its tokens.
 
-ghost use Rattle.std.specs.Prelude.{◌≡◌, ◌++◌, codes, IfOk};
+ghost use Rattle.std.specs.Prelude.{◌≡◌, ◌++◌, ℕ, List, Result, codes, IfOk};
 ghost use Rattle.serde_json.specs.View.{view};
-ghost use Rattle.etcs_run.specs.FormLines.{message_line, or_fault, record_in, telegram_line, value_in};
+ghost use Rattle.etcs_run.specs.FormLines.{or_fault, parsed_record, parsed_value};
 ghost use Rattle.etcs_run.specs.TextLineMeaning.{Gives};
 
 use crate::text_line_meaning::{TextLineMeaning, Unwritten};
@@ -17,10 +17,11 @@ use json::Scratch;
 use serde_json::Value;
 use serde_json::error::Category;
 use std::alloc::Global;
+use std::marker::PhantomData;
 
 // The JSON value of a line.
 fn value_of(alloc: Global, line: &[u8]) -> Result<Value, Unwritten>
-    ensures { Gives view result (value_in line.now) }
+    ensures { Gives view result (parsed_value line.now) }
 {
     match Value::from_slice(alloc, line) {
         Ok(value) => Ok(value),
@@ -46,7 +47,7 @@ fn record_of<T: Form, N: Node>(alloc: Global, node: &N) -> Result<T, Unwritten>
 
 // The record whose form the line is, if the line is too long for a tape.
 fn record_of_value<T: Form>(alloc: Global, line: &[u8]) -> Result<T, Unwritten>
-    ensures { Gives (λ x. x) result (record_in T.shape line.now) }
+    ensures { Gives (λ x. x) result (parsed_record T.shape line.now) }
 {
     let value = value_of(alloc, line)?;
     record_of(alloc, &&value)
@@ -58,7 +59,7 @@ fn record_in_line<T: Form>(
     scratch: &mut Scratch,
     line: &[u8],
 ) -> Result<T, Unwritten>
-    ensures { Gives (λ x. x) result (record_in T.shape line.now) }
+    ensures { Gives (λ x. x) result (parsed_record T.shape line.now) }
 {
     let Ok(text) = str::from_utf8(line) else {
         return Err(Unwritten::Refused(LineFault::Json));
@@ -82,82 +83,73 @@ fn ended_line(room: Vec<u8>, digits: &str) -> Result<Vec<u8>, Memory>
     Ok(line)
 }
 
-// The telegram's text as a line. `room` is the buffer of an earlier line.
-fn telegram_text(alloc: Global, room: Vec<u8>, telegram: &Telegram) -> Result<Vec<u8>, Unwritten>
-    ensures { Gives (λ line. line.items) result (telegram_line telegram.now) }
-{
-    match etcs_telegram::to_hex(alloc, telegram) {
-        Ok(digits) => Ok(ended_line(room, digits.as_str())?),
-        Err(etcs_telegram::EncodeError::Memory) => Err(Unwritten::Memory),
-        Err(etcs_telegram::EncodeError::TooBig) => Err(Unwritten::Refused(LineFault::TooBig)),
-    }
+/// A record that has a text in hexadecimal digits: a telegram or a radio message.
+pub trait Encoded {
+    /// The line of the record's canonical text, or the reason why there is none, in words.
+    ghost line: { Self → Result (List ℕ) (List ℕ) };
+
+    /// The record's text as a line. `room` is the buffer of an earlier line.
+    fn text_line(&self, alloc: Global, room: Vec<u8>) -> Result<Vec<u8>, Unwritten>
+        ensures { Gives (λ bytes. bytes.items) result (line self.now) };
 }
 
-// The message's text as a line. `room` is the buffer of an earlier line.
-fn message_text(alloc: Global, room: Vec<u8>, message: &Message) -> Result<Vec<u8>, Unwritten>
-    ensures { Gives (λ line. line.items) result (message_line message.now) }
-{
-    match etcs_radio::to_hex(alloc, message) {
-        Ok(digits) => Ok(ended_line(room, digits.as_str())?),
-        Err(etcs_radio::EncodeError::Memory) => Err(Unwritten::Memory),
-        Err(etcs_radio::EncodeError::TooBig) => Err(Unwritten::Refused(LineFault::TooBig)),
-    }
-}
+// A telegram has no text if it has more bits than its size.
+impl Encoded for Telegram {
+    ghost use Rattle.etcs_run.specs.FormLines.{telegram_line};
 
-/// A line is the JSON form of a telegram, and becomes its canonical text. A line is refused if it is not
-/// JSON, not the form of a telegram, or the form of a telegram with more bits than its size.
-#[derive(Drop)]
-pub struct EncodingTelegrams {
-    // Room for the strings of a line.
-    scratch: Scratch,
-}
+    ghost line = { telegram_line };
 
-impl EncodingTelegrams {
-    /// The meaning of each line. It takes no memory yet.
-    pub fn new(alloc: Global) -> EncodingTelegrams {
-        EncodingTelegrams {
-            scratch: Scratch::new(alloc),
+    fn text_line(&self, alloc: Global, room: Vec<u8>) -> Result<Vec<u8>, Unwritten> {
+        match etcs_telegram::to_hex(alloc, self) {
+            Ok(digits) => Ok(ended_line(room, digits.as_str())?),
+            Err(etcs_telegram::EncodeError::Memory) => Err(Unwritten::Memory),
+            Err(etcs_telegram::EncodeError::TooBig) => Err(Unwritten::Refused(LineFault::TooBig)),
         }
     }
 }
 
-#[tactic(auto, unfolding(crate::specs::FormLines::telegram_encoded))]
-impl TextLineMeaning for EncodingTelegrams {
-    ghost use Rattle.etcs_run.specs.FormLines.{telegram_encoded};
+// A message has no text if it has more than 1,023 bytes.
+impl Encoded for Message {
+    ghost use Rattle.etcs_run.specs.FormLines.{message_line};
 
-    ghost meaning = { telegram_encoded };
+    ghost line = { message_line };
 
-    fn text(&mut self, alloc: Global, room: Vec<u8>, line: &[u8]) -> Result<Vec<u8>, Unwritten> {
-        let telegram = record_in_line(alloc, &mut self.scratch, line)?;
-        telegram_text(alloc, room, &telegram)
-    }
-}
-
-/// A line is the JSON form of a radio message, and becomes its canonical text. A line is refused if it is not
-/// JSON, not the form of a message, or the form of a message of more than 1,023 bytes.
-#[derive(Drop)]
-pub struct EncodingMessages {
-    // Room for the strings of a line.
-    scratch: Scratch,
-}
-
-impl EncodingMessages {
-    /// The meaning of each line. It takes no memory yet.
-    pub fn new(alloc: Global) -> EncodingMessages {
-        EncodingMessages {
-            scratch: Scratch::new(alloc),
+    fn text_line(&self, alloc: Global, room: Vec<u8>) -> Result<Vec<u8>, Unwritten> {
+        match etcs_radio::to_hex(alloc, self) {
+            Ok(digits) => Ok(ended_line(room, digits.as_str())?),
+            Err(etcs_radio::EncodeError::Memory) => Err(Unwritten::Memory),
+            Err(etcs_radio::EncodeError::TooBig) => Err(Unwritten::Refused(LineFault::TooBig)),
         }
     }
 }
 
-#[tactic(auto, unfolding(crate::specs::FormLines::message_encoded))]
-impl TextLineMeaning for EncodingMessages {
-    ghost use Rattle.etcs_run.specs.FormLines.{message_encoded};
+/// A line is the JSON form of a record, and becomes its canonical text. A line is refused if it is not JSON, not
+/// the form of a record, or the form of a record without a text.
+#[derive(Drop)]
+pub struct Encoding<T> {
+    // Room for the strings of a line.
+    scratch: Scratch,
+    record: PhantomData<T>,
+}
 
-    ghost meaning = { message_encoded };
+impl<T> Encoding<T> {
+    /// The meaning of each line. It takes no memory yet.
+    pub fn new(alloc: Global) -> Encoding<T> {
+        Encoding {
+            scratch: Scratch::new(alloc),
+            record: PhantomData,
+        }
+    }
+}
+
+#[tactic(auto, unfolding(crate::specs::FormLines::encoded))]
+impl<T: Form + Encoded> TextLineMeaning for Encoding<T> {
+    ghost use Rattle.etcs_run.specs.FormLines.{encoded};
+
+    ghost meaning = { encoded T.shape T.line };
 
     fn text(&mut self, alloc: Global, room: Vec<u8>, line: &[u8]) -> Result<Vec<u8>, Unwritten> {
-        let message = record_in_line(alloc, &mut self.scratch, line)?;
-        message_text(alloc, room, &message)
+        let record: T = record_in_line(alloc, &mut self.scratch, line)?;
+        record.text_line(alloc, room)
     }
 }

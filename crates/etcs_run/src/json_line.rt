@@ -1,7 +1,7 @@
 //! A value as a line of JSON.
 
 ghost use Rattle.std.specs.Prelude.{◌≡◌, IfOk};
-ghost use Rattle.etcs_run.specs.JsonLine.{json_line_of};
+ghost use Rattle.etcs_run.specs.JsonLine.{json_line_text};
 
 use etcs_bits::Memory;
 use etcs_digits::LineText;
@@ -10,7 +10,7 @@ use etcs_json::InPieces;
 /// The JSON line of a value, with its `\n`, in the buffer `room`, whose content is lost. Fails only if memory
 /// runs out; then the buffer is dropped.
 pub fn json_line<T: InPieces>(room: Vec<u8>, value: &T) -> Result<Vec<u8>, Memory>
-    ensures { IfOk result (λ line. line.items ≡ json_line_of T.shape value.now) }
+    ensures { IfOk result (λ line. line.items ≡ json_line_text T.shape value.now) }
 {
     let mut out = LineText::new(room);
     value.send_to(&mut out)?;

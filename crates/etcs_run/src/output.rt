@@ -2,13 +2,16 @@
 
 ghost use Rattle.std.specs.Prelude.{◌≡◌, IfErr};
 ghost use Rattle.std.specs.Io.KnownBytes.{Keeps};
-ghost use Rattle.etcs_run.specs.Counted.{CanCount, FlushesNone, inner_of};
+ghost use Rattle.etcs_run.specs.Counted.{CanCount, FlushesNone, wrapped};
 ghost use Rattle.etcs_run.specs.LineReading.{CountsDevice};
+ghost use Rattle.etcs_run.specs.Output.{refusal_output};
 ghost use Rattle.etcs_run.specs.Ran.{EndsFlushed, Writes, WritesBytes};
 
 use crate::counted::Counted;
 use crate::error::RunError;
 use crate::status::Status;
+use etcs_document::{Refusal, refusal_text};
+use std::alloc::Global;
 use std::io::Write;
 
 /// Writes the text.
@@ -18,7 +21,7 @@ use std::io::Write;
 // Not `write_all`: its contract does not state what was written before a failure.
 pub fn put<W: Write>(writer: &mut Counted<W>, text: &[u8]) -> Result<(), RunError>
     requires { CanCount writer.old }
-    ensures written { WritesBytes (W.contents (inner_of writer.old)) (W.contents (inner_of writer.new))
+    ensures written { WritesBytes (W.contents (wrapped writer.old)) (W.contents (wrapped writer.new))
         text.now result }
     ensures counts { CountsDevice result writer.old writer.new }
     ensures unflushed { FlushesNone writer.old writer.new }
@@ -40,7 +43,7 @@ pub fn put<W: Write>(writer: &mut Counted<W>, text: &[u8]) -> Result<(), RunErro
 /// remains written.
 pub fn finish<W: Write>(writer: &mut Counted<W>) -> Result<(), RunError>
     requires { CanCount writer.old }
-    ensures kept { Keeps (W.contents (inner_of writer.old)) (W.contents (inner_of writer.new)) }
+    ensures kept { Keeps (W.contents (wrapped writer.old)) (W.contents (wrapped writer.new)) }
     ensures flushed { EndsFlushed result writer.old writer.new }
     ensures counts { CountsDevice result writer.old writer.new }
     ensures device { IfErr result (λ e. e ≡ RunError.Device) }
@@ -61,7 +64,7 @@ pub fn write_out<W: Write>(
     status: Status,
 ) -> Result<Status, RunError>
     requires { CanCount writer.old }
-    ensures writes { Writes (W.contents (inner_of writer.old)) (W.contents (inner_of writer.new))
+    ensures writes { Writes (W.contents (wrapped writer.old)) (W.contents (wrapped writer.new))
         (text.now, status) result }
     ensures flushed { EndsFlushed result writer.old writer.new }
     ensures counts { CountsDevice result writer.old writer.new }
@@ -70,4 +73,28 @@ pub fn write_out<W: Write>(
     put(writer, text)?;
     finish(writer)?;
     Ok(status)
+}
+
+/// Writes the refusal of the words, of a line or of a message, with its `\n`.
+///
+/// `Memory`: an allocation failed, and nothing was written. `Device`: a write failed, and the writer's count of
+/// failures has risen by 1. What was written is a beginning of the refusal.
+pub fn refuse<W: Write>(
+    alloc: Global,
+    why: &Refusal,
+    writer: &mut Counted<W>,
+) -> Result<Status, RunError>
+    requires { CanCount writer.old }
+    ensures writes { Writes (W.contents (wrapped writer.old)) (W.contents (wrapped writer.new))
+        (refusal_output why.now) result }
+    ensures counts { CountsDevice result writer.old writer.new }
+    ensures unflushed { FlushesNone writer.old writer.new }
+{
+    match refusal_text(alloc, why) {
+        Ok(text) => {
+            put(writer, text.as_bytes())?;
+            Ok(Status::Refused)
+        }
+        Err(_) => Err(RunError::Memory),
+    }
 }

@@ -1,13 +1,12 @@
 //! `run`: the whole program, from words and a reader to a writer and a status.
 
-ghost use Rattle.std.specs.Prelude.{◌≡◌, None, Some, IfErr, OnOk, map};
+ghost use Rattle.std.specs.Prelude.{◌≡◌, None, Some, OnOk, map};
 ghost use Rattle.std.specs.Io.KnownBytes.{IsAtEnd};
-ghost use Rattle.etcs_run.specs.Command.{command_of};
-ghost use Rattle.etcs_run.specs.Counted.{CanCount, inner_of};
-ghost use Rattle.etcs_run.specs.LineReading.{CountsDevice};
-ghost use Rattle.etcs_run.specs.Commands.{of_command, output_of, usage_line};
+ghost use Rattle.etcs_run.specs.Command.{parsed_command};
+ghost use Rattle.etcs_run.specs.Counted.{CanCount, wrapped};
+ghost use Rattle.etcs_run.specs.Commands.{of_command, program_output};
 ghost use Rattle.etcs_run.specs.Output.{each_text_line};
-ghost use Rattle.etcs_run.specs.Ran.{Answers, CountsOneDevice, EndsFlushed, Runs, Writes};
+ghost use Rattle.etcs_run.specs.Ran.{Answers, CountsOneDevice, EndsFlushed, Runs};
 
 use crate::answering::answer_input;
 use crate::checking::check_input;
@@ -15,30 +14,18 @@ use crate::command::{Command, read_command};
 use crate::counted::Counted;
 use crate::each_text_line::EachTextLine;
 use crate::error::RunError;
-use crate::form_lines::{EncodingMessages, EncodingTelegrams};
-use crate::output::{finish, put};
+use crate::form_lines::Encoding;
+use crate::output::write_out;
 use crate::radio_decoding::RadioDecoding;
 use crate::status::Status;
 use crate::telegram_lines::DecodingTelegrams;
 use crate::text_line_meaning::TextLineMeaning;
+use etcs_radio::Message;
+use etcs_telegram::Telegram;
 use std::alloc::Global;
 use std::io::{Read, Write};
 
 const USAGE: &str = "refused: usage is balisecheck check, decode [--radio] or encode [--radio]\n";
-
-// Writes the usage line, and flushes the writer.
-fn refuse_words<W: Write>(writer: &mut Counted<W>) -> Result<Status, RunError>
-    requires { CanCount writer.old }
-    ensures writes { Writes (W.contents (inner_of writer.old)) (W.contents (inner_of writer.new))
-        (usage_line, Status.Refused) result }
-    ensures flushed { EndsFlushed result writer.old writer.new }
-    ensures counts { CountsDevice result writer.old writer.new }
-    ensures device { IfErr result (λ e. e ≡ RunError.Device) }
-{
-    put(writer, USAGE.as_bytes())?;
-    finish(writer)?;
-    Ok(Status::Refused)
-}
 
 // Answers each line by its meaning.
 fn answer_each<M: TextLineMeaning, R: Read, W: Write>(
@@ -70,7 +57,7 @@ fn dispatch<R: Read, W: Write>(
         (of_command command) result }
     ensures unread { command ≡ None → reader.new ≡ reader.old }
     ensures to_end { command ≡ Some Command.Check
-        → OnOk result (IsAtEnd (R.remaining (inner_of reader.new))) }
+        → OnOk result (IsAtEnd (R.remaining (wrapped reader.new))) }
     ensures flushed { EndsFlushed result writer.old writer.new }
     ensures counts { CountsOneDevice result reader.old reader.new writer.old writer.new }
 {
@@ -80,11 +67,16 @@ fn dispatch<R: Read, W: Write>(
         Some(Command::DecodeRadio) => {
             answer_input(alloc, RadioDecoding::new(alloc), reader, writer)
         }
-        Some(Command::Encode) => answer_each(alloc, EncodingTelegrams::new(alloc), reader, writer),
+        Some(Command::Encode) => answer_each(
+            alloc,
+            Encoding::<Telegram>::new(alloc),
+            reader,
+            writer,
+        ),
         Some(Command::EncodeRadio) => {
-            answer_each(alloc, EncodingMessages::new(alloc), reader, writer)
+            answer_each(alloc, Encoding::<Message>::new(alloc), reader, writer)
         }
-        None => refuse_words(writer),
+        None => write_out(writer, USAGE.as_bytes(), Status::Refused),
     }
 }
 
@@ -111,16 +103,16 @@ pub fn run<'a, R: Read, W: Write>(
 
     // For a reader with a known input and a writer with known contents.
     ensures known { Answers R.remaining W.contents reader.old writer.old writer.new
-        (output_of (map (λ w. w.now) words.entry.now)) result }
+        (program_output (map (λ w. w.now) words.entry.now)) result }
 
     // For every input that begins with what was read.
     ensures ran { Runs R.remaining W.contents reader.old reader.new writer.old writer.new
-        (output_of (map (λ w. w.now) words.entry.now)) result }
-    ensures unread { command_of (map (λ w. w.now) words.entry.now) ≡ None → reader.new ≡ reader.old }
+        (program_output (map (λ w. w.now) words.entry.now)) result }
+    ensures unread { parsed_command (map (λ w. w.now) words.entry.now) ≡ None → reader.new ≡ reader.old }
 
     // `check` reads its input to the end.
-    ensures to_end { command_of (map (λ w. w.now) words.entry.now) ≡ Some Command.Check
-        → OnOk result (IsAtEnd (R.remaining (inner_of reader.new))) }
+    ensures to_end { parsed_command (map (λ w. w.now) words.entry.now) ≡ Some Command.Check
+        → OnOk result (IsAtEnd (R.remaining (wrapped reader.new))) }
     ensures flushed { EndsFlushed result writer.old writer.new }
 
     // Only a failed device is counted, and `Device` is never returned for anything else.

@@ -4,22 +4,22 @@ ghost use Rattle.std.specs.Prelude.{◌≡◌, ◌+◌, ◌<◌, ◌≤◌, ◌^
 ghost use Rattle.etcs_bits.specs.layout.Results.{Means};
 ghost use Rattle.etcs_radio.specs.Meaning.{message_of};
 ghost use Rattle.etcs_radio.specs.Splitter.{state_of};
-ghost use Rattle.etcs_run.specs.Counted.{CanCount, FlushesNone, inner_of};
+ghost use Rattle.etcs_run.specs.Counted.{CanCount, FlushesNone, wrapped};
 ghost use Rattle.etcs_run.specs.LineReading.{CountsDevice};
-ghost use Rattle.etcs_run.specs.RadioHeld.{Feeds, least_read, kept_by, messages_written};
-ghost use Rattle.etcs_run.specs.RadioStream.{bytes_output, line_for, refused_message, message_output};
-ghost use Rattle.etcs_run.specs.Ran.{AnswersLine, Writes};
+ghost use Rattle.etcs_run.specs.RadioHeld.{Feeds, least_read, kept_bytes, messages_written};
+ghost use Rattle.etcs_run.specs.RadioStream.{bytes_output, message_json, message_output};
+ghost use Rattle.etcs_run.specs.Ran.{AnswersLine};
 
 use crate::control_flow::ControlFlow;
 use crate::counted::Counted;
 use crate::each_text_line::{refuse_line, trim};
 use crate::error::RunError;
 use crate::json_line::json_line;
-use crate::output::put;
+use crate::output::{put, refuse};
 use crate::status::Status;
 use crate::text_line_command::TextLineCommand;
 use etcs_bits::DecodeError;
-use etcs_document::{LineFault, Refusal, StreamFault, refusal_text};
+use etcs_document::{LineFault, Refusal, StreamFault};
 use etcs_radio::{Splitter, State, decode};
 use etcs_telegram::TextError;
 use hex::FromHexError;
@@ -27,31 +27,9 @@ use std::alloc::Global;
 use std::io::Write;
 use std::mem;
 
-// Writes the refusal of the message with this number.
-fn refuse<W: Write>(
-    alloc: Global,
-    number: u64,
-    why: StreamFault,
-    writer: &mut Counted<W>,
-) -> Result<Status, RunError>
-    requires { CanCount writer.old }
-    ensures writes { Writes (W.contents (inner_of writer.old)) (W.contents (inner_of writer.new))
-        (refused_message number why) result }
-    ensures counts { CountsDevice result writer.old writer.new }
-    ensures unflushed { FlushesNone writer.old writer.new }
-{
-    match refusal_text(alloc, &Refusal::Message(number, why)) {
-        Ok(text) => {
-            put(writer, text.as_bytes())?;
-            Ok(Status::Refused)
-        }
-        Err(_) => Err(RunError::Memory),
-    }
-}
-
 // The JSON line of the message of these bytes. `room` is the buffer of an earlier line.
 fn message_line(alloc: Global, room: Vec<u8>, bytes: &[u8]) -> Result<Vec<u8>, DecodeError>
-    ensures { Means (λ line. line.items) result (line_for (message_of bytes.now)) }
+    ensures { Means (λ line. line.items) result (message_json (message_of bytes.now)) }
 {
     let message = decode(alloc, bytes)?;
     match json_line(room, &message) {
@@ -70,8 +48,8 @@ fn write_message<W: Write>(
     writer: &mut Counted<W>,
 ) -> Result<ControlFlow, RunError>
     requires { CanCount writer.old }
-    ensures answers_line { AnswersLine (W.contents (inner_of writer.old)) (W.contents (inner_of writer.new))
-        (message_output number (line_for (message_of bytes.now))) result }
+    ensures answers_line { AnswersLine (W.contents (wrapped writer.old)) (W.contents (wrapped writer.new))
+        (message_output number (message_json (message_of bytes.now))) result }
     ensures counts { CountsDevice result writer.old writer.new }
     ensures unflushed { FlushesNone writer.old writer.new }
 {
@@ -84,7 +62,11 @@ fn write_message<W: Write>(
         }
         Err(DecodeError::Memory) => Err(RunError::Memory),
         Err(DecodeError::Fault(fault)) => {
-            let status = refuse(alloc, number, StreamFault::Fault(fault), writer)?;
+            let status = refuse(
+                alloc,
+                &Refusal::Message(number, StreamFault::Fault(fault)),
+                writer,
+            )?;
             Ok(ControlFlow::Stop(status))
         }
     }
@@ -106,7 +88,7 @@ impl RadioDecoding {
     /// The command, before its first line. Allocates nothing yet.
     pub fn new(alloc: Global) -> RadioDecoding
         ensures number { messages_written result ≡ 0 }
-        ensures kept { kept_by result ≡ [] }
+        ensures kept { kept_bytes result ≡ [] }
     {
         RadioDecoding {
             splitter: Splitter::new(),
@@ -122,13 +104,13 @@ impl RadioDecoding {
         alloc: Global,
         writer: &mut Counted<W>,
     ) -> Result<ControlFlow, RunError>
-        requires ready { state_of (kept_by self.old) ≡ State.Ready }
+        requires ready { state_of (kept_bytes self.old) ≡ State.Ready }
         requires numbered { messages_written self.old + 1 < 2 ^ 64 }
         requires writes { CanCount writer.old }
-        ensures answers_line { AnswersLine (W.contents (inner_of writer.old)) (W.contents (inner_of writer.new))
-            (message_output (messages_written self.old) (line_for (message_of (kept_by self.old)))) result }
+        ensures answers_line { AnswersLine (W.contents (wrapped writer.old)) (W.contents (wrapped writer.new))
+            (message_output (messages_written self.old) (message_json (message_of (kept_bytes self.old)))) result }
         ensures next { result ≡ Ok ControlFlow.Next → messages_written self.new ≡ messages_written self.old + 1 }
-        ensures cleared { result ≡ Ok ControlFlow.Next → kept_by self.new ≡ [] }
+        ensures cleared { result ≡ Ok ControlFlow.Next → kept_bytes self.new ≡ [] }
         ensures bounded { OnOk result (least_read self.new ≤ least_read self.old) }
         ensures counts { CountsDevice result writer.old writer.new }
         ensures unflushed { FlushesNone writer.old writer.new }
@@ -153,9 +135,9 @@ impl RadioDecoding {
     ) -> Result<ControlFlow, RunError>
         requires numbered { least_read self.old + length bytes.now < 2 ^ 64 }
         requires writes { CanCount writer.old }
-        ensures feeds { Feeds (W.contents (inner_of writer.old)) (W.contents (inner_of writer.new))
-            (bytes_output (messages_written self.old) (kept_by self.old) bytes.now) (messages_written self.new)
-            (kept_by self.new) result }
+        ensures feeds { Feeds (W.contents (wrapped writer.old)) (W.contents (wrapped writer.new))
+            (bytes_output (messages_written self.old) (kept_bytes self.old) bytes.now) (messages_written self.new)
+            (kept_bytes self.new) result }
         ensures bounded { OnOk result (least_read self.new ≤ least_read self.old + length bytes.now) }
         ensures counts { CountsDevice result writer.old writer.new }
         ensures unflushed { FlushesNone writer.old writer.new }
@@ -167,7 +149,11 @@ impl RadioDecoding {
             match fed.state {
                 State::More => return Ok(ControlFlow::Next),
                 State::Failed => {
-                    let status = refuse(alloc, self.number, StreamFault::BelowThree, writer)?;
+                    let status = refuse(
+                        alloc,
+                        &Refusal::Message(self.number, StreamFault::BelowThree),
+                        writer,
+                    )?;
                     return Ok(ControlFlow::Stop(status));
                 }
                 State::Ready => {
@@ -183,7 +169,7 @@ impl RadioDecoding {
 impl TextLineCommand for RadioDecoding {
     ghost use Rattle.etcs_run.specs.RadioStream.{stream_answers};
 
-    ghost answers = { λ d. stream_answers (messages_written d) (kept_by d) };
+    ghost answers = { λ d. stream_answers (messages_written d) (kept_bytes d) };
 
     ghost count_bound = { least_read };
 
@@ -211,7 +197,11 @@ impl TextLineCommand for RadioDecoding {
         if self.splitter.held() == 0 {
             Ok(Status::Done)
         } else {
-            refuse(alloc, self.number, StreamFault::CutOff, writer)
+            refuse(
+                alloc,
+                &Refusal::Message(self.number, StreamFault::CutOff),
+                writer,
+            )
         }
     }
 }

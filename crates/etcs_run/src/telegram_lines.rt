@@ -16,18 +16,18 @@ use std::alloc::Global;
 #[derive(Drop)]
 pub struct DecodingTelegrams;
 
-#[tactic(auto, unfolding(crate::specs::TelegramLines::decoded_of))]
+#[tactic(auto, unfolding(crate::specs::TelegramLines::telegram_decoded))]
 impl TextLineMeaning for DecodingTelegrams {
-    ghost use Rattle.etcs_run.specs.TelegramLines.{decoded_of};
+    ghost use Rattle.etcs_run.specs.TelegramLines.{telegram_decoded};
 
-    ghost meaning = { decoded_of };
+    ghost meaning = { telegram_decoded };
 
     /// The JSON line of a telegram. `room` is the buffer of an earlier line.
     ///
     /// `Memory`: an allocation failed. Otherwise the line is refused for the first reason. A reason that is
     /// found before any packet is read is always reported: it needs no memory.
     fn text(&mut self, alloc: Global, room: Vec<u8>, line: &[u8]) -> Result<Vec<u8>, Unwritten>
-        ensures means { Gives (λ text. text.items) result (decoded_of line.now) }
+        ensures means { Gives (λ text. text.items) result (telegram_decoded line.now) }
         ensures early { (why : TextError) → IsEarly why line.now
             → result ≡ Err (Unwritten.Refused (LineFault.Text why)) }
     {

@@ -1,7 +1,7 @@
 //! `TextLineCommand`: what a command does with an input, line by line.
 
 ghost use Rattle.std.specs.Prelude.{◌≡◌, ℕ, ◌+◌, ◌<◌, ◌≤◌, ◌^◌, List, [], length, OnOk};
-ghost use Rattle.etcs_run.specs.Counted.{CanCount, FlushesNone, inner_of};
+ghost use Rattle.etcs_run.specs.Counted.{CanCount, FlushesNone, wrapped};
 ghost use Rattle.etcs_run.specs.LineReading.{CountsDevice};
 ghost use Rattle.etcs_run.specs.Output.{Output};
 ghost use Rattle.etcs_run.specs.Ran.{AnswersNextLine, Writes};
@@ -36,7 +36,7 @@ pub trait TextLineCommand: Drop {
     ) -> Result<ControlFlow, RunError>
         requires numbered { count_bound self.old + length line.now < 2 ^ 64 }
         requires writes { CanCount writer.old }
-        ensures answers_line { AnswersNextLine (W.contents (inner_of writer.old)) (W.contents (inner_of writer.new))
+        ensures answers_line { AnswersNextLine (W.contents (wrapped writer.old)) (W.contents (wrapped writer.new))
             (answers self.old) (answers self.new) number line.now result }
         ensures bounded { OnOk result (count_bound self.new ≤ count_bound self.old + length line.now) }
         ensures counts { CountsDevice result writer.old writer.new }
@@ -50,8 +50,8 @@ pub trait TextLineCommand: Drop {
     /// flushed.
     fn end<W: Write>(&mut self, alloc: Global, writer: &mut Counted<W>) -> Result<Status, RunError>
         requires { CanCount writer.old }
-        ensures writes { (number : ℕ) → Writes (W.contents (inner_of writer.old))
-            (W.contents (inner_of writer.new)) (answers self.old number []) result }
+        ensures writes { (number : ℕ) → Writes (W.contents (wrapped writer.old))
+            (W.contents (wrapped writer.new)) (answers self.old number []) result }
         ensures counts { CountsDevice result writer.old writer.new }
         ensures unflushed { FlushesNone writer.old writer.new }
 

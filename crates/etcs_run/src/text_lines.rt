@@ -1,14 +1,18 @@
 //! `TextLines`: the lines of a reader, read in blocks.
 
-ghost use Rattle.std.specs.Prelude.{◌≤◌, ◌<◌, vec_len};
+ghost use Rattle.std.specs.Prelude.{◌≤◌, ◌<◌, vec_len, IfOk};
 
 use crate::counted::Counted;
 use crate::error::RunError;
 use std::alloc::{AllocError, Global};
 use std::io::Read;
 
-/// The size of a read, in bytes.
-const ROOM: usize = 65_536;
+/// A buffer for one read.
+pub(crate) fn new_block(alloc: Global) -> Result<Vec<u8>, AllocError>
+    ensures { IfOk result (λ block. 0 < vec_len block) }
+{
+    vec![in alloc; 0; 65_536]
+}
 
 /// The last line, and the bytes that were read and belong to no line yet.
 ///
@@ -31,19 +35,19 @@ pub struct TextLines {
 impl TextLines {
     ghost use Rattle.std.specs.Prelude.{◌≡◌, ◌+◌, ◌++◌, ◌≤◌, ◌<◌, ◌↔◌, true, false, [], length, IfOk, IfSome, OnErr, OnOk, IfErr};
     ghost use Rattle.std.specs.Io.KnownBytes.{Consumes, Keeps};
-    ghost use Rattle.etcs_run.specs.Counted.{CanCount, budget_of, inner_of};
-    ghost use Rattle.etcs_run.specs.LineReading.{CountsDevice, IsEndMet, MovesTo, Reads};
-    ghost use Rattle.etcs_run.specs.LineReading.{has_ended, held_of, line_of};
+    ghost use Rattle.etcs_run.specs.Counted.{CanCount, read_budget, wrapped};
+    ghost use Rattle.etcs_run.specs.LineReading.{CountsDevice, IsEndMet, MovesLine, Reads};
+    ghost use Rattle.etcs_run.specs.LineReading.{has_ended, held_bytes, last_line};
     ghost use Rattle.etcs_run.specs.TextLines.{HasLine};
 
     /// The lines of an input from which nothing was read yet. Fails only if memory runs out; then
     /// nothing is returned.
     pub fn new(alloc: Global) -> Result<TextLines, AllocError>
-        ensures fresh { IfOk result (λ l. (held_of l ≡ []) × (has_ended l ≡ false)) }
-        ensures line { IfOk result (λ l. line_of l ≡ []) }
+        ensures fresh { IfOk result (λ l. (held_bytes l ≡ []) × (has_ended l ≡ false)) }
+        ensures line { IfOk result (λ l. last_line l ≡ []) }
     {
         Ok(TextLines {
-            block: vec![in alloc; 0; ROOM]?,
+            block: new_block(alloc)?,
             from: 0,
             to: 0,
             line: Vec::new(alloc),
@@ -54,7 +58,7 @@ impl TextLines {
     /// The last line, without its `\n`.
     #[inline]
     pub fn line(&self) -> &[u8]
-        ensures { result.now ≡ line_of self.now }
+        ensures { result.now ≡ last_line self.now }
     {
         self.line.as_slice()
     }
@@ -62,7 +66,7 @@ impl TextLines {
     // Moves the held bytes before the first `\n` to the line, and all of them if there is none.
     // Returns whether there is one.
     fn move_line(&mut self) -> Result<bool, RunError>
-        ensures moves { MovesTo result self.old self.new }
+        ensures moves { MovesLine result self.old self.new }
         ensures memory { IfErr result (λ e. e ≡ RunError.Memory) }
         ensures same_end { has_ended self.new ≡ has_ended self.old }
     {
@@ -88,18 +92,18 @@ impl TextLines {
     // Replaces the held bytes by more bytes. Reads nothing after the end of the input was reached.
     fn refill<R: Read>(&mut self, reader: &mut Counted<R>) -> Result<usize, RunError>
         requires { CanCount reader.old }
-        ensures line { line_of self.new ≡ line_of self.old }
-        ensures read { IfOk result (λ n. Consumes (R.remaining (inner_of reader.old))
-            (R.remaining (inner_of reader.new)) (held_of self.new)
-            × (length (held_of self.new) ≡ n) × (n ≡ 0 → has_ended self.new ≡ true)) }
+        ensures line { last_line self.new ≡ last_line self.old }
+        ensures read { IfOk result (λ n. Consumes (R.remaining (wrapped reader.old))
+            (R.remaining (wrapped reader.new)) (held_bytes self.new)
+            × (length (held_bytes self.new) ≡ n) × (n ≡ 0 → has_ended self.new ≡ true)) }
 
         // At least `n` bytes of the budget are spent.
-        ensures lowers_budget { IfOk result (λ n. (n + budget_of reader.new ≤ budget_of reader.old)
-            × (0 < n → budget_of reader.new < budget_of reader.old)) }
+        ensures lowers_budget { IfOk result (λ n. (n + read_budget reader.new ≤ read_budget reader.old)
+            × (0 < n → read_budget reader.new < read_budget reader.old)) }
 
         // A failed read loses no bytes.
-        ensures kept { OnErr result (Keeps (R.remaining (inner_of reader.old))
-            (R.remaining (inner_of reader.new))) }
+        ensures kept { OnErr result (Keeps (R.remaining (wrapped reader.old))
+            (R.remaining (wrapped reader.new))) }
         ensures device { IfErr result (λ e. e ≡ RunError.Device) }
         ensures counts { CountsDevice result reader.old reader.new }
 
@@ -134,18 +138,18 @@ impl TextLines {
     /// the lines are of no further use.
     pub fn next<R: Read>(&mut self, reader: &mut Counted<R>) -> Result<bool, RunError>
         requires { CanCount reader.old }
-        ensures reads { Reads (R.remaining (inner_of reader.old)) (R.remaining (inner_of reader.new))
-            (has_ended self.old) (held_of self.old) (line_of self.new) (held_of self.new)
+        ensures reads { Reads (R.remaining (wrapped reader.old)) (R.remaining (wrapped reader.new))
+            (has_ended self.old) (held_bytes self.old) (last_line self.new) (held_bytes self.new)
             (has_ended self.new) result }
 
         // If the reader's bytes are known, there is no line if and only if no byte is held or remains.
         ensures no_line { IsEndMet R.remaining (has_ended self.old) reader.old
-            → IfOk result (λ found. IfSome (R.remaining (inner_of reader.old))
-            (λ left. (found ≡ false) ↔ (held_of self.old ++ left ≡ []))) }
-        ensures empty { IfOk result (λ found. found ≡ false → line_of self.new ≡ []) }
+            → IfOk result (λ found. IfSome (R.remaining (wrapped reader.old))
+            (λ left. (found ≡ false) ↔ (held_bytes self.old ++ left ≡ []))) }
+        ensures empty { IfOk result (λ found. found ≡ false → last_line self.new ≡ []) }
 
         // The reader is not called for a line that is held, nor after the end.
-        ensures held { HasLine (held_of self.old) → reader.new ≡ reader.old }
+        ensures held { HasLine (held_bytes self.old) → reader.new ≡ reader.old }
         ensures unread { has_ended self.old ≡ true → reader.new ≡ reader.old }
         ensures counts { CountsDevice result reader.old reader.new }
         ensures ended { has_ended self.old ≡ true → has_ended self.new ≡ true }
@@ -154,13 +158,13 @@ impl TextLines {
 
         // Each line costs held bytes or budget.
         ensures lowers_budget { IfOk result (λ found. found ≡ true
-            → 1 + (length (held_of self.new) + budget_of reader.new)
-            ≤ length (held_of self.old) + budget_of reader.old) }
+            → 1 + (length (held_bytes self.new) + read_budget reader.new)
+            ≤ length (held_bytes self.old) + read_budget reader.old) }
 
         // So does each byte of it.
-        ensures bounded { OnOk result (length (line_of self.new)
-            + (length (held_of self.new) + budget_of reader.new)
-            ≤ length (held_of self.old) + budget_of reader.old) }
+        ensures bounded { OnOk result (length (last_line self.new)
+            + (length (held_bytes self.new) + read_budget reader.new)
+            ≤ length (held_bytes self.old) + read_budget reader.old) }
     {
         self.line.clear();
         'filling: while !self.move_line()? {

@@ -1,28 +1,15 @@
 //! `read_whole`: reads an input to its end.
 
-ghost use Rattle.std.specs.Prelude.{◌≡◌, ◌<◌, true, length, vec_items, IfOk, IfErr};
-ghost use Rattle.etcs_run.specs.Counted.{CanCount, budget_of, inner_of};
+ghost use Rattle.std.specs.Prelude.{◌≡◌, ◌<◌, true, length, vec_items, IfOk};
+ghost use Rattle.etcs_run.specs.Counted.{CanCount, read_budget, wrapped};
 ghost use Rattle.etcs_run.specs.LineReading.{CountsDevice};
 ghost use Rattle.etcs_run.specs.WholeInput.{ReadsMore, ReadsAllInput};
 
 use crate::counted::Counted;
 use crate::error::RunError;
+use crate::text_lines::new_block;
 use std::alloc::Global;
 use std::io::Read;
-
-/// The size of a read, in bytes.
-const ROOM: usize = 65_536;
-
-// A buffer for one read.
-fn new_block(alloc: Global) -> Result<Vec<u8>, RunError>
-    ensures room { IfOk result (λ block. 0 < length block.items) }
-    ensures memory { IfErr result (λ e. e ≡ RunError.Memory) }
-{
-    match vec![in alloc; 0; ROOM] {
-        Ok(block) => Ok(block),
-        Err(_) => Err(RunError::Memory),
-    }
-}
 
 // Appends the result of one read. Returns whether it gave any bytes; if not, the end was reached.
 fn read_more<R: Read>(
@@ -32,12 +19,12 @@ fn read_more<R: Read>(
 ) -> Result<bool, RunError>
     requires room { 0 < length block.old }
     requires reads { CanCount reader.old }
-    ensures read { ReadsMore (R.remaining (inner_of reader.old)) (R.remaining (inner_of reader.new))
+    ensures read { ReadsMore (R.remaining (wrapped reader.old)) (R.remaining (wrapped reader.new))
         input.old.items input.new.items result }
     ensures counts { CountsDevice result reader.old reader.new }
 
     // Each read that gives bytes lowers the budget.
-    ensures lowers_budget { IfOk result (λ more. more ≡ true → budget_of reader.new < budget_of reader.old) }
+    ensures lowers_budget { IfOk result (λ more. more ≡ true → read_budget reader.new < read_budget reader.old) }
 {
     let count = match reader.read(block) {
         Ok(count) => count,
@@ -56,11 +43,13 @@ fn read_more<R: Read>(
 /// of them is returned.
 pub fn read_whole<R: Read>(alloc: Global, reader: &mut Counted<R>) -> Result<Vec<u8>, RunError>
     requires { CanCount reader.old }
-    ensures read { ReadsAllInput vec_items (R.remaining (inner_of reader.old))
-        (R.remaining (inner_of reader.new)) result }
+    ensures read { ReadsAllInput vec_items (R.remaining (wrapped reader.old))
+        (R.remaining (wrapped reader.new)) result }
     ensures counts { CountsDevice result reader.old reader.new }
 {
-    let mut block = new_block(alloc)?;
+    let Ok(mut block) = new_block(alloc) else {
+        return Err(RunError::Memory);
+    };
     let mut input = Vec::new(alloc);
     'reading: while read_more(block.as_mut_slice(), &mut input, reader)? {}
     Ok(input)

@@ -7,6 +7,6 @@ use std::process::Abort;
 fn every_call_answers_while_there_is_memory(rt: HostRuntime) {
     // Each of the answers is yes.
     for (place, answer) in documents::answers(rt.alloc()).iter().enumerate() {
-        assert_eq!(rt; *answer, Ok(true), "{place}");
+        assert!(rt; matches!(answer, Ok(true)), "{place}: {answer:?}");
     }
 }

@@ -11,8 +11,6 @@ mod ample_memory;
 #[cfg(test)]
 mod documents;
 #[cfg(test)]
-mod halt;
-#[cfg(test)]
 mod records;
 #[cfg(test)]
 mod refused_memory;

@@ -1,6 +1,5 @@
 //! Forms that fit in no telegram and no message, and records that are read from the forms of others.
 
-use crate::halt::Halt;
 use crate::token_messages::REPORTS;
 use crate::tokens::PACKETS;
 use etcs_form::{Form, FormError, InPieces, Step};
@@ -13,22 +12,22 @@ use std::alloc::Global;
 use std::test::Fail;
 
 // The value of a text.
-fn value_of(alloc: Global, text: &str) -> Result<Value, Halt> {
-    Value::from_str(alloc, text).map_err(|_| Halt::Other)
+fn value_of(alloc: Global, text: &str) -> Result<Value, Fail> {
+    Ok(Value::from_str(alloc, text).map_err(|_| "not JSON")?)
 }
 
 // Whether the text is the form of a record that is written as this text again: as a value, and in pieces.
-fn comes_back<T: InPieces>(alloc: Global, text: &str) -> Result<bool, Halt> {
+fn comes_back<T: InPieces>(alloc: Global, text: &str) -> Result<bool, Fail> {
     let record = T::of_form(alloc, &value_of(alloc, text)?)?;
     let form = record.to_form(alloc)?;
     let mut out = Writer::new(Vec::new(alloc));
     record.send(&mut out)?;
-    let written = form.to_string(alloc).map_err(|_| Halt::Memory)?;
+    let written = form.to_string(alloc).map_err(|_| "no memory")?;
     Ok(written.as_str() == text && out.into_inner().as_slice() == text.as_bytes())
 }
 
 // The form of a packet 254 of 8,191 bits with these last members, and a body of `bytes` bytes.
-fn longest(alloc: Global, bytes: u32, members: &str) -> Result<String, Halt> {
+fn longest(alloc: Global, bytes: u32, members: &str) -> Result<String, Fail> {
     let mut body = String::new(alloc);
     'bytes: for _ in 0..bytes {
         body.push_str("c0")?;
@@ -53,7 +52,7 @@ fn listed(
     item: &str,
     count: u32,
     after: &str,
-) -> Result<String, Halt> {
+) -> Result<String, Fail> {
     let mut text = format!(in alloc; "{before}[{item}")?;
     'items: for _ in 1..count {
         text.push_str(",")?;
@@ -118,7 +117,7 @@ fn the_greatest_lists_are_read_and_written(rt: HostRuntime) -> Result<(), Fail> 
 }
 
 // Whether the fault of the form is that its packet's number is not one of the record's.
-fn has_other_number<T: Form>(alloc: Global, text: &str) -> Result<bool, Halt> {
+fn has_other_number<T: Form>(alloc: Global, text: &str) -> Result<bool, Fail> {
     match T::of_form(alloc, &value_of(alloc, text)?) {
         Err(FormError::Range(path)) => Ok(path.as_slice() == [Step::Key("nid_packet")].as_slice()),
         _ => Ok(false),
@@ -171,7 +170,7 @@ fn each_packet_is_written_as_a_value(rt: HostRuntime) -> Result<(), Fail> {
 }
 
 // The position report with this packet.
-fn position(alloc: Global, packet: &str) -> Result<String, Halt> {
+fn position(alloc: Global, packet: &str) -> Result<String, Fail> {
     Ok(format!(in alloc;
         "{{\"nid_engine\":1,\"nid_message\":136,\"packets\":[{packet}],\"t_train\":200}}"
     )?)
@@ -196,10 +195,9 @@ fn has_fault<T: Form>(
     text: &str,
     why: &str,
     key: &'static str,
-) -> Result<bool, Halt> {
+) -> Result<bool, Fail> {
     let (found, path) = match T::of_form(alloc, &value_of(alloc, text)?) {
-        Ok(_) => return Ok(false),
-        Err(FormError::Memory) => return Err(Halt::Memory),
+        Ok(_) | Err(FormError::Memory) => return Ok(false),
         Err(FormError::Missing(path)) => ("missing", path),
         Err(FormError::Unknown(path)) => ("unknown", path),
         Err(FormError::Kind(path)) => ("kind", path),

@@ -5,16 +5,16 @@
 
 pub mod documents;
 
-use crate::halt::Halt;
+use etcs_form::LineError;
 use std::process::Abort;
 
 /// The result of calls: whether each gave its usual result, or why not.
-pub type Answer = Result<bool, Halt>;
+pub type Answer = Result<bool, LineError>;
 
 /// Each of the answers is yes, or memory ran out.
 pub fn expect_answers(rt: &impl Abort, answers: &[Answer]) {
     for (place, answer) in answers.iter().enumerate() {
-        let is_fine = matches!(answer, Ok(true) | Err(Halt::Memory));
+        let is_fine = matches!(answer, Ok(true) | Err(LineError::Memory));
         assert!(rt; is_fine, "{place}: {answer:?}");
     }
 }

@@ -1,6 +1,5 @@
 //! The texts of errors of forms, documents and checks. A refusal has the same words.
 
-use crate::halt::Halt;
 use etcs_bits::{Fault, FaultKind};
 use etcs_check::CheckError;
 use etcs_form::{FormError, LineError, Refusal, Step, refusal_text};
@@ -16,7 +15,7 @@ fn says<E: Display>(alloc: Global, error: &E, text: &str) -> Result<bool, AllocE
 }
 
 // Whether the error is printed as this text, and a document with it is refused in these words.
-fn tells(alloc: Global, error: LineError, text: &str) -> Result<bool, Halt> {
+fn tells(alloc: Global, error: LineError, text: &str) -> Result<bool, Fail> {
     let is_said = says(alloc, &error, text)?;
     let line = format!(in alloc; "refused: {text}\n")?;
     let told = refusal_text(alloc, &Refusal::Document(error))?;

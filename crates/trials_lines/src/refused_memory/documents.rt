@@ -1,7 +1,6 @@
 //! Documents of lines, and forms of records: their result is the usual one, or memory ran out.
 
 use super::{Answer, expect_answers};
-use crate::halt::Halt;
 use etcs_form::{
     Form, InPieces, JsonError, JsonText, LineError, LineFault, Refusal, check_in_order, check_text,
     read_line, refusal_text, report, report_counts,
@@ -52,7 +51,7 @@ fn read(alloc: Global) -> Answer {
 // Whether this is the fault of the document that is refused, or memory ran out.
 fn is_fault(error: LineError) -> Answer {
     match error {
-        LineError::Memory => Err(Halt::Memory),
+        LineError::Memory => Err(LineError::Memory),
         why => Ok(matches!(why, LineError::Telegram(0, 0, TextError::WrongSize))),
     }
 }
@@ -77,8 +76,8 @@ fn refusal(alloc: Global) -> Answer {
 }
 
 // The value of a text, unless memory runs out: the text is JSON.
-fn value_of(alloc: Global, text: &str) -> Result<Value, Halt> {
-    Value::from_str(alloc, text).map_err(|_| Halt::Memory)
+fn value_of(alloc: Global, text: &str) -> Result<Value, LineError> {
+    Value::from_str(alloc, text).map_err(|_| LineError::Memory)
 }
 
 // Whether the record of a tape is sent as the text that the tape was made of.
@@ -86,7 +85,7 @@ fn tape<T: InPieces>(alloc: Global, form: &str) -> Answer {
     let mut scratch = Scratch::new(alloc);
     let json = match JsonText::read(form, &mut scratch, Vec::new(alloc)) {
         Ok(json) => json,
-        Err(JsonError::Memory) => return Err(Halt::Memory),
+        Err(JsonError::Memory) => return Err(LineError::Memory),
         Err(_) => return Ok(false),
     };
     let record = T::of_node(alloc, &json.root())?;
@@ -102,7 +101,7 @@ fn form<T: InPieces>(alloc: Global, form: &str) -> Answer {
     let mut out = Writer::new(Vec::new(alloc));
     record.send(&mut out)?;
     let sent = out.into_inner();
-    let text = value.to_string(alloc).map_err(|_| Halt::Memory)?;
+    let text = value.to_string(alloc).map_err(|_| LineError::Memory)?;
     Ok(text.as_str() == form && sent.as_slice() == form.as_bytes())
 }
 

@@ -1,6 +1,6 @@
 use Rattle.std.proofs.Common.{rules, arith}
 use Rattle.std.proofs.lemmas.Result.{err_from_is_err_and}
-use Rattle.etcs_run.specs.LineReading.{held_of}
+use Rattle.etcs_run.specs.LineReading.{held_bytes}
 use Rattle.etcs_run.proofs.RunLemmas.{Running-answered, Running-cut, Running-end, Running-ended, Running-failed, Running-line, Running-start, Running-stopped}
 use Rattle.etcs_run.proofs.answering.answer_lines.Goals as goal
 
@@ -19,7 +19,7 @@ lines-init g c = record {
 pub lines-preserved : goal.lines-preserved
 lines-preserved g c =
     let answers = g.C.TextLineCommand.answers in
-    let held = held_of c.next.new.self in
+    let held = held_bytes c.next.new.self in
     let read = rw c.if-branch.true at c.in_ok-next.ensures.reads in
     let found = Running-line (answers c.lines.command) c.lines.number c.lines.invariant.running read c.in_ok-next.ensures.ended in
     let line_answer = rw (c.in_default.is, c.line.ensures) at c.in_ok-status.ensures.answers_line in
@@ -46,7 +46,7 @@ returns-in_err-next-clause-ran g c =
 pub returns-in_err-status-clause-ran : goal.returns-in_err-status-clause-ran
 returns-in_err-status-clause-ran g c =
     let answers = g.C.TextLineCommand.answers in
-    let held = held_of c.next.new.self in
+    let held = held_bytes c.next.new.self in
     let read = rw c.if-branch.true at c.in_ok-next.ensures.reads in
     let found = Running-line (answers c.lines.command) c.lines.number c.lines.invariant.running read c.in_ok-next.ensures.ended in
     let residual = c.from_residual-in_err-status in
@@ -59,7 +59,7 @@ returns-in_err-status-clause-ran g c =
 pub returns-in-Stop-clause-ran : goal.returns-in-Stop-clause-ran
 returns-in-Stop-clause-ran g c =
     let answers = g.C.TextLineCommand.answers in
-    let held = held_of c.next.new.self in
+    let held = held_bytes c.next.new.self in
     let read = rw c.if-branch.true at c.in_ok-next.ensures.reads in
     let found = Running-line (answers c.lines.command) c.lines.number c.lines.invariant.running read c.in_ok-next.ensures.ended in
     let line_answer = rw (c.in-Stop.is, c.line.ensures) at c.in_ok-status.ensures.answers_line in

@@ -3,12 +3,12 @@ use Rattle.std.specs.Prelude.{codes}
 use Rattle.serde_json.proofs.Texts.{print-outline}
 use Rattle.etcs_digits.specs.LineText.{puts}
 use Rattle.etcs_schema.specs.Sending.{tokens_of}
-use Rattle.etcs_run.specs.JsonLine.{json_line_of}
+use Rattle.etcs_run.specs.JsonLine.{json_line_text}
 use Rattle.etcs_run.proofs.json_line.json_line.Goals as goal
 
 -- the buffer has the value's form, and then the end of the line
 pub returns : goal.returns
-unfolding json_line_of
+unfolding json_line_text
 returns g c =
     let d = g.T.Form.shape.to c.args.value.now in
     c.in_ok-line.ensures (tokens_of d) (c.in_ok-send_to.ensures ∙ ap (λ l. puts l (tokens_of d)) c.new-out.ensures)

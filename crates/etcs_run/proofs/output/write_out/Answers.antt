@@ -1,6 +1,6 @@
 use Rattle.std.proofs.Common.{refl}
 use Rattle.std.proofs.lemmas.Result.{err_from_is_err_and}
-use Rattle.etcs_run.proofs.RunLemmas.{Writes-begun, Writes-failed, Writes-whole}
+use Rattle.etcs_run.proofs.RunLemmas.{Writes-begun, Writes-failed, Writes-kept, Writes-whole}
 use Rattle.etcs_run.proofs.output.write_out.Goals as goal
 
 -- the text was cut off
@@ -14,9 +14,9 @@ pub returns-in_err-finish-clause-writes : goal.returns-in_err-finish-clause-writ
 returns-in_err-finish-clause-writes g c =
     let residual = c.from_residual-in_err-finish in
     let passed_on = err_from_is_err_and residual.result residual.ensures.1 in
-    let whole = Writes-whole c.in_ok-put.ensures.written refl c.in_err-finish.ensures.kept in
+    let whole = Writes-kept (Writes-whole c.in_ok-put.ensures.written refl) c.in_err-finish.ensures.kept in
     rw passed_on.1 (Writes-failed passed_on.0 whole)
 
 -- it was written and flushed
 pub returns-clause-writes : goal.returns-clause-writes
-returns-clause-writes g c = Writes-whole c.in_ok-put.ensures.written refl c.in_ok-finish.ensures.kept
+returns-clause-writes g c = Writes-kept (Writes-whole c.in_ok-put.ensures.written refl) c.in_ok-finish.ensures.kept

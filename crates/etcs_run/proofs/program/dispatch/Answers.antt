@@ -1,12 +1,23 @@
-use Rattle.std.proofs.Common.{ap}
+use Rattle.std.proofs.Common.{◌≡◌, Some, ap, rules}
+use Rattle.etcs_document.specs.Refusal.{refusal_words}
+use Rattle.etcs_document.specs.declared.refusal.Refusal.TheVariants.{Usage}
 use Rattle.etcs_run.specs.Commands.{of_command}
+use Rattle.etcs_run.specs.declared.command.Command.TheVariants.{Encode}
 use Rattle.etcs_run.proofs.RunLemmas.{Ran-as, Ran-unread, counts_at_writer}
 use Rattle.etcs_run.proofs.program.dispatch.Goals as goal
 
 -- without a command the usage line is written
 pub returns-in-None-clause-ran : goal.returns-in-None-clause-ran
+unfolding refusal_words
 returns-in-None-clause-ran g c =
-    Ran-as (λ s. ap (λ o. of_command o s) c.in-None.is) (Ran-unread c.refuse_words.ensures.writes)
+    let line : c.as_bytes.result.now ≡ refusal_words Usage = search rules in
+    Ran-as (λ s. ap (λ o. of_command o s) c.in-None.is) (Ran-unread (rw line at c.write_out.ensures.writes))
 
 pub returns-in-None-clause-counts : goal.returns-in-None-clause-counts
-returns-in-None-clause-counts g c = counts_at_writer _ _ _ _ c.refuse_words.ensures.counts
+returns-in-None-clause-counts g c = counts_at_writer _ _ _ _ c.write_out.ensures.counts
+
+-- a telegram's form is an object of its members
+pub returns-in-Some-Encode-clause-ran : goal.returns-in-Some-Encode-clause-ran
+returns-in-Some-Encode-clause-ran g c =
+    let encode : c.args.command ≡ Some Encode = search rules in
+    Ran-as (λ s. ap (λ o. of_command o s) encode) c.answer_each-in-Some-Encode.ensures.ran

@@ -1,13 +1,13 @@
 use Rattle.std.proofs.Common.{◌≡◌, ◌∙◌, Ok, Err, ap, subst, sym}
 use Rattle.etcs_telegram.specs.TextMeaning.{telegram_of_text}
 use Rattle.etcs_telegram.specs.declared.error.TextError.TheVariants as texts
-use Rattle.etcs_run.specs.TelegramLines.{IsEarly, decoded_of, line_for}
+use Rattle.etcs_run.specs.TelegramLines.{IsEarly, telegram_decoded, telegram_json}
 use Rattle.etcs_run.proofs.FormLemmas.{refused_early, text_refused}
 use Rattle.etcs_run.proofs.telegram_lines.DecodingTelegramsTextLineMeaning.text.Goals as goal
 
 -- the first reason to refuse the text
 pub returns-clause-means : goal.returns-clause-means
-unfolding decoded_of
+unfolding telegram_decoded
 returns-clause-means c =
     text_refused c.in-Err.why (telegram_of_text c.args.line.now) c.in_default.not-Memory c.in-Err.ensures.exact
 
@@ -31,5 +31,5 @@ returns-in-Memory-clause-early c why early =
 
 -- a telegram that was read becomes its line
 pub returns-in-Ok-clause-means : goal.returns-in-Ok-clause-means
-unfolding decoded_of
-returns-in-Ok-clause-means c = ap line_for c.in-Ok.ensures.exact ∙ ap Ok (sym c.in_ok-json_line-in-Ok.ensures)
+unfolding telegram_decoded
+returns-in-Ok-clause-means c = ap telegram_json c.in-Ok.ensures.exact ∙ ap Ok (sym c.in_ok-json_line-in-Ok.ensures)

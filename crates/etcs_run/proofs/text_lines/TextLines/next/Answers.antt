@@ -1,5 +1,5 @@
 use Rattle.std.proofs.Common.{rules, arith, ap, sym, ◌≡◌, ◌∙◌, ◌==◌, not, true, length, length-append, []}
-use Rattle.etcs_run.specs.LineReading.{has_ended, held_of, line_of}
+use Rattle.etcs_run.specs.LineReading.{has_ended, held_bytes, last_line}
 use Rattle.etcs_run.proofs.FillLemmas.{Filling-cut, Filling-end, Filling-filled, Filling-moved, empty_unless_found, found_exactly, moved_cut, moved_on, nil_from_none}
 use Rattle.etcs_run.proofs.LineLemmas.{no_line_in}
 use Rattle.etcs_run.proofs.text_lines.TextLines.next.Goals as goal
@@ -11,7 +11,7 @@ filling-preserved g c =
     let read = c.in_ok-refill.ensures in
     let same_end = c.in_ok-move_line.ensures.same_end in
     let first = Filling-moved c.filling.invariant.filling moved.0.line moved.0.plain in
-    let none : has_ended c.args.self.now ≡ true → held_of c.refill.new.self ≡ [] =
+    let none : has_ended c.args.self.now ≡ true → held_bytes c.refill.new.self ≡ [] =
     λ h. nil_from_none _ (read.read.1 ∙ read.quiet (same_end ∙ c.filling.invariant.ended h)) in
     let grown = ap length moved.0.line in
     record {
@@ -24,7 +24,7 @@ filling-preserved g c =
       lowers_budget = rw read.line (omega (
         arith,
         grown,
-        length-append (line_of c.filling.self) (held_of c.filling.self),
+        length-append (last_line c.filling.self) (held_bytes c.filling.self),
         c.filling.invariant.lowers_budget,
         read.lowers_budget,
         read.read.1,
@@ -38,11 +38,11 @@ returns-then-branch-eq0-clause-reads g c =
     let read = c.in_ok-refill.ensures in
     let same_end = c.in_ok-move_line.ensures.same_end in
     let first = Filling-moved c.filling.invariant.filling moved.0.line moved.0.plain in
-    let none : has_ended c.args.self.now ≡ true → held_of c.refill.new.self ≡ [] =
+    let none : has_ended c.args.self.now ≡ true → held_bytes c.refill.new.self ≡ [] =
     λ h. nil_from_none _ (read.read.1 ∙ read.quiet (same_end ∙ c.filling.invariant.ended h)) in
     let then = Filling-filled first none read.read.0 in
-    let short : length (held_of c.refill.new.self) ≡ 0 = read.read.1 ∙ c.if-branch-eq0.true in
-    let empty : c.is_empty.result ≡ (length (line_of c.refill.new.self) == 0) = search rules in
+    let short : length (held_bytes c.refill.new.self) ≡ 0 = read.read.1 ∙ c.if-branch-eq0.true in
+    let empty : c.is_empty.result ≡ (length (last_line c.refill.new.self) == 0) = search rules in
     let ended = read.read.2 c.if-branch-eq0.true in
     Filling-end (rw read.line then) (nil_from_none _ short) ended (ap not empty)
 
@@ -67,7 +67,7 @@ returns-clause-no_line g c met =
 
 pub returns-then-branch-eq0-clause-empty : goal.returns-then-branch-eq0-clause-empty
 returns-then-branch-eq0-clause-empty g c none =
-    let empty : c.is_empty.result ≡ (length (line_of c.refill.new.self) == 0) = search rules in
+    let empty : c.is_empty.result ≡ (length (last_line c.refill.new.self) == 0) = search rules in
     empty_unless_found _ _ empty none
 
 -- the held bytes had no `\n`, so no complete line was held
