@@ -11,13 +11,13 @@ use Rattle.etcs_check.specs.LineChecker.{CheckerState, HasChecked, TakesGroups, 
 use Rattle.etcs_document.proofs.DocumentLemmas.{is_json}
 use Rattle.etcs_document.proofs.DocumentTokenLemmas.{each_read, first_more, list_taken, list_values, none_first, object_stands}
 use Rattle.etcs_document.proofs.TokenLemmas.{converted_some, key_stands, then_stand}
-use Rattle.etcs_document.specs.Document.{◌then◌, each_from, group_at, groups_of, in_form, json_of, line_of, line_of_text, message_at, messages_of}
+use Rattle.etcs_document.specs.Document.{◌then◌, document_group, document_line, document_message, in_form, json_value, line_groups, line_messages, line_of_text, read_indexed}
 use Rattle.etcs_document.specs.DocumentTokens.{AreFirst, AreTaken, HasLine, IsChecked, IsFirst, IsGroup, IsList, IsMessage, TakesEach}
 use Rattle.etcs_schema.specs.Entries.{Entry, object_of}
 use Rattle.etcs_schema.specs.Fault.{key as key_step, under}
 use Rattle.etcs_schema.specs.Reading.{at_key, object_with}
 use Rattle.etcs_document.specs.Tokens.{HasMembers, first_value}
-use Rattle.etcs_document.specs.Verdict.{Summary, summary, summary_of_text, judged}
+use Rattle.etcs_document.specs.Verdict.{Summary, judged, summary, summary_of_text}
 use Rattle.etcs_radio.specs.declared.message.Message.{Message}
 use Rattle.etcs_telegram.specs.Record.{Telegram}
 
@@ -69,22 +69,22 @@ module _ {X : Type 0} (Is : Data → X → Type 0) (Takes : CheckerState → X �
 abbrev document_of : Data → Data → Data
 document_of g m = object_of ((codes "groups", Some g) ∷ (codes "messages", Some m) ∷ [])
 
-groups_read : (d e : Data) (gs : List (List (List Telegram))) → IsList IsGroup d gs → groups_of (document_of d e) ≡ Ok gs
-unfolding groups_of at_key
+groups_read : (d e : Data) (gs : List (List (List Telegram))) → IsList IsGroup d gs → line_groups (document_of d e) ≡ Ok gs
+unfolding line_groups at_key
 groups_read d e gs is =
-    ap (λ r. in_form [] (under (key_step (codes "groups")) r) then each_from group_at 0) (list_values is.0 d is.1)
-    ∙ each_read IsGroup group_at (λ d g is n. is n) 0 is.0 gs is.2
+    ap (λ r. in_form [] (under (key_step (codes "groups")) r) then read_indexed document_group 0) (list_values is.0 d is.1)
+    ∙ each_read IsGroup document_group (λ d g is n. is n) 0 is.0 gs is.2
 
-messages_read : (d e : Data) (ms : List Message) → IsList IsMessage e ms → messages_of (document_of d e) ≡ Ok ms
-unfolding messages_of at_key
+messages_read : (d e : Data) (ms : List Message) → IsList IsMessage e ms → line_messages (document_of d e) ≡ Ok ms
+unfolding line_messages at_key
 messages_read d e ms is =
-    ap (λ r. in_form [] (under (key_step (codes "messages")) r) then each_from message_at 0) (list_values is.0 e is.1)
-    ∙ each_read IsMessage message_at (λ d m is n. is n) 0 is.0 ms is.2
+    ap (λ r. in_form [] (under (key_step (codes "messages")) r) then read_indexed document_message 0) (list_values is.0 e is.1)
+    ∙ each_read IsMessage document_message (λ d m is n. is n) 0 is.0 ms is.2
 
-line_read : (d e : Data) (gs : List (List (List Telegram))) (ms : List Message) → IsList IsGroup d gs → IsList IsMessage e ms → line_of (document_of d e) ≡ Ok (gs, ms)
-unfolding line_of object_with
+line_read : (d e : Data) (gs : List (List (List Telegram))) (ms : List Message) → IsList IsGroup d gs → IsList IsMessage e ms → document_line (document_of d e) ≡ Ok (gs, ms)
+unfolding document_line object_with
 line_read d e gs ms groups messages =
-    ap (λ r. r then λ x. messages_of (document_of d e) then λ y. Ok (x, y)) (groups_read d e gs groups) ∙ ap (λ r. r then λ y. Ok (gs, y)) (messages_read d e ms messages)
+    ap (λ r. r then λ x. line_messages (document_of d e) then λ y. Ok (x, y)) (groups_read d e gs groups) ∙ ap (λ r. r then λ y. Ok (gs, y)) (messages_read d e ms messages)
 
 -- the two members of a document, read one after the other
 two_stand : (depth : ℕ) (k l : List ℕ) (d e : Data) (old a b c new : List Token) → read_key old ≡ Some (Some k, a) → first_value depth a ≡ Some (d, b) → read_key b ≡ Some (Some l, c) → first_value depth c ≡ Some (e, new)
@@ -98,7 +98,7 @@ line_checked : (es : List Entry) (d e : Data) (gs : List (List (List Telegram)))
 line_checked es d e gs ms state same g m checked = record {
   groups = gs;
   messages = ms;
-  line = ap line_of same ∙ line_read d e gs ms g m;
+  line = ap document_line same ∙ line_read d e gs ms g m;
   checked = checked;
 }
 
@@ -143,7 +143,7 @@ unfolding line_of_text
 text_taken bytes start rest kept c utf8 begins ends one told =
     let whole : first_value 127 (tokens bytes) ≡ Some (one.found, []) = ap (first_value 127) (sym begins) ∙ one.stands ∙ ap (λ ts. Some (one.found, ts)) ends in
     let j = converted_some of_json (value 127 (tokens bytes)) one.found [] whole in
-    let json : json_of bytes ≡ Ok one.found = is_json bytes one.found utf8 (ap (λ o. option_and_then of_json (option_and_then (λ p. if_last p.0 p.1) o)) j.1 ∙ j.2) in
-    ap (λ r. ((r then line_of) then λ line. Ok (judged line)) then λ verdict. Ok (summary verdict)) json
+    let json : json_value bytes ≡ Ok one.found = is_json bytes one.found utf8 (ap (λ o. option_and_then of_json (option_and_then (λ p. if_last p.0 p.1) o)) j.1 ∙ j.2) in
+    ap (λ r. ((r then document_line) then λ line. Ok (judged line)) then λ verdict. Ok (summary verdict)) json
     ∙ ap (λ r. (r then λ line. Ok (judged line)) then λ verdict. Ok (summary verdict)) one.is.line
     ∙ ap (λ x. Ok x) (sym (told one.is.groups one.is.messages one.is.checked))

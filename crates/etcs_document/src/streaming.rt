@@ -6,7 +6,7 @@ ghost use Rattle.std.specs.Str.{is_utf8};
 ghost use Rattle.etcs_check.specs.LineChecker.{CheckerState, HasChecked, TakesGroups, TakesMessages};
 ghost use Rattle.etcs_document.specs.DocumentFault.{Gives};
 ghost use Rattle.etcs_document.specs.DocumentTokens.{AreTaken, HasLine, IsChecked, IsFirst, IsList};
-ghost use Rattle.etcs_document.specs.Verdict.{NamesTheUnsoundIn, TextSaysYes, summary, summary_of_text, judged};
+ghost use Rattle.etcs_document.specs.Verdict.{NamesUnsoundParts, TextSaysYes, judged, summary, summary_of_text};
 ghost use Rattle.etcs_radio.specs.declared.message.Message.{Message as SomeMessage};
 ghost use Rattle.etcs_group.specs.Group.{Aspects};
 
@@ -171,7 +171,7 @@ pub fn check_in_order(alloc: Global, bytes: &[u8]) -> Result<Checked, LineError>
 
     // A group or a message is sound if and only if no finding names it, whatever is found elsewhere.
     // Exception: of two groups with the same identity the later one is named.
-    ensures unnamed { IfOk result (λ c. NamesTheUnsoundIn bytes.now c.findings.items) }
+    ensures unnamed { IfOk result (λ c. NamesUnsoundParts bytes.now c.findings.items) }
 
     // An empty input and an input that is not UTF-8 are not JSON, even if memory is short.
     ensures empty { bytes.now ≡ [] → result ≡ Err LineError.NotJson }
