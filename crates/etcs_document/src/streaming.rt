@@ -93,14 +93,18 @@ fn members(
     ensures { IsTrue result → HasChecked checker.old [] [] → HasLine depth reader.old checker.new reader.new }
 {
     if reader.pass_key("groups") {
-        return items::<Controlled>(alloc, reader, depth, checker)
-            && reader.pass_key("messages")
-            && items::<Message>(alloc, reader, depth, checker);
+        if !items::<Controlled>(alloc, reader, depth, checker) || !reader.pass_key("messages") {
+            return false;
+        }
+        return items::<Message>(alloc, reader, depth, checker);
     }
-    reader.pass_key("messages")
-        && items::<Message>(alloc, reader, depth, checker)
-        && reader.pass_key("groups")
-        && items::<Controlled>(alloc, reader, depth, checker)
+    if !reader.pass_key("messages")
+        || !items::<Message>(alloc, reader, depth, checker)
+        || !reader.pass_key("groups")
+    {
+        return false;
+    }
+    items::<Controlled>(alloc, reader, depth, checker)
 }
 
 // Reads a document, and passes its groups and messages to the checker.

@@ -13,7 +13,7 @@ use std::alloc::Global;
 
 /// A value that can be read from tokens.
 pub(crate) trait FromTokens: Drop {
-    /// Whether a JSON value is the value of this one.
+    /// Whether a JSON value denotes this value.
     ghost is_value: { Data → Self → Type 0 };
 
     /// Reads the next value. `None` means undecided.
