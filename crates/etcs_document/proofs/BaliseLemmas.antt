@@ -7,11 +7,11 @@ use Rattle.serde_json.specs.Data.{Data}
 use Rattle.serde_json.specs.Find.{as_str, get}
 use Rattle.etcs_document.proofs.ResultLemmas.{first_ok, form_ok, if_ok, not_ok, part_ok, same_ok, text_ok, then_ok}
 use Rattle.etcs_document.proofs.ValueLemmas.{each_at, list_read, stands}
-use Rattle.etcs_document.specs.Document.{◌then◌, aspect_at, aspects_of, controlled_at, each_from, group_at, groups_of, has_count, in_form, list_at, only_aspect, only_values, others_of, path_of, telegram_at, telegrams_of, values_of, with_first}
+use Rattle.etcs_document.specs.Document.{◌then◌, as_values, aspect_telegrams, balise_telegram, controlled_group, document_group, document_list, group_aspect, group_path, has_count, in_form, line_groups, listed_aspects, only_aspect, only_values, other_aspects, read_indexed, with_first}
 use Rattle.etcs_document.specs.DocumentFault.{bad_aspects, bad_count, bad_telegram}
 use Rattle.etcs_schema.specs.Fault.{Step}
 use Rattle.etcs_schema.specs.Reading.{at_key, object_with}
-use Rattle.etcs_document.specs.Verdict.{IsOnlyTextOf, aspect_in, balise_text, text_in}
+use Rattle.etcs_document.specs.Verdict.{IsOnlyRecord, aspect_object, balise_text, item_text}
 use Rattle.etcs_group.specs.Places.{At}
 use Rattle.etcs_telegram.proofs.LawLemmas as telegrams
 use Rattle.etcs_telegram.specs.Record.{Telegram}
@@ -20,11 +20,11 @@ use Rattle.etcs_telegram.specs.TextMeaning.{telegram_of_text}
 
 -- ---- texts of balises
 
-telegram_in : (g : ℕ) (a : Option ℕ) (b : ℕ) (u : Data) (t : Telegram) → telegram_at g a b u ≡ Ok t → (text : List ℕ) × (as_str u ≡ Some text) × (telegram_of_text text ≡ Ok t)
-unfolding telegram_at
+telegram_in : (g : ℕ) (a : Option ℕ) (b : ℕ) (u : Data) (t : Telegram) → balise_telegram g a b u ≡ Ok t → (text : List ℕ) × (as_str u ≡ Some text) × (telegram_of_text text ≡ Ok t)
+unfolding balise_telegram
 telegram_in g a b u t is = text_ok _ telegram_of_text (bad_telegram g a b) (as_str u) t is
 
-only_telegram : (text : List ℕ) (t : Telegram) → telegram_of_text text ≡ Ok t → IsOnlyTextOf IsTelegramText t text
+only_telegram : (text : List ℕ) (t : Telegram) → telegram_of_text text ≡ Ok t → IsOnlyRecord IsTelegramText t text
 only_telegram text t is = record {
   is = telegrams.means_text t text is;
   only = λ u read. same_ok u t (telegram_of_text text) (telegrams.text_meaning u text read) is;
@@ -38,97 +38,97 @@ some_and P o x is h = rw is h
 -- a group was read from the balises of this object, as balises of group g or of aspect a of it
 abbrev IsReadOf : ℕ → Option ℕ → Data → List Telegram → Type 0
 IsReadOf g a e group =
-    (es : List Data) × (at_key values_of (codes "balises") e ≡ Ok es) × (each_from (telegram_at g a) 0 es ≡ Ok group)
+    (es : List Data) × (at_key as_values (codes "balises") e ≡ Ok es) × (read_indexed (balise_telegram g a) 0 es ≡ Ok group)
 
-counted_ok : (g : ℕ) (a first : Option ℕ) (ds : List Data) (group : List Telegram) → telegrams_of g a first ds ≡ Ok group → each_from (telegram_at g a) 0 ds ≡ Ok group
-unfolding telegrams_of
+counted_ok : (g : ℕ) (a first : Option ℕ) (ds : List Data) (group : List Telegram) → aspect_telegrams g a first ds ≡ Ok group → read_indexed (balise_telegram g a) 0 ds ≡ Ok group
+unfolding aspect_telegrams
 counted_ok g a first ds group is =
     let few = if_ok (nat_lt 0 (length ds) && nat_le (length ds) 8) _ (bad_count g) group is in
-    (if_ok (has_count first (length ds)) (each_from (telegram_at g a) 0 ds) (bad_aspects g) group few.1).1
+    (if_ok (has_count first (length ds)) (read_indexed (balise_telegram g a) 0 ds) (bad_aspects g) group few.1).1
 
-only_ok : (path : List Step) (name : List ℕ) (e : Data) (es : List Data) → in_form path (only_values name e) ≡ Ok es → at_key values_of name e ≡ Ok es
+only_ok : (path : List Step) (name : List ℕ) (e : Data) (es : List Data) → in_form path (only_values name e) ≡ Ok es → at_key as_values name e ≡ Ok es
 unfolding only_values
-only_ok path name e es is = (part_ok (object_with (name ∷ []) e) (λ _. at_key values_of name e) es (form_ok path (only_values name e) es is)).2
+only_ok path name e es is = (part_ok (object_with (name ∷ []) e) (λ _. at_key as_values name e) es (form_ok path (only_values name e) es is)).2
 
-aspect_read : (g : ℕ) (first a : Option ℕ) (e : Data) (group : List Telegram) → aspect_at g first a e ≡ Ok group → IsReadOf g a e group
-unfolding aspect_at
+aspect_read : (g : ℕ) (first a : Option ℕ) (e : Data) (group : List Telegram) → group_aspect g first a e ≡ Ok group → IsReadOf g a e group
+unfolding group_aspect
 aspect_read g first a e group is =
-    let form = then_ok (in_form (path_of g a) (only_values (codes "balises") e)) (telegrams_of g a first) group is in
-    (form.0, only_ok (path_of g a) (codes "balises") e form.0 form.1, counted_ok g a first form.0 group form.2)
+    let form = then_ok (in_form (group_path g a) (only_values (codes "balises") e)) (aspect_telegrams g a first) group is in
+    (form.0, only_ok (group_path g a) (codes "balises") e form.0 form.1, counted_ok g a first form.0 group form.2)
 
 -- the object of aspect a, among the aspects of its group, from which a group was read
 abbrev IsAspectOf : ℕ → ℕ → List Data → List Telegram → Type 0
 IsAspectOf g a ds group = (which : Option ℕ) × (e : Data) × At ds a e × IsReadOf g which e group
 
-aspect_among : (g a : ℕ) (ds : List Data) (aspects : List (List Telegram)) (group : List Telegram) → aspects_of g ds ≡ Ok aspects → At aspects a group → IsAspectOf g a ds group
-unfolding aspects_of
-aspect_among g a [] aspects group is h = absurd (not_ok _ aspects (aspects_of g []) refl is)
+aspect_among : (g a : ℕ) (ds : List Data) (aspects : List (List Telegram)) (group : List Telegram) → listed_aspects g ds ≡ Ok aspects → At aspects a group → IsAspectOf g a ds group
+unfolding listed_aspects
+aspect_among g a [] aspects group is h = absurd (not_ok _ aspects (listed_aspects g []) refl is)
 aspect_among g zero (d ∷ ds) aspects group is h =
-    let one = then_ok (aspect_at g None (Some 0) d) (λ first. with_first first (others_of g (length first) ds)) aspects is in
-    let rest = first_ok one.0 (others_of g (length one.0) ds) aspects one.2 in
+    let one = then_ok (group_aspect g None (Some 0) d) (λ first. with_first first (other_aspects g (length first) ds)) aspects is in
+    let rest = first_ok one.0 (other_aspects g (length one.0) ds) aspects one.2 in
     let here : At (one.0 ∷ rest.0) 0 group = subst (λ (l : List (List Telegram)). At l 0 group) (sym rest.2) h in
     let first : one.0 ≡ group = same_Some one.0 group here in
     (Some 0, d, refl, aspect_read g None (Some 0) d group (one.1 ∙ ap Ok first))
 aspect_among g (suc a) (d ∷ ds) aspects group is h =
-    let one = then_ok (aspect_at g None (Some 0) d) (λ first. with_first first (others_of g (length first) ds)) aspects is in
-    let rest = first_ok one.0 (others_of g (length one.0) ds) aspects one.2 in
+    let one = then_ok (group_aspect g None (Some 0) d) (λ first. with_first first (other_aspects g (length first) ds)) aspects is in
+    let rest = first_ok one.0 (other_aspects g (length one.0) ds) aspects one.2 in
     let later : At rest.0 a group = subst (λ (l : List (List Telegram)). At l (suc a) group) (sym rest.2) h in
-    let found = each_at (λ k. aspect_at g (Some (length one.0)) (Some k)) 1 ds rest.0 rest.1 a group later in
+    let found = each_at (λ k. group_aspect g (Some (length one.0)) (Some k)) 1 ds rest.0 rest.1 a group later in
     (Some (1 + a), found.0, found.1, aspect_read g (Some (length one.0)) (Some (1 + a)) found.0 group found.2)
 
 -- ---- groups
 
 -- the object of aspect a in a group's value, from which a group was read
 abbrev HasAspect : ℕ → ℕ → Data → List Telegram → Type 0
-HasAspect g a e group = (which : Option ℕ) × (o : Data) × (aspect_in a e ≡ Some o) × IsReadOf g which o group
+HasAspect g a e group = (which : Option ℕ) × (o : Data) × (aspect_object a e ≡ Some o) × IsReadOf g which o group
 
 only_read : (g a : ℕ) (e : Data) (aspects : List (List Telegram)) (group : List Telegram) → only_aspect g e ≡ Ok aspects → At aspects a group → IsReadOf g None e group
 unfolding only_aspect
 only_read g zero e aspects group is h =
-    let whole = then_ok (aspect_at g None None e) (λ only. Ok (only ∷ [])) aspects is in
+    let whole = then_ok (group_aspect g None None e) (λ only. Ok (only ∷ [])) aspects is in
     let alone : whole.0 ∷ [] ≡ aspects = same_ok (whole.0 ∷ []) aspects (Ok (whole.0 ∷ [])) refl whole.2 in
     let here : At (whole.0 ∷ []) 0 group = subst (λ (l : List (List Telegram)). At l 0 group) (sym alone) h in
     let same : whole.0 ≡ group = same_Some whole.0 group here in
     aspect_read g None None e group (whole.1 ∙ ap Ok same)
 only_read g (suc a) e aspects group is h =
-    let whole = then_ok (aspect_at g None None e) (λ only. Ok (only ∷ [])) aspects is in
+    let whole = then_ok (group_aspect g None None e) (λ only. Ok (only ∷ [])) aspects is in
     let alone : whole.0 ∷ [] ≡ aspects = same_ok (whole.0 ∷ []) aspects (Ok (whole.0 ∷ [])) refl whole.2 in
     absurd (none-some group (subst (λ (l : List (List Telegram)). At l (suc a) group) (sym alone) h))
 
-aspect_or : (g a : ℕ) (e : Data) (aspects : List (List Telegram)) (group : List Telegram) (o : Option Data) → get (codes "aspects") e ≡ o → (if is_some o then controlled_at g e else only_aspect g e) ≡ Ok aspects → At aspects a group → HasAspect g a e group
-unfolding controlled_at
+aspect_or : (g a : ℕ) (e : Data) (aspects : List (List Telegram)) (group : List Telegram) (o : Option Data) → get (codes "aspects") e ≡ o → (if is_some o then controlled_group g e else only_aspect g e) ≡ Ok aspects → At aspects a group → HasAspect g a e group
+unfolding controlled_group
 aspect_or g a e aspects group None key_is is h = (None, e, rw key_is refl, only_read g a e aspects group is h)
 aspect_or g a e aspects group (Some list) key_is is h =
-    let form = then_ok (in_form (path_of g None) (only_values (codes "aspects") e)) (aspects_of g) aspects is in
-    let values = list_read (codes "aspects") e form.0 (only_ok (path_of g None) (codes "aspects") e form.0 form.1) in
+    let form = then_ok (in_form (group_path g None) (only_values (codes "aspects") e)) (listed_aspects g) aspects is in
+    let values = list_read (codes "aspects") e form.0 (only_ok (group_path g None) (codes "aspects") e form.0 form.1) in
     let one = aspect_among g a form.0 aspects group form.2 h in
     let found = stands (codes "aspects") e form.0 a one.1 values one.2 in
     (one.0, one.1, rw (found.1, found.2) refl, one.3)
 
-aspect_found : (g a : ℕ) (e : Data) (aspects : List (List Telegram)) (group : List Telegram) → group_at g e ≡ Ok aspects → At aspects a group → HasAspect g a e group
-unfolding group_at
+aspect_found : (g a : ℕ) (e : Data) (aspects : List (List Telegram)) (group : List Telegram) → document_group g e ≡ Ok aspects → At aspects a group → HasAspect g a e group
+unfolding document_group
 aspect_found g a e aspects group is h = aspect_or g a e aspects group (get (codes "aspects") e) refl is h
 
 -- ---- the text of each balise
 
 -- a telegram that was read is the telegram of its text in the object of its aspect
 balise_read : (g : ℕ) (which : Option ℕ) (b : ℕ) (o : Data) (group : List Telegram) (t : Telegram) → IsReadOf g which o group → At group b t
-    → (text : List ℕ) × (text_in (codes "balises") b o ≡ Some text) × (telegram_of_text text ≡ Ok t)
+    → (text : List ℕ) × (item_text (codes "balises") b o ≡ Some text) × (telegram_of_text text ≡ Ok t)
 balise_read g which b o group t read h =
     let values = list_read (codes "balises") o read.0 read.1 in
-    let one = each_at (telegram_at g which) 0 read.0 group read.2 b t h in
+    let one = each_at (balise_telegram g which) 0 read.0 group read.2 b t h in
     let found = stands (codes "balises") o read.0 b one.0 values one.1 in
     let text = telegram_in g which (0 + b) one.0 t one.2 in
     (text.0, rw (found.1, found.2) text.1, text.2)
 
 -- each telegram is the telegram of its text
-pub telegrams_read : (d : Data) (groups : List (List (List Telegram))) → groups_of d ≡ Ok groups → (g a b : ℕ) (aspects : List (List Telegram)) (group : List Telegram) (t : Telegram)
-    → At groups g aspects → At aspects a group → At group b t → IsSomeAnd (balise_text d g a b) (IsOnlyTextOf IsTelegramText t)
-unfolding groups_of
+pub telegrams_read : (d : Data) (groups : List (List (List Telegram))) → line_groups d ≡ Ok groups → (g a b : ℕ) (aspects : List (List Telegram)) (group : List Telegram) (t : Telegram)
+    → At groups g aspects → At aspects a group → At group b t → IsSomeAnd (balise_text d g a b) (IsOnlyRecord IsTelegramText t)
+unfolding line_groups
 telegrams_read d groups is g a b aspects group t here within inside =
-    let list = then_ok (list_at (codes "groups") d) (each_from group_at 0) groups is in
+    let list = then_ok (document_list (codes "groups") d) (read_indexed document_group 0) groups is in
     let values = list_read (codes "groups") d list.0 (form_ok [] _ list.0 list.1) in
-    let one = each_at group_at 0 list.0 groups list.2 g aspects here in
+    let one = each_at document_group 0 list.0 groups list.2 g aspects here in
     let found = stands (codes "groups") d list.0 g one.0 values one.1 in
     let aspect = aspect_found (0 + g) a one.0 aspects group one.2 within in
     let text = balise_read (0 + g) aspect.0 b aspect.1 group t aspect.3 inside in

@@ -7,7 +7,7 @@ use Rattle.std.proofs.lemmas.Str.{IsUtf8-from_is_utf8, is_utf8-from_IsUtf8}
 use Rattle.serde_json.specs.Data.{Data}
 use Rattle.serde_json.specs.Read.{read as read_text}
 use Rattle.etcs_document.proofs.ResultLemmas.{same_ok}
-use Rattle.etcs_document.specs.Document.{◌then◌, each_from, json_of, with_first}
+use Rattle.etcs_document.specs.Document.{◌then◌, json_value, read_indexed, with_first}
 use Rattle.etcs_document.specs.DocumentFault.{DocumentFault, no_json}
 
 abbrev OnlyFalse : Bool → Type 0
@@ -16,16 +16,16 @@ OnlyFalse false = Unit {0}
 
 -- ---- bytes that are JSON
 
-pub is_json : (bytes : List ℕ) (d : Data) → IsUtf8 bytes → read_text bytes ≡ Some d → json_of bytes ≡ Ok d
-unfolding json_of
+pub is_json : (bytes : List ℕ) (d : Data) → IsUtf8 bytes → read_text bytes ≡ Some d → json_value bytes ≡ Ok d
+unfolding json_value
 is_json bytes d utf8 is = rw (is_utf8-from_IsUtf8 bytes utf8, is) refl
 
 no_value : (utf8 : Bool) (value : Option Data) → (utf8 ≡ true → value ≡ None) → (if utf8 then ok_or value no_json else Err no_json) ≡ Err no_json
 no_value false value none = refl
 no_value true value none = rw (none refl) refl
 
-pub is_no_json : (bytes : List ℕ) → (IsUtf8 bytes → read_text bytes ≡ None) → json_of bytes ≡ Err no_json
-unfolding json_of
+pub is_no_json : (bytes : List ℕ) → (IsUtf8 bytes → read_text bytes ≡ None) → json_value bytes ≡ Err no_json
+unfolding json_value
 is_no_json bytes none = no_value (is_utf8 bytes) (read_text bytes) (λ utf8. none (IsUtf8-from_is_utf8 bytes utf8))
 
 pub not_readable : (bytes : List ℕ) → is_utf8 bytes ≡ false → IsUtf8 bytes → ⊥
@@ -45,9 +45,9 @@ as_many (Ok x) (Err f) n h xs is = cc
 as_many (Ok x) (Ok ys) n h xs is = ap length (same_ok xs (x ∷ ys) (Ok (x ∷ ys)) is refl) ∙ ap suc (h ys refl)
 
 -- as many are read as there are values
-pub read_count : {A : Type 0} (read : ℕ → Data → Result A DocumentFault) (i : ℕ) (ds : List Data) (xs : List A) → each_from read i ds ≡ Ok xs → length xs ≡ length ds
+pub read_count : {A : Type 0} (read : ℕ → Data → Result A DocumentFault) (i : ℕ) (ds : List Data) (xs : List A) → read_indexed read i ds ≡ Ok xs → length xs ≡ length ds
 read_count read i [] xs is = ap length (same_ok xs [] (Ok []) is refl)
-read_count read i (d ∷ ds) xs is = as_many (read i d) (each_from read (i + 1) ds) (length ds) (read_count read (i + 1) ds) xs is
+read_count read i (d ∷ ds) xs is = as_many (read i d) (read_indexed read (i + 1) ds) (length ds) (read_count read (i + 1) ds) xs is
 
 -- if the test of a fact fails, the fact does not hold
 pub is_not : {P : Type 0} (b : Bool) → IsTrue b ↔ P → b ≡ false → P → ⊥

@@ -12,7 +12,7 @@ use Rattle.serde_json.specs.Data.{Data, array, no_items, no_members, object, str
 use Rattle.serde_json.specs.Find.{as_array}
 use Rattle.serde_json.specs.Read.{converted, of_json, of_members}
 use Rattle.etcs_document.proofs.TokenLemmas.{converted-object, converted_some, item_more, key_stands, list_stands, no_items_yet, same_list, value_shorter}
-use Rattle.etcs_document.specs.Document.{◌then◌, aspect_at, aspects_of, controlled_at, each_from, group_at, has_count, in_form, message_at, only_aspect, only_values, path_of, telegram_at, telegrams_of, values_of}
+use Rattle.etcs_document.specs.Document.{◌then◌, as_values, aspect_telegrams, balise_telegram, controlled_group, document_group, document_message, group_aspect, group_path, has_count, in_form, listed_aspects, only_aspect, only_values, read_indexed}
 use Rattle.etcs_document.specs.DocumentFault.{DocumentFault, bad_message, bad_telegram}
 use Rattle.etcs_document.specs.DocumentTokens.{AreBalises, AreEach, AreFirst, HasGroup, IsAspect, IsAspects, IsBalises, IsFirst, IsGroup, IsList, IsMessage, IsOnlyAspect, IsTelegram}
 use Rattle.etcs_schema.specs.Entries.{Entry, members_onto, object_of}
@@ -20,7 +20,7 @@ use Rattle.etcs_schema.specs.Fault.{Kind, here, key as key_step, under}
 use Rattle.etcs_schema.specs.Reading.{at_key, data_list, object_with}
 use Rattle.etcs_group.specs.Controlled.{IsControlled}
 use Rattle.etcs_group.specs.Places.{At}
-use Rattle.etcs_document.specs.Tokens.{HasMembers, first_value, items_onto}
+use Rattle.etcs_document.specs.Tokens.{HasMembers, first_value, prepend_items}
 use Rattle.etcs_radio.specs.TextMeaning.{message_of_text}
 use Rattle.etcs_radio.specs.declared.message.Message.{Message}
 use Rattle.etcs_telegram.specs.Record.{Telegram}
@@ -33,7 +33,7 @@ text_stands depth text old new begins =
     ap (λ ts. first_value depth ts) begins ∙ rw (value_is depth (Token.string text ∷ new)) refl
 
 pub telegram_taken : (depth : ℕ) (text : List ℕ) (old new : List Token) (t : Telegram) → old ≡ Token.string text ∷ new → telegram_of_text text ≡ Ok t → IsFirst IsTelegram depth old t new
-unfolding telegram_at
+unfolding balise_telegram
 telegram_taken depth text old new t begins is = record {
   found = string text;
   stands = text_stands depth text old new begins;
@@ -41,7 +41,7 @@ telegram_taken depth text old new t begins is = record {
 }
 
 pub message_taken : (depth : ℕ) (text : List ℕ) (old new : List Token) (m : Message) → old ≡ Token.string text ∷ new → message_of_text text ≡ Ok m → IsFirst IsMessage depth old m new
-unfolding message_at
+unfolding document_message
 message_taken depth text old new m begins is = record {
   found = string text;
   stands = text_stands depth text old new begins;
@@ -84,7 +84,7 @@ first_more Is depth old xs ys x mid new some one pushed = rw pushed record {
 pub list_taken : {X : Type 0} (Is : Data → X → Type 0) (depth : ℕ) (old begun ended new : List Token) (xs : List X) → 0 < depth → old ≡ Token.begin_array ∷ begun
     → AreFirst Is (depth - 1) begun xs ended → after_end_array ended ≡ Some new → IsFirst (IsList Is) depth old xs new
 list_taken Is depth old begun ended new xs deep begins some ends = record {
-  found = array (items_onto some.found no_items);
+  found = array (prepend_items some.found no_items);
   stands = list_stands depth some.found old begun ended new deep begins some.stand ends;
   is = (some.found, refl, some.are);
 }
@@ -107,12 +107,12 @@ with_key name d = object_of ((name, Some d) ∷ [])
 
 -- ---- balises and aspects
 
-pub list_values : (ds : List Data) (d : Data) → d ≡ array (items_onto ds no_items) → values_of d ≡ Ok ds
-unfolding values_of
+pub list_values : (ds : List Data) (d : Data) → d ≡ array (prepend_items ds no_items) → as_values d ≡ Ok ds
+unfolding as_values
 list_values ds d is = ap (λ x. ok_or (option_map data_list (as_array x)) (here Kind)) is ∙ ap (λ l. Ok l) (same_list ds)
 
 pub each_read : {X : Type 0} (Is : Data → X → Type 0) (read : ℕ → Data → Result X DocumentFault) → ((d : Data) (x : X) → Is d x → (n : ℕ) → read n d ≡ Ok x)
-    → (n : ℕ) (ds : List Data) (xs : List X) → AreEach Is ds xs → each_from read n ds ≡ Ok xs
+    → (n : ℕ) (ds : List Data) (xs : List X) → AreEach Is ds xs → read_indexed read n ds ≡ Ok xs
 each_read Is read to n [] [] are = refl
 each_read Is read to n [] (x ∷ xs) are = absurd are
 each_read Is read to n (d ∷ ds) [] are = absurd are
@@ -125,9 +125,9 @@ same_count Is (d ∷ ds) [] are = absurd are
 same_count Is (d ∷ ds) (x ∷ xs) are = ap suc (same_count Is ds xs are.1)
 
 balises_are : (ds : List Data) (ts : List Telegram) → AreEach IsTelegram ds ts → (nat_lt 0 (length ts) && nat_le (length ts) 8) ≡ true → AreBalises ds ts
-unfolding telegrams_of
+unfolding aspect_telegrams
 balises_are ds ts are few = λ g a first has.
-    rw (same_count IsTelegram ds ts are, few, has) (each_read IsTelegram (telegram_at g a) (λ d t is b. is g a b) 0 ds ts are)
+    rw (same_count IsTelegram ds ts are, few, has) (each_read IsTelegram (balise_telegram g a) (λ d t is b. is g a b) 0 ds ts are)
 
 -- a list of one to eight balises
 pub balises_taken : (depth : ℕ) (old : List Token) (ts : List Telegram) (new : List Token) → IsFirst (IsList IsTelegram) depth old ts new → 0 < length ts → length ts ≤ 8 → IsFirst IsBalises depth old ts new
@@ -135,11 +135,11 @@ balises_taken depth old ts new one some few =
     let fits : (nat_lt 0 (length ts) && nat_le (length ts) 8) ≡ true = grind (arith, nat_tests) in
     record { found = one.found; stands = one.stands; is = (one.is.0, list_values one.is.0 one.found one.is.1, balises_are one.is.0 ts one.is.2 fits) }
 
-balises_key : (d : Data) (ds : List Data) → values_of d ≡ Ok ds → only_values (codes "balises") (with_key (codes "balises") d) ≡ Ok ds
+balises_key : (d : Data) (ds : List Data) → as_values d ≡ Ok ds → only_values (codes "balises") (with_key (codes "balises") d) ≡ Ok ds
 unfolding only_values object_with at_key
 balises_key d ds is = ap (under (key_step (codes "balises"))) is
 
-aspects_key : (d : Data) (ds : List Data) → values_of d ≡ Ok ds → only_values (codes "aspects") (with_key (codes "aspects") d) ≡ Ok ds
+aspects_key : (d : Data) (ds : List Data) → as_values d ≡ Ok ds → only_values (codes "aspects") (with_key (codes "aspects") d) ≡ Ok ds
 unfolding only_values object_with at_key
 aspects_key d ds is = ap (under (key_step (codes "aspects"))) is
 
@@ -152,11 +152,11 @@ aspect_taken depth old begun mid after ts new deep begins named one ends = recor
   is = (one.is.0, balises_key one.found one.is.0 one.is.1, one.is.2);
 }
 
-aspect_reads : (d : Data) (ts : List Telegram) → IsAspect d ts → (g : ℕ) (first a : Option ℕ) → has_count first (length ts) ≡ true → aspect_at g first a d ≡ Ok ts
-unfolding aspect_at
-aspect_reads d ts is g first a has = ap (λ r. in_form (path_of g a) r then telegrams_of g a first) is.1 ∙ is.2 g a first has
+aspect_reads : (d : Data) (ts : List Telegram) → IsAspect d ts → (g : ℕ) (first a : Option ℕ) → has_count first (length ts) ≡ true → group_aspect g first a d ≡ Ok ts
+unfolding group_aspect
+aspect_reads d ts is g first a has = ap (λ r. in_form (group_path g a) r then aspect_telegrams g a first) is.1 ∙ is.2 g a first has
 
-others_read : (g n i : ℕ) (ds : List Data) (xs : List (List Telegram)) → AreEach IsAspect ds xs → ((k : ℕ) (x : List Telegram) → At xs k x → length x ≡ n) → each_from (λ a. aspect_at g (Some n) (Some a)) i ds ≡ Ok xs
+others_read : (g n i : ℕ) (ds : List Data) (xs : List (List Telegram)) → AreEach IsAspect ds xs → ((k : ℕ) (x : List Telegram) → At xs k x → length x ≡ n) → read_indexed (λ a. group_aspect g (Some n) (Some a)) i ds ≡ Ok xs
 others_read g n i [] [] are counted = refl
 others_read g n i [] (x ∷ xs) are counted = absurd are
 others_read g n i (d ∷ ds) [] are counted = absurd are
@@ -164,8 +164,8 @@ others_read g n i (d ∷ ds) (x ∷ xs) are counted =
     let has : has_count (Some n) (length x) ≡ true = eq-eqb (length x) n (counted 0 x refl) in
     rw (aspect_reads d x are.0 g (Some n) (Some i) has, others_read g n (i + 1) ds xs are.1 (λ k y at. counted (suc k) y at)) refl
 
-aspects_read : (ds : List Data) (xs : List (List Telegram)) → AreEach IsAspect ds xs → IsControlled xs → (g : ℕ) → aspects_of g ds ≡ Ok xs
-unfolding aspects_of
+aspects_read : (ds : List Data) (xs : List (List Telegram)) → AreEach IsAspect ds xs → IsControlled xs → (g : ℕ) → listed_aspects g ds ≡ Ok xs
+unfolding listed_aspects
 aspects_read [] [] are is g = let some = is.some in absurd (omega arith)
 aspects_read [] (x ∷ xs) are is g = absurd are
 aspects_read (d ∷ ds) [] are is g = absurd are
@@ -183,14 +183,14 @@ aspects_taken depth old xs new one is = record {
 -- ---- groups
 
 only_read : (d : Data) (aspects : List (List Telegram)) → IsOnlyAspect d aspects → IsGroup (with_key (codes "balises") d) aspects
-unfolding group_at only_aspect
+unfolding document_group only_aspect
 only_read d aspects is = λ g.
     let one = aspect_reads (with_key (codes "balises") d) is.0 (is.2.0, balises_key d is.2.0 is.2.1, is.2.2) g None None refl in
     ap (λ r. r then λ only. Ok (only ∷ [])) one ∙ ap (λ l. Ok l) (sym is.1)
 
 controlled_read : (d : Data) (aspects : List (List Telegram)) → IsAspects d aspects → IsGroup (with_key (codes "aspects") d) aspects
-unfolding group_at controlled_at
-controlled_read d aspects is = λ g. ap (λ r. in_form (path_of g None) r then aspects_of g) (aspects_key d is.0 is.1) ∙ is.2 g
+unfolding document_group controlled_group
+controlled_read d aspects is = λ g. ap (λ r. in_form (group_path g None) r then listed_aspects g) (aspects_key d is.0 is.1) ∙ is.2 g
 
 pub only_member : (depth : ℕ) (old mid : List Token) (k : List ℕ) (aspects : List (List Telegram)) (new : List Token) → read_key old ≡ Some (Some k, mid) → k ≡ codes "balises" → IsFirst IsOnlyAspect depth mid aspects new
     → HasGroup depth old aspects new

@@ -13,9 +13,9 @@ use Rattle.etcs_document.proofs.DocumentLemmas.{read_count}
 use Rattle.etcs_document.proofs.ResultLemmas.{if_ok, not_ok, same_ok, then_ok}
 use Rattle.etcs_document.proofs.ValueLemmas.{each_at}
 use Rattle.etcs_document.proofs.VerdictLemmas.{line_read, parts_read}
-use Rattle.etcs_document.specs.Document.{◌then◌, aspect_at, aspects_of, controlled_at, each_from, group_at, groups_of, has_count, in_form, line_of_text, list_at, only_aspect, only_values, others_of, path_of, telegram_at, telegrams_of, with_first}
+use Rattle.etcs_document.specs.Document.{◌then◌, aspect_telegrams, balise_telegram, controlled_group, document_group, document_list, group_aspect, group_path, has_count, in_form, line_groups, line_of_text, listed_aspects, only_aspect, only_values, other_aspects, read_indexed, with_first}
 use Rattle.etcs_document.specs.DocumentFault.{DocumentFault, bad_aspects, bad_count}
-use Rattle.etcs_document.specs.Verdict.{IsSoundText, summary, summary_of_text, judged}
+use Rattle.etcs_document.specs.Verdict.{IsSoundText, judged, summary, summary_of_text}
 use Rattle.etcs_group.specs.Controlled.{IsControlled}
 use Rattle.etcs_radio.specs.declared.message.Message.{Message}
 use Rattle.etcs_telegram.specs.Record.{Telegram}
@@ -23,17 +23,17 @@ use Rattle.etcs_telegram.specs.Record.{Telegram}
 -- ---- groups
 
 -- an aspect that was read has a balise
-some_balises : (g : ℕ) (a first : Option ℕ) (ds : List Data) (group : List Telegram) → telegrams_of g a first ds ≡ Ok group → 0 < length group
-unfolding telegrams_of
+some_balises : (g : ℕ) (a first : Option ℕ) (ds : List Data) (group : List Telegram) → aspect_telegrams g a first ds ≡ Ok group → 0 < length group
+unfolding aspect_telegrams
 some_balises g a first ds group is =
     let few = if_ok (nat_lt 0 (length ds) && nat_le (length ds) 8) _ (bad_count g) group is in
-    let same = if_ok (has_count first (length ds)) (each_from (telegram_at g a) 0 ds) (bad_aspects g) group few.1 in
-    rw (read_count (telegram_at g a) 0 ds group same.1) (ltb-true 0 (length ds) (and_parts _ _ few.0).0)
+    let same = if_ok (has_count first (length ds)) (read_indexed (balise_telegram g a) 0 ds) (bad_aspects g) group few.1 in
+    rw (read_count (balise_telegram g a) 0 ds group same.1) (ltb-true 0 (length ds) (and_parts _ _ few.0).0)
 
-first_balises : (g : ℕ) (a : Option ℕ) (d : Data) (group : List Telegram) → aspect_at g None a d ≡ Ok group → 0 < length group
-unfolding aspect_at
+first_balises : (g : ℕ) (a : Option ℕ) (d : Data) (group : List Telegram) → group_aspect g None a d ≡ Ok group → 0 < length group
+unfolding group_aspect
 first_balises g a d group is =
-    let form = then_ok (in_form (path_of g a) (only_values (codes "balises") d)) (telegrams_of g a None) group is in
+    let form = then_ok (in_form (group_path g a) (only_values (codes "balises") d)) (aspect_telegrams g a None) group is in
     some_balises g a None form.0 group form.2
 
 only_is_controlled : (only : List Telegram) → 0 < length only → IsControlled (only ∷ [])
@@ -46,35 +46,35 @@ only_is_controlled only some = record {
 only_controlled : (g : ℕ) (d : Data) (aspects : List (List Telegram)) → only_aspect g d ≡ Ok aspects → IsControlled aspects
 unfolding only_aspect
 only_controlled g d aspects is =
-    let read = then_ok (aspect_at g None None d) (λ only. Ok (only ∷ [])) aspects is in
+    let read = then_ok (group_aspect g None None d) (λ only. Ok (only ∷ [])) aspects is in
     let one : IsControlled (read.0 ∷ []) = only_is_controlled read.0 (first_balises g None d read.0 read.1) in
     subst IsControlled (same_ok (read.0 ∷ []) aspects (Ok (read.0 ∷ [])) refl read.2) one
 
-list_controlled : (g : ℕ) (ds : List Data) (aspects : List (List Telegram)) → aspects_of g ds ≡ Ok aspects → IsControlled aspects
-unfolding aspects_of
+list_controlled : (g : ℕ) (ds : List Data) (aspects : List (List Telegram)) → listed_aspects g ds ≡ Ok aspects → IsControlled aspects
+unfolding listed_aspects
 list_controlled g [] aspects is = absurd (not_ok (bad_aspects g) aspects (Err (bad_aspects g)) refl is)
 list_controlled g (d ∷ ds) aspects is =
-    let first = then_ok (aspect_at g None (Some 0) d) (λ f. with_first f (others_of g (length f) ds)) aspects is in
+    let first = then_ok (group_aspect g None (Some 0) d) (λ f. with_first f (other_aspects g (length f) ds)) aspects is in
     controlled_first g first.0 ds aspects (first_balises g (Some 0) d first.0 first.1) first.2
 
-or_controlled : (g : ℕ) (d : Data) (o : Option Data) (aspects : List (List Telegram)) → (if is_some o then controlled_at g d else only_aspect g d) ≡ Ok aspects → IsControlled aspects
-unfolding controlled_at
+or_controlled : (g : ℕ) (d : Data) (o : Option Data) (aspects : List (List Telegram)) → (if is_some o then controlled_group g d else only_aspect g d) ≡ Ok aspects → IsControlled aspects
+unfolding controlled_group
 or_controlled g d None aspects is = only_controlled g d aspects is
 or_controlled g d (Some list) aspects is =
-    let form = then_ok (in_form (path_of g None) (only_values (codes "aspects") d)) (aspects_of g) aspects is in
+    let form = then_ok (in_form (group_path g None) (only_values (codes "aspects") d)) (listed_aspects g) aspects is in
     list_controlled g form.0 aspects form.2
 
-group_controlled : (g : ℕ) (d : Data) (aspects : List (List Telegram)) → group_at g d ≡ Ok aspects → IsControlled aspects
-unfolding group_at
+group_controlled : (g : ℕ) (d : Data) (aspects : List (List Telegram)) → document_group g d ≡ Ok aspects → IsControlled aspects
+unfolding document_group
 group_controlled g d aspects is = or_controlled g d (get (codes "aspects") d) aspects is
 
 -- ---- the line
 
-groups_controlled : (d : Data) (groups : List (List (List Telegram))) → groups_of d ≡ Ok groups → AreControlled groups
-unfolding groups_of
+groups_controlled : (d : Data) (groups : List (List (List Telegram))) → line_groups d ≡ Ok groups → AreControlled groups
+unfolding line_groups
 groups_controlled d groups is i aspects here =
-    let list = then_ok (list_at (codes "groups") d) (each_from group_at 0) groups is in
-    let one = each_at group_at 0 list.0 groups list.2 i aspects here in
+    let list = then_ok (document_list (codes "groups") d) (read_indexed document_group 0) groups is in
+    let one = each_at document_group 0 list.0 groups list.2 i aspects here in
     group_controlled (0 + i) one.0 aspects one.2
 
 pub line_controlled : (bytes : List ℕ) (groups : List (List (List Telegram))) (ms : List Message) → line_of_text bytes ≡ Ok (groups, ms) → AreControlled groups

@@ -1,38 +1,57 @@
 -- A line's groups and messages, read one after the other and passed to a checker.
-use Rattle.std.proofs.Common.{◌≡◌, ℕ, ◌-◌, ◌<◌, List, [], ◌∷◌, ◌++◌, codes, Some, None, Ok, option_and_then, refl, ap, sym, ◌∙◌}
+use Rattle.std.proofs.Common.{◌≡◌, ℕ, ◌-◌, ◌<◌, List, [], ◌∷◌, ◌++◌, codes, Some, None, Ok, option_and_then, refl, ap, sym, subst, ◌∙◌}
 use Rattle.std.specs.Str.{IsUtf8}
 use Rattle.json.specs.Json.{after_end_array, if_last, read_key, value}
 use Rattle.json.specs.Lex.{tokens}
 use Rattle.json.specs.Token.{Token}
 use Rattle.serde_json.specs.Data.{Data}
 use Rattle.serde_json.specs.Read.{of_json}
+use Rattle.etcs_check.proofs.CheckerLemmas.{more_groups, more_messages, no_groups, no_messages}
 use Rattle.etcs_check.specs.LineChecker.{CheckerState, HasChecked, TakesGroups, TakesMessages}
 use Rattle.etcs_document.proofs.DocumentLemmas.{is_json}
 use Rattle.etcs_document.proofs.DocumentTokenLemmas.{each_read, first_more, list_taken, list_values, none_first, object_stands}
 use Rattle.etcs_document.proofs.TokenLemmas.{converted_some, key_stands, then_stand}
-use Rattle.etcs_document.specs.Document.{◌then◌, each_from, group_at, groups_of, in_form, json_of, line_of, line_of_text, message_at, messages_of}
-use Rattle.etcs_document.specs.DocumentTokens.{AreFirst, AreTaken, HasLine, IsChecked, IsFirst, IsGroup, IsList, IsMessage}
-use Rattle.etcs_schema.specs.Entries.{object_of}
+use Rattle.etcs_document.specs.Document.{◌then◌, document_group, document_line, document_message, in_form, json_value, line_groups, line_messages, line_of_text, read_indexed}
+use Rattle.etcs_document.specs.DocumentTokens.{AreFirst, AreTaken, HasLine, IsChecked, IsFirst, IsGroup, IsList, IsMessage, TakesEach}
+use Rattle.etcs_schema.specs.Entries.{Entry, object_of}
 use Rattle.etcs_schema.specs.Fault.{key as key_step, under}
 use Rattle.etcs_schema.specs.Reading.{at_key, object_with}
 use Rattle.etcs_document.specs.Tokens.{HasMembers, first_value}
-use Rattle.etcs_document.specs.Verdict.{Summary, summary, summary_of_text, judged}
+use Rattle.etcs_document.specs.Verdict.{Summary, judged, summary, summary_of_text}
 use Rattle.etcs_radio.specs.declared.message.Message.{Message}
 use Rattle.etcs_telegram.specs.Record.{Telegram}
 
 -- ---- lists
 
-module _ {X : Type 0} (Is : Data → X → Type 0) (Takes : CheckerState → List X → CheckerState → Type 0) (depth : ℕ) (old : List Token) where
-  pub none_taken : (was : CheckerState) → Takes was [] was → AreTaken (λ xs. AreFirst Is depth old xs old) Takes was was
-  none_taken was none = record { items = []; read = none_first Is depth old; takes = none }
+each_more : {X : Type 0} (Takes : CheckerState → X → CheckerState → Type 0) (was kept is : CheckerState) (xs : List X) (x : X) → TakesEach Takes was xs kept → Takes kept x is → TakesEach Takes was (xs ++ x ∷ []) is
+each_more Takes was kept is [] x same one = (is, subst (λ k. Takes k x is) (sym same) one, refl)
+each_more Takes was kept is (y ∷ ys) x each one = (each.0, each.1, each_more Takes each.0 kept is ys x each.2 one)
+
+abbrev TakesGroup : CheckerState → List (List Telegram) → CheckerState → Type 0
+TakesGroup was g is = TakesGroups was (g ∷ []) is
+
+abbrev TakesMessage : CheckerState → Message → CheckerState → Type 0
+TakesMessage was m is = TakesMessages was (m ∷ []) is
+
+groups_each : (was is : CheckerState) (gs : List (List (List Telegram))) → TakesEach TakesGroup was gs is → TakesGroups was gs is
+groups_each was is [] same = subst (TakesGroups was []) same (no_groups was)
+groups_each was is (g ∷ gs) each = more_groups was each.0 is (g ∷ []) gs each.1 (groups_each each.0 is gs each.2)
+
+messages_each : (was is : CheckerState) (ms : List Message) → TakesEach TakesMessage was ms is → TakesMessages was ms is
+messages_each was is [] same = subst (TakesMessages was []) same (no_messages was)
+messages_each was is (m ∷ ms) each = more_messages was each.0 is (m ∷ []) ms each.1 (messages_each each.0 is ms each.2)
+
+module _ {X : Type 0} (Is : Data → X → Type 0) (Takes : CheckerState → X → CheckerState → Type 0) (depth : ℕ) (old : List Token) where
+  pub none_taken : (was : CheckerState) → AreTaken (λ xs. AreFirst Is depth old xs old) Takes was was
+  none_taken was = record { items = []; read = none_first Is depth old; takes = refl }
 
   -- one more was read, and passed to the checker
-  pub one_taken : (was kept is : CheckerState) (mid new : List Token) → ((xs ys : List X) → Takes was xs kept → Takes kept ys is → Takes was (xs ++ ys) is) → AreTaken (λ xs. AreFirst Is depth old xs mid) Takes was kept
-      → (one : X) → IsFirst Is depth mid one new → Takes kept (one ∷ []) is → AreTaken (λ xs. AreFirst Is depth old xs new) Takes was is
-  one_taken was kept is mid new joined so one first takes = record {
+  pub one_taken : (was kept is : CheckerState) (mid new : List Token) → AreTaken (λ xs. AreFirst Is depth old xs mid) Takes was kept
+      → (one : X) → IsFirst Is depth mid one new → Takes kept one is → AreTaken (λ xs. AreFirst Is depth old xs new) Takes was is
+  one_taken was kept is mid new so one first takes = record {
     items = so.items ++ one ∷ [];
     read = first_more Is depth old so.items (so.items ++ one ∷ []) one mid new so.read first refl;
-    takes = joined so.items (one ∷ []) so.takes takes;
+    takes = each_more Takes was kept is so.items one so.takes takes;
   }
 
   -- the list of them
@@ -50,26 +69,22 @@ module _ {X : Type 0} (Is : Data → X → Type 0) (Takes : CheckerState → Lis
 abbrev document_of : Data → Data → Data
 document_of g m = object_of ((codes "groups", Some g) ∷ (codes "messages", Some m) ∷ [])
 
-groups_read : (d e : Data) (gs : List (List (List Telegram))) → IsList IsGroup d gs → groups_of (document_of d e) ≡ Ok gs
-unfolding groups_of at_key
+groups_read : (d e : Data) (gs : List (List (List Telegram))) → IsList IsGroup d gs → line_groups (document_of d e) ≡ Ok gs
+unfolding line_groups at_key
 groups_read d e gs is =
-    ap (λ r. in_form [] (under (key_step (codes "groups")) r) then each_from group_at 0) (list_values is.0 d is.1)
-    ∙ each_read IsGroup group_at (λ d g is n. is n) 0 is.0 gs is.2
+    ap (λ r. in_form [] (under (key_step (codes "groups")) r) then read_indexed document_group 0) (list_values is.0 d is.1)
+    ∙ each_read IsGroup document_group (λ d g is n. is n) 0 is.0 gs is.2
 
-messages_read : (d e : Data) (ms : List Message) → IsList IsMessage e ms → messages_of (document_of d e) ≡ Ok ms
-unfolding messages_of at_key
+messages_read : (d e : Data) (ms : List Message) → IsList IsMessage e ms → line_messages (document_of d e) ≡ Ok ms
+unfolding line_messages at_key
 messages_read d e ms is =
-    ap (λ r. in_form [] (under (key_step (codes "messages")) r) then each_from message_at 0) (list_values is.0 e is.1)
-    ∙ each_read IsMessage message_at (λ d m is n. is n) 0 is.0 ms is.2
+    ap (λ r. in_form [] (under (key_step (codes "messages")) r) then read_indexed document_message 0) (list_values is.0 e is.1)
+    ∙ each_read IsMessage document_message (λ d m is n. is n) 0 is.0 ms is.2
 
-line_read : (d e : Data) (gs : List (List (List Telegram))) (ms : List Message) → IsList IsGroup d gs → IsList IsMessage e ms → line_of (document_of d e) ≡ Ok (gs, ms)
-unfolding line_of object_with
+line_read : (d e : Data) (gs : List (List (List Telegram))) (ms : List Message) → IsList IsGroup d gs → IsList IsMessage e ms → document_line (document_of d e) ≡ Ok (gs, ms)
+unfolding document_line object_with
 line_read d e gs ms groups messages =
-    ap (λ r. r then λ x. messages_of (document_of d e) then λ y. Ok (x, y)) (groups_read d e gs groups) ∙ ap (λ r. r then λ y. Ok (gs, y)) (messages_read d e ms messages)
-
--- a document with its keys in the other order
-turned : (d e : Data) → object_of ((codes "messages", Some e) ∷ (codes "groups", Some d) ∷ []) ≡ document_of d e
-turned d e = refl
+    ap (λ r. r then λ x. line_messages (document_of d e) then λ y. Ok (x, y)) (groups_read d e gs groups) ∙ ap (λ r. r then λ y. Ok (gs, y)) (messages_read d e ms messages)
 
 -- the two members of a document, read one after the other
 two_stand : (depth : ℕ) (k l : List ℕ) (d e : Data) (old a b c new : List Token) → read_key old ≡ Some (Some k, a) → first_value depth a ≡ Some (d, b) → read_key b ≡ Some (Some l, c) → first_value depth c ≡ Some (e, new)
@@ -77,37 +92,39 @@ two_stand : (depth : ℕ) (k l : List ℕ) (d e : Data) (old a b c new : List To
 two_stand depth k l d e old a b c new first one second two =
     then_stand depth (k, Some d) ((l, Some e) ∷ []) old b new (key_stands depth k d old a b first one) (key_stands depth l e b c new second two)
 
+-- what a checker took of two lists is the line of these members, in either order
+line_checked : (es : List Entry) (d e : Data) (gs : List (List (List Telegram))) (ms : List Message) (state : CheckerState) → object_of es ≡ document_of d e → IsList IsGroup d gs → IsList IsMessage e ms
+    → HasChecked state gs ms → IsChecked (object_of es) state
+line_checked es d e gs ms state same g m checked = record {
+  groups = gs;
+  messages = ms;
+  line = ap document_line same ∙ line_read d e gs ms g m;
+  checked = checked;
+}
+
 module _ (depth : ℕ) (old a b c new : List Token) (was mid kept : CheckerState) (empty : HasChecked was [] []) where
-  pub groups_then : read_key old ≡ Some (Some (codes "groups"), a) → AreTaken (λ gs. IsFirst (IsList IsGroup) depth a gs b) TakesGroups was mid → read_key b ≡ Some (Some (codes "messages"), c)
-      → AreTaken (λ ms. IsFirst (IsList IsMessage) depth c ms new) TakesMessages mid kept → HasLine depth old kept new
+  pub groups_then : read_key old ≡ Some (Some (codes "groups"), a) → AreTaken (λ gs. IsFirst (IsList IsGroup) depth a gs b) TakesGroup was mid → read_key b ≡ Some (Some (codes "messages"), c)
+      → AreTaken (λ ms. IsFirst (IsList IsMessage) depth c ms new) TakesMessage mid kept → HasLine depth old kept new
   groups_then named groups second messages =
       let g = groups.read in
       let m = messages.read in
       record {
         entries = (codes "groups", Some g.found) ∷ (codes "messages", Some m.found) ∷ [];
         stand = two_stand depth (codes "groups") (codes "messages") g.found m.found old a b c new named g.stands second m.stands;
-        is = record {
-          groups = groups.items;
-          messages = messages.items;
-          line = line_read g.found m.found groups.items messages.items g.is m.is;
-          checked = messages.takes groups.items [] (groups.takes [] [] empty);
-        };
+        is = line_checked ((codes "groups", Some g.found) ∷ (codes "messages", Some m.found) ∷ []) g.found m.found groups.items messages.items kept refl g.is m.is
+            (messages_each mid kept messages.items messages.takes groups.items [] (groups_each was mid groups.items groups.takes [] [] empty));
       }
 
-  pub messages_then : read_key old ≡ Some (Some (codes "messages"), a) → AreTaken (λ ms. IsFirst (IsList IsMessage) depth a ms b) TakesMessages was mid → read_key b ≡ Some (Some (codes "groups"), c)
-      → AreTaken (λ gs. IsFirst (IsList IsGroup) depth c gs new) TakesGroups mid kept → HasLine depth old kept new
+  pub messages_then : read_key old ≡ Some (Some (codes "messages"), a) → AreTaken (λ ms. IsFirst (IsList IsMessage) depth a ms b) TakesMessage was mid → read_key b ≡ Some (Some (codes "groups"), c)
+      → AreTaken (λ gs. IsFirst (IsList IsGroup) depth c gs new) TakesGroup mid kept → HasLine depth old kept new
   messages_then named messages second groups =
       let g = groups.read in
       let m = messages.read in
       record {
         entries = (codes "messages", Some m.found) ∷ (codes "groups", Some g.found) ∷ [];
         stand = two_stand depth (codes "messages") (codes "groups") m.found g.found old a b c new named m.stands second g.stands;
-        is = record {
-          groups = groups.items;
-          messages = messages.items;
-          line = ap line_of (turned g.found m.found) ∙ line_read g.found m.found groups.items messages.items g.is m.is;
-          checked = groups.takes [] messages.items (messages.takes [] [] empty);
-        };
+        is = line_checked ((codes "messages", Some m.found) ∷ (codes "groups", Some g.found) ∷ []) g.found m.found groups.items messages.items kept refl g.is m.is
+            (groups_each mid kept groups.items groups.takes [] messages.items (messages_each was mid messages.items messages.takes [] [] empty));
       }
 
 pub document_taken : (depth : ℕ) (old begun ended : List Token) (kept : CheckerState) (new : List Token) → 0 < depth → old ≡ Token.begin_object ∷ begun → HasLine (depth - 1) begun kept ended → read_key ended ≡ Some (None, new)
@@ -126,7 +143,7 @@ unfolding line_of_text
 text_taken bytes start rest kept c utf8 begins ends one told =
     let whole : first_value 127 (tokens bytes) ≡ Some (one.found, []) = ap (first_value 127) (sym begins) ∙ one.stands ∙ ap (λ ts. Some (one.found, ts)) ends in
     let j = converted_some of_json (value 127 (tokens bytes)) one.found [] whole in
-    let json : json_of bytes ≡ Ok one.found = is_json bytes one.found utf8 (ap (λ o. option_and_then of_json (option_and_then (λ p. if_last p.0 p.1) o)) j.1 ∙ j.2) in
-    ap (λ r. ((r then line_of) then λ line. Ok (judged line)) then λ verdict. Ok (summary verdict)) json
+    let json : json_value bytes ≡ Ok one.found = is_json bytes one.found utf8 (ap (λ o. option_and_then of_json (option_and_then (λ p. if_last p.0 p.1) o)) j.1 ∙ j.2) in
+    ap (λ r. ((r then document_line) then λ line. Ok (judged line)) then λ verdict. Ok (summary verdict)) json
     ∙ ap (λ r. (r then λ line. Ok (judged line)) then λ verdict. Ok (summary verdict)) one.is.line
     ∙ ap (λ x. Ok x) (sym (told one.is.groups one.is.messages one.is.checked))

@@ -9,7 +9,7 @@ use Rattle.serde_json.specs.Data.{Data, Items, Members, array, item, no_items, n
 use Rattle.serde_json.specs.Read.{converted, of_items, of_json, of_members}
 use Rattle.etcs_schema.specs.Entries.{Entry, put_or}
 use Rattle.etcs_schema.specs.Reading.{data_list}
-use Rattle.etcs_document.specs.Tokens.{HasItems, HasMembers, first_value, items_after, items_onto}
+use Rattle.etcs_document.specs.Tokens.{HasItems, HasMembers, first_value, joined_items, prepend_items}
 
 -- ---- what was converted
 
@@ -77,18 +77,18 @@ then_stand depth e es old mid new one rest = record {
 
 -- ---- lists
 
-nothing_after : (o : Option (Items × List Token)) → o ≡ items_after [] o
+nothing_after : (o : Option (Items × List Token)) → o ≡ joined_items [] o
 nothing_after None = refl
 nothing_after (Some p) = refl
 
 pub no_items_yet : (depth : ℕ) (old : List Token) → HasItems depth [] old old
 no_items_yet depth old = record { one_by_one = λ turns enough. (turns, enough, nothing_after (converted of_items (items (value depth) turns old))) }
 
-onto_more : (ds : List Data) (d : Data) (rest : Items) → items_onto ds (item d rest) ≡ items_onto (ds ++ d ∷ []) rest
+onto_more : (ds : List Data) (d : Data) (rest : Items) → prepend_items ds (item d rest) ≡ prepend_items (ds ++ d ∷ []) rest
 onto_more [] d rest = refl
 onto_more (e ∷ ds) d rest = ap (item e) (onto_more ds d rest)
 
-after_more : (ds : List Data) (d : Data) (o : Option (Items × List Token)) → items_after ds (parse_map (item d) o) ≡ items_after (ds ++ d ∷ []) o
+after_more : (ds : List Data) (d : Data) (o : Option (Items × List Token)) → joined_items ds (parse_map (item d) o) ≡ joined_items (ds ++ d ∷ []) o
 after_more ds d None = refl
 after_more ds d (Some p) = ap (λ is. Some (is, p.1)) (onto_more ds d p.0)
 
@@ -105,21 +105,21 @@ item_more depth ds d old mid new some going e =
           let rest : length new ≤ a.0 - 1 = omega (arith, a.1) in (
             a.0 - 1,
             rest,
-            a.2 ∙ ap (items_after ds) (ap (converted of_items) (items_more (value depth) a.0 mid new j.0 more going j.1) ∙ with_item j.0 d j.2 _) ∙ after_more ds d _,
+            a.2 ∙ ap (joined_items ds) (ap (converted of_items) (items_more (value depth) a.0 mid new j.0 more going j.1) ∙ with_item j.0 d j.2 _) ∙ after_more ds d _,
           );
     }
 
 -- the items between the brackets of a list
 pub list_stands : (depth : ℕ) (ds : List Data) (old begun ended new : List Token) → 0 < depth → old ≡ Token.begin_array ∷ begun
-    → HasItems (depth - 1) ds begun ended → after_end_array ended ≡ Some new → first_value depth old ≡ Some (array (items_onto ds no_items), new)
+    → HasItems (depth - 1) ds begun ended → after_end_array ended ≡ Some new → first_value depth old ≡ Some (array (prepend_items ds no_items), new)
 list_stands depth ds old begun ended new deep begins some ends =
     let p = value (depth - 1) in
     let turn = some.one_by_one (length begun) (omega arith) in
-    let over = ap (λ o. items_after ds (converted of_items o)) (items_end p turn.0 ended new turn.1 ends) in
+    let over = ap (λ o. joined_items ds (converted of_items o)) (items_end p turn.0 ended new turn.1 ends) in
     ap (λ ts. first_value depth ts) begins ∙ ap (converted of_json) (value-begin_array depth begun deep)
     ∙ converted-array (items p (length begun) begun) ∙ ap (parse_map array) (turn.2 ∙ over)
 
-pub same_list : (ds : List Data) → data_list (items_onto ds no_items) ≡ ds
+pub same_list : (ds : List Data) → data_list (prepend_items ds no_items) ≡ ds
 same_list [] = refl
 same_list (d ∷ ds) = ap (λ r. d ∷ r) (same_list ds)
 

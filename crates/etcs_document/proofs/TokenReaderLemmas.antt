@@ -10,7 +10,7 @@ use Rattle.json.specs.Run.{is_plain}
 use Rattle.json.specs.Text.{after_backslash, content, plain, prepend}
 use Rattle.json.specs.Token.{Token, begin_array, begin_object, string}
 use Rattle.json.specs.Word.{is_operator, is_space}
-use Rattle.etcs_document.specs.TokenReader.{ArePlain, begins_at, closes_at, tokens_at}
+use Rattle.etcs_document.specs.TokenReader.{ArePlain, can_begin, can_close, remaining_tokens}
 use Rattle.etcs_document.specs.declared.token_reader.Place.{Place}
 use Rattle.etcs_document.specs.declared.token_reader.Place.TheVariants.{Fresh, AfterValue, AfterComma}
 
@@ -47,36 +47,36 @@ pub comma_passed : (text rest : List ℕ) → lex between text ≡ lex between (
 unfolding lex punctuate
 comma_passed text rest is = ap (punctuate after_value) (sym is)
 
-pub object_begun : (place : Place) (text rest : List ℕ) → begins_at place ≡ true → lex between text ≡ lex between (123 ∷ rest)
-    → tokens_at place text ≡ begin_object ∷ punctuate fresh (lex between rest)
+pub object_begun : (place : Place) (text rest : List ℕ) → can_begin place ≡ true → lex between text ≡ lex between (123 ∷ rest)
+    → remaining_tokens place text ≡ begin_object ∷ punctuate fresh (lex between rest)
 unfolding lex punctuate
 object_begun Fresh text rest may is = ap (punctuate fresh) is
 object_begun AfterValue text rest may is = absurd (false≢true may)
 object_begun AfterComma text rest may is = ap (punctuate after_comma) is
 
-pub list_begun : (place : Place) (text rest : List ℕ) → begins_at place ≡ true → lex between text ≡ lex between (91 ∷ rest)
-    → tokens_at place text ≡ begin_array ∷ punctuate fresh (lex between rest)
+pub list_begun : (place : Place) (text rest : List ℕ) → can_begin place ≡ true → lex between text ≡ lex between (91 ∷ rest)
+    → remaining_tokens place text ≡ begin_array ∷ punctuate fresh (lex between rest)
 unfolding lex punctuate
 list_begun Fresh text rest may is = ap (punctuate fresh) is
 list_begun AfterValue text rest may is = absurd (false≢true may)
 list_begun AfterComma text rest may is = ap (punctuate after_comma) is
 
-pub object_ended : (place : Place) (text rest : List ℕ) (new : List Token) → closes_at place ≡ true → lex between text ≡ lex between (125 ∷ rest)
-    → new ≡ punctuate after_value (lex between rest) → read_key (tokens_at place text) ≡ Some (None, new)
+pub object_ended : (place : Place) (text rest : List ℕ) (new : List Token) → can_close place ≡ true → lex between text ≡ lex between (125 ∷ rest)
+    → new ≡ punctuate after_value (lex between rest) → read_key (remaining_tokens place text) ≡ Some (None, new)
 unfolding lex punctuate
 object_ended Fresh text rest new may is left = ap (λ l. read_key (punctuate fresh l)) is ∙ ap (λ l. Some (None, l)) (sym left)
 object_ended AfterValue text rest new may is left = ap (λ l. read_key (punctuate after_value l)) is ∙ ap (λ l. Some (None, l)) (sym left)
 object_ended AfterComma text rest new may is left = absurd (false≢true may)
 
-pub list_ended : (place : Place) (text rest : List ℕ) (new : List Token) → closes_at place ≡ true → lex between text ≡ lex between (93 ∷ rest)
-    → new ≡ punctuate after_value (lex between rest) → after_end_array (tokens_at place text) ≡ Some new
+pub list_ended : (place : Place) (text rest : List ℕ) (new : List Token) → can_close place ≡ true → lex between text ≡ lex between (93 ∷ rest)
+    → new ≡ punctuate after_value (lex between rest) → after_end_array (remaining_tokens place text) ≡ Some new
 unfolding lex punctuate
 list_ended Fresh text rest new may is left = ap (λ l. after_end_array (punctuate fresh l)) is ∙ ap Some (sym left)
 list_ended AfterValue text rest new may is left = ap (λ l. after_end_array (punctuate after_value l)) is ∙ ap Some (sym left)
 list_ended AfterComma text rest new may is left = absurd (false≢true may)
 
-pub none_left : (place : Place) (text begun : List ℕ) → closes_at place ≡ true → lex between begun ≡ lex between text → length begun ≡ 0
-    → tokens_at place text ≡ []
+pub none_left : (place : Place) (text begun : List ℕ) → can_close place ≡ true → lex between begun ≡ lex between text → length begun ≡ 0
+    → remaining_tokens place text ≡ []
 unfolding lex punctuate
 none_left Fresh text begun may same none = ap (punctuate fresh) (sym same ∙ ap (lex between) (drop_all 0 begun (omega arith)))
 none_left AfterValue text begun may same none =
@@ -129,9 +129,9 @@ unfolding lex
 string_passed text rest are =
     ap₂ (λ o l. token (string_token o) ∷ l) (string_content text rest are) (string_rest text rest are)
 
-pub key_passed : (place : Place) (text name rest : List ℕ) → begins_at place ≡ true
+pub key_passed : (place : Place) (text name rest : List ℕ) → can_begin place ≡ true
     → lex between text ≡ token (string name) ∷ colon ∷ lex between rest
-    → read_key (tokens_at place text) ≡ Some (Some name, punctuate fresh (lex between rest))
+    → read_key (remaining_tokens place text) ≡ Some (Some name, punctuate fresh (lex between rest))
 unfolding punctuate
 key_passed Fresh text name rest may is = ap (λ l. read_key (punctuate fresh l)) is
 key_passed AfterValue text name rest may is = absurd (false≢true may)
@@ -142,9 +142,9 @@ string_placed : (place : spec.Place) (b : Bool) (text : List ℕ) (k : spec.Plac
 string_placed place true text k may none = absurd (false≢true (sym none))
 string_placed place false text k may none = ap (λ m. if_allowed m (string text) k after_value) may
 
-pub text_passed : (place : Place) (all text rest : List ℕ) (new : List Token) → begins_at place ≡ true
+pub text_passed : (place : Place) (all text rest : List ℕ) (new : List Token) → can_begin place ≡ true
     → lex between all ≡ token (string text) ∷ lex between rest → begins_colon (lex between rest) ≡ false
-    → new ≡ punctuate after_value (lex between rest) → tokens_at place all ≡ string text ∷ new
+    → new ≡ punctuate after_value (lex between rest) → remaining_tokens place all ≡ string text ∷ new
 unfolding punctuate
 text_passed Fresh all text rest new may is none left =
     ap (punctuate fresh) is ∙ string_placed fresh _ text _ refl none ∙ ap (λ l. string text ∷ l) (sym left)

@@ -6,7 +6,7 @@ use Rattle.std.proofs.lemmas.Option.{none-some, same_Some}
 use Rattle.serde_json.specs.Data.{Data, Items, array, boolean, item, no_items, null, number, object, string}
 use Rattle.serde_json.specs.Find.{as_array, at, get, get_item}
 use Rattle.etcs_document.proofs.ResultLemmas.{first_ok, not_ok, same_ok, then_ok}
-use Rattle.etcs_document.specs.Document.{each_from, values_of, with_first}
+use Rattle.etcs_document.specs.Document.{as_values, read_indexed, with_first}
 use Rattle.etcs_document.specs.DocumentFault.{DocumentFault}
 use Rattle.etcs_schema.specs.Fault.{Kind, Step, here, key, under}
 use Rattle.etcs_schema.specs.Reading.{at_key, data_list, key_or}
@@ -21,13 +21,13 @@ values_in step (Some items) ds is = (items, refl, same_ok (data_list items) ds (
 abbrev pub IsListAt : List ℕ → Option Data → List Data → Type 0
 IsListAt name o ds = (v : Data) × (items : Items) × (o ≡ Some v) × (as_array v ≡ Some items) × (data_list items ≡ ds)
 
-list_found : (name : List ℕ) (o : Option Data) (ds : List Data) → key_or values_of name o ≡ Ok ds → IsListAt name o ds
-unfolding values_of
-list_found name None ds is = absurd (not_ok _ ds (key_or values_of name None) refl is)
+list_found : (name : List ℕ) (o : Option Data) (ds : List Data) → key_or as_values name o ≡ Ok ds → IsListAt name o ds
+unfolding as_values
+list_found name None ds is = absurd (not_ok _ ds (key_or as_values name None) refl is)
 list_found name (Some v) ds is = let found = values_in (key name) (as_array v) ds is in (v, found.0, refl, found.1, found.2)
 
 -- a list that was read at a key
-pub list_read : (name : List ℕ) (d : Data) (ds : List Data) → at_key values_of name d ≡ Ok ds → IsListAt name (get name d) ds
+pub list_read : (name : List ℕ) (d : Data) (ds : List Data) → at_key as_values name d ≡ Ok ds → IsListAt name (get name d) ds
 unfolding at_key
 list_read name d ds is = list_found name (get name d) ds is
 
@@ -54,18 +54,18 @@ abbrev pub IsReadAt : {A : Type 0} → (ℕ → Data → Result A DocumentFault)
 IsReadAt read i ds k x = (d : Data) × At ds k d × (read (i + k) d ≡ Ok x)
 
 -- each element that was read is in the list
-pub each_at : {A : Type 0} (read : ℕ → Data → Result A DocumentFault) (i : ℕ) (ds : List Data) (xs : List A) → each_from read i ds ≡ Ok xs
+pub each_at : {A : Type 0} (read : ℕ → Data → Result A DocumentFault) (i : ℕ) (ds : List Data) (xs : List A) → read_indexed read i ds ≡ Ok xs
     → (k : ℕ) (x : A) → At xs k x → IsReadAt read i ds k x
 each_at {A = A} read i [] xs is k x h = absurd (none-some x (subst (λ (l : List A). At l k x) (sym (same_ok [] xs (Ok []) refl is)) h))
 each_at {A = A} read i (d ∷ ds) xs is zero x h =
-    let one = then_ok (read i d) (λ y. with_first y (each_from read (i + 1) ds)) xs is in
-    let rest = first_ok one.0 (each_from read (i + 1) ds) xs one.2 in
+    let one = then_ok (read i d) (λ y. with_first y (read_indexed read (i + 1) ds)) xs is in
+    let rest = first_ok one.0 (read_indexed read (i + 1) ds) xs one.2 in
     let here : At (one.0 ∷ rest.0) 0 x = subst (λ (l : List A). At l 0 x) (sym rest.2) h in
     let first : one.0 ≡ x = same_Some one.0 x here in
     (d, refl, rw (add-zero i) (one.1 ∙ ap Ok first))
 each_at {A = A} read i (d ∷ ds) xs is (suc k) x h =
-    let one = then_ok (read i d) (λ y. with_first y (each_from read (i + 1) ds)) xs is in
-    let rest = first_ok one.0 (each_from read (i + 1) ds) xs one.2 in
+    let one = then_ok (read i d) (λ y. with_first y (read_indexed read (i + 1) ds)) xs is in
+    let rest = first_ok one.0 (read_indexed read (i + 1) ds) xs one.2 in
     let later : At rest.0 k x = subst (λ (l : List A). At l (suc k) x) (sym rest.2) h in
     let found = each_at read (i + 1) ds rest.0 rest.1 k x later in
     let there : i + suc k ≡ i + 1 + k = omega arith in

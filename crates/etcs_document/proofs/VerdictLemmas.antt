@@ -7,10 +7,10 @@ use Rattle.etcs_check.specs.Soundness.{IsSoundLine, IsSoundMessage}
 use Rattle.etcs_document.proofs.BaliseLemmas.{some_and, telegrams_read}
 use Rattle.etcs_document.proofs.ResultLemmas.{form_ok, same_ok, text_ok, then_ok}
 use Rattle.etcs_document.proofs.ValueLemmas.{each_at, list_read, stands}
-use Rattle.etcs_document.specs.Document.{◌then◌, each_from, groups_of, in_form, json_of, line_of, line_of_text, list_at, message_at, messages_of}
+use Rattle.etcs_document.specs.Document.{◌then◌, document_line, document_list, document_message, in_form, json_value, line_groups, line_messages, line_of_text, read_indexed}
 use Rattle.etcs_document.specs.DocumentFault.{bad_message}
 use Rattle.etcs_schema.specs.Reading.{object_with}
-use Rattle.etcs_document.specs.Verdict.{AreMixturesDecided, IsOnlyTextOf, IsReachedMessage, SaysYes, message_text}
+use Rattle.etcs_document.specs.Verdict.{AreMixturesDecided, IsOnlyRecord, IsReachedMessage, SaysYes, message_text}
 use Rattle.etcs_group.specs.Laws.{IsDecided}
 use Rattle.etcs_group.specs.Missed.{IsSetOf}
 use Rattle.etcs_group.specs.Places.{At}
@@ -25,40 +25,40 @@ use Rattle.etcs_telegram.specs.Record.{Telegram}
 
 -- ---- messages
 
-message_in : (m : ℕ) (u : Data) (x : Message) → message_at m u ≡ Ok x → (text : List ℕ) × (as_str u ≡ Some text) × (message_of_text text ≡ Ok x)
-unfolding message_at
+message_in : (m : ℕ) (u : Data) (x : Message) → document_message m u ≡ Ok x → (text : List ℕ) × (as_str u ≡ Some text) × (message_of_text text ≡ Ok x)
+unfolding document_message
 message_in m u x is = text_ok _ message_of_text (bad_message m) (as_str u) x is
 
-only_message : (text : List ℕ) (m : Message) → message_of_text text ≡ Ok m → IsOnlyTextOf IsMessageText m text
+only_message : (text : List ℕ) (m : Message) → message_of_text text ≡ Ok m → IsOnlyRecord IsMessageText m text
 only_message text m is = record {
   is = means_text m text is;
   only = λ u read. same_ok u m (message_of_text text) (text_meaning u text read) is;
 }
 
 -- each message is the message of its text
-pub messages_read : (d : Data) (ms : List Message) → messages_of d ≡ Ok ms → (i : ℕ) (m : Message) → At ms i m → IsSomeAnd (message_text d i) (IsOnlyTextOf IsMessageText m)
-unfolding messages_of
+pub messages_read : (d : Data) (ms : List Message) → line_messages d ≡ Ok ms → (i : ℕ) (m : Message) → At ms i m → IsSomeAnd (message_text d i) (IsOnlyRecord IsMessageText m)
+unfolding line_messages
 messages_read d ms is i m here =
-    let list = then_ok (list_at (codes "messages") d) (each_from message_at 0) ms is in
+    let list = then_ok (document_list (codes "messages") d) (read_indexed document_message 0) ms is in
     let values = list_read (codes "messages") d list.0 (form_ok [] _ list.0 list.1) in
-    let one = each_at message_at 0 list.0 ms list.2 i m here in
+    let one = each_at document_message 0 list.0 ms list.2 i m here in
     let place_of = stands (codes "messages") d list.0 i one.0 values one.1 in
     let text = message_in (0 + i) one.0 m one.2 in
     some_and _ (message_text d i) text.0 (rw (place_of.1, place_of.2) text.1) (only_message text.0 m text.2)
 
 -- ---- the line
 
-pub line_read : (bytes : List ℕ) (line : List (List (List Telegram)) × List Message) → line_of_text bytes ≡ Ok line → (d : Data) × (json_of bytes ≡ Ok d) × (line_of d ≡ Ok line)
+pub line_read : (bytes : List ℕ) (line : List (List (List Telegram)) × List Message) → line_of_text bytes ≡ Ok line → (d : Data) × (json_value bytes ≡ Ok d) × (document_line d ≡ Ok line)
 unfolding line_of_text
-line_read bytes line is = then_ok (json_of bytes) line_of line is
+line_read bytes line is = then_ok (json_value bytes) document_line line is
 
-pub parts_read : (d : Data) (groups : List (List (List Telegram))) (ms : List Message) → line_of d ≡ Ok (groups, ms) → (groups_of d ≡ Ok groups) × (messages_of d ≡ Ok ms)
-unfolding line_of
+pub parts_read : (d : Data) (groups : List (List (List Telegram))) (ms : List Message) → document_line d ≡ Ok (groups, ms) → (line_groups d ≡ Ok groups) × (line_messages d ≡ Ok ms)
+unfolding document_line
 parts_read d groups ms is =
     let form = in_form [] (object_with (codes "groups" ∷ codes "messages" ∷ []) d) in
-    let first = then_ok (form then λ _. groups_of d) (λ gs. messages_of d then λ xs. Ok (gs, xs)) (groups, ms) is in
-    let before = then_ok form (λ _. groups_of d) first.0 first.1 in
-    let last = then_ok (messages_of d) (λ xs. Ok (first.0, xs)) (groups, ms) first.2 in
+    let first = then_ok (form then λ _. line_groups d) (λ gs. line_messages d then λ xs. Ok (gs, xs)) (groups, ms) is in
+    let before = then_ok form (λ _. line_groups d) first.0 first.1 in
+    let last = then_ok (line_messages d) (λ xs. Ok (first.0, xs)) (groups, ms) first.2 in
     let both : (first.0, last.0) ≡ (groups, ms) = same_ok (first.0, last.0) (groups, ms) (Ok (first.0, last.0)) refl last.2 in
     (before.2 ∙ ap (λ p. Ok p.0) both, last.1 ∙ ap (λ p. Ok p.1) both)
 

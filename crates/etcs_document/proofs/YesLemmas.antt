@@ -11,10 +11,10 @@ use Rattle.etcs_check.specs.declared.finding.Finding.{Finding}
 use Rattle.etcs_check.specs.Soundness.{IsSoundControlled, IsSoundGroup, IsSoundLine}
 use Rattle.etcs_document.proofs.SoundLemmas.{line_controlled, no_finding_sound}
 use Rattle.etcs_document.proofs.VerdictLemmas.{says_yes}
-use Rattle.etcs_document.specs.Document.{◌then◌, line_of, line_of_text}
+use Rattle.etcs_document.specs.Document.{◌then◌, document_line, line_of_text}
 use Rattle.etcs_document.specs.DocumentFault.{DocumentFault}
 use Rattle.etcs_document.specs.Laws.{NoFindingSaysYes}
-use Rattle.etcs_document.specs.Verdict.{Summary, NamesTheUnsoundIn, SaysYes, TextSaysYes, summary, summary_of_text, judged}
+use Rattle.etcs_document.specs.Verdict.{NamesUnsoundParts, SaysYes, Summary, TextSaysYes, judged, summary, summary_of_text}
 use Rattle.etcs_group.specs.Laws.{IsDecided, IsMixtureDecided}
 use Rattle.etcs_group.specs.Missed.{IsSetOf}
 use Rattle.etcs_group.specs.Mixture.{Fits}
@@ -60,7 +60,7 @@ counted_none r c is none = subst (λ q. IsOkAnd q (λ checked. checked.1 ≡ [])
 pub text_says_yes : (bytes : List ℕ) (groups : List (List (List Telegram))) (ms : List Message) → SaysYes bytes groups ms → TextSaysYes bytes
 unfolding line_of_text
 text_says_yes bytes groups ms said =
-    subst (λ r. IsOkAnd r (λ line. SaysYes bytes line.0 line.1)) (sym (ap (λ r. r then line_of) said.json ∙ said.line)) said
+    subst (λ r. IsOkAnd r (λ line. SaysYes bytes line.0 line.1)) (sym (ap (λ r. r then document_line) said.json ∙ said.line)) said
 
 -- the findings about the line of the bytes
 counted_in : (bytes : List ℕ) (c : Summary) (r : Result (List (List (List Telegram)) × List Message) DocumentFault) → line_of_text bytes ≡ r
@@ -71,9 +71,9 @@ counted_in bytes c (Ok line) is found =
 counted_in bytes c (Err f) is found = absurd cc
 
 -- the findings of the bytes name what is not sound
-pub counted_unnamed : (bytes : List ℕ) (c : Summary) → summary_of_text bytes ≡ Ok c → NamesTheUnsoundIn bytes c.1
+pub counted_unnamed : (bytes : List ℕ) (c : Summary) → summary_of_text bytes ≡ Ok c → NamesUnsoundParts bytes c.1
 counted_unnamed bytes c found = counted_in bytes c (line_of_text bytes) refl found
 
 -- the findings of bytes that were read as a line name what is not sound in it
-pub judged_unnamed : (bytes : List ℕ) (groups : List (List (List Telegram))) (ms : List Message) (found : List Finding) → line_of_text bytes ≡ Ok (groups, ms) → NamesTheUnsound groups ms found → NamesTheUnsoundIn bytes found
+pub judged_unnamed : (bytes : List ℕ) (groups : List (List (List Telegram))) (ms : List Message) (found : List Finding) → line_of_text bytes ≡ Ok (groups, ms) → NamesTheUnsound groups ms found → NamesUnsoundParts bytes found
 judged_unnamed bytes groups ms found is names = subst (λ r. IsOkAnd r (λ line. NamesTheUnsound line.0 line.1 found)) (sym is) names

@@ -35,14 +35,14 @@ abbrev pub with_first : {A : Type 0} → A → Result (List A) DocumentFault →
 with_first x r = r then λ xs. Ok (x ∷ xs)
 
 -- the result of reading each value with its index; the first value has index i
-abbrev pub each_from : {A : Type 0} → (ℕ → Data → Result A DocumentFault) → ℕ → List Data
+abbrev pub read_indexed : {A : Type 0} → (ℕ → Data → Result A DocumentFault) → ℕ → List Data
     → Result (List A) DocumentFault
-each_from read i [] = Ok []
-each_from read i (d ∷ ds) = read i d then λ x. with_first x (each_from read (i + 1) ds)
+read_indexed read i [] = Ok []
+read_indexed read i (d ∷ ds) = read i d then λ x. with_first x (read_indexed read (i + 1) ds)
 
 -- the values of a list
-unfoldable pub values_of : Data → Result (List Data) Fault
-values_of d = ok_or (option_map data_list (as_array d)) (here Kind)
+unfoldable pub as_values : Data → Result (List Data) Fault
+as_values d = ok_or (option_map data_list (as_array d)) (here Kind)
 
 -- the result of reading the text at this path; `bad` makes the fault of its error
 abbrev pub text_or : {A E : Type 0} → List Step → (List ℕ → Result A E) → (E → DocumentFault)
@@ -52,19 +52,19 @@ text_or path read bad o =
 
 -- the list at this key of an object without other keys
 unfoldable pub only_values : List ℕ → Data → Result (List Data) Fault
-only_values name d = object_with (name ∷ []) d >>= λ _. at_key values_of name d
+only_values name d = object_with (name ∷ []) d >>= λ _. at_key as_values name d
 
 -- ---- balises
 
 -- the path of group g, or of aspect a of that group
-abbrev pub path_of : ℕ → Option ℕ → List Step
-path_of g None = key (codes "groups") ∷ list_item g ∷ []
-path_of g (Some a) = key (codes "groups") ∷ list_item g ∷ key (codes "aspects") ∷ list_item a ∷ []
+abbrev pub group_path : ℕ → Option ℕ → List Step
+group_path g None = key (codes "groups") ∷ list_item g ∷ []
+group_path g (Some a) = key (codes "groups") ∷ list_item g ∷ key (codes "aspects") ∷ list_item a ∷ []
 
 -- balise b of that group or aspect: the text of a telegram
-unfoldable pub telegram_at : ℕ → Option ℕ → ℕ → Data → Result Telegram DocumentFault
-telegram_at g a b d =
-    text_or (path_of g a ++ key (codes "balises") ∷ list_item b ∷ []) telegram_of_text (bad_telegram g a b)
+unfoldable pub balise_telegram : ℕ → Option ℕ → ℕ → Data → Result Telegram DocumentFault
+balise_telegram g a b d =
+    text_or (group_path g a ++ key (codes "balises") ∷ list_item b ∷ []) telegram_of_text (bad_telegram g a b)
     (as_str d)
 
 -- ---- aspects
@@ -77,71 +77,71 @@ has_count (Some first) count = count == first
 
 -- The balises of group g, or of aspect a of that group: one to eight of them, and as many as the first
 -- aspect has. Their number is checked before the balises.
-unfoldable pub telegrams_of : ℕ → Option ℕ → Option ℕ → List Data → Result Telegrams DocumentFault
-telegrams_of g a first ds =
+unfoldable pub aspect_telegrams : ℕ → Option ℕ → Option ℕ → List Data → Result Telegrams DocumentFault
+aspect_telegrams g a first ds =
     if nat_lt 0 (length ds) && nat_le (length ds) 8
-    then (if has_count first (length ds) then each_from (telegram_at g a) 0 ds else Err (bad_aspects g))
+    then (if has_count first (length ds) then read_indexed (balise_telegram g a) 0 ds else Err (bad_aspects g))
     else Err (bad_count g)
 
 -- group g, or aspect a of that group: first its form, then the number of its balises, and then each balise
-unfoldable pub aspect_at : ℕ → Option ℕ → Option ℕ → Data → Result Telegrams DocumentFault
-aspect_at g first a d = in_form (path_of g a) (only_values (codes "balises") d) then telegrams_of g a first
+unfoldable pub group_aspect : ℕ → Option ℕ → Option ℕ → Data → Result Telegrams DocumentFault
+group_aspect g first a d = in_form (group_path g a) (only_values (codes "balises") d) then aspect_telegrams g a first
 
 -- the aspects after the first, which has `count` balises
-abbrev pub others_of : ℕ → ℕ → List Data → Result Aspects DocumentFault
-others_of g count ds = each_from (λ a. aspect_at g (Some count) (Some a)) 1 ds
+abbrev pub other_aspects : ℕ → ℕ → List Data → Result Aspects DocumentFault
+other_aspects g count ds = read_indexed (λ a. group_aspect g (Some count) (Some a)) 1 ds
 
 -- the aspects of group g, one or more
-unfoldable pub aspects_of : ℕ → List Data → Result Aspects DocumentFault
-aspects_of g [] = Err (bad_aspects g)
-aspects_of g (d ∷ ds) =
-    aspect_at g None (Some 0) d then λ first. with_first first (others_of g (length first) ds)
+unfoldable pub listed_aspects : ℕ → List Data → Result Aspects DocumentFault
+listed_aspects g [] = Err (bad_aspects g)
+listed_aspects g (d ∷ ds) =
+    group_aspect g None (Some 0) d then λ first. with_first first (other_aspects g (length first) ds)
 
 -- ---- groups
 
 -- the one aspect of a group without a list of aspects
 unfoldable pub only_aspect : ℕ → Data → Result Aspects DocumentFault
-only_aspect g d = aspect_at g None None d then λ only. Ok (only ∷ [])
+only_aspect g d = group_aspect g None None d then λ only. Ok (only ∷ [])
 
 -- a group with a list of aspects
-unfoldable pub controlled_at : ℕ → Data → Result Aspects DocumentFault
-controlled_at g d = in_form (path_of g None) (only_values (codes "aspects") d) then aspects_of g
+unfoldable pub controlled_group : ℕ → Data → Result Aspects DocumentFault
+controlled_group g d = in_form (group_path g None) (only_values (codes "aspects") d) then listed_aspects g
 
 -- the aspects of group g, which has a list of them if it has the key `aspects`
-unfoldable pub group_at : ℕ → Data → Result Aspects DocumentFault
-group_at g d = if is_some (get (codes "aspects") d) then controlled_at g d else only_aspect g d
+unfoldable pub document_group : ℕ → Data → Result Aspects DocumentFault
+document_group g d = if is_some (get (codes "aspects") d) then controlled_group g d else only_aspect g d
 
 -- ---- messages
 
 -- message m: the text of a radio message
-unfoldable pub message_at : ℕ → Data → Result Message DocumentFault
-message_at m d =
+unfoldable pub document_message : ℕ → Data → Result Message DocumentFault
+document_message m d =
     text_or (key (codes "messages") ∷ list_item m ∷ []) message_of_text (bad_message m) (as_str d)
 
 -- ---- the document
 
 -- the JSON value of the bytes: UTF-8, one value, and at most 127 levels
-unfoldable pub json_of : List ℕ → Result Data DocumentFault
-json_of bytes = if is_utf8 bytes then ok_or (read bytes) no_json else Err no_json
+unfoldable pub json_value : List ℕ → Result Data DocumentFault
+json_value bytes = if is_utf8 bytes then ok_or (read bytes) no_json else Err no_json
 
 -- the values in the list at a key of the document
-abbrev pub list_at : List ℕ → Data → Result (List Data) DocumentFault
-list_at name d = in_form [] (at_key values_of name d)
+abbrev pub document_list : List ℕ → Data → Result (List Data) DocumentFault
+document_list name d = in_form [] (at_key as_values name d)
 
 -- the groups of a document, and the messages
-unfoldable pub groups_of : Data → Result (List Aspects) DocumentFault
-groups_of d = list_at (codes "groups") d then each_from group_at 0
+unfoldable pub line_groups : Data → Result (List Aspects) DocumentFault
+line_groups d = document_list (codes "groups") d then read_indexed document_group 0
 
-unfoldable pub messages_of : Data → Result (List Message) DocumentFault
-messages_of d = list_at (codes "messages") d then each_from message_at 0
+unfoldable pub line_messages : Data → Result (List Message) DocumentFault
+line_messages d = document_list (codes "messages") d then read_indexed document_message 0
 
 -- the line of a document: an object with the two keys; the groups, and then the messages
-unfoldable pub line_of : Data → Result (List Aspects × List Message) DocumentFault
-line_of d =
+unfoldable pub document_line : Data → Result (List Aspects × List Message) DocumentFault
+document_line d =
     in_form [] (object_with (codes "groups" ∷ codes "messages" ∷ []) d)
-    then (λ _. groups_of d)
-    then (λ groups. messages_of d then λ messages. Ok (groups, messages))
+    then (λ _. line_groups d)
+    then (λ groups. line_messages d then λ messages. Ok (groups, messages))
 
 -- the line of the bytes, or their first fault
 unfoldable pub line_of_text : List ℕ → Result (List Aspects × List Message) DocumentFault
-line_of_text bytes = json_of bytes then line_of
+line_of_text bytes = json_value bytes then document_line

@@ -5,9 +5,9 @@ use Rattle.std.specs.Prelude.{◌≡◌, ℕ, true, List, [], ◌∷◌, codes, 
 use Rattle.json.specs.Token.{Token}
 use Rattle.serde_json.specs.Data.{Data, array, no_items}
 use Rattle.etcs_check.specs.LineChecker.{CheckerState, HasChecked}
-use Rattle.etcs_document.specs.Document.{aspects_of, group_at, has_count, line_of, message_at, only_values, telegram_at, telegrams_of, values_of}
+use Rattle.etcs_document.specs.Document.{as_values, aspect_telegrams, balise_telegram, document_group, document_line, document_message, has_count, listed_aspects, only_values}
 use Rattle.etcs_schema.specs.Entries.{Entry, object_of}
-use Rattle.etcs_document.specs.Tokens.{HasItems, HasMembers, first_value, items_onto}
+use Rattle.etcs_document.specs.Tokens.{HasItems, HasMembers, first_value, prepend_items}
 use Rattle.etcs_radio.specs.declared.message.Message.{Message}
 use Rattle.etcs_telegram.specs.Record.{Telegram}
 use Rattle.etcs_group.specs.Group.{Telegrams, Aspects}
@@ -16,20 +16,20 @@ use Rattle.etcs_group.specs.Group.{Telegrams, Aspects}
 
 -- the text of this telegram
 abbrev pub IsTelegram : Data → Telegram → Type 0
-IsTelegram d t = (g : ℕ) (a : Option ℕ) (b : ℕ) → telegram_at g a b d ≡ Ok t
+IsTelegram d t = (g : ℕ) (a : Option ℕ) (b : ℕ) → balise_telegram g a b d ≡ Ok t
 
 -- the text of this message
 abbrev pub IsMessage : Data → Message → Type 0
-IsMessage d m = (i : ℕ) → message_at i d ≡ Ok m
+IsMessage d m = (i : ℕ) → document_message i d ≡ Ok m
 
 -- the values of these balises
 abbrev pub AreBalises : List Data → Telegrams → Type 0
 AreBalises ds group = (g : ℕ) (a first : Option ℕ) → has_count first (length group) ≡ true
-    → telegrams_of g a first ds ≡ Ok group
+    → aspect_telegrams g a first ds ≡ Ok group
 
 -- the list of these balises
 abbrev pub IsBalises : Data → Telegrams → Type 0
-IsBalises d group = (ds : List Data) × (values_of d ≡ Ok ds) × AreBalises ds group
+IsBalises d group = (ds : List Data) × (as_values d ≡ Ok ds) × AreBalises ds group
 
 -- the list of balises of the one aspect
 abbrev pub IsOnlyAspect : Data → Aspects → Type 0
@@ -41,11 +41,11 @@ IsAspect d group = (ds : List Data) × (only_values (codes "balises") d ≡ Ok d
 
 -- the list of these aspects
 abbrev pub IsAspects : Data → Aspects → Type 0
-IsAspects d aspects = (ds : List Data) × (values_of d ≡ Ok ds) × ((g : ℕ) → aspects_of g ds ≡ Ok aspects)
+IsAspects d aspects = (ds : List Data) × (as_values d ≡ Ok ds) × ((g : ℕ) → listed_aspects g ds ≡ Ok aspects)
 
 -- the group with these aspects
 abbrev pub IsGroup : Data → Aspects → Type 0
-IsGroup d aspects = (g : ℕ) → group_at g d ≡ Ok aspects
+IsGroup d aspects = (g : ℕ) → document_group g d ≡ Ok aspects
 
 -- ---- the first values of tokens
 
@@ -72,7 +72,7 @@ pub record AreFirst {X : Type 0} (Is : Data → X → Type 0) (depth : ℕ) (old
 
 -- the list of these items
 abbrev pub IsList : {X : Type 0} → (Data → X → Type 0) → Data → List X → Type 0
-IsList Is d xs = (ds : List Data) × (d ≡ array (items_onto ds no_items)) × AreEach Is ds xs
+IsList Is d xs = (ds : List Data) × (d ≡ array (prepend_items ds no_items)) × AreEach Is ds xs
 
 -- the one member of a group with these aspects
 pub record HasGroup (depth : ℕ) (old : List Token) (aspects : Aspects) (new : List Token) : Type 0 where
@@ -83,19 +83,25 @@ pub record HasGroup (depth : ℕ) (old : List Token) (aspects : Aspects) (new : 
 
 -- ---- what was passed to a checker
 
--- Some items are read. A checker takes them, and its state changes from the first to the second.
+-- A checker takes these items one after the other, and its state changes from the first to the second.
+abbrev pub TakesEach : {X : Type 0} → (CheckerState → X → CheckerState → Type 0)
+    → CheckerState → List X → CheckerState → Type 0
+TakesEach Takes was [] is = was ≡ is
+TakesEach Takes was (x ∷ xs) is = (next : CheckerState) × Takes was x next × TakesEach Takes next xs is
+
+-- Some items are read, and a checker takes them.
 pub record AreTaken {X : Type 0} (AreRead : List X → Type 0)
-    (Takes : CheckerState → List X → CheckerState → Type 0) (was is : CheckerState) : Type 0 where
+    (Takes : CheckerState → X → CheckerState → Type 0) (was is : CheckerState) : Type 0 where
   pub items : List X
   pub read : AreRead items
-  pub takes : Takes was items is
+  pub takes : TakesEach Takes was items is
 
 -- The value is the document of a line, and `state` is the state of a checker that has taken its groups and
 -- messages.
 pub record IsChecked (d : Data) (state : CheckerState) : Type 0 where
   pub groups : List Aspects
   pub messages : List Message
-  pub line : line_of d ≡ Ok (groups, messages)
+  pub line : document_line d ≡ Ok (groups, messages)
   pub checked : HasChecked state groups messages
 
 -- the first members are the members of such a document

@@ -10,22 +10,22 @@ use Rattle.etcs_document.specs.declared.token_reader.TextKind.{TextKind}
 use Rattle.etcs_document.specs.declared.token_reader.TextKind.TheVariants.{Telegram, Message}
 
 -- the tokens of the remaining bytes, in this state
-abbrev pub tokens_at : Place → List ℕ → List Token
-tokens_at Fresh rest = punctuate fresh (lex between rest)
-tokens_at AfterValue rest = punctuate after_value (lex between rest)
-tokens_at AfterComma rest = punctuate after_comma (lex between rest)
+abbrev pub remaining_tokens : Place → List ℕ → List Token
+remaining_tokens Fresh rest = punctuate fresh (lex between rest)
+remaining_tokens AfterValue rest = punctuate after_value (lex between rest)
+remaining_tokens AfterComma rest = punctuate after_comma (lex between rest)
 
 -- a value or a key may begin in this state
-abbrev pub begins_at : Place → Bool
-begins_at Fresh = true
-begins_at AfterValue = false
-begins_at AfterComma = true
+abbrev pub can_begin : Place → Bool
+can_begin Fresh = true
+can_begin AfterValue = false
+can_begin AfterComma = true
 
 -- a list or an object may end in this state
-abbrev pub closes_at : Place → Bool
-closes_at Fresh = true
-closes_at AfterValue = true
-closes_at AfterComma = false
+abbrev pub can_close : Place → Bool
+can_close Fresh = true
+can_close AfterValue = true
+can_close AfterComma = false
 
 -- no byte needs an escape in a string
 abbrev pub ArePlain : List ℕ → Type 0

@@ -22,15 +22,15 @@ pub record HasMembers (depth : ℕ) (es : List Entry) (old new : List Token) : T
 
 -- ---- the items of a list
 
-abbrev pub items_onto : List Data → Items → Items
-items_onto [] rest = rest
-items_onto (d ∷ ds) rest = item d (items_onto ds rest)
+abbrev pub prepend_items : List Data → Items → Items
+prepend_items [] rest = rest
+prepend_items (d ∷ ds) rest = item d (prepend_items ds rest)
 
-abbrev pub items_after : List Data → Option (Items × List Token) → Option (Items × List Token)
-items_after ds found = option_and_then (λ p. Some (items_onto ds p.0, p.1)) found
+abbrev pub joined_items : List Data → Option (Items × List Token) → Option (Items × List Token)
+joined_items ds found = option_and_then (λ p. Some (prepend_items ds p.0, p.1)) found
 
 -- these values are the first items of the tokens
 pub record HasItems (depth : ℕ) (ds : List Data) (old new : List Token) : Type 0 where
   pub one_by_one : (turns : ℕ) → length old ≤ turns → (left : ℕ) × (length new ≤ left)
       × (converted of_items (items (value depth) turns old)
-      ≡ items_after ds (converted of_items (items (value depth) left new)))
+      ≡ joined_items ds (converted of_items (items (value depth) left new)))

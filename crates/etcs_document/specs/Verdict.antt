@@ -8,7 +8,7 @@ use Rattle.etcs_check.specs.Line.{findings}
 use Rattle.etcs_check.specs.Profiles.{AreReached}
 use Rattle.etcs_check.specs.Soundness.{IsSoundLine, IsSoundReading}
 use Rattle.etcs_check.specs.declared.finding.Finding.{Finding}
-use Rattle.etcs_document.specs.Document.{◌then◌, json_of, line_of, line_of_text}
+use Rattle.etcs_document.specs.Document.{◌then◌, document_line, json_value, line_of_text}
 use Rattle.etcs_document.specs.DocumentFault.{DocumentFault}
 use Rattle.etcs_document.specs.declared.line_error.LineError.{LineError}
 use Rattle.etcs_document.specs.declared.verdict.Verdict.{Verdict}
@@ -61,32 +61,32 @@ abbrev pub IsSoundText : List ℕ → Type 0
 IsSoundText bytes = IsOkAnd (line_of_text bytes) (λ line. IsSoundLine line.0 line.1)
 
 -- the bytes are a line, and the findings of the list name what is not sound in it, and only that
-abbrev pub NamesTheUnsoundIn : List ℕ → List Finding → Type 0
-NamesTheUnsoundIn bytes found = IsOkAnd (line_of_text bytes) (λ line. NamesTheUnsound line.0 line.1 found)
+abbrev pub NamesUnsoundParts : List ℕ → List Finding → Type 0
+NamesUnsoundParts bytes found = IsOkAnd (line_of_text bytes) (λ line. NamesTheUnsound line.0 line.1 found)
 
 -- ---- each text is the text of exactly one telegram or message, its record
 
 -- the object with the balises of aspect a of a group: an item of its aspects if it has such a list, and
 -- otherwise the group itself
-abbrev pub aspect_in : ℕ → Data → Option Data
-aspect_in a group = option_map_or (at a) (get (codes "aspects") group) (Some group)
+abbrev pub aspect_object : ℕ → Data → Option Data
+aspect_object a group = option_map_or (at a) (get (codes "aspects") group) (Some group)
 
 -- the text of item i of the list at a key of an object, if there is one
-abbrev pub text_in : List ℕ → ℕ → Data → Option (List ℕ)
-text_in name i d = option_and_then as_str (option_and_then (at i) (get name d))
+abbrev pub item_text : List ℕ → ℕ → Data → Option (List ℕ)
+item_text name i d = option_and_then as_str (option_and_then (at i) (get name d))
 
 -- the text of balise b in aspect a of group g in a document, if there is one
 abbrev pub balise_text : Data → ℕ → ℕ → ℕ → Option (List ℕ)
 balise_text d g a b =
-    option_and_then (text_in (codes "balises") b)
-    (option_and_then (aspect_in a) (option_and_then (at g) (get (codes "groups") d)))
+    option_and_then (item_text (codes "balises") b)
+    (option_and_then (aspect_object a) (option_and_then (at g) (get (codes "groups") d)))
 
 -- the text of message m in a document, if there is one
 abbrev pub message_text : Data → ℕ → Option (List ℕ)
-message_text d m = text_in (codes "messages") m d
+message_text d m = item_text (codes "messages") m d
 
 -- the text is the text of this record, and of no other
-pub record IsOnlyTextOf {X : Type 0} (Is : X → List ℕ → Type 0) (x : X) (text : List ℕ) : Type 0 where
+pub record IsOnlyRecord {X : Type 0} (Is : X → List ℕ → Type 0) (x : X) (text : List ℕ) : Type 0 where
   pub is : Is x text
   pub only : (y : X) → Is y text → y ≡ x
 
@@ -118,13 +118,13 @@ pub record IsSoundIfCovered (group : Telegrams) (run : Run) (missed : ℕ → Bo
 -- the same identity.
 pub record SaysYes (bytes : List ℕ) (groups : List Aspects) (messages : List Message) : Type 0 where
   pub document : Data
-  pub json : json_of bytes ≡ Ok document
-  pub line : line_of document ≡ Ok (groups, messages)
+  pub json : json_value bytes ≡ Ok document
+  pub line : document_line document ≡ Ok (groups, messages)
   pub telegrams : (g a b : ℕ) (aspects : Aspects) (group : Telegrams) (t : Telegram)
       → At groups g aspects → At aspects a group → At group b t
-      → IsSomeAnd (balise_text document g a b) (IsOnlyTextOf IsTelegramText t)
+      → IsSomeAnd (balise_text document g a b) (IsOnlyRecord IsTelegramText t)
   pub messages_read : (i : ℕ) (m : Message) → At messages i m
-      → IsSomeAnd (message_text document i) (IsOnlyTextOf IsMessageText m)
+      → IsSomeAnd (message_text document i) (IsOnlyRecord IsMessageText m)
   pub readings : (g a : ℕ) (aspects : Aspects) (group : Telegrams)
       → (run : Run) (missed : ℕ → Bool) → At groups g aspects → At aspects a group → IsSetOf group missed
       → IsSoundIfCovered group run missed

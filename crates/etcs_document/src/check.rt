@@ -11,7 +11,7 @@ ghost use Rattle.etcs_group.specs.Reading.{reading_of};
 ghost use Rattle.etcs_group.specs.Group.{Telegrams, Aspects};
 ghost use Rattle.etcs_check.specs.Soundness.{IsSoundControlled, IsSoundGroup};
 ghost use Rattle.etcs_document.specs.DocumentFault.{Gives};
-ghost use Rattle.etcs_document.specs.Verdict.{IsSoundText, IsYes, NamesTheUnsoundIn, SaysYes, verdict_of_text};
+ghost use Rattle.etcs_document.specs.Verdict.{IsSoundText, IsYes, NamesUnsoundParts, SaysYes, verdict_of_text};
 
 use crate::document::read_line;
 use crate::line_error::LineError;
@@ -44,7 +44,7 @@ pub fn check_text(alloc: Global, bytes: &[u8]) -> Result<Verdict, LineError>
 
     // A group or a message is sound if and only if no finding names it, whatever is found elsewhere.
     // Exception: of two groups with the same identity the later one is named.
-    ensures unnamed { IfOk result (λ v. NamesTheUnsoundIn bytes.now v.findings.items) }
+    ensures unnamed { IfOk result (λ v. NamesUnsoundParts bytes.now v.findings.items) }
 
     // Only what was missed decides whether a reading of a sound aspect is accepted, whatever else is found.
     ensures decided { IfOk result (λ v. (g a : ℕ) (aspects : Aspects) (group : Telegrams)

@@ -3,7 +3,7 @@
 ghost use Rattle.std.specs.Prelude.{◌≡◌, [], false};
 ghost use Rattle.std.specs.Str.{is_utf8};
 ghost use Rattle.serde_json.specs.View.{view};
-ghost use Rattle.etcs_document.specs.Document.{json_of, line_of, line_of_text};
+ghost use Rattle.etcs_document.specs.Document.{document_line, json_value, line_of_text};
 ghost use Rattle.etcs_document.specs.DocumentFault.{Gives};
 
 use crate::document_groups::read_groups;
@@ -15,9 +15,9 @@ use serde_json::Value;
 use std::alloc::Global;
 
 // Reads the bytes as one JSON value.
-#[tactic(auto, unfolding(crate::specs::Document::json_of))]
+#[tactic(auto, unfolding(crate::specs::Document::json_value))]
 fn read_json(alloc: Global, bytes: &[u8]) -> Result<Value, LineError>
-    ensures gives { Gives (λ v. view v) result (json_of bytes.now) }
+    ensures gives { Gives (λ v. view v) result (json_value bytes.now) }
     ensures empty { bytes.now ≡ [] → result ≡ Err LineError.NotJson }
     ensures unreadable { is_utf8 bytes.now ≡ false → result ≡ Err LineError.NotJson }
 {
@@ -32,9 +32,9 @@ fn read_json(alloc: Global, bytes: &[u8]) -> Result<Value, LineError>
 }
 
 // Reads the railway line of a document: the groups, and then the messages.
-#[tactic(auto, unfolding(crate::specs::Document::line_of))]
+#[tactic(auto, unfolding(crate::specs::Document::document_line))]
 fn read_document(alloc: Global, value: &Value) -> Result<Line, LineError>
-    ensures { Gives (λ l. (l.groups.items, l.messages.items)) result (line_of (view value.now)) }
+    ensures { Gives (λ l. (l.groups.items, l.messages.items)) result (document_line (view value.now)) }
 {
     check_keys(alloc, &value, &["groups", "messages"])?;
     let groups = read_groups(alloc, value)?;

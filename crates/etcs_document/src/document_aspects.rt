@@ -2,7 +2,7 @@
 
 ghost use Rattle.std.specs.Prelude.{◌≡◌, map};
 ghost use Rattle.serde_json.specs.View.{view};
-ghost use Rattle.etcs_document.specs.Document.{aspect_at, each_from, has_count, telegram_at, telegrams_of};
+ghost use Rattle.etcs_document.specs.Document.{aspect_telegrams, balise_telegram, group_aspect, has_count, read_indexed};
 ghost use Rattle.etcs_document.specs.DocumentFault.{Gives};
 
 use crate::document_values::only_values;
@@ -14,7 +14,7 @@ use serde_json::Value;
 use std::alloc::Global;
 
 // Reads a balise of the group, or of an aspect of the group: the text of a telegram.
-#[tactic(auto, unfolding(crate::specs::Document::telegram_at))]
+#[tactic(auto, unfolding(crate::specs::Document::balise_telegram))]
 fn read_telegram(
     alloc: Global,
     group: usize,
@@ -22,7 +22,7 @@ fn read_telegram(
     place: usize,
     value: &Value,
 ) -> Result<Telegram, LineError>
-    ensures { Gives (λ t. t) result (telegram_at group aspect place (view value.now)) }
+    ensures { Gives (λ t. t) result (balise_telegram group aspect place (view value.now)) }
 {
     let Some(text) = value.as_str() else {
         let error = FormError::kind(alloc).under(Step::Place(place));
@@ -44,7 +44,7 @@ fn read_telegrams(
     aspect: Option<usize>,
     values: &[Value],
 ) -> Result<Vec<Telegram>, LineError>
-    ensures { Gives (λ v. v.items) result (each_from (telegram_at group aspect) 0 (map view values.now)) }
+    ensures { Gives (λ v. v.items) result (read_indexed (balise_telegram group aspect) 0 (map view values.now)) }
 {
     let mut telegrams = Vec::new(alloc);
     'balises: for (place, value) in values.iter().enumerate() {
@@ -69,7 +69,7 @@ fn is_count(first: Option<usize>, count: usize) -> bool
 
 // Reads the balises of the group, or of an aspect of the group. Their number is checked first: it is
 // one to eight, and the number in the first aspect.
-#[tactic(auto, unfolding(crate::specs::Document::telegrams_of))]
+#[tactic(auto, unfolding(crate::specs::Document::aspect_telegrams))]
 fn read_counted(
     alloc: Global,
     group: usize,
@@ -77,7 +77,7 @@ fn read_counted(
     first: Option<usize>,
     values: &[Value],
 ) -> Result<Group, LineError>
-    ensures { Gives (λ g. g) result (telegrams_of group aspect first (map view values.now)) }
+    ensures { Gives (λ g. g) result (aspect_telegrams group aspect first (map view values.now)) }
 {
     if values.is_empty() || values.len() > 8 {
         return Err(LineError::Count(group));
@@ -93,7 +93,7 @@ fn read_counted(
 }
 
 /// Reads the group, or the aspect of the group: its form, the number of its balises, and then each balise.
-#[tactic(auto, unfolding(crate::specs::Document::aspect_at))]
+#[tactic(auto, unfolding(crate::specs::Document::group_aspect))]
 pub(crate) fn read_aspect(
     alloc: Global,
     group: usize,
@@ -101,7 +101,7 @@ pub(crate) fn read_aspect(
     aspect: Option<usize>,
     value: &Value,
 ) -> Result<Group, LineError>
-    ensures { Gives (λ g. g) result (aspect_at group first aspect (view value.now)) }
+    ensures { Gives (λ g. g) result (group_aspect group first aspect (view value.now)) }
 {
     match only_values(alloc, value, "balises") {
         Ok(balises) => read_counted(alloc, group, aspect, first, balises),

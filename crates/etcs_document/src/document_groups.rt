@@ -2,7 +2,7 @@
 
 ghost use Rattle.std.specs.Prelude.{◌∷◌, [], ◌<◌, map};
 ghost use Rattle.serde_json.specs.View.{view};
-ghost use Rattle.etcs_document.specs.Document.{aspects_of, controlled_at, each_from, group_at, groups_of, only_aspect, others_of, with_first};
+ghost use Rattle.etcs_document.specs.Document.{controlled_group, document_group, line_groups, listed_aspects, only_aspect, other_aspects, read_indexed, with_first};
 ghost use Rattle.etcs_document.specs.DocumentFault.{Gives};
 
 use crate::document_aspects::read_aspect;
@@ -20,7 +20,7 @@ fn read_others(
     first: Group,
     values: &[Value],
 ) -> Result<Vec<Group>, LineError>
-    ensures { Gives (λ v. v.items) result (with_first first (others_of group count (map view values.now))) }
+    ensures { Gives (λ v. v.items) result (with_first first (other_aspects group count (map view values.now))) }
 {
     let mut aspects = Vec::new(alloc);
     if aspects.push(first).is_err() {
@@ -36,9 +36,9 @@ fn read_others(
 }
 
 // Reads the aspects of the group at this index, one after the other.
-#[tactic(auto, unfolding(crate::specs::Document::aspects_of))]
+#[tactic(auto, unfolding(crate::specs::Document::listed_aspects))]
 fn read_aspects(alloc: Global, group: usize, values: &[Value]) -> Result<Controlled, LineError>
-    ensures { Gives (λ c. c) result (aspects_of group (map view values.now)) }
+    ensures { Gives (λ c. c) result (listed_aspects group (map view values.now)) }
 {
     if values.is_empty() {
         return Err(LineError::Aspects(group));
@@ -53,9 +53,9 @@ fn read_aspects(alloc: Global, group: usize, values: &[Value]) -> Result<Control
 }
 
 // Reads the group at this index, which has a list of aspects.
-#[tactic(auto, unfolding(crate::specs::Document::controlled_at))]
+#[tactic(auto, unfolding(crate::specs::Document::controlled_group))]
 fn read_controlled(alloc: Global, place: usize, value: &Value) -> Result<Controlled, LineError>
-    ensures { Gives (λ c. c) result (controlled_at place (view value.now)) }
+    ensures { Gives (λ c. c) result (controlled_group place (view value.now)) }
 {
     match only_values(alloc, value, "aspects") {
         Ok(aspects) => read_aspects(alloc, place, aspects),
@@ -86,9 +86,9 @@ fn read_uncontrolled(alloc: Global, place: usize, value: &Value) -> Result<Contr
 }
 
 // Reads the group at this index: with aspects if it has the key `aspects`, otherwise with balises.
-#[tactic(auto, unfolding(crate::specs::Document::group_at))]
+#[tactic(auto, unfolding(crate::specs::Document::document_group))]
 fn read_group(alloc: Global, place: usize, value: &Value) -> Result<Controlled, LineError>
-    ensures { Gives (λ c. c) result (group_at place (view value.now)) }
+    ensures { Gives (λ c. c) result (document_group place (view value.now)) }
 {
     match value.get("aspects") {
         Some(_) => read_controlled(alloc, place, value),
@@ -98,7 +98,7 @@ fn read_group(alloc: Global, place: usize, value: &Value) -> Result<Controlled, 
 
 // Reads groups, one after the other.
 fn read_each(alloc: Global, values: &[Value]) -> Result<Vec<Controlled>, LineError>
-    ensures { Gives (λ v. v.items) result (each_from group_at 0 (map view values.now)) }
+    ensures { Gives (λ v. v.items) result (read_indexed document_group 0 (map view values.now)) }
 {
     let mut groups = Vec::new(alloc);
     'groups: for (place, value) in values.iter().enumerate() {
@@ -111,9 +111,9 @@ fn read_each(alloc: Global, values: &[Value]) -> Result<Vec<Controlled>, LineErr
 }
 
 /// Reads the groups of a document, one after the other.
-#[tactic(auto, unfolding(crate::specs::Document::groups_of))]
+#[tactic(auto, unfolding(crate::specs::Document::line_groups))]
 pub(crate) fn read_groups(alloc: Global, value: &Value) -> Result<Vec<Controlled>, LineError>
-    ensures { Gives (λ v. v.items) result (groups_of (view value.now)) }
+    ensures { Gives (λ v. v.items) result (line_groups (view value.now)) }
 {
     let values = values_at(alloc, value, "groups")?;
     read_each(alloc, values)

@@ -2,7 +2,7 @@
 
 ghost use Rattle.std.specs.Prelude.{map};
 ghost use Rattle.serde_json.specs.View.{view};
-ghost use Rattle.etcs_document.specs.Document.{each_from, message_at, messages_of};
+ghost use Rattle.etcs_document.specs.Document.{document_message, line_messages, read_indexed};
 ghost use Rattle.etcs_document.specs.DocumentFault.{Gives};
 
 use crate::document_values::values_at;
@@ -13,9 +13,9 @@ use serde_json::Value;
 use std::alloc::Global;
 
 // Reads the message at this index: the text of a radio message.
-#[tactic(auto, unfolding(crate::specs::Document::message_at))]
+#[tactic(auto, unfolding(crate::specs::Document::document_message))]
 fn read_message(alloc: Global, place: usize, value: &Value) -> Result<Message, LineError>
-    ensures { Gives (λ m. m) result (message_at place (view value.now)) }
+    ensures { Gives (λ m. m) result (document_message place (view value.now)) }
 {
     let Some(text) = value.as_str() else {
         let error = FormError::kind(alloc).under(Step::Place(place));
@@ -30,7 +30,7 @@ fn read_message(alloc: Global, place: usize, value: &Value) -> Result<Message, L
 
 // Reads messages, one after the other.
 fn read_each(alloc: Global, values: &[Value]) -> Result<Vec<Message>, LineError>
-    ensures { Gives (λ v. v.items) result (each_from message_at 0 (map view values.now)) }
+    ensures { Gives (λ v. v.items) result (read_indexed document_message 0 (map view values.now)) }
 {
     let mut messages = Vec::new(alloc);
     'messages: for (place, value) in values.iter().enumerate() {
@@ -43,9 +43,9 @@ fn read_each(alloc: Global, values: &[Value]) -> Result<Vec<Message>, LineError>
 }
 
 /// Reads the messages of a document.
-#[tactic(auto, unfolding(crate::specs::Document::messages_of))]
+#[tactic(auto, unfolding(crate::specs::Document::line_messages))]
 pub(crate) fn read_messages(alloc: Global, value: &Value) -> Result<Vec<Message>, LineError>
-    ensures { Gives (λ v. v.items) result (messages_of (view value.now)) }
+    ensures { Gives (λ v. v.items) result (line_messages (view value.now)) }
 {
     let values = values_at(alloc, value, "messages")?;
     read_each(alloc, values)

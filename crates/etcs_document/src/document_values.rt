@@ -2,7 +2,7 @@
 
 ghost use Rattle.std.specs.Prelude.{map};
 ghost use Rattle.serde_json.specs.View.{view};
-ghost use Rattle.etcs_document.specs.Document.{only_values, values_of};
+ghost use Rattle.etcs_document.specs.Document.{as_values, only_values};
 ghost use Rattle.etcs_schema.specs.Fault.{Gives};
 ghost use Rattle.etcs_schema.specs.Reading.{at_key};
 
@@ -11,9 +11,9 @@ use serde_json::Value;
 use std::alloc::Global;
 
 // The values of a list.
-#[tactic(auto, using(etcs_schema::proofs::AnyList::data_items), unfolding(crate::specs::Document::values_of))]
+#[tactic(auto, using(etcs_schema::proofs::AnyList::data_items), unfolding(crate::specs::Document::as_values))]
 fn values<'a>(alloc: Global, value: &'a Value) -> Result<&'a [Value], FormError>
-    ensures { Gives (λ vs. map view vs.now) result (values_of (view value.now)) }
+    ensures { Gives (λ vs. map view vs.now) result (as_values (view value.now)) }
 {
     match value.as_array() {
         None => Err(FormError::kind(alloc)),
@@ -28,7 +28,7 @@ pub(crate) fn values_at<'a>(
     value: &'a Value,
     name: &'static str,
 ) -> Result<&'a [Value], FormError>
-    ensures { Gives (λ vs. map view vs.now) result (at_key values_of name.now (view value.now)) }
+    ensures { Gives (λ vs. map view vs.now) result (at_key as_values name.now (view value.now)) }
 {
     match value.get(name) {
         None => Err(FormError::missing(alloc, name)),

@@ -1,7 +1,7 @@
 //! Why bytes are not the document of a railway line.
 
 ghost use Rattle.std.specs.Prelude.{◌≡◌, ◌++◌, IfSome, IsSomeAnd};
-ghost use Rattle.etcs_document.specs.Document.{path_of};
+ghost use Rattle.etcs_document.specs.Document.{group_path};
 ghost use Rattle.etcs_document.specs.DocumentFault.{IsOfForm};
 ghost use Rattle.etcs_schema.specs.Fault.{fault, fault_of};
 ghost use Rattle.etcs_document.specs.declared.line_error.LineError.TheVariants as errors;
@@ -66,7 +66,7 @@ impl From<FormError> for LineError {
 /// The same fault, with its path prefixed with the path of its group and aspect.
 pub(crate) fn in_group(error: FormError, group: usize, aspect: Option<usize>) -> FormError
     ensures { IfSome (fault_of result) (λ f. IsSomeAnd (fault_of error)
-        (λ inner. f ≡ fault inner.reason (path_of group aspect ++ inner.path))) }
+        (λ inner. f ≡ fault inner.reason (group_path group aspect ++ inner.path))) }
 {
     match aspect {
         None => error.under(Step::Place(group)).under(Step::Key("groups")),

@@ -1,22 +1,22 @@
 //! Streaming check: reads the document of a railway line and checks it group by group. `None` means
 //! undecided, not refused.
 
-ghost use Rattle.std.specs.Prelude.{◌≡◌, ◌∷◌, [], false, List, codes, Ok, Some, IfOk, IfSome, IsTrue};
+ghost use Rattle.std.specs.Prelude.{◌≡◌, ◌∷◌, [], false, List, Ok, IfOk, IfSome, IsTrue};
 ghost use Rattle.std.specs.Str.{is_utf8};
-ghost use Rattle.json.specs.Json.{after_end_array, read_key};
-ghost use Rattle.json.specs.Token.{Token as JsonToken};
-ghost use Rattle.etcs_check.specs.LineChecker.{HasChecked, TakesGroups, TakesMessages};
+ghost use Rattle.etcs_check.specs.LineChecker.{CheckerState, HasChecked, TakesGroups, TakesMessages};
 ghost use Rattle.etcs_document.specs.DocumentFault.{Gives};
-ghost use Rattle.etcs_document.specs.DocumentTokens.{AreFirst, AreTaken, HasLine, IsChecked, IsFirst, IsGroup, IsList, IsMessage};
-ghost use Rattle.etcs_document.specs.Verdict.{NamesTheUnsoundIn, TextSaysYes, summary, summary_of_text, judged};
+ghost use Rattle.etcs_document.specs.DocumentTokens.{AreTaken, HasLine, IsChecked, IsFirst, IsList};
+ghost use Rattle.etcs_document.specs.Verdict.{NamesUnsoundParts, TextSaysYes, judged, summary, summary_of_text};
 ghost use Rattle.etcs_radio.specs.declared.message.Message.{Message as SomeMessage};
 ghost use Rattle.etcs_group.specs.Group.{Aspects};
 
 use crate::check::check_text;
 use crate::line_error::LineError;
-use crate::token_groups::{group, message};
+use crate::token_groups::FromTokens;
 use crate::token_reader::TokenReader;
 use etcs_check::{Finding, LineChecker};
+use etcs_group::Controlled;
+use etcs_radio::Message;
 use std::alloc::Global;
 
 // The greatest depth of nesting in a document.
@@ -33,138 +33,54 @@ pub struct Checked {
     pub findings: Vec<Finding>,
 }
 
-// Reads the next group, and passes it to the checker.
-fn next_group(
-    alloc: Global,
-    reader: &mut TokenReader<'_>,
-    depth: usize,
-    checker: &mut LineChecker,
-) -> bool
-    ensures { IsTrue result → (g : Aspects) × IsFirst IsGroup depth reader.old g reader.new
-        × TakesGroups checker.old (g ∷ []) checker.new }
-{
-    let Some(group) = group(alloc, reader, depth) else {
-        return false;
-    };
-    checker.group(alloc, &group).is_ok()
+/// A group or a message, which is passed to the checker.
+trait Item: FromTokens {
+    /// How the state of the checker that takes it changes.
+    ghost takes: { CheckerState → Self → CheckerState → Type 0 };
+
+    /// Passes it to the checker.
+    fn pass_to(&self, alloc: Global, checker: &mut LineChecker) -> bool
+        ensures { IsTrue result → takes checker.old self.now checker.new };
 }
 
-// Reads groups up to the end of their list, and passes each to the checker.
-fn each_group(
-    alloc: Global,
-    reader: &mut TokenReader<'_>,
-    depth: usize,
-    checker: &mut LineChecker,
-) -> bool
-    ensures { IsTrue result → (ended : List JsonToken)
-        × AreTaken (λ gs. AreFirst IsGroup depth reader.old gs ended) TakesGroups checker.old checker.new
-        × (after_end_array ended ≡ Some reader.new) }
-{
-    'groups: while !reader.take_end_array() {
-        if !next_group(alloc, reader, depth, checker) {
-            return false;
-        }
+impl Item for Controlled {
+    ghost takes = { λ old group new. TakesGroups old (group ∷ []) new };
+
+    fn pass_to(&self, alloc: Global, checker: &mut LineChecker) -> bool {
+        checker.group(alloc, self).is_ok()
     }
-    true
 }
 
-// Reads the list of groups, and passes each to the checker.
-fn groups(
+impl Item for Message {
+    ghost takes = { λ old message new. TakesMessages old (message ∷ []) new };
+
+    fn pass_to(&self, alloc: Global, checker: &mut LineChecker) -> bool {
+        checker.message(alloc, self).is_ok()
+    }
+}
+
+// Reads the list of groups or of messages, and passes each of them to the checker.
+fn items<T: Item>(
     alloc: Global,
     reader: &mut TokenReader<'_>,
     depth: usize,
     checker: &mut LineChecker,
 ) -> bool
-    ensures { IsTrue result → AreTaken (λ gs. IsFirst (IsList IsGroup) depth reader.old gs reader.new)
-        TakesGroups checker.old checker.new }
+    ensures { IsTrue result → AreTaken (λ xs. IsFirst (IsList T.is_value) depth reader.old xs reader.new)
+        T.takes checker.old checker.new }
 {
     if depth == 0 || !reader.pass_list() {
         return false;
     }
-    each_group(alloc, reader, depth - 1, checker)
-}
-
-// Reads the next message, and passes it to the checker.
-fn next_message(
-    alloc: Global,
-    reader: &mut TokenReader<'_>,
-    depth: usize,
-    checker: &mut LineChecker,
-) -> bool
-    ensures { IsTrue result → (m : SomeMessage) × IsFirst IsMessage depth reader.old m reader.new
-        × TakesMessages checker.old (m ∷ []) checker.new }
-{
-    let Some(message) = message(alloc, reader, depth) else {
-        return false;
-    };
-    checker.message(alloc, &message).is_ok()
-}
-
-// Reads messages up to the end of their list, and passes each to the checker.
-fn each_message(
-    alloc: Global,
-    reader: &mut TokenReader<'_>,
-    depth: usize,
-    checker: &mut LineChecker,
-) -> bool
-    ensures { IsTrue result → (ended : List JsonToken)
-        × AreTaken (λ ms. AreFirst IsMessage depth reader.old ms ended) TakesMessages checker.old checker.new
-        × (after_end_array ended ≡ Some reader.new) }
-{
-    'messages: while !reader.take_end_array() {
-        if !next_message(alloc, reader, depth, checker) {
+    'items: while !reader.take_end_array() {
+        let Some(item) = T::from_tokens(alloc, reader, depth - 1) else {
+            return false;
+        };
+        if !item.pass_to(alloc, checker) {
             return false;
         }
     }
     true
-}
-
-// Reads the list of messages, and passes each to the checker.
-fn messages(
-    alloc: Global,
-    reader: &mut TokenReader<'_>,
-    depth: usize,
-    checker: &mut LineChecker,
-) -> bool
-    ensures { IsTrue result → AreTaken (λ ms. IsFirst (IsList IsMessage) depth reader.old ms reader.new)
-        TakesMessages checker.old checker.new }
-{
-    if depth == 0 || !reader.pass_list() {
-        return false;
-    }
-    each_message(alloc, reader, depth - 1, checker)
-}
-
-// Reads the groups, whose key was read, and then the messages.
-fn groups_first(
-    alloc: Global,
-    reader: &mut TokenReader<'_>,
-    depth: usize,
-    checker: &mut LineChecker,
-) -> bool
-    ensures { IsTrue result → HasChecked checker.old [] [] → (old : List JsonToken)
-        → read_key old ≡ Some (Some (codes "groups"), reader.old) → HasLine depth old checker.new reader.new }
-{
-    if !groups(alloc, reader, depth, checker) || !reader.pass_key("messages") {
-        return false;
-    }
-    messages(alloc, reader, depth, checker)
-}
-
-// Reads the messages, whose key was read, and then the groups.
-fn messages_first(
-    alloc: Global,
-    reader: &mut TokenReader<'_>,
-    depth: usize,
-    checker: &mut LineChecker,
-) -> bool
-    ensures { IsTrue result → HasChecked checker.old [] [] → (old : List JsonToken)
-        → read_key old ≡ Some (Some (codes "messages"), reader.old) → HasLine depth old checker.new reader.new }
-{
-    if !messages(alloc, reader, depth, checker) || !reader.pass_key("groups") {
-        return false;
-    }
-    groups(alloc, reader, depth, checker)
 }
 
 // Reads the two members of a document, in either order.
@@ -177,12 +93,18 @@ fn members(
     ensures { IsTrue result → HasChecked checker.old [] [] → HasLine depth reader.old checker.new reader.new }
 {
     if reader.pass_key("groups") {
-        return groups_first(alloc, reader, depth, checker);
+        if !items::<Controlled>(alloc, reader, depth, checker) || !reader.pass_key("messages") {
+            return false;
+        }
+        return items::<Message>(alloc, reader, depth, checker);
     }
-    if reader.pass_key("messages") {
-        return messages_first(alloc, reader, depth, checker);
+    if !reader.pass_key("messages")
+        || !items::<Message>(alloc, reader, depth, checker)
+        || !reader.pass_key("groups")
+    {
+        return false;
     }
-    false
+    items::<Controlled>(alloc, reader, depth, checker)
 }
 
 // Reads a document, and passes its groups and messages to the checker.
@@ -253,7 +175,7 @@ pub fn check_in_order(alloc: Global, bytes: &[u8]) -> Result<Checked, LineError>
 
     // A group or a message is sound if and only if no finding names it, whatever is found elsewhere.
     // Exception: of two groups with the same identity the later one is named.
-    ensures unnamed { IfOk result (λ c. NamesTheUnsoundIn bytes.now c.findings.items) }
+    ensures unnamed { IfOk result (λ c. NamesUnsoundParts bytes.now c.findings.items) }
 
     // An empty input and an input that is not UTF-8 are not JSON, even if memory is short.
     ensures empty { bytes.now ≡ [] → result ≡ Err LineError.NotJson }

@@ -1,9 +1,8 @@
 //! The groups and the messages of a document, read from tokens.
 
-ghost use Rattle.std.specs.Prelude.{◌≡◌, List, Some, IfSome};
-ghost use Rattle.json.specs.Json.{after_end_array};
-ghost use Rattle.json.specs.Token.{Token as JsonToken};
-ghost use Rattle.etcs_document.specs.DocumentTokens.{AreFirst, HasGroup, IsAspect, IsAspects, IsBalises, IsFirst, IsGroup, IsMessage, IsOnlyAspect, IsTelegram};
+ghost use Rattle.std.specs.Prelude.{IfSome};
+ghost use Rattle.serde_json.specs.Data.{Data};
+ghost use Rattle.etcs_document.specs.DocumentTokens.{HasGroup, IsAspect, IsAspects, IsBalises, IsFirst, IsGroup, IsList, IsMessage, IsOnlyAspect, IsTelegram};
 
 use crate::document_groups::as_only_aspect;
 use crate::token_reader::{TextKind, TokenReader};
@@ -12,94 +11,86 @@ use etcs_radio::Message;
 use etcs_telegram::Telegram;
 use std::alloc::Global;
 
-// Reads a balise.
-fn telegram(alloc: Global, reader: &mut TokenReader<'_>, _depth: usize) -> Option<Telegram>
-    ensures { IfSome result (λ t. IsFirst IsTelegram _depth reader.old t reader.new) }
-{
-    let text = reader.text(TextKind::Telegram)?;
-    match etcs_telegram::from_hex(alloc, text) {
-        Ok(telegram) => Some(telegram),
-        Err(_) => None,
-    }
+/// A value that can be read from tokens.
+pub(crate) trait FromTokens: Drop {
+    /// Whether a JSON value denotes this value.
+    ghost is_value: { Data → Self → Type 0 };
+
+    /// Reads the next value. `None` means undecided.
+    fn from_tokens(alloc: Global, reader: &mut TokenReader<'_>, depth: usize) -> Option<Self>
+        ensures { IfSome result (λ x. IsFirst is_value depth reader.old x reader.new) };
 }
 
-/// Reads a message.
-pub(crate) fn message(alloc: Global, reader: &mut TokenReader<'_>, _depth: usize) -> Option<Message>
-    ensures { IfSome result (λ m. IsFirst IsMessage _depth reader.old m reader.new) }
+// Reads a list.
+fn list<T: FromTokens>(alloc: Global, reader: &mut TokenReader<'_>, depth: usize) -> Option<Vec<T>>
+    ensures { IfSome result (λ v. IsFirst (IsList T.is_value) depth reader.old v.items reader.new) }
 {
-    let text = reader.text(TextKind::Message)?;
-    match etcs_radio::from_hex(alloc, text) {
-        Ok(message) => Some(message),
-        Err(_) => None,
+    if depth == 0 || !reader.pass_list() {
+        return None;
     }
-}
-
-// Reads balises, one after the other, up to the end of their list.
-fn telegrams(alloc: Global, reader: &mut TokenReader<'_>, depth: usize) -> Option<Vec<Telegram>>
-    ensures { IfSome result (λ v. (ended : List JsonToken) × AreFirst IsTelegram depth reader.old v.items ended
-        × (after_end_array ended ≡ Some reader.new)) }
-{
     let mut found = Vec::new(alloc);
-    'balises: while !reader.take_end_array() {
-        let telegram = telegram(alloc, reader, depth)?;
-        if found.push(telegram).is_err() {
+    'items: while !reader.take_end_array() {
+        let item = T::from_tokens(alloc, reader, depth - 1)?;
+        if found.push(item).is_err() {
             return None;
         }
     }
     Some(found)
+}
+
+impl FromTokens for Telegram {
+    ghost is_value = { IsTelegram };
+
+    fn from_tokens(alloc: Global, reader: &mut TokenReader<'_>, _depth: usize) -> Option<Telegram> {
+        let text = reader.text(TextKind::Telegram)?;
+        match etcs_telegram::from_hex(alloc, text) {
+            Ok(telegram) => Some(telegram),
+            Err(_) => None,
+        }
+    }
+}
+
+impl FromTokens for Message {
+    ghost is_value = { IsMessage };
+
+    fn from_tokens(alloc: Global, reader: &mut TokenReader<'_>, _depth: usize) -> Option<Message> {
+        let text = reader.text(TextKind::Message)?;
+        match etcs_radio::from_hex(alloc, text) {
+            Ok(message) => Some(message),
+            Err(_) => None,
+        }
+    }
 }
 
 // Reads a list of balises.
 fn balises(alloc: Global, reader: &mut TokenReader<'_>, depth: usize) -> Option<Group>
     ensures { IfSome result (λ g. IsFirst IsBalises depth reader.old g reader.new) }
 {
-    if depth == 0 || !reader.pass_list() {
-        return None;
-    }
-    let telegrams = telegrams(alloc, reader, depth - 1)?;
+    let telegrams = list::<Telegram>(alloc, reader, depth)?;
     match Group::new(telegrams) {
         Ok(group) => Some(group),
         Err(_) => None,
     }
 }
 
-// Reads an aspect.
-fn aspect(alloc: Global, reader: &mut TokenReader<'_>, depth: usize) -> Option<Group>
-    ensures { IfSome result (λ g. IsFirst IsAspect depth reader.old g reader.new) }
-{
-    if depth == 0 || !reader.pass_begin() {
-        return None;
-    }
-    if !reader.pass_key("balises") {
-        return None;
-    }
-    let group = balises(alloc, reader, depth - 1)?;
-    if reader.pass_end() { Some(group) } else { None }
-}
+// An aspect.
+impl FromTokens for Group {
+    ghost is_value = { IsAspect };
 
-// Reads aspects, one after the other, up to the end of their list.
-fn each_aspect(alloc: Global, reader: &mut TokenReader<'_>, depth: usize) -> Option<Vec<Group>>
-    ensures { IfSome result (λ v. (ended : List JsonToken) × AreFirst IsAspect depth reader.old v.items ended
-        × (after_end_array ended ≡ Some reader.new)) }
-{
-    let mut found = Vec::new(alloc);
-    'aspects: while !reader.take_end_array() {
-        let aspect = aspect(alloc, reader, depth)?;
-        if found.push(aspect).is_err() {
+    fn from_tokens(alloc: Global, reader: &mut TokenReader<'_>, depth: usize) -> Option<Group> {
+        if depth == 0 || !reader.pass_begin() || !reader.pass_key("balises") {
             return None;
         }
+        let group = balises(alloc, reader, depth - 1)?;
+        if reader.pass_end() { Some(group) } else { None }
     }
-    Some(found)
 }
 
 // Reads a list of aspects.
 fn aspects(alloc: Global, reader: &mut TokenReader<'_>, depth: usize) -> Option<Controlled>
     ensures { IfSome result (λ c. IsFirst IsAspects depth reader.old c reader.new) }
 {
-    if depth == 0 || !reader.pass_list() {
-        return None;
-    }
-    let aspects = each_aspect(alloc, reader, depth - 1)?;
+    let aspects = list::<Group>(alloc, reader, depth)?;
     match Controlled::new(aspects) {
         Ok(group) => Some(group),
         Err(_) => None,
@@ -130,13 +121,19 @@ fn group_member(alloc: Global, reader: &mut TokenReader<'_>, depth: usize) -> Op
     None
 }
 
-/// Reads a group.
-pub(crate) fn group(alloc: Global, reader: &mut TokenReader<'_>, depth: usize) -> Option<Controlled>
-    ensures { IfSome result (λ c. IsFirst IsGroup depth reader.old c reader.new) }
-{
-    if depth == 0 || !reader.pass_begin() {
-        return None;
+// A group.
+impl FromTokens for Controlled {
+    ghost is_value = { IsGroup };
+
+    fn from_tokens(
+        alloc: Global,
+        reader: &mut TokenReader<'_>,
+        depth: usize,
+    ) -> Option<Controlled> {
+        if depth == 0 || !reader.pass_begin() {
+            return None;
+        }
+        let group = group_member(alloc, reader, depth - 1)?;
+        if reader.pass_end() { Some(group) } else { None }
     }
-    let group = group_member(alloc, reader, depth - 1)?;
-    if reader.pass_end() { Some(group) } else { None }
 }

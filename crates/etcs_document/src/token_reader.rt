@@ -8,7 +8,7 @@ ghost use Rattle.json.specs.Json.{after_end_array, read_key};
 ghost use Rattle.json.specs.Lex.{after_value, begins_colon, between, colon, lex, punctuate, token, tokens};
 ghost use Rattle.json.specs.Token.{begin_array, begin_object, string as string_token};
 ghost use Rattle.json.specs.Word.{is_space};
-ghost use Rattle.etcs_document.specs.TokenReader.{ArePlain, begins_at, closes_at, quote_place, text_len, tokens_at};
+ghost use Rattle.etcs_document.specs.TokenReader.{ArePlain, can_begin, can_close, quote_place, remaining_tokens, text_len};
 
 use std::marker::Model;
 
@@ -44,9 +44,9 @@ impl<'a> Model for TokenReader<'a> {
 
     ghost coded = { tokens_code };
 
-    ghost use Rattle.etcs_document.specs.TokenReader.{tokens_at};
+    ghost use Rattle.etcs_document.specs.TokenReader.{remaining_tokens};
 
-    ghost view = { λ a. tokens_at a.place a.rest.now };
+    ghost view = { λ a. remaining_tokens a.place a.rest.now };
 }
 
 fn is_blank(byte: u8) -> bool
@@ -117,7 +117,7 @@ fn text_len(kind: TextKind, begun: &[u8]) -> usize
 
 // The bytes after a text of a list, up to the next item or the end of the list.
 fn pass_text(rest: &[u8]) -> Option<(&[u8], Place)>
-    ensures { IfSome result (λ r. (tokens_at r.1 r.0.now ≡ punctuate after_value (lex between rest.now))
+    ensures { IfSome result (λ r. (remaining_tokens r.1 r.0.now ≡ punctuate after_value (lex between rest.now))
         × (begins_colon (lex between rest.now) ≡ false)) }
 {
     let behind = pass_blanks(rest);
@@ -133,13 +133,13 @@ fn pass_text(rest: &[u8]) -> Option<(&[u8], Place)>
 
 impl Place {
     fn may_begin(self) -> bool
-        ensures { result ≡ begins_at self }
+        ensures { result ≡ can_begin self }
     {
         !matches!(self, Place::AfterValue)
     }
 
     fn may_close(self) -> bool
-        ensures { result ≡ closes_at self }
+        ensures { result ≡ can_close self }
     {
         !matches!(self, Place::AfterComma)
     }

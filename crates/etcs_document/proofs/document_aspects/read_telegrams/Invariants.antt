@@ -1,11 +1,11 @@
 use Rattle.std.proofs.Common.{◌≡◌, drop, map}
 use Rattle.serde_json.specs.View.{view}
-use Rattle.etcs_document.specs.Document.{each_from, telegram_at}
+use Rattle.etcs_document.specs.Document.{balise_telegram, read_indexed}
 use Rattle.etcs_document.proofs.DocumentLemmas.{with_front}
 use Rattle.etcs_document.proofs.document_aspects.read_telegrams.Given as goal
 
 -- what was read, and then what is read from the remaining values
 abbrev pub invariant-balises : goal.invariant-balises
 invariant-balises l =
-    with_front l.telegrams.items (each_from (telegram_at l.group l.aspect) l.place (map view (drop l.place l.values)))
-    ≡ each_from (telegram_at l.group l.aspect) 0 (map view l.values)
+    with_front l.telegrams.items (read_indexed (balise_telegram l.group l.aspect) l.place (map view (drop l.place l.values)))
+    ≡ read_indexed (balise_telegram l.group l.aspect) 0 (map view l.values)

@@ -1,6 +1,6 @@
 use Rattle.std.proofs.Common.{◌<◌, rules, arith}
 use Rattle.etcs_document.proofs.DocumentTokenLemmas.{group_taken}
-use Rattle.etcs_document.proofs.token_groups.group.Goals as goal
+use Rattle.etcs_document.proofs.token_groups.ControlledFromTokens.from_tokens.Goals as goal
 
 pub returns-then-pass_end : goal.returns-then-pass_end
 returns-then-pass_end c =

@@ -1,6 +1,6 @@
 use Rattle.etcs_document.proofs.DocumentTokenLemmas.{message_taken}
 use Rattle.etcs_document.proofs.PlainLemmas.{message_plain}
-use Rattle.etcs_document.proofs.token_groups.message.Goals as goal
+use Rattle.etcs_document.proofs.token_groups.MessageFromTokens.from_tokens.Goals as goal
 
 -- the text of a message has only digits
 pub returns-in-Ok : goal.returns-in-Ok

@@ -1,6 +1,6 @@
 use Rattle.etcs_document.proofs.DocumentTokenLemmas.{telegram_taken}
 use Rattle.etcs_document.proofs.PlainLemmas.{telegram_plain}
-use Rattle.etcs_document.proofs.token_groups.telegram.Goals as goal
+use Rattle.etcs_document.proofs.token_groups.TelegramFromTokens.from_tokens.Goals as goal
 
 -- the text of a telegram has only digits
 pub returns-in-Ok : goal.returns-in-Ok
