@@ -1,5 +1,4 @@
-//! Writing the members of an object. Records are generic over [`Sink`]: a writer of tokens, or an object in
-//! memory.
+//! Writing the members of an object to a [`Sink`]: a writer of tokens, or an object in memory.
 
 ghost use Rattle.std.specs.Prelude.{◌≡◌, ◌++◌, ◌∷◌, [], ℕ, List, Some, None, OnOk};
 ghost use Rattle.serde_json.specs.Data.{array, string};
