@@ -15,7 +15,7 @@ level_allows n = grind (arith, nat_tests)
 pub level_numbers : is_allowed (ranged 3 4 8) ≡ is_allowed level_variable
 level_numbers = fun_ext level_allows
 
--- NID_NTC follows 1 alone
+-- only 1 is followed by NID_NTC
 pub level_ends : (n : ℕ) → n ≢ 1 → level_numbered.next n ≡ nothing
 level_ends n other = grind (arith, nat_tests)
 
@@ -25,6 +25,6 @@ length_allows n = grind (arith, nat_tests)
 pub length_numbers : is_allowed (plain 2) ≡ is_allowed length_variable
 length_numbers = fun_ext length_allows
 
--- L_TRAININT follows 1 and 2 alone
+-- only 1 and 2 are followed by L_TRAININT
 pub length_ends : (n : ℕ) → n ≢ 1 → n ≢ 2 → length_numbered.next n ≡ nothing
 length_ends n one two = grind (arith, nat_tests)

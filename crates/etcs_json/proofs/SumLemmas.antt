@@ -1,5 +1,5 @@
--- A movement authority and a position report, each of which has the form of one of two packets: the members
--- that are sent are the members of the form.
+-- A movement authority and a position report have the form of one of two packets: the members that are
+-- written are the members of the form.
 use Rattle.std.proofs.Common.{◌≡◌, ◌∙◌, ℕ, List, Option, Some, None, Result, Ok, Err, inl, inr, refl, sym, ap}
 use Rattle.serde_json.specs.Data.{Data, Members, no_members, object as object_data}
 use Rattle.etcs_bits.specs.declared.variables.identity.Identity.{Identity}
@@ -26,7 +26,7 @@ use Rattle.etcs_json.specs.TrackPackets.{track_numbered, track_packet}
 use Rattle.etcs_json.specs.TrainPackets.{train_numbered, train_packet}
 use Rattle.etcs_schema.proofs.SortedLemmas.{made_members, members_of}
 
--- an empty object that has taken members in the byte order of their keys
+-- an empty object after inserting members in the byte order of their keys
 pub made_of : (es : List Entry) (old new : Members) (d e : Data) → members_onto no_members es ≡ members_of es → object_data (members_of es) ≡ e
     → old ≡ no_members → new ≡ members_onto old es → d ≡ object_data new → d ≡ e
 made_of es old new d e in_order same none made is =

@@ -26,6 +26,6 @@ message_again (messages.Position m) = refl
 abbrev pub numbered : Choice (codes "nid_message") nid_message (Movement ⊎ Position)
 numbered = either (movement track_packet) (last (position train_packet)) refl
 
--- NID_MESSAGE is looked at first: 3 or 136
+-- NID_MESSAGE is read first: 3 or 136
 unfoldable pub message : Shape Message
 message = renamed message_of kinds_of message_again (chosen (codes "nid_message") numbered.allows numbered (λ v _. numbered.is_number v))

@@ -1,8 +1,7 @@
 -- The forms of movement authorities, packets 12 and 15, and of their parts (SUBSET-026, 3.8 and 7.4.2).
 -- Keys are the standard's names of variables in small letters. `end_speed` and `end_timeout`, for V_LOA
--- and T_LOA, are this project's, and so are the keys of `sections` and of the parts. A part that may be
--- left out has no qualifier in the form: its key is there or not. Keys are in the order in which they
--- are looked for.
+-- and T_LOA, and the keys of `sections` and of the parts are this project's. An optional part has no
+-- qualifier in the form: its key is present or absent. Keys are in the order in which they are read.
 use Rattle.std.specs.Prelude.{◌≡◌, ◌⊎◌, true, codes, refl}
 use Rattle.etcs_schema.specs.Prelude.{inl, inr, option_rows, pair_rows, ranged}
 use Rattle.etcs_profile.specs.Authority.{AuthorityValue, WithMain, WithoutMain, again, authority_variable, numbered_of, authority_of_parts, v_main, with_main as with_main_layout, without_main as without_main_layout}
@@ -33,28 +32,28 @@ end_timer =
     closed (struct end_timer_struct
     (key (codes "t_endtimer") (number t_endtimer.fields) then key (codes "d_endtimerstartloc") (number d_endtimerstartloc.fields))) refl
 
--- the danger point, and the release speed that belongs to it
+-- the danger point, and its release speed
 unfoldable pub danger_point : ObjectOf danger_point_layout.rows
 danger_point =
     closed (struct danger_point_struct
     (key (codes "d_dp") (number d_dp.fields) then key (codes "v_releasedp") (number v_releasedp.fields))) refl
 
--- the overlap, and the release speed that belongs to it
+-- the overlap, and its release speed
 unfoldable pub overlap : ObjectOf overlap_layout.rows
 overlap =
     closed (struct overlap_struct
     (key (codes "d_startol") (number d_startol.fields) then key (codes "t_ol") (number t_ol.fields) then key (codes "d_ol") (number d_ol.fields)
     then key (codes "v_releaseol") (number v_releaseol.fields))) refl
 
--- ---- what both packets have
+-- ---- the members of both packets
 
--- what follows the end section if it is there: its two timers, the danger point, the overlap
+-- the optional members after the end section: its two timers, the danger point, the overlap
 unfoldable pub end_parts : Part (pair_rows (option_rows section_timer_layout.rows) (pair_rows (option_rows end_timer_layout.rows) (pair_rows (option_rows danger_point_layout.rows) (option_rows overlap_layout.rows))))
 end_parts =
     key_if (codes "section_timer") (object section_timer) then key_if (codes "end_timer") (object end_timer)
     then key_if (codes "danger_point") (object danger_point) then key_if (codes "overlap") (object overlap)
 
--- the conditions: V_LOA, T_LOA, the sections, L_ENDSECTION, and what follows the end section
+-- the conditions: V_LOA, T_LOA, the sections, L_ENDSECTION, and the members after the end section
 unfoldable pub terms : Part terms_layout.rows
 terms =
     struct conditions_struct
@@ -63,7 +62,7 @@ terms =
 
 -- ---- the packets
 
--- packet 12: V_MAIN stands before the conditions
+-- packet 12: V_MAIN, and then the conditions
 unfoldable pub with_main : Packet 12 with_main_layout.rows
 unfolding terms end_parts
 with_main = behind (headed (scaled (key (codes "v_main") (number v_main.fields) then terms))) refl
@@ -81,6 +80,6 @@ pub either_nid : (v : WithMain ⊎ WithoutMain) → is_allowed (ranged 8 254 256
 either_nid (inl p) = refl
 either_nid (inr p) = refl
 
--- a movement authority; NID_PACKET is looked at before the other keys
+-- a movement authority; NID_PACKET is read before the other keys
 unfoldable pub authority : Shape AuthorityValue
 authority = renamed authority_of_parts numbered_of again (chosen (codes "nid_packet") (is_allowed (ranged 8 254 256)) either_authority (λ v _. either_nid v))

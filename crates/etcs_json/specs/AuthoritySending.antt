@@ -1,4 +1,4 @@
--- What is sent of a movement authority: its members in the byte order of their keys.
+-- The members of a movement authority in the byte order of their keys, as they are written.
 use Rattle.std.specs.Prelude.{List, [], ◌∷◌, Some, codes}
 use Rattle.etcs_schema.specs.Prelude.{array}
 use Rattle.etcs_profile.specs.Authority.{AuthorityValue, authority_number}
@@ -7,7 +7,7 @@ use Rattle.etcs_schema.specs.Entries.{Entry}
 use Rattle.etcs_schema.specs.Shape.{items_of, object, optional, number_data}
 use Rattle.etcs_schema.specs.Variables.{direction, scale}
 
--- V_MAIN is there in packet 12 alone
+-- only packet 12 has V_MAIN
 unfoldable pub sent_members : AuthorityValue → List Entry
 sent_members a =
     (codes "danger_point", optional (object danger_point).to a.terms.danger_point)

@@ -1,4 +1,4 @@
--- The laws of forms: each telegram and each radio message is what its form is read as.
+-- The laws of forms: the form of each telegram and of each radio message is read as that value.
 use Rattle.std.specs.Prelude.{◌≡◌, true, List, Ok}
 use Rattle.etcs_schema.specs.Prelude.{flat_map, AreAllowed, Row}
 use Rattle.etcs_profile.specs.Track.{track_packet}
@@ -31,13 +31,13 @@ TelegramsHaveFormsOfTheirOwn = (t u : Telegram) → IsTelegramInRange t → IsTe
 
 -- ---- radio messages
 
--- what stands before the packets, but for NID_MESSAGE and L_MESSAGE
+-- the rows before the packets, except NID_MESSAGE and L_MESSAGE
 abbrev pub head_rows : Message → List Row
 head_rows (messages.Movement m) = movement_head.rows (m.time, (m.ack, m.lrbg))
 head_rows (messages.Position m) = position_head.rows (m.time, m.engine)
 
--- Each number of the message fits in its bits, and none is spare. The message holds the packet that it
--- has to hold. It may have more bytes than L_MESSAGE counts.
+-- Each number of the message fits in its bits, and none is spare. The message contains the packet that it
+-- must contain. It may have more bytes than L_MESSAGE counts.
 pub record IsMessageInRange (m : Message) : Type 0 where
   pub head : AreAllowed (head_rows m)
   pub packets : AreAllowed (packet_rows m)

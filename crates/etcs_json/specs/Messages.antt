@@ -1,7 +1,7 @@
 -- The forms of radio messages, 3 and 136 (SUBSET-026, 8.6 and 8.7), over a form of their packets. Each key
 -- is named as the standard names its variable, in small letters; `packets` is this project's. NID_LRBG
--- is two keys, its country and its number there. L_MESSAGE follows from the packets, and is no key. Keys
--- are in the order in which they are looked for.
+-- is two keys, its country and its number there. L_MESSAGE follows from the packets and has no key. Keys
+-- are in the order in which they are read.
 use Rattle.std.specs.Prelude.{List, codes, refl}
 use Rattle.etcs_schema.specs.Prelude.{flat_map, pair_rows, Row, nid_bg, nid_c}
 use Rattle.etcs_profile.specs.declared.track.TrackPacket.{TrackPacket}
@@ -15,11 +15,11 @@ use Rattle.etcs_schema.specs.Listed.{holding, listed, rows_holding}
 use Rattle.etcs_schema.specs.Shape.{Shape, key, named, ◌then◌}
 use Rattle.etcs_schema.specs.Variables.{flag, number}
 
--- a message without the packet that its kind has to hold is refused
+-- the fault of a message without the packet that its kind must contain
 abbrev pub no_packet : Fault
 no_packet = at_once Range (key_step (codes "packets"))
 
--- its rows behind the number, in the order of the keys
+-- its rows after the number, in the order of the keys
 abbrev pub movement_rows : Shape TrackPacket → Movement → List Row
 movement_rows packet =
     rows_holding (λ m. has_authority m.packets) (λ m. pair_rows t_train.rows (pair_rows m_ack.rows (pair_rows nid_c.rows (pair_rows nid_bg.rows (flat_map packet.rows))))

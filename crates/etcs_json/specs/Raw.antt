@@ -7,7 +7,7 @@ use Rattle.etcs_schema.specs.Measured.{measured}
 use Rattle.etcs_schema.specs.Shape.{ObjectOf, closed, key, named, ◌then◌}
 use Rattle.etcs_schema.specs.Variables.{direction, variable}
 
--- a track packet whose number is neither a known packet's nor the end mark's; 10 bits stand before L_PACKET
+-- a track packet whose number is neither a known packet's nor the end mark's; 10 bits precede L_PACKET
 unfoldable pub raw_packet : ObjectOf raw_layout.rows
 raw_packet =
     closed (named

@@ -8,7 +8,7 @@ use Rattle.etcs_schema.specs.Measured.{measured}
 use Rattle.etcs_schema.specs.Shape.{ObjectOf, closed, key, named, ◌then◌}
 use Rattle.etcs_schema.specs.Variables.{variable}
 
--- a train packet whose number is neither a position report's nor the end mark's; 8 bits stand before L_PACKET
+-- a train packet whose number is neither a position report's nor the end mark's; 8 bits precede L_PACKET
 unfoldable pub raw_train_packet : ObjectOf raw_layout.rows
 raw_train_packet =
     closed (named

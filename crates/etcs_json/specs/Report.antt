@@ -1,7 +1,7 @@
 -- The forms of position reports, train packets 0 and 1 (SUBSET-026, 7.4.3). Each key is named as the
 -- standard names its variable, in small letters. The standard has the identity of a group as one
 -- variable, NID_LRBG or NID_PRVLRBG. Here its country and its number are two keys. Keys are in the order
--- in which they are looked for.
+-- in which they are read.
 use Rattle.std.specs.Prelude.{◌≡◌, ◌+◌, ◌*◌, ◌/◌, ◌<◌, ◌==◌, ◌⊎◌, ℕ, true, List, [], ◌∷◌, codes, refl}
 use Rattle.etcs_schema.specs.Prelude.{inl, inr, arith, AreAllowed, alone, plain, nid_bg, nid_c}
 use Rattle.etcs_bits.specs.declared.variables.identity.Identity.{Identity}
@@ -42,13 +42,13 @@ side = named_numbers train3_variable train3_number train3_of train3_names
 pub length_keys : (n : ℕ) → HasKeys (length_numbered.next n) (codes "l_trainint" ∷ [])
 length_keys n = keys_by _ _ _ (n == 0) tt (keys_by _ _ _ (n == 1) (λ _. tt) (keys_by _ _ _ (n == 2) (λ _. tt) tt))
 
--- Q_LENGTH and L_TRAININT, which is there exactly at 1 and 2: whether the train is whole, and its length
+-- Q_LENGTH, and L_TRAININT at 1 and 2: whether the train is complete, and its length
 abbrev pub integrity : Part q_length.rows
 integrity = variables_at (codes "q_length" ∷ codes "l_trainint" ∷ []) q_length length_keys
 
--- ---- the members behind the groups
+-- ---- the members after the groups
 
--- where the train is, as seen from the group; whether it is whole, how it runs, and in which mode and level
+-- where the train is, as seen from the group; whether it is complete, how it runs, in which mode and level
 unfoldable pub situation : Part situation_layout.rows
 situation =
     key (codes "d_lrbg") (number d_lrbg.fields) then key (codes "q_dirlrbg") side then key (codes "q_dlrbg") side
@@ -62,7 +62,7 @@ unfoldable pub with_one : Packet 0 with_one_layout.rows
 unfolding situation
 with_one = behind (sized 8 (key (codes "q_scale") scale then lrbg (codes "nid_c") (codes "nid_bg") then situation)) refl
 
--- packet 1: the group before stands behind the group
+-- packet 1: the previous group comes after the group
 unfoldable pub with_two : Packet 1 with_two_layout.rows
 unfolding situation
 with_two =
@@ -77,6 +77,6 @@ pub either_nid : (v : WithOne ⊎ WithTwo) → is_allowed (plain 1) (either_repo
 either_nid (inl p) = refl
 either_nid (inr p) = refl
 
--- a position report; NID_PACKET is looked at first
+-- a position report; NID_PACKET is read first
 unfoldable pub report : Shape Report
 report = renamed report_of numbered_of again (chosen (codes "nid_packet") (is_allowed (plain 1)) either_report (λ v _. either_nid v))

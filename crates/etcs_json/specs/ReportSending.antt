@@ -1,4 +1,4 @@
--- What is sent of a position report: its members in the byte order of their keys.
+-- The members of a position report in the byte order of their keys, as they are written.
 use Rattle.std.specs.Prelude.{List, [], ◌∷◌, ◌++◌, Some, codes, option_map}
 use Rattle.etcs_bits.specs.variables.Level.{level_number, m_level}
 use Rattle.etcs_radio.specs.Integrity.{length_number, q_length}
@@ -19,7 +19,7 @@ first_members r =
     ∷ (codes "nid_bg", Some (number_data r.lrbg.group)) ∷ (codes "nid_c", Some (number_data r.lrbg.country))
     ∷ (codes "nid_ntc", optional number_data (number_in 1 (m_level.rows r.level))) ∷ (codes "nid_packet", Some (number_data (report_number r))) ∷ []
 
--- the members after NID_PACKET; the group before is there in packet 1 alone
+-- the members after NID_PACKET; only packet 1 has the previous group
 unfoldable pub last_members : Report → List Entry
 last_members r =
     (codes "prv_nid_bg", optional number_data (option_map (λ i. i.group) r.previous))

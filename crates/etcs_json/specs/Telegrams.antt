@@ -1,6 +1,6 @@
 -- The form of a telegram (SUBSET-026, 8.4.2). Each key is named as the standard names its variable, in
 -- small letters. NID_C and NID_BG are the identity of the balise's group. `user_bits` and `packets` are
--- this project's. Keys are in the order in which they are looked for.
+-- this project's. Keys are in the order in which they are read.
 use Rattle.std.specs.Prelude.{◌≡◌, ◌++◌, ℕ, ◌==◌, ◌||◌, Bool, true, List, [], Ok, codes, if◌then◌else◌, refl}
 use Rattle.etcs_schema.specs.Prelude.{ap, ◌∙◌, flat_map, Row}
 use Rattle.etcs_bits.specs.declared.layout.fault.FaultKind.TheVariants.{Downlink, Loop}
@@ -55,7 +55,7 @@ header =
 abbrev pub telegram_rows : Telegram → List Row
 telegram_rows t = header_layout.rows t.header ++ flat_map track_layout.rows t.packets
 
--- a telegram, with any number of packets: whether they fit its size is not asked here
+-- a telegram with any number of packets, also with more than fit its size
 unfoldable pub telegram : ObjectOf telegram_rows
 unfolding header
 telegram =

@@ -2,7 +2,7 @@
 -- and of the profiles of the track, packets 5, 21 and 27, then the choice among all packets. Each key is
 -- named as the standard names its variable, in small letters. `links`, `elements` and `differences` are
 -- this project's and name lists. `nc` is NC_CDDIFF or NC_DIFF. Keys are in the order in which they are
--- looked for.
+-- read.
 use Rattle.std.specs.Prelude.{◌≡◌, ℕ, ◌+◌, Bool, true, List, Result, Ok, codes, nat_le, refl, length}
 use Rattle.etcs_schema.specs.Prelude.{arith, le-leb, Data, Format, AreAllowed, alone, width, nid_bg, nid_c, ranged}
 use Rattle.etcs_bits.specs.declared.variables.direction.Dir.{Dir}
@@ -33,18 +33,18 @@ pub profile_short : {X : Type 0} (layout : Format X) (p : Dir × Profile X) → 
 unfolding alone
 profile_short layout p allowed = le-leb (23 + width ((elements layout).rows p.1)) 8191 (omega (arith, allowed.1.0.0))
 
--- a packet with a list of elements at this key; it is refused where it is too long
+-- a packet with a list of elements at this key; it is refused if it is too long
 abbrev pub profile : {X : Type 0} → List ℕ → (layout : Format X) → ObjectOf layout.rows → Part (rest (elements layout)).rows
 profile name layout element =
     within (here Range) (is_short layout) (profile_short layout) (headed (struct profile_struct (scaled (key name (list_from_one (object element))))))
 
--- what is read of such a packet
+-- what such a packet is read as
 abbrev pub profile_of : {X : Type 0} → List ℕ → Format X → (Data → Result X Fault) → Data → Result (Dir × Profile X) Fault
 profile_of name layout element d =
     both_of (at_key direction.of (codes "q_dir"))
     (λ e. both_of (at_key scale.of (codes "q_scale")) (at_key (first_and_others element 32) name) e >>= λ p. Ok (profile_struct.make p)) d >>= only (here Range) (is_short layout)
 
--- a balise group ahead; its country is there exactly where Q_NEWCOUNTRY is 1
+-- a balise group ahead; it has a country if and only if Q_NEWCOUNTRY is 1
 unfoldable pub link : ObjectOf link_layout.rows
 link =
     closed (struct link_struct
@@ -103,6 +103,6 @@ track_numbered =
     either transition
     raw refl) refl) refl) refl) refl) refl) refl
 
--- NID_PACKET is looked at first; 255, the end mark, is the number of no packet
+-- NID_PACKET is read first; 255, the end mark, is the number of no packet
 abbrev pub track_packet : Shape TrackPacket
 track_packet = renamed track_of parts_of again (chosen (codes "nid_packet") (is_allowed (ranged 8 254 256)) track_numbered (λ v nid. nid_range (track_numbered.number v) nid.0 nid.1))

@@ -25,6 +25,6 @@ raw = others nid_raw (λ p. p.number) other_bits.rows raw_train_packet refl (λ 
 abbrev pub train_numbered : Choice (codes "nid_packet") nid_train NumberedTrainPacket
 train_numbered = either with_one (either with_two raw refl) refl
 
--- NID_PACKET is looked at first; 255, the end mark, is the number of no packet
+-- NID_PACKET is read first; 255, the end mark, is the number of no packet
 abbrev pub train_packet : Shape TrainPacket
 train_packet = renamed train_of parts_of again (chosen (codes "nid_packet") (is_allowed (ranged 8 254 256)) train_numbered (λ v nid. nid_range (train_numbered.number v) nid.0 nid.1))

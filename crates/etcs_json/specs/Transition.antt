@@ -1,4 +1,4 @@
--- The form of level transition orders, packet 41 (SUBSET-026, 7.4.2). NID_NTC is there exactly at
+-- The form of level transition orders, packet 41 (SUBSET-026, 7.4.2). NID_NTC is present only at
 -- level NTC. `transitions` is this project's: it names the list of levels by priority.
 use Rattle.std.specs.Prelude.{ℕ, ◌==◌, List, [], ◌∷◌, codes, refl}
 use Rattle.etcs_bits.specs.variables.Level.{level_numbered, m_level}

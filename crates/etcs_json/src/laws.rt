@@ -15,13 +15,13 @@ pub fn telegrams_have_forms_of_their_own()
 {}
 
 /// The form of a radio message is read as that message, if none of its numbers is spare and it
-/// holds the packet that it has to hold. Each value of `etcs_radio::Message` is such a message.
+/// contains the packet that it must contain. Each value of `etcs_radio::Message` is such a message.
 pub fn messages_are_read_again()
     ensures { MessagesAreReadAgain }
 {}
 
-/// Two radio messages with one form are equal, if none of their numbers is spare and each holds the
-/// packet that it has to hold.
+/// Two radio messages with one form are equal, if none of their numbers is spare and each contains
+/// the packet that it must contain.
 pub fn messages_have_forms_of_their_own()
     ensures { MessagesHaveFormsOfTheirOwn }
 {}

@@ -1,15 +1,13 @@
 //! Telegrams, radio messages and packets as JSON values, and JSON values as these.
 //!
-//! [`Form`] is what has a JSON form: `to_form` writes a value, and `of_form` reads one or answers a
-//! [`FormError`], the first fault with the way to it. A [`Record`] is a record whose form is an
-//! object. Each form is stated once, as a `Shape`: what is written, what is read, and that the one
-//! undoes the other (`specs/Shape.antt`). A writer of lines sends a form member by member
-//! ([`InPieces`]). Read `form.rt` and `record.rt` first, with `specs/Shape.antt` and
-//! `specs/TrackPackets.antt`, then `packets/track_form.rt`.
+//! A [`Form`] has `to_form`, which makes a JSON value, and `of_form`, which reads one or returns a
+//! [`FormError`], the first fault with its path. The form of a [`Record`] is an object. Each form is stated
+//! once, as a `Shape` of `etcs_schema`: what is written, what is read, and that reading what was written
+//! gives the same value. [`InPieces`] writes a form token by token. Read `form.rt` and `record.rt` first,
+//! with `specs/TrackPackets.antt`, then `packets/track_form.rt`.
 //!
-//! A form is read through a [`Node`], whatever holds the JSON value: a `serde_json::Value`, or the tape
-//! of tokens that [`JsonText::read`] makes of a text in less time. This crate leaves out the document
-//! of a railway line.
+//! A form is read from a [`Node`]: a value of `serde_json`, or the tape of tokens that [`JsonText::read`]
+//! makes from a text in less time. Documents of railway lines are in `etcs_document`.
 #![tactic(auto)]
 
 mod form;

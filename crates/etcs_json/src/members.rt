@@ -1,5 +1,5 @@
-//! Members of an object as one value: nested pairs. A chain of members is then sent or read by one
-//! call, and the proof of the chain is the one of a pair.
+//! Members of an object as one value: nested pairs. One call writes or reads a chain of members, and its
+//! proof is the proof for a pair.
 
 ghost use Rattle.std.specs.Prelude.{◌≡◌, ◌∷◌, ◌++◌, [], List, Some, Result, OnOk};
 ghost use Rattle.serde_json.specs.Data.{Data, array};
@@ -18,19 +18,19 @@ use etcs_schema::{FormError, Node, Step};
 use std::alloc::Global;
 use std::marker::Model;
 
-// ---- sending
+// ---- writing
 
 /// Members with their values.
 pub(crate) trait SendMembers {
     /// The members.
     ghost entries: { Self → List Entry };
 
-    /// Sends them one after the other. The only error is that memory runs out.
+    /// Writes them one after the other. Fails only if memory runs out.
     fn send<S: Sink>(&self, out: &mut S) -> Result<(), Memory>
         ensures { OnOk result (S.takes (entries self.now) out.old out.new) };
 
-    /// Sends them as `send` does. Its clause fits members that are equal to these, so that a caller
-    /// shows no more than that.
+    /// The same as `send`, stated for any entries that are equal to these, so that a caller proves only the
+    /// equation.
     #[inline(always)]
     final fn send_all<S: Sink>(&self, out: &mut S) -> Result<(), Memory>
         ensures { (es : List Entry) → es ≡ entries self.now
@@ -53,7 +53,7 @@ impl<T: InPieces> SendMembers for Member<'_, T> {
     }
 }
 
-/// A member that is left out if there is no value.
+/// A member that is omitted if there is no value.
 #[derive(Drop)]
 pub(crate) struct OptionalMember<'a, T>(pub(crate) &'static str, pub(crate) &'a Option<T>);
 
@@ -92,7 +92,7 @@ impl<T: InPieces> SendMembers for ListMember<'_, T> {
     }
 }
 
-/// A member that is a list, of a first item and further ones.
+/// A member that is a list of one or more items.
 #[derive(Drop)]
 pub(crate) struct NonEmptyMember<'a, T>(
     pub(crate) &'static str,
@@ -121,7 +121,7 @@ impl<A: SendMembers, B: SendMembers> SendMembers for (A, B) {
 
 // ---- reading
 
-/// What is read of a JSON value.
+/// A value that is read from a JSON value.
 pub(crate) trait FromNode: Drop {
     /// What reading gives.
     ghost reads: { Data → Result Self Fault };
@@ -176,7 +176,7 @@ impl<T: Form> FromNode for Listed<T> {
     }
 }
 
-/// A list of from 1 to 32 items: the first, and the further ones.
+/// A list of 1 to 32 items: the first, and the others.
 #[derive(Drop)]
 pub(crate) struct NonEmpty<T> {
     pub(crate) first: T,
@@ -203,7 +203,7 @@ impl<T: Form> FromNode for NonEmpty<T> {
     }
 }
 
-/// What is read of one or more members of an object.
+/// A value that is read from one or more members of an object.
 pub(crate) trait ReadMembers: Drop {
     /// The keys of the members.
     type Keys: Copy;
@@ -216,7 +216,7 @@ pub(crate) trait ReadMembers: Drop {
         ensures { Gives (λ x. x) result (reads keys (N.shows node.now)) };
 }
 
-// A member that has to be there. It is inlined, since a key that is constant is found in less time.
+// A required member. Inlined: a constant key is found in less time.
 impl<T: FromNode> ReadMembers for T {
     type Keys = &'static str;
 
@@ -230,7 +230,7 @@ impl<T: FromNode> ReadMembers for T {
     }
 }
 
-// A member that may be left out.
+// An optional member.
 impl<T: FromNode> ReadMembers for Option<T> {
     type Keys = &'static str;
 
@@ -275,21 +275,21 @@ macro_rules! pairs {
     ($first:expr, $($more:expr),+) => { ($first, $crate::members::pairs!($($more),+)) };
 }
 
-// Sends members in the byte order of their keys.
+// Writes members in the byte order of their keys.
 macro_rules! send_members {
     ($out:ident; $($member:expr),+ $(,)?) => {
         $crate::members::SendMembers::send_all(&$crate::members::pairs!($($member),+), $out)
     };
 }
 
-// Refuses what is no object, and an object with a key beside these, which stand in byte order.
+// Refuses a value that is not an object, and an object with another key. The keys are in byte order.
 macro_rules! check_members {
     ($alloc:ident, $node:ident; $($key:literal),+) => {
         $crate::record::check_record::<Self, N>($alloc, $node, &[$($key),+])?
     };
 }
 
-// The record of the fields that are there, in brackets, and of the members that were read.
+// The record of the fields in brackets and of the members that were read.
 macro_rules! make_record {
     ($record:ident, $found:ident; [$($done:tt)*] $field:ident) => {{
         let $field = $found;
@@ -301,7 +301,7 @@ macro_rules! make_record {
     }};
 }
 
-// Reads the fields of a record, each with its key, in the order in which the keys are looked for.
+// Reads the fields of a record, each at its key, in this order.
 macro_rules! read_record {
     ($record:ident, $alloc:ident, $node:ident; $($field:ident $key:expr),+ $(,)?) => {{
         let keys = $crate::members::pairs!($($key),+);

@@ -1,4 +1,4 @@
-//! How the parts of a form are read.
+//! Reading the parts of a form.
 
 ghost use Rattle.std.specs.Prelude.{◌≡◌, ◌==◌, ℕ, Bool, true, IfOk, IsOk};
 ghost use Rattle.etcs_schema.specs.Chosen.{any_object, first_at};
@@ -12,8 +12,8 @@ use etcs_schema::reading::{check_object, member, under};
 use etcs_schema::{FormError, Node, Step};
 use std::alloc::Global;
 
-/// Reads the member at a key that has to be there, whatever other keys the object has. It decides
-/// what the others are. A value that is no object is refused without memory.
+/// Reads the member that decides the form of an object, whatever other keys the object has. Refusing a value
+/// that is not an object allocates nothing.
 pub(crate) fn read_first<T: Form, N: Node>(
     alloc: Global,
     node: &N,
@@ -26,7 +26,7 @@ pub(crate) fn read_first<T: Form, N: Node>(
     T::read(alloc, node, name)
 }
 
-/// Reads the items of a list that are left, one after the other.
+/// Reads the remaining items of a list.
 pub(crate) fn read_items<T: Form, N: Node>(
     alloc: Global,
     items: N::Items,
@@ -48,7 +48,7 @@ pub(crate) fn read_items<T: Form, N: Node>(
     Ok(found)
 }
 
-/// Reads a list of from `low` to `high` items. Its count comes before its items.
+/// Reads a list of `low` to `high` items. The count is checked before the items.
 pub(crate) fn read_list<T: Form, N: Node>(
     alloc: Global,
     node: &N,
@@ -72,7 +72,7 @@ pub(crate) fn read_list<T: Form, N: Node>(
     }
 }
 
-/// Reads a list of from 1 to `high` items, as its first and the further ones.
+/// Reads a list of 1 to `high` items, as the first and the others.
 pub(crate) fn read_first_and<T: Form, N: Node>(
     alloc: Global,
     node: &N,
@@ -89,17 +89,17 @@ pub(crate) fn read_first_and<T: Form, N: Node>(
     Ok((first, items))
 }
 
-/// Some of the numbers of a variable.
+/// A type that allows some numbers of a variable.
 pub(crate) trait Numbers {
-    /// Which they are.
+    /// Whether a number is allowed.
     ghost test: { ℕ → Bool };
 
-    /// Whether a number is one of them.
+    /// The same, as code.
     fn has(number: u64) -> bool
         ensures { result ≡ test number };
 }
 
-// Reads one of these numbers.
+// Reads an allowed number.
 #[tactic(auto, unfolding(etcs_schema::specs::Reading::allowed_number))]
 fn number_in<T: Numbers, N: Node>(alloc: Global, node: &N) -> Result<u64, FormError>
     ensures gives { Gives (λ n. n) result (allowed_number T.test (N.shows node.now)) }
@@ -112,7 +112,7 @@ fn number_in<T: Numbers, N: Node>(alloc: Global, node: &N) -> Result<u64, FormEr
     }
 }
 
-/// Reads the member at a key that has to be there: one of these numbers.
+/// Reads a required member that must be an allowed number.
 #[tactic(auto, using(etcs_schema::proofs::Objects::member_read, etcs_schema::proofs::Objects::under_keeps))]
 pub(crate) fn read_number<T: Numbers, N: Node>(
     alloc: Global,

@@ -19,17 +19,17 @@ use std::alloc::Global;
 
 /// A record whose form is an object.
 pub trait Record: Drop {
-    /// The rows of its bits, and its members, in the order in which they are looked for.
+    /// The rows of its bits, and its members in the order in which they are read.
     ghost object: { Object Self };
 
-    /// The condition, in the record's own terms, that these rows are allowed. It always holds if
-    /// the record's types keep their numbers and lists in range.
+    /// The condition, in the record's own terms, that these rows are allowed. It always holds if the
+    /// record's types keep their numbers and lists in range.
     ghost bounded: { Self → Type 0 } = { λ _. Unit {0} };
 }
 
-/// A record of which can be proved that its rows are allowed.
+/// A record whose rows can be proved to be allowed.
 pub(crate) trait InRange: Record {
-    /// Does nothing when it runs; its contract is the proof that the rows are allowed.
+    /// Lemma without code: the rows are allowed.
     fn prove_in_range(&self)
         ensures { Self.bounded self.now → AreAllowed (Self.object.rows self.now) };
 }
@@ -47,29 +47,27 @@ impl<T: LayoutRecord> InRange for T {
     }
 }
 
-/// How the members of a record are sent and read.
+/// A record whose members can be written and read.
 pub(crate) trait Members: InRange {
-    /// Sends the members in the byte order of their keys.
+    /// Writes the members in the byte order of their keys.
     fn send_members<S: Sink>(&self, out: &mut S) -> Result<(), Memory>
         ensures { OnOk result (S.takes (sorted (Self.object.part.to self.now)) out.old out.new) };
 
-    /// Reads an object that has these members and no others. What is refused for its keys takes no memory.
+    /// Reads an object with only these members. Refusing its keys allocates nothing.
     fn of_members<N: Node>(alloc: Global, node: &N) -> Result<Self, FormError>
         ensures gives { Gives (λ x. x) result ((shape_of Self.object).of (N.shows node.now)) }
         ensures memory { IfMemory result
             (IsOk (object_with Self.object.part.keys (N.shows node.now))) };
 }
 
-/// Does nothing when it runs; its contract is the proof that each number of a record is allowed, as far as the
-/// record's types say so.
+/// Lemma without code: each number of a record is allowed, if the record's type ensures it.
 pub(crate) fn prove_allowed<T: Layout>(value: &T)
     ensures { T.fit value.now → AreAllowed (T.format.rows value.now) }
 {
     let _allowed = value.is_allowed();
 }
 
-/// Does nothing when it runs; its contract is the proof that each number of these records is allowed, if
-/// their type always says so.
+/// Lemma without code: each number of these records is allowed, if their type ensures it.
 #[tactic(auto, using(crate::proofs::FitLemmas::each_fits))]
 pub(crate) fn prove_all_allowed<T: Layout>(items: &[T])
     requires { (x : T) → T.fit x }
@@ -78,8 +76,8 @@ pub(crate) fn prove_all_allowed<T: Layout>(items: &[T])
     let _allowed = are_allowed(items);
 }
 
-/// Refuses what is no object, and an object with a key that the record does not have. Neither refusal
-/// takes memory. The keys of the record stand in byte order, in which most objects have them.
+/// Refuses a value that is not an object, and an object with a key that the record does not have. Refusing
+/// allocates nothing. The keys are in byte order, as in most objects.
 #[tactic(auto, using(etcs_schema::proofs::Keys::sorted_gives))]
 pub(crate) fn check_record<T: Record, N: Node>(
     alloc: Global,
@@ -103,7 +101,7 @@ impl<T: Members> Form for T {
     ghost asks = { λ d. IsOk (object_with T.object.part.keys d) };
 
     fn to_form(&self, alloc: Global) -> Result<Value, Memory> {
-        // For the proof alone: what is written is read again.
+        // Only for the proof that the form is read again.
         self.prove_in_range();
         let mut out = NewObject::new(alloc);
         self.send_members(&mut out)?;
@@ -123,7 +121,7 @@ impl<T: Members> InPieces for T {
         Ok(())
     }
 
-    // The body that the trait gives, written here too so that it is inlined: the key is then a constant.
+    // The default body again, so that it is inlined: the key is then a constant.
     #[inline(always)]
     fn send_at<M: Marks>(&self, name: &str, out: &mut M) -> Result<(), Memory> {
         out.token(Token::Key(name))?;

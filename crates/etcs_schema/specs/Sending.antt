@@ -44,10 +44,6 @@ pub record Adds (tokens : List Token) (old new : Written) : Type 0 where
   pub before : new.before ≡ old.before
   pub added : new.tokens ≡ old.tokens ++ tokens
 
--- this value was written
-abbrev pub SendsValue : Data → Written → Written → Type 0
-SendsValue d = Adds (tokens_of d)
-
 -- each item's tokens, without the brackets of the list
 abbrev pub each_tokens : {X : Type 0} → (X → Data) → List X → List Token
 each_tokens to [] = []

@@ -2,7 +2,7 @@
 //!
 //! A form is described once, as a `Shape`: what is written, what is read, and that reading what was written
 //! gives the same value (`specs/Shape.antt`). A form is read from a [`Node`]: a value of `serde_json`, or the
-//! tape of tokens that [`JsonText::read`] makes from a text in less time. It is written to [`Marks`]. A value
+//! tape of tokens that [`JsonText::read`] makes from a text in less time. It is written to a [`Marks`]. A value
 //! that is not a form has a [`FormError`], the first fault with its path.
 #![tactic(auto)]
 

@@ -21,7 +21,7 @@ fn comes_back<T: InPieces>(alloc: Global, text: &str) -> Result<bool, Fail> {
     let record = T::of_form(alloc, &value_of(alloc, text)?)?;
     let form = record.to_form(alloc)?;
     let mut out = Writer::new(Vec::new(alloc));
-    record.send(&mut out)?;
+    record.send_to(&mut out)?;
     let written = form.to_string(alloc).map_err(|_| "no memory")?;
     Ok(written.as_str() == text && out.into_inner().as_slice() == text.as_bytes())
 }

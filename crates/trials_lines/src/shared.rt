@@ -13,7 +13,7 @@ fn told<T: InPieces>(alloc: Global, read: Result<T, FormError>) -> Result<String
         Err(fault) => return Ok(format!(in alloc; "{fault}")?),
     };
     let mut out = Writer::new(Vec::new(alloc));
-    record.send(&mut out)?;
+    record.send_to(&mut out)?;
     match String::from_utf8(out.into_inner()) {
         Ok(text) => Ok(text),
         Err(_) => Err("no text was sent".into()),

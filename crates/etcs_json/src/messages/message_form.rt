@@ -34,7 +34,7 @@ impl Form for Message {
 
     #[tactic(auto, using(crate::proofs::LawLemmas::movement_again, crate::proofs::LawLemmas::position_again), unfolding(crate::specs::AnyMessage::message))]
     fn to_form(&self, alloc: Global) -> Result<Value, Memory> {
-        // Each kind is in range. That is for the proof alone: what is written is read again.
+        // Each kind is in range: only for the proof that the form is read again.
         match self {
             Message::Movement(message) => {
                 message.prove_in_range();

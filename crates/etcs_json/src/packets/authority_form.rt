@@ -55,7 +55,7 @@ fn packet_number(authority: &Authority) -> u64
     }
 }
 
-// Sends the members in the byte order of their keys.
+// Writes the members in the byte order of their keys.
 #[tactic(auto, unfolding(crate::specs::AuthoritySending::sent_members))]
 fn send_authority<S: Sink>(out: &mut S, authority: &Authority) -> Result<(), Memory>
     ensures { OnOk result (S.takes (sent_members authority.now) out.old out.new) }
@@ -145,7 +145,7 @@ impl Form for Authority {
 
     #[tactic(auto, using(crate::proofs::SumLemmas::made_of, crate::proofs::SumLemmas::authority_in_order, crate::proofs::SumLemmas::authority_sent, crate::proofs::LawLemmas::authority_again))]
     fn to_form(&self, alloc: Global) -> Result<Value, Memory> {
-        // For the proof alone: what is written is read again.
+        // Only for the proof that the form is read again.
         prove_allowed(self);
         let mut out = NewObject::new(alloc);
         send_authority(&mut out, self)?;

@@ -21,7 +21,7 @@ pub(crate) fn packet_length(head: u32, body: &Bits) -> u64
     u64::from(head) + body.len() as u64
 }
 
-// L_PACKET of a packet with `HEAD` bits before its body, which it counts too.
+// L_PACKET of a packet with `HEAD` bits before its body. It counts both.
 struct PacketLength<const HEAD: u32>;
 
 impl<const HEAD: u32> Numbers for PacketLength<HEAD> {

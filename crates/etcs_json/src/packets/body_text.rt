@@ -15,10 +15,10 @@ use hex::FromHexError;
 use std::alloc::Global;
 use std::marker::Model;
 
-// How many bits have little room made for them. A telegram has no longer body.
+// The most bits for which small buffers are enough. A telegram has no longer body.
 const FEW_BITS: usize = 1024;
 
-// The byte that eight bits make, the first of them at this place. Zeros follow the last bit.
+// The byte of the eight bits from `at` on. Zeros follow the last bit.
 #[inline]
 #[tactic(auto, using(etcs_schema::proofs::BodyTextLemmas::whole_byte, etcs_schema::proofs::BodyTextLemmas::last_byte, etcs_schema::proofs::BodyTextLemmas::byte_small))]
 fn byte_at(bits: &BitSlice<'_>, at: usize) -> u8
@@ -46,7 +46,7 @@ fn bytes_of<const BYTES: usize>(bits: &BitSlice<'_>) -> [u8; BYTES]
     bytes
 }
 
-// Sends the body, in room for `BYTES` bytes and for their digits.
+// Writes the body, with buffers for `BYTES` bytes and for their digits.
 fn send_in_room<const BYTES: usize, const DIGITS: usize, S: Sink>(
     out: &mut S,
     bits: &Bits,
@@ -108,7 +108,7 @@ fn is_padded(bytes: &[u8], count: usize) -> bool
     pads == 0 || BitSlice::of_bytes(bytes, whole).num(count, pads as u32) == 0
 }
 
-// The first bits of bytes. There are as many bytes as hold the bits, and no other bit is set.
+// The first bits of exactly as many bytes as these bits need. No other bit may be set.
 fn bits_in(alloc: Global, bytes: &[u8], count: usize) -> Result<Bits, FormError>
     requires { count ≤ 8170 }
     ensures gives { Gives (λ b. b) result (first_bits count bytes.now) }

@@ -40,7 +40,7 @@ pub(crate) fn confirmed_length(integrity: Integrity) -> Option<Distance>
     }
 }
 
-// L_TRAININT has to be there at Q_LENGTH 1 and 2, and nowhere else.
+// L_TRAININT is required at Q_LENGTH 1 and 2, and must be absent otherwise.
 impl ReadMembers for Integrity {
     type Keys = ();
 

@@ -22,7 +22,7 @@ pub(crate) fn national_system_of(level: Level) -> Option<Plain<8>>
     }
 }
 
-// The key is that of the level's number. NID_NTC has to be there at level NTC, and nowhere else.
+// The key of the level's number. NID_NTC is required at level NTC, and must be absent otherwise.
 impl ReadMembers for Level {
     type Keys = &'static str;
 

@@ -19,7 +19,7 @@ use etcs_packet::RawPacket;
 use etcs_schema::{FormError, Node};
 use std::alloc::Global;
 
-// How many bits stand before the body: NID_PACKET, Q_DIR and L_PACKET.
+// The bits before the body: NID_PACKET, Q_DIR and L_PACKET.
 const HEAD_BITS: u32 = 23;
 
 impl Numbers for RawPacket {

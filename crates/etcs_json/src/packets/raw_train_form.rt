@@ -19,7 +19,7 @@ use etcs_radio::RawTrainPacket;
 use etcs_schema::{FormError, Node};
 use std::alloc::Global;
 
-// How many bits stand before the body: NID_PACKET and L_PACKET.
+// The bits before the body: NID_PACKET and L_PACKET.
 const HEAD_BITS: u32 = 21;
 
 impl Numbers for RawTrainPacket {

@@ -41,7 +41,7 @@ type WithTwo = (Scale, (Identity, (Identity, Situation)));
 
 // ---- reading
 
-// The keys are those of the country and of the number.
+// The keys of the country and of the number.
 impl ReadMembers for Identity {
     type Keys = (&'static str, &'static str);
 
@@ -56,7 +56,7 @@ impl ReadMembers for Identity {
     }
 }
 
-// The keys of a packet in byte order, of which packet 0 lacks those of the group before.
+// The keys of a packet in byte order. Packet 0 lacks the keys of the previous group.
 macro_rules! keys_with {
     ($($previous:literal),*) => {
         &[
@@ -74,7 +74,7 @@ impl Record for WithTwo {
     ghost object = { whole (with_number with_two) };
 }
 
-// Reads the members behind the groups.
+// Reads the members after the groups.
 #[tactic(auto, unfolding(crate::specs::Report::situation))]
 fn read_situation<N: Node>(alloc: Global, node: &N) -> Result<Situation, FormError>
     ensures { Gives (λ s. s) result (situation.of (N.shows node.now)) }
@@ -146,7 +146,7 @@ pub(crate) fn read_two<N: Node>(alloc: Global, node: &N) -> Result<Report, FormE
     Ok(report_with(Some(previous), scale, lrbg, situation))
 }
 
-// Sends the members up to NID_PACKET, in the byte order of their keys.
+// Writes the members up to NID_PACKET, in the byte order of their keys.
 #[tactic(auto, unfolding(crate::specs::ReportSending::first_members))]
 fn send_first<S: Sink>(out: &mut S, report: &Report) -> Result<(), Memory>
     ensures { OnOk result (S.takes (first_members report.now) out.old out.new) }
@@ -165,7 +165,7 @@ fn send_first<S: Sink>(out: &mut S, report: &Report) -> Result<(), Memory>
     )
 }
 
-// Sends the members after NID_PACKET.
+// Writes the members after NID_PACKET.
 #[tactic(auto, unfolding(crate::specs::ReportSending::last_members))]
 fn send_last<S: Sink>(out: &mut S, report: &Report) -> Result<(), Memory>
     ensures { OnOk result (S.takes (last_members report.now) out.old out.new) }
@@ -182,7 +182,7 @@ fn send_last<S: Sink>(out: &mut S, report: &Report) -> Result<(), Memory>
     )
 }
 
-// Sends all members.
+// Writes all members.
 fn send_report<S: Sink>(out: &mut S, report: &Report) -> Result<(), Memory>
     ensures { OnOk result (S.takes (sent_members report.now) out.old out.new) }
 {
@@ -204,7 +204,7 @@ impl Form for Report {
 
     #[tactic(auto, using(crate::proofs::SumLemmas::made_of, crate::proofs::SumLemmas::report_in_order, crate::proofs::SumLemmas::report_sent, crate::proofs::LawLemmas::report_again))]
     fn to_form(&self, alloc: Global) -> Result<Value, Memory> {
-        // For the proof alone: what is written is read again.
+        // Only for the proof that the form is read again.
         prove_allowed(self);
         let mut out = NewObject::new(alloc);
         send_report(&mut out, self)?;

@@ -14,7 +14,7 @@ use etcs_schema::{FormError, Node};
 use std::alloc::Global;
 use std::marker::Model;
 
-// The sections before the end section, of which there are at most 31.
+// The sections before the end section, at most 31.
 #[derive(Drop)]
 struct Sections {
     value: Vec<Section>,

@@ -33,7 +33,7 @@ use etcs_schema::{FormError, Marks, Node};
 use serde_json::Value;
 use std::alloc::Global;
 
-// Sends the members of a packet of elements. `name` is the key of the list of its elements.
+// Writes the members of a packet of elements. `name` is the key of the list of its elements.
 fn send_profile<const N: u32, T: InPieces + Layout, S: Sink>(
     out: &mut S,
     name: &'static str,
@@ -54,7 +54,7 @@ fn send_profile<const N: u32, T: InPieces + Layout, S: Sink>(
     )
 }
 
-// The packet of these elements. It is refused where it has more than 8,191 bits.
+// The packet of these elements. It is refused if it has more than 8,191 bits.
 fn packet_of<const N: u32, T: Form + Layout>(
     alloc: Global,
     dir: Dir,
@@ -74,7 +74,7 @@ fn packet_of<const N: u32, T: Form + Layout>(
     }
 }
 
-// Reads the members of a packet of elements behind its number.
+// Reads the members of a packet of elements after its number.
 fn read_profile<const K: u32, T: Form + Layout, N: Node>(
     alloc: Global,
     node: &N,
@@ -284,7 +284,7 @@ impl Members for SpeedProfile {
 
 // ---- the packet of a number
 
-// What `$value` gives of the packet's own record, whichever kind it is.
+// Evaluates `$value` for the record of the packet.
 macro_rules! of_each {
     ($this:expr, $packet:ident => $value:expr) => {
         match $this {
@@ -299,7 +299,7 @@ macro_rules! of_each {
     };
 }
 
-// The form of a packet is that of its own record.
+// A packet has the form of its record.
 #[tactic(auto, using(crate::proofs::SumLemmas::authority_to), unfolding(crate::specs::Cover::cover_marker))]
 fn form_of(alloc: Global, packet: &TrackPacket) -> Result<Value, Memory>
     ensures { IfOk result (λ v. view v ≡ track_packet.to packet.now) }
@@ -319,7 +319,7 @@ impl Form for TrackPacket {
     ghost asks = { λ d. IsOk (any_object d) };
 
     fn to_form(&self, alloc: Global) -> Result<Value, Memory> {
-        // For the proof alone: what is written is read again.
+        // Only for the proof that the form is read again.
         prove_allowed(self);
         form_of(alloc, self)
     }

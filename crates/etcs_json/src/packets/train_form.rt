@@ -14,7 +14,7 @@ use etcs_schema::{FormError, Marks, Node};
 use serde_json::Value;
 use std::alloc::Global;
 
-// The form of a packet is that of its own record.
+// A packet has the form of its record.
 #[tactic(auto, using(crate::proofs::SumLemmas::report_to))]
 fn form_of(alloc: Global, packet: &TrainPacket) -> Result<Value, Memory>
     ensures { IfOk result (λ v. view v ≡ train_packet.to packet.now) }
@@ -38,7 +38,7 @@ impl Form for TrainPacket {
 
     #[tactic(auto, using(crate::proofs::LawLemmas::train_again))]
     fn to_form(&self, alloc: Global) -> Result<Value, Memory> {
-        // For the proof alone: what is written is read again.
+        // Only for the proof that the form is read again.
         prove_allowed(self);
         form_of(alloc, self)
     }

@@ -1,4 +1,4 @@
-//! How members are put into an object.
+//! An object in memory that is built member by member.
 
 ghost use Rattle.std.specs.Prelude.{◌≡◌, IfOk, OnOk};
 ghost use Rattle.serde_json.specs.Data.{no_members, object, put as with_member};
@@ -11,7 +11,7 @@ use etcs_bits::Memory;
 use serde_json::{Map, Value, put};
 use std::alloc::Global;
 
-/// An object that is made in memory, member by member.
+/// An object that is built member by member.
 #[derive(Drop)]
 pub(crate) struct NewObject {
     alloc: Global,
@@ -19,7 +19,7 @@ pub(crate) struct NewObject {
 }
 
 impl NewObject {
-    /// An object with no member.
+    /// An object without members.
     pub(crate) fn new(alloc: Global) -> NewObject
         ensures { members_view result.members.entries ≡ no_members }
     {
@@ -37,7 +37,7 @@ impl NewObject {
         Value::Object(members)
     }
 
-    // Puts a member into the object.
+    // Inserts a member.
     fn put(&mut self, name: &str, value: Value) -> Result<(), Memory>
         ensures { OnOk result (members_view self.new.members.entries
             ≡ with_member name.now (view value) (members_view self.old.members.entries)) }

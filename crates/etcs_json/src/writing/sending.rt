@@ -1,4 +1,4 @@
-//! How members are sent to what takes marks.
+//! Members as tokens.
 
 ghost use Rattle.std.specs.Prelude.{OnOk};
 ghost use Rattle.etcs_schema.specs.Sending.{each_tokens, entries_tokens};
@@ -9,7 +9,7 @@ use etcs_bits::Memory;
 use etcs_schema::Marks;
 use json::Token;
 
-// Sends items one after the other, without the marks of a list.
+// Writes items one after the other, without the brackets of a list.
 fn send_items<M: Marks, T: InPieces>(out: &mut M, items: &[T]) -> Result<(), Memory>
     ensures { OnOk result (M.adds (each_tokens T.shape.to items.now) out.old out.new) }
 {

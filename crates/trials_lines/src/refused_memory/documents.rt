@@ -90,7 +90,7 @@ fn tape<T: InPieces>(alloc: Global, form: &str) -> Answer {
     };
     let record = T::of_node(alloc, &json.root())?;
     let mut out = Writer::new(Vec::new(alloc));
-    record.send(&mut out)?;
+    record.send_to(&mut out)?;
     Ok(out.into_inner().as_slice() == form.as_bytes())
 }
 
@@ -99,7 +99,7 @@ fn form<T: InPieces>(alloc: Global, form: &str) -> Answer {
     let record = T::of_form(alloc, &value_of(alloc, form)?)?;
     let value = record.to_form(alloc)?;
     let mut out = Writer::new(Vec::new(alloc));
-    record.send(&mut out)?;
+    record.send_to(&mut out)?;
     let sent = out.into_inner();
     let text = value.to_string(alloc).map_err(|_| LineError::Memory)?;
     Ok(text.as_str() == form && sent.as_slice() == form.as_bytes())

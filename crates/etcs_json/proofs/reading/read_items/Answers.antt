@@ -5,7 +5,7 @@ use Rattle.etcs_json.proofs.reading.read_items.Goals as goal
 pub items-init : goal.items-init
 items-init g c = front_none g.T.Form.shape.of (g.N.Node.rest c.args.items) _ c.new-found.ensures.items
 
--- the fault stands at the first item that is not read
+-- the fault is at the first item that is not read
 pub returns-in-Err : goal.returns-in-Err
 returns-in-Err g c =
     let place : c.len.result ≡ length c.items.found.items = omega (arith, c.len.ensures) in

@@ -3,7 +3,7 @@ use Rattle.etcs_schema.proofs.SendingLemmas.{sent_as}
 use Rattle.etcs_json.proofs.SumLemmas.{authority_sent}
 use Rattle.etcs_json.proofs.packets.authority_form.AuthorityInPieces.send_to.Goals as goal
 
--- the members between the two marks of an object
+-- the members between braces
 pub returns : goal.returns
 returns g c =
     let x = c.args.self.now in
