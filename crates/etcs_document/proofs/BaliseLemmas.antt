@@ -10,7 +10,7 @@ use Rattle.etcs_document.proofs.ValueLemmas.{each_at, list_read, stands}
 use Rattle.etcs_document.specs.Document.{◌then◌, as_values, aspect_telegrams, balise_telegram, controlled_group, document_group, document_list, group_aspect, group_path, has_count, in_form, line_groups, listed_aspects, only_aspect, only_values, other_aspects, read_indexed, with_first}
 use Rattle.etcs_document.specs.DocumentFault.{bad_aspects, bad_count, bad_telegram}
 use Rattle.etcs_schema.specs.Fault.{Step}
-use Rattle.etcs_schema.specs.Reading.{at_key, object_with}
+use Rattle.etcs_schema.specs.Reading.{required_member, only_keys}
 use Rattle.etcs_document.specs.Verdict.{IsOnlyRecord, aspect_object, balise_text, item_text}
 use Rattle.etcs_group.specs.Places.{At}
 use Rattle.etcs_telegram.proofs.LawLemmas as telegrams
@@ -38,7 +38,7 @@ some_and P o x is h = rw is h
 -- a group was read from the balises of this object, as balises of group g or of aspect a of it
 abbrev IsReadOf : ℕ → Option ℕ → Data → List Telegram → Type 0
 IsReadOf g a e group =
-    (es : List Data) × (at_key as_values (codes "balises") e ≡ Ok es) × (read_indexed (balise_telegram g a) 0 es ≡ Ok group)
+    (es : List Data) × (required_member as_values (codes "balises") e ≡ Ok es) × (read_indexed (balise_telegram g a) 0 es ≡ Ok group)
 
 counted_ok : (g : ℕ) (a first : Option ℕ) (ds : List Data) (group : List Telegram) → aspect_telegrams g a first ds ≡ Ok group → read_indexed (balise_telegram g a) 0 ds ≡ Ok group
 unfolding aspect_telegrams
@@ -46,9 +46,9 @@ counted_ok g a first ds group is =
     let few = if_ok (nat_lt 0 (length ds) && nat_le (length ds) 8) _ (bad_count g) group is in
     (if_ok (has_count first (length ds)) (read_indexed (balise_telegram g a) 0 ds) (bad_aspects g) group few.1).1
 
-only_ok : (path : List Step) (name : List ℕ) (e : Data) (es : List Data) → in_form path (only_values name e) ≡ Ok es → at_key as_values name e ≡ Ok es
+only_ok : (path : List Step) (name : List ℕ) (e : Data) (es : List Data) → in_form path (only_values name e) ≡ Ok es → required_member as_values name e ≡ Ok es
 unfolding only_values
-only_ok path name e es is = (part_ok (object_with (name ∷ []) e) (λ _. at_key as_values name e) es (form_ok path (only_values name e) es is)).2
+only_ok path name e es is = (part_ok (only_keys (name ∷ []) e) (λ _. required_member as_values name e) es (form_ok path (only_values name e) es is)).2
 
 aspect_read : (g : ℕ) (first a : Option ℕ) (e : Data) (group : List Telegram) → group_aspect g first a e ≡ Ok group → IsReadOf g a e group
 unfolding group_aspect

@@ -15,9 +15,9 @@ use Rattle.etcs_document.proofs.TokenLemmas.{converted-object, converted_some, i
 use Rattle.etcs_document.specs.Document.{◌then◌, as_values, aspect_telegrams, balise_telegram, controlled_group, document_group, document_message, group_aspect, group_path, has_count, in_form, listed_aspects, only_aspect, only_values, read_indexed}
 use Rattle.etcs_document.specs.DocumentFault.{DocumentFault, bad_message, bad_telegram}
 use Rattle.etcs_document.specs.DocumentTokens.{AreBalises, AreEach, AreFirst, HasGroup, IsAspect, IsAspects, IsBalises, IsFirst, IsGroup, IsList, IsMessage, IsOnlyAspect, IsTelegram}
-use Rattle.etcs_schema.specs.Entries.{Entry, members_onto, object_of}
-use Rattle.etcs_schema.specs.Fault.{Kind, here, key as key_step, under}
-use Rattle.etcs_schema.specs.Reading.{at_key, data_list, object_with}
+use Rattle.etcs_schema.specs.Entries.{Entry, with_entries, entries_object}
+use Rattle.etcs_schema.specs.Fault.{Kind, here, key as key_step, prefixed_result}
+use Rattle.etcs_schema.specs.Reading.{required_member, data_list, only_keys}
 use Rattle.etcs_group.specs.Controlled.{IsControlled}
 use Rattle.etcs_group.specs.Places.{At}
 use Rattle.etcs_document.specs.Tokens.{HasMembers, first_value, prepend_items}
@@ -93,17 +93,17 @@ list_taken Is depth old begun ended new xs deep begins some ends = record {
 
 -- the members between the braces of an object
 pub object_stands : (depth : ℕ) (es : List Entry) (old begun ended new : List Token) → 0 < depth → old ≡ Token.begin_object ∷ begun → HasMembers (depth - 1) es begun ended → read_key ended ≡ Some (None, new)
-    → first_value depth old ≡ Some (object_of es, new)
+    → first_value depth old ≡ Some (entries_object es, new)
 object_stands depth es old begun ended new deep begins stand ends =
     let p = value (depth - 1) in
     let turn = stand.one_by_one no_members (length begun) (omega arith) in
-    let over = ap (converted (λ r. of_members r (members_onto no_members es))) (members_end p turn.0 ended new turn.1 ends) in
+    let over = ap (converted (λ r. of_members r (with_entries no_members es))) (members_end p turn.0 ended new turn.1 ends) in
     ap (λ ts. first_value depth ts) begins ∙ ap (converted of_json) (value-begin_object depth begun deep)
     ∙ converted-object (members p (length begun) begun) ∙ ap (parse_map object) (turn.2 ∙ over)
 
 -- the object with one key
 abbrev with_key : List ℕ → Data → Data
-with_key name d = object_of ((name, Some d) ∷ [])
+with_key name d = entries_object ((name, Some d) ∷ [])
 
 -- ---- balises and aspects
 
@@ -136,12 +136,12 @@ balises_taken depth old ts new one some few =
     record { found = one.found; stands = one.stands; is = (one.is.0, list_values one.is.0 one.found one.is.1, balises_are one.is.0 ts one.is.2 fits) }
 
 balises_key : (d : Data) (ds : List Data) → as_values d ≡ Ok ds → only_values (codes "balises") (with_key (codes "balises") d) ≡ Ok ds
-unfolding only_values object_with at_key
-balises_key d ds is = ap (under (key_step (codes "balises"))) is
+unfolding only_values only_keys required_member
+balises_key d ds is = ap (prefixed_result (key_step (codes "balises"))) is
 
 aspects_key : (d : Data) (ds : List Data) → as_values d ≡ Ok ds → only_values (codes "aspects") (with_key (codes "aspects") d) ≡ Ok ds
-unfolding only_values object_with at_key
-aspects_key d ds is = ap (under (key_step (codes "aspects"))) is
+unfolding only_values only_keys required_member
+aspects_key d ds is = ap (prefixed_result (key_step (codes "aspects"))) is
 
 -- an aspect
 pub aspect_taken : (depth : ℕ) (old begun mid after : List Token) (ts : List Telegram) (new : List Token) → 0 < depth → old ≡ Token.begin_object ∷ begun → read_key begun ≡ Some (Some (codes "balises"), mid)

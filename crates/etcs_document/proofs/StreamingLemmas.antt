@@ -13,9 +13,9 @@ use Rattle.etcs_document.proofs.DocumentTokenLemmas.{each_read, first_more, list
 use Rattle.etcs_document.proofs.TokenLemmas.{converted_some, key_stands, then_stand}
 use Rattle.etcs_document.specs.Document.{◌then◌, document_group, document_line, document_message, in_form, json_value, line_groups, line_messages, line_of_text, read_indexed}
 use Rattle.etcs_document.specs.DocumentTokens.{AreFirst, AreTaken, HasLine, IsChecked, IsFirst, IsGroup, IsList, IsMessage, TakesEach}
-use Rattle.etcs_schema.specs.Entries.{Entry, object_of}
-use Rattle.etcs_schema.specs.Fault.{key as key_step, under}
-use Rattle.etcs_schema.specs.Reading.{at_key, object_with}
+use Rattle.etcs_schema.specs.Entries.{Entry, entries_object}
+use Rattle.etcs_schema.specs.Fault.{key as key_step, prefixed_result}
+use Rattle.etcs_schema.specs.Reading.{required_member, only_keys}
 use Rattle.etcs_document.specs.Tokens.{HasMembers, first_value}
 use Rattle.etcs_document.specs.Verdict.{Summary, judged, summary, summary_of_text}
 use Rattle.etcs_radio.specs.declared.message.Message.{Message}
@@ -67,22 +67,22 @@ module _ {X : Type 0} (Is : Data → X → Type 0) (Takes : CheckerState → X �
 
 -- the document with these values at its two keys
 abbrev document_of : Data → Data → Data
-document_of g m = object_of ((codes "groups", Some g) ∷ (codes "messages", Some m) ∷ [])
+document_of g m = entries_object ((codes "groups", Some g) ∷ (codes "messages", Some m) ∷ [])
 
 groups_read : (d e : Data) (gs : List (List (List Telegram))) → IsList IsGroup d gs → line_groups (document_of d e) ≡ Ok gs
-unfolding line_groups at_key
+unfolding line_groups required_member
 groups_read d e gs is =
-    ap (λ r. in_form [] (under (key_step (codes "groups")) r) then read_indexed document_group 0) (list_values is.0 d is.1)
+    ap (λ r. in_form [] (prefixed_result (key_step (codes "groups")) r) then read_indexed document_group 0) (list_values is.0 d is.1)
     ∙ each_read IsGroup document_group (λ d g is n. is n) 0 is.0 gs is.2
 
 messages_read : (d e : Data) (ms : List Message) → IsList IsMessage e ms → line_messages (document_of d e) ≡ Ok ms
-unfolding line_messages at_key
+unfolding line_messages required_member
 messages_read d e ms is =
-    ap (λ r. in_form [] (under (key_step (codes "messages")) r) then read_indexed document_message 0) (list_values is.0 e is.1)
+    ap (λ r. in_form [] (prefixed_result (key_step (codes "messages")) r) then read_indexed document_message 0) (list_values is.0 e is.1)
     ∙ each_read IsMessage document_message (λ d m is n. is n) 0 is.0 ms is.2
 
 line_read : (d e : Data) (gs : List (List (List Telegram))) (ms : List Message) → IsList IsGroup d gs → IsList IsMessage e ms → document_line (document_of d e) ≡ Ok (gs, ms)
-unfolding document_line object_with
+unfolding document_line only_keys
 line_read d e gs ms groups messages =
     ap (λ r. r then λ x. line_messages (document_of d e) then λ y. Ok (x, y)) (groups_read d e gs groups) ∙ ap (λ r. r then λ y. Ok (gs, y)) (messages_read d e ms messages)
 
@@ -93,8 +93,8 @@ two_stand depth k l d e old a b c new first one second two =
     then_stand depth (k, Some d) ((l, Some e) ∷ []) old b new (key_stands depth k d old a b first one) (key_stands depth l e b c new second two)
 
 -- what a checker took of two lists is the line of these members, in either order
-line_checked : (es : List Entry) (d e : Data) (gs : List (List (List Telegram))) (ms : List Message) (state : CheckerState) → object_of es ≡ document_of d e → IsList IsGroup d gs → IsList IsMessage e ms
-    → HasChecked state gs ms → IsChecked (object_of es) state
+line_checked : (es : List Entry) (d e : Data) (gs : List (List (List Telegram))) (ms : List Message) (state : CheckerState) → entries_object es ≡ document_of d e → IsList IsGroup d gs → IsList IsMessage e ms
+    → HasChecked state gs ms → IsChecked (entries_object es) state
 line_checked es d e gs ms state same g m checked = record {
   groups = gs;
   messages = ms;
@@ -130,7 +130,7 @@ module _ (depth : ℕ) (old a b c new : List Token) (was mid kept : CheckerState
 pub document_taken : (depth : ℕ) (old begun ended : List Token) (kept : CheckerState) (new : List Token) → 0 < depth → old ≡ Token.begin_object ∷ begun → HasLine (depth - 1) begun kept ended → read_key ended ≡ Some (None, new)
     → IsFirst IsChecked depth old kept new
 document_taken depth old begun ended kept new deep begins has ends = record {
-  found = object_of has.entries;
+  found = entries_object has.entries;
   stands = object_stands depth has.entries old begun ended new deep begins has.stand ends;
   is = has.is;
 }

@@ -8,15 +8,15 @@ use Rattle.serde_json.specs.Find.{as_array, at, get, get_item}
 use Rattle.etcs_document.proofs.ResultLemmas.{first_ok, not_ok, same_ok, then_ok}
 use Rattle.etcs_document.specs.Document.{as_values, read_indexed, with_first}
 use Rattle.etcs_document.specs.DocumentFault.{DocumentFault}
-use Rattle.etcs_schema.specs.Fault.{Kind, Step, here, key, under}
-use Rattle.etcs_schema.specs.Reading.{at_key, data_list, key_or}
+use Rattle.etcs_schema.specs.Fault.{Kind, Step, here, key, prefixed_result}
+use Rattle.etcs_schema.specs.Reading.{required_member, data_list, key_or}
 use Rattle.etcs_group.specs.Places.{At}
 
 -- ---- lists at keys
 
-values_in : (step : Step) (o : Option Items) (ds : List Data) → under step (ok_or (option_map data_list o) (here Kind)) ≡ Ok ds → (items : Items) × (o ≡ Some items) × (data_list items ≡ ds)
-values_in step None ds is = absurd (not_ok _ ds (under step (Err (here Kind))) refl is)
-values_in step (Some items) ds is = (items, refl, same_ok (data_list items) ds (under step (Ok (data_list items))) refl is)
+values_in : (step : Step) (o : Option Items) (ds : List Data) → prefixed_result step (ok_or (option_map data_list o) (here Kind)) ≡ Ok ds → (items : Items) × (o ≡ Some items) × (data_list items ≡ ds)
+values_in step None ds is = absurd (not_ok _ ds (prefixed_result step (Err (here Kind))) refl is)
+values_in step (Some items) ds is = (items, refl, same_ok (data_list items) ds (prefixed_result step (Ok (data_list items))) refl is)
 
 abbrev pub IsListAt : List ℕ → Option Data → List Data → Type 0
 IsListAt name o ds = (v : Data) × (items : Items) × (o ≡ Some v) × (as_array v ≡ Some items) × (data_list items ≡ ds)
@@ -27,8 +27,8 @@ list_found name None ds is = absurd (not_ok _ ds (key_or as_values name None) re
 list_found name (Some v) ds is = let found = values_in (key name) (as_array v) ds is in (v, found.0, refl, found.1, found.2)
 
 -- a list that was read at a key
-pub list_read : (name : List ℕ) (d : Data) (ds : List Data) → at_key as_values name d ≡ Ok ds → IsListAt name (get name d) ds
-unfolding at_key
+pub list_read : (name : List ℕ) (d : Data) (ds : List Data) → required_member as_values name d ≡ Ok ds → IsListAt name (get name d) ds
+unfolding required_member
 list_read name d ds is = list_found name (get name d) ds is
 
 item_at : (k : ℕ) (items : Items) (x : Data) → At (data_list items) k x → get_item k items ≡ Some x

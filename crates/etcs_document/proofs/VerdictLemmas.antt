@@ -9,7 +9,7 @@ use Rattle.etcs_document.proofs.ResultLemmas.{form_ok, same_ok, text_ok, then_ok
 use Rattle.etcs_document.proofs.ValueLemmas.{each_at, list_read, stands}
 use Rattle.etcs_document.specs.Document.{◌then◌, document_line, document_list, document_message, in_form, json_value, line_groups, line_messages, line_of_text, read_indexed}
 use Rattle.etcs_document.specs.DocumentFault.{bad_message}
-use Rattle.etcs_schema.specs.Reading.{object_with}
+use Rattle.etcs_schema.specs.Reading.{only_keys}
 use Rattle.etcs_document.specs.Verdict.{AreMixturesDecided, IsOnlyRecord, IsReachedMessage, SaysYes, message_text}
 use Rattle.etcs_group.specs.Laws.{IsDecided}
 use Rattle.etcs_group.specs.Missed.{IsSetOf}
@@ -55,7 +55,7 @@ line_read bytes line is = then_ok (json_value bytes) document_line line is
 pub parts_read : (d : Data) (groups : List (List (List Telegram))) (ms : List Message) → document_line d ≡ Ok (groups, ms) → (line_groups d ≡ Ok groups) × (line_messages d ≡ Ok ms)
 unfolding document_line
 parts_read d groups ms is =
-    let form = in_form [] (object_with (codes "groups" ∷ codes "messages" ∷ []) d) in
+    let form = in_form [] (only_keys (codes "groups" ∷ codes "messages" ∷ []) d) in
     let first = then_ok (form then λ _. line_groups d) (λ gs. line_messages d then λ xs. Ok (gs, xs)) (groups, ms) is in
     let before = then_ok form (λ _. line_groups d) first.0 first.1 in
     let last = then_ok (line_messages d) (λ xs. Ok (first.0, xs)) (groups, ms) first.2 in

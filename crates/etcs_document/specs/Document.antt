@@ -11,7 +11,7 @@ use Rattle.serde_json.specs.Find.{as_array, as_str, get}
 use Rattle.serde_json.specs.Read.{read}
 use Rattle.etcs_document.specs.DocumentFault.{DocumentFault, bad_aspects, bad_count, bad_form, bad_message, bad_telegram, no_json}
 use Rattle.etcs_schema.specs.Fault.{Fault, Kind, Step, fault, here, key, list_item}
-use Rattle.etcs_schema.specs.Reading.{◌>>=◌, at_key, data_list, object_with}
+use Rattle.etcs_schema.specs.Reading.{◌>>=◌, required_member, data_list, only_keys}
 use Rattle.etcs_radio.specs.TextMeaning.{message_of_text}
 use Rattle.etcs_radio.specs.declared.message.Message.{Message}
 use Rattle.etcs_telegram.specs.Record.{Telegram}
@@ -52,7 +52,7 @@ text_or path read bad o =
 
 -- the list at this key of an object without other keys
 unfoldable pub only_values : List ℕ → Data → Result (List Data) Fault
-only_values name d = object_with (name ∷ []) d >>= λ _. at_key as_values name d
+only_values name d = only_keys (name ∷ []) d >>= λ _. required_member as_values name d
 
 -- ---- balises
 
@@ -126,7 +126,7 @@ json_value bytes = if is_utf8 bytes then ok_or (read bytes) no_json else Err no_
 
 -- the values in the list at a key of the document
 abbrev pub document_list : List ℕ → Data → Result (List Data) DocumentFault
-document_list name d = in_form [] (at_key as_values name d)
+document_list name d = in_form [] (required_member as_values name d)
 
 -- the groups of a document, and the messages
 unfoldable pub line_groups : Data → Result (List Aspects) DocumentFault
@@ -138,7 +138,7 @@ line_messages d = document_list (codes "messages") d then read_indexed document_
 -- the line of a document: an object with the two keys; the groups, and then the messages
 unfoldable pub document_line : Data → Result (List Aspects × List Message) DocumentFault
 document_line d =
-    in_form [] (object_with (codes "groups" ∷ codes "messages" ∷ []) d)
+    in_form [] (only_keys (codes "groups" ∷ codes "messages" ∷ []) d)
     then (λ _. line_groups d)
     then (λ groups. line_messages d then λ messages. Ok (groups, messages))
 

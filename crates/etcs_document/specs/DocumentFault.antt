@@ -1,7 +1,7 @@
 -- The faults of bytes that are not the document of a railway line. Groups, aspects, balises
 -- and messages count from 0.
 use Rattle.std.specs.Prelude.{◌≡◌, ℕ, Option, Some, None, Result, Ok, Err, IsSomeAnd}
-use Rattle.etcs_schema.specs.Fault.{Fault, fault_of}
+use Rattle.etcs_schema.specs.Fault.{Fault, error_fault}
 use Rattle.etcs_schema.specs.declared.error.FormError.{FormError}
 use Rattle.etcs_schema.specs.declared.error.FormError.TheVariants as forms
 use Rattle.etcs_document.specs.declared.line_error.LineError.{LineError}
@@ -33,7 +33,7 @@ pub data DocumentFault : Type 0 where
 abbrev pub Fails : {Y : Type 0} → LineError → Result Y DocumentFault → Type 0
 Fails errors.Memory reading = Unit {0}
 Fails errors.NotJson reading = reading ≡ Err no_json
-Fails (errors.Form e) reading = IsSomeAnd (fault_of e) (λ f. reading ≡ Err (bad_form f))
+Fails (errors.Form e) reading = IsSomeAnd (error_fault e) (λ f. reading ≡ Err (bad_form f))
 Fails (errors.Count g) reading = reading ≡ Err (bad_count g)
 Fails (errors.Aspects g) reading = reading ≡ Err (bad_aspects g)
 Fails (errors.Telegram g b texts.Memory) reading = ⊥

@@ -6,7 +6,7 @@ use Rattle.json.specs.Token.{Token}
 use Rattle.serde_json.specs.Data.{Data, array, no_items}
 use Rattle.etcs_check.specs.LineChecker.{CheckerState, HasChecked}
 use Rattle.etcs_document.specs.Document.{as_values, aspect_telegrams, balise_telegram, document_group, document_line, document_message, has_count, listed_aspects, only_values}
-use Rattle.etcs_schema.specs.Entries.{Entry, object_of}
+use Rattle.etcs_schema.specs.Entries.{Entry, entries_object}
 use Rattle.etcs_document.specs.Tokens.{HasItems, HasMembers, first_value, prepend_items}
 use Rattle.etcs_radio.specs.declared.message.Message.{Message}
 use Rattle.etcs_telegram.specs.Record.{Telegram}
@@ -79,7 +79,7 @@ pub record HasGroup (depth : ℕ) (old : List Token) (aspects : Aspects) (new : 
   pub name : List ℕ
   pub found : Data
   pub stand : HasMembers depth ((name, Some found) ∷ []) old new
-  pub is : IsGroup (object_of ((name, Some found) ∷ [])) aspects
+  pub is : IsGroup (entries_object ((name, Some found) ∷ [])) aspects
 
 -- ---- what was passed to a checker
 
@@ -108,4 +108,4 @@ pub record IsChecked (d : Data) (state : CheckerState) : Type 0 where
 pub record HasLine (depth : ℕ) (old : List Token) (state : CheckerState) (new : List Token) : Type 0 where
   pub entries : List Entry
   pub stand : HasMembers depth entries old new
-  pub is : IsChecked (object_of entries) state
+  pub is : IsChecked (entries_object entries) state

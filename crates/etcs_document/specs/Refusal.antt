@@ -7,7 +7,7 @@ use Rattle.etcs_telegram.specs.declared.error.TextError.{TextError}
 use Rattle.etcs_telegram.specs.declared.error.TextError.TheVariants as texts
 use Rattle.etcs_radio.specs.declared.error.RadioTextError.{RadioTextError}
 use Rattle.etcs_radio.specs.declared.error.RadioTextError.TheVariants as radio
-use Rattle.etcs_schema.specs.Fault.{Fault, Reason, Missing, Unknown, Kind, Range, fault_of}
+use Rattle.etcs_schema.specs.Fault.{Fault, Reason, Missing, Unknown, Kind, Range, error_fault}
 use Rattle.etcs_schema.specs.Path.{path_words}
 use Rattle.etcs_schema.specs.declared.error.FormError.{FormError}
 use Rattle.etcs_document.specs.declared.line_error.LineError.{LineError}
@@ -49,7 +49,7 @@ form_fault_words f = codes "form " ++ (reason_words f.reason ++ (codes " at " ++
 
 -- the words of the error's fault, if it has one
 abbrev pub form_words : FormError → List ℕ
-form_words e = option_map_or form_fault_words (fault_of e) []
+form_words e = option_map_or form_fault_words (error_fault e) []
 
 -- ---- the lines
 

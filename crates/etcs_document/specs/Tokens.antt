@@ -4,7 +4,7 @@ use Rattle.json.specs.Json.{items, members, value}
 use Rattle.json.specs.Token.{Token}
 use Rattle.serde_json.specs.Data.{Data, Items, Members, item}
 use Rattle.serde_json.specs.Read.{converted, of_items, of_json, of_members}
-use Rattle.etcs_schema.specs.Entries.{Entry, members_onto}
+use Rattle.etcs_schema.specs.Entries.{Entry, with_entries}
 
 -- ---- one value
 
@@ -18,7 +18,7 @@ first_value depth tokens = converted of_json (value depth tokens)
 pub record HasMembers (depth : ℕ) (es : List Entry) (old new : List Token) : Type 0 where
   pub one_by_one : (ms : Members) (turns : ℕ) → length old ≤ turns → (left : ℕ) × (length new ≤ left)
       × (converted (λ r. of_members r ms) (members (value depth) turns old)
-      ≡ converted (λ r. of_members r (members_onto ms es)) (members (value depth) left new))
+      ≡ converted (λ r. of_members r (with_entries ms es)) (members (value depth) left new))
 
 -- ---- the items of a list
 

@@ -3,8 +3,8 @@
 ghost use Rattle.std.specs.Prelude.{map};
 ghost use Rattle.serde_json.specs.View.{view};
 ghost use Rattle.etcs_document.specs.Document.{as_values, only_values};
-ghost use Rattle.etcs_schema.specs.Fault.{Gives};
-ghost use Rattle.etcs_schema.specs.Reading.{at_key};
+ghost use Rattle.etcs_schema.specs.Fault.{Returns};
+ghost use Rattle.etcs_schema.specs.Reading.{required_member};
 
 use etcs_schema::{FormError, Step, check_keys};
 use serde_json::Value;
@@ -13,7 +13,7 @@ use std::alloc::Global;
 // The values of a list.
 #[tactic(auto, using(etcs_schema::proofs::AnyList::data_items), unfolding(crate::specs::Document::as_values))]
 fn values<'a>(alloc: Global, value: &'a Value) -> Result<&'a [Value], FormError>
-    ensures { Gives (λ vs. map view vs.now) result (as_values (view value.now)) }
+    ensures { Returns (λ vs. map view vs.now) result (as_values (view value.now)) }
 {
     match value.as_array() {
         None => Err(FormError::kind(alloc)),
@@ -22,13 +22,13 @@ fn values<'a>(alloc: Global, value: &'a Value) -> Result<&'a [Value], FormError>
 }
 
 /// The values in the list at a required key.
-#[tactic(auto, using(etcs_schema::proofs::Objects::fails_as, etcs_schema::proofs::Objects::fails_under), unfolding(etcs_schema::specs::Reading::at_key))]
+#[tactic(auto, using(etcs_schema::proofs::Objects::fails_as, etcs_schema::proofs::Objects::fails_under), unfolding(etcs_schema::specs::Reading::required_member))]
 pub(crate) fn values_at<'a>(
     alloc: Global,
     value: &'a Value,
     name: &'static str,
 ) -> Result<&'a [Value], FormError>
-    ensures { Gives (λ vs. map view vs.now) result (at_key as_values name.now (view value.now)) }
+    ensures { Returns (λ vs. map view vs.now) result (required_member as_values name.now (view value.now)) }
 {
     match value.get(name) {
         None => Err(FormError::missing(alloc, name)),
@@ -46,7 +46,7 @@ pub(crate) fn only_values<'a>(
     value: &'a Value,
     name: &'static str,
 ) -> Result<&'a [Value], FormError>
-    ensures { Gives (λ vs. map view vs.now) result (only_values name.now (view value.now)) }
+    ensures { Returns (λ vs. map view vs.now) result (only_values name.now (view value.now)) }
 {
     check_keys(alloc, &value, &[name])?;
     values_at(alloc, value, name)

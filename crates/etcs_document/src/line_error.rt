@@ -3,7 +3,7 @@
 ghost use Rattle.std.specs.Prelude.{◌≡◌, ◌++◌, IfSome, IsSomeAnd};
 ghost use Rattle.etcs_document.specs.Document.{group_path};
 ghost use Rattle.etcs_document.specs.DocumentFault.{IsOfForm};
-ghost use Rattle.etcs_schema.specs.Fault.{fault, fault_of};
+ghost use Rattle.etcs_schema.specs.Fault.{fault, error_fault};
 ghost use Rattle.etcs_document.specs.declared.line_error.LineError.TheVariants as errors;
 
 use etcs_bits::Memory;
@@ -65,7 +65,7 @@ impl From<FormError> for LineError {
 
 /// The same fault, with its path prefixed with the path of its group and aspect.
 pub(crate) fn in_group(error: FormError, group: usize, aspect: Option<usize>) -> FormError
-    ensures { IfSome (fault_of result) (λ f. IsSomeAnd (fault_of error)
+    ensures { IfSome (error_fault result) (λ f. IsSomeAnd (error_fault error)
         (λ inner. f ≡ fault inner.reason (group_path group aspect ++ inner.path))) }
 {
     match aspect {

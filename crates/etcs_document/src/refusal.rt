@@ -1,7 +1,7 @@
 //! `Refusal`: why an input is refused, and the text of the refusal.
 
 ghost use Rattle.std.specs.Prelude.{◌≡◌, ◌++◌, codes, map, string_bytes, IfOk};
-ghost use Rattle.etcs_schema.specs.Fault.{step_of};
+ghost use Rattle.etcs_schema.specs.Fault.{step_view};
 ghost use Rattle.etcs_schema.specs.Path.{path_words};
 ghost use Rattle.etcs_document.specs.Refusal.{document_words, form_words, line_words, radio_words, refusal_words, stream_words, text_words};
 
@@ -76,7 +76,7 @@ fn radio_reason(alloc: Global, why: &RadioTextError) -> Result<String, AllocErro
 // The fault of a form, and its path.
 fn form_text(alloc: Global, reason: &str, path: &[Step]) -> Result<String, AllocError>
     ensures { IfOk result (λ s. string_bytes s
-        ≡ codes "form " ++ (reason.now ++ (codes " at " ++ path_words (map step_of path.now)))) }
+        ≡ codes "form " ++ (reason.now ++ (codes " at " ++ path_words (map step_view path.now)))) }
 {
     let path = Path(path);
     format!(in alloc; "form {reason} at {path}")

@@ -9,5 +9,5 @@ pub use etcs_document::{
     Checked, LineError, LineFault, Refusal, StreamFault, Verdict, check_in_order, check_text,
     read_line, refusal_text, report, report_counts,
 };
-pub use etcs_json::{Form, InPieces, Record};
-pub use etcs_schema::{FormError, JsonError, JsonText, Node, Step, TapeItems, TapeNode};
+pub use etcs_json::{Form, Record, WriteJson};
+pub use etcs_schema::{FormError, JsonError, JsonValue, ParsedJson, Step, TapeItems, TapeValue};

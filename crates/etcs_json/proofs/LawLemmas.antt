@@ -26,7 +26,7 @@ use Rattle.etcs_json.specs.Authority.{authority}
 use Rattle.etcs_json.specs.Laws.{IsMessageInRange, IsTelegramInRange}
 use Rattle.etcs_json.specs.Messages.{movement_rows, position_rows}
 use Rattle.etcs_json.specs.Report.{lrbg_allowed, report}
-use Rattle.etcs_schema.specs.Shape.{allowed_append}
+use Rattle.etcs_schema.specs.Codec.{allowed_append}
 use Rattle.etcs_json.specs.Telegrams.{telegram_rows}
 use Rattle.etcs_json.specs.TrackPackets.{track_packet}
 use Rattle.etcs_json.specs.TrainPackets.{train_packet}

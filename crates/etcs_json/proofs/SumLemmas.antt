@@ -13,52 +13,52 @@ use Rattle.etcs_radio.specs.TrainPacket.{report_in, train_of}
 use Rattle.etcs_radio.specs.declared.report.Report.{Report}
 use Rattle.etcs_radio.specs.declared.train_packet.TrainPacket.TheVariants as train
 use Rattle.etcs_json.specs.Authority.{authority, either_authority, end_parts, terms, with_main, without_main}
-use Rattle.etcs_json.specs.AuthoritySending.{sent_members}
-use Rattle.etcs_schema.specs.Chosen.{with_number}
+use Rattle.etcs_json.specs.AuthorityWriting.{written_members}
+use Rattle.etcs_schema.specs.Choices.{with_number}
 use Rattle.etcs_json.specs.Cover.{cover, cover_marker}
-use Rattle.etcs_schema.specs.Entries.{Entry, members_onto}
+use Rattle.etcs_schema.specs.Entries.{Entry, with_entries}
 use Rattle.etcs_schema.specs.Fault.{Fault}
-use Rattle.etcs_schema.specs.Reading.{◌>>=◌, as_kind, object_with}
+use Rattle.etcs_schema.specs.Reading.{◌>>=◌, as_kind, only_keys}
 use Rattle.etcs_json.specs.Report.{either_report, report, situation, with_one, with_two}
-use Rattle.etcs_json.specs.ReportSending.{first_members as report_first, last_members as report_last, sent_members as sent_report}
-use Rattle.etcs_schema.specs.Shape.{object}
+use Rattle.etcs_json.specs.ReportWriting.{first_members as report_first, last_members as report_last, written_members as sent_report}
+use Rattle.etcs_schema.specs.Codec.{object}
 use Rattle.etcs_json.specs.TrackPackets.{track_numbered, track_packet}
 use Rattle.etcs_json.specs.TrainPackets.{train_numbered, train_packet}
 use Rattle.etcs_schema.proofs.SortedLemmas.{made_members, members_of}
 
 -- an empty object after inserting members in the byte order of their keys
-pub made_of : (es : List Entry) (old new : Members) (d e : Data) → members_onto no_members es ≡ members_of es → object_data (members_of es) ≡ e
-    → old ≡ no_members → new ≡ members_onto old es → d ≡ object_data new → d ≡ e
+pub made_of : (es : List Entry) (old new : Members) (d e : Data) → with_entries no_members es ≡ members_of es → object_data (members_of es) ≡ e
+    → old ≡ no_members → new ≡ with_entries old es → d ≡ object_data new → d ≡ e
 made_of es old new d e in_order same none made is =
-    is ∙ ap object_data (made ∙ ap (λ ms. members_onto ms es) none ∙ in_order) ∙ same
+    is ∙ ap object_data (made ∙ ap (λ ms. with_entries ms es) none ∙ in_order) ∙ same
 
 -- ---- a movement authority
 
-authority_sent_by : (main : Option ℕ) (a : AuthorityValue) → object_data (members_of (sent_members (authority_value a.dir a.scale main a.terms))) ≡ either_authority.to (authority_by main a)
-unfolding sent_members with_main without_main terms end_parts
-authority_sent_by None a = ap object_data (sym (made_members ((with_number without_main).part.to (a.dir, (a.scale, a.terms))) refl))
-authority_sent_by (Some v) a = ap object_data (sym (made_members ((with_number with_main).part.to (a.dir, (a.scale, (v, a.terms)))) refl))
+authority_sent_by : (main : Option ℕ) (a : AuthorityValue) → object_data (members_of (written_members (authority_value a.dir a.scale main a.terms))) ≡ either_authority.to (authority_by main a)
+unfolding written_members with_main without_main terms end_parts
+authority_sent_by None a = ap object_data (sym (made_members ((with_number without_main).members.to (a.dir, (a.scale, a.terms))) refl))
+authority_sent_by (Some v) a = ap object_data (sym (made_members ((with_number with_main).members.to (a.dir, (a.scale, (v, a.terms)))) refl))
 
-pub authority_sent : (a : AuthorityValue) → object_data (members_of (sent_members a)) ≡ authority.to a
+pub authority_sent : (a : AuthorityValue) → object_data (members_of (written_members a)) ≡ authority.to a
 unfolding authority
 authority_sent a = authority_sent_by a.main a
 
-pub authority_in_order : (a : AuthorityValue) → members_onto no_members (sent_members a) ≡ members_of (sent_members a)
-unfolding sent_members
-authority_in_order a = made_members (sent_members a) refl
+pub authority_in_order : (a : AuthorityValue) → with_entries no_members (written_members a) ≡ members_of (written_members a)
+unfolding written_members
+authority_in_order a = made_members (written_members a) refl
 
 -- ---- a position report
 
 report_sent_by : (previous : Option Identity) (r : Report) → object_data (members_of (sent_report (report_with previous r.scale r.lrbg (situation_of r)))) ≡ either_report.to (report_by previous r)
 unfolding report_first report_last with_one with_two situation alone
-report_sent_by None r = ap object_data (sym (made_members ((with_number with_one).part.to (r.scale, (r.lrbg, situation_of r))) refl))
-report_sent_by (Some previous) r = ap object_data (sym (made_members ((with_number with_two).part.to (r.scale, (r.lrbg, (previous, situation_of r)))) refl))
+report_sent_by None r = ap object_data (sym (made_members ((with_number with_one).members.to (r.scale, (r.lrbg, situation_of r))) refl))
+report_sent_by (Some previous) r = ap object_data (sym (made_members ((with_number with_two).members.to (r.scale, (r.lrbg, (previous, situation_of r)))) refl))
 
 pub report_sent : (r : Report) → object_data (members_of (sent_report r)) ≡ report.to r
 unfolding report
 report_sent r = report_sent_by r.previous r
 
-pub report_in_order : (r : Report) → members_onto no_members (sent_report r) ≡ members_of (sent_report r)
+pub report_in_order : (r : Report) → with_entries no_members (sent_report r) ≡ members_of (sent_report r)
 unfolding report_first report_last
 report_in_order r = made_members (sent_report r) refl
 
@@ -120,4 +120,4 @@ cover_as (Err f) = refl
 
 pub cover_read : (d : Data) → as_kind track_of (track_numbered.of 0 d) ≡ as_kind track.Cover ((object cover_marker).of d)
 unfolding cover_marker
-cover_read d = cover_as _ ∙ ap (as_kind track.Cover) (sym (cover_to_same (object_with (with_number cover).part.keys d) ((with_number cover).part.of d) _))
+cover_read d = cover_as _ ∙ ap (as_kind track.Cover) (sym (cover_to_same (only_keys (with_number cover).members.keys d) ((with_number cover).members.of d) _))

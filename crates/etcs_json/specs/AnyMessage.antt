@@ -5,20 +5,20 @@ use Rattle.etcs_radio.specs.Head.{nid_message}
 use Rattle.etcs_radio.specs.Record.{Movement, Position}
 use Rattle.etcs_radio.specs.declared.message.Message.{Message}
 use Rattle.etcs_radio.specs.declared.message.Message.TheVariants as messages
-use Rattle.etcs_schema.specs.Chosen.{Choice, by_kind, chosen, either, last}
+use Rattle.etcs_schema.specs.Choices.{Choice, by_kind, chosen, either, last}
 use Rattle.etcs_json.specs.Messages.{movement, position}
-use Rattle.etcs_schema.specs.Shape.{Shape, renamed}
+use Rattle.etcs_schema.specs.Codec.{Codec, renamed}
 use Rattle.etcs_json.specs.TrackPackets.{track_packet}
 use Rattle.etcs_json.specs.TrainPackets.{train_packet}
 
-abbrev pub message_of : Movement ⊎ Position → Message
-message_of m = by_kind messages.Movement messages.Position m
+abbrev pub either_message : Movement ⊎ Position → Message
+either_message m = by_kind messages.Movement messages.Position m
 
-abbrev pub kinds_of : Message → Movement ⊎ Position
-kinds_of (messages.Movement m) = inl m
-kinds_of (messages.Position m) = inr m
+abbrev pub message_kinds : Message → Movement ⊎ Position
+message_kinds (messages.Movement m) = inl m
+message_kinds (messages.Position m) = inr m
 
-pub message_again : (m : Message) → message_of (kinds_of m) ≡ m
+pub message_again : (m : Message) → either_message (message_kinds m) ≡ m
 message_again (messages.Movement m) = refl
 message_again (messages.Position m) = refl
 
@@ -27,5 +27,5 @@ abbrev pub numbered : Choice (codes "nid_message") nid_message (Movement ⊎ Pos
 numbered = either (movement track_packet) (last (position train_packet)) refl
 
 -- NID_MESSAGE is read first: 3 or 136
-unfoldable pub message : Shape Message
-message = renamed message_of kinds_of message_again (chosen (codes "nid_message") numbered.allows numbered (λ v _. numbered.is_number v))
+unfoldable pub message : Codec Message
+message = renamed either_message message_kinds message_again (chosen (codes "nid_message") numbered.allows numbered (λ v _. numbered.is_number v))

@@ -9,7 +9,7 @@ use Rattle.etcs_radio.specs.Message.{is_complete, packet_rows}
 use Rattle.etcs_radio.specs.declared.message.Message.{Message}
 use Rattle.etcs_radio.specs.declared.message.Message.TheVariants as messages
 use Rattle.etcs_json.specs.AnyMessage.{message}
-use Rattle.etcs_schema.specs.Shape.{object}
+use Rattle.etcs_schema.specs.Codec.{object}
 use Rattle.etcs_json.specs.Telegrams.{telegram}
 
 -- ---- telegrams

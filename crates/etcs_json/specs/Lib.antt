@@ -1,12 +1,12 @@
 pub mod Cover
 pub mod Transition
 pub mod Authority
-pub mod AuthoritySending
+pub mod AuthorityWriting
 pub mod Raw
 pub mod RawTrain
 pub mod TrackPackets
 pub mod Report
-pub mod ReportSending
+pub mod ReportWriting
 pub mod Messages
 pub mod TrainPackets
 pub mod Telegrams

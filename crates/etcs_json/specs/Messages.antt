@@ -9,10 +9,10 @@ use Rattle.etcs_radio.specs.Head.{m_ack, nid_engine, t_train}
 use Rattle.etcs_radio.specs.Record.{Movement, Position}
 use Rattle.etcs_radio.specs.Required.{has_authority, has_report}
 use Rattle.etcs_radio.specs.declared.train_packet.TrainPacket.{TrainPacket}
-use Rattle.etcs_schema.specs.Chosen.{BehindNumber, behind}
+use Rattle.etcs_schema.specs.Choices.{NumberedMembers, numbered_members}
 use Rattle.etcs_schema.specs.Fault.{Fault, Range, at_once, key as key_step}
-use Rattle.etcs_schema.specs.Listed.{holding, listed, rows_holding}
-use Rattle.etcs_schema.specs.Shape.{Shape, key, named, ◌then◌}
+use Rattle.etcs_schema.specs.Lists.{holding, listed, rows_holding}
+use Rattle.etcs_schema.specs.Codec.{Codec, key, named, ◌then◌}
 use Rattle.etcs_schema.specs.Variables.{flag, number}
 
 -- the fault of a message without the packet that its kind must contain
@@ -20,28 +20,28 @@ abbrev pub no_packet : Fault
 no_packet = at_once Range (key_step (codes "packets"))
 
 -- its rows after the number, in the order of the keys
-abbrev pub movement_rows : Shape TrackPacket → Movement → List Row
+abbrev pub movement_rows : Codec TrackPacket → Movement → List Row
 movement_rows packet =
     rows_holding (λ m. has_authority m.packets) (λ m. pair_rows t_train.rows (pair_rows m_ack.rows (pair_rows nid_c.rows (pair_rows nid_bg.rows (flat_map packet.rows))))
     (m.time, (m.ack, (m.lrbg.country, (m.lrbg.group, m.packets)))))
 
 -- message 3: a packet 15 is among its packets
-unfoldable pub movement : (packet : Shape TrackPacket) → BehindNumber (codes "nid_message") 3 (movement_rows packet)
+unfoldable pub movement : (packet : Codec TrackPacket) → NumberedMembers (codes "nid_message") 3 (movement_rows packet)
 movement packet =
-    behind (holding no_packet (λ m. has_authority m.packets) (named
+    numbered_members (holding no_packet (λ m. has_authority m.packets) (named
     (λ p. record { time = p.0; ack = p.1.0; lrbg = record { country = p.1.1.0; group = p.1.1.1.0 }; packets = p.1.1.1.1 })
     (λ m. (m.time, (m.ack, (m.lrbg.country, (m.lrbg.group, m.packets)))))
     (λ _. refl)
     (key (codes "t_train") (number t_train.fields) then key (codes "m_ack") flag then key (codes "nid_c") (number nid_c.fields)
     then key (codes "nid_bg") (number nid_bg.fields) then key (codes "packets") (listed packet)))) refl
 
-abbrev pub position_rows : Shape TrainPacket → Position → List Row
+abbrev pub position_rows : Codec TrainPacket → Position → List Row
 position_rows packet = rows_holding (λ m. has_report m.packets) (λ m. pair_rows t_train.rows (pair_rows nid_engine.rows (flat_map packet.rows)) (m.time, (m.engine, m.packets)))
 
 -- message 136: a packet 0 or 1 is among its packets
-unfoldable pub position : (packet : Shape TrainPacket) → BehindNumber (codes "nid_message") 136 (position_rows packet)
+unfoldable pub position : (packet : Codec TrainPacket) → NumberedMembers (codes "nid_message") 136 (position_rows packet)
 position packet =
-    behind (holding no_packet (λ m. has_report m.packets) (named
+    numbered_members (holding no_packet (λ m. has_report m.packets) (named
     (λ p. record { time = p.0; engine = p.1.0; packets = p.1.1 })
     (λ m. (m.time, (m.engine, m.packets)))
     (λ _. refl)

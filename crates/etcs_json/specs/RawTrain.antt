@@ -4,15 +4,15 @@ use Rattle.std.specs.Prelude.{codes, refl}
 use Rattle.etcs_radio.specs.FoundRaw.{raw_with}
 use Rattle.etcs_radio.specs.TrainNumbers.{nid_raw}
 use Rattle.etcs_radio.specs.RawTrain.{raw_again, raw_train_packet as raw_layout}
-use Rattle.etcs_schema.specs.Measured.{measured}
-use Rattle.etcs_schema.specs.Shape.{ObjectOf, closed, key, named, ◌then◌}
+use Rattle.etcs_schema.specs.CountedBody.{counted_body}
+use Rattle.etcs_schema.specs.Codec.{ObjectMembers, closed, key, named, ◌then◌}
 use Rattle.etcs_schema.specs.Variables.{variable}
 
 -- a train packet whose number is neither a position report's nor the end mark's; 8 bits precede L_PACKET
-unfoldable pub raw_train_packet : ObjectOf raw_layout.rows
+unfoldable pub raw_train_packet : ObjectMembers raw_layout.rows
 raw_train_packet =
     closed (named
     (λ p. raw_with p.0 p.1)
     (λ r. (r.number, r.body))
     raw_again
-    (key (codes "nid_packet") (variable nid_raw) then measured 8)) refl
+    (key (codes "nid_packet") (variable nid_raw) then counted_body 8)) refl

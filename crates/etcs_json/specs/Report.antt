@@ -12,15 +12,15 @@ use Rattle.etcs_radio.specs.Report.{WithOne, WithTwo, again, d_lrbg, l_doubtover
 use Rattle.etcs_bits.specs.variables.Train3.{train3_names, train3_number, train3_of, train3_variable}
 use Rattle.etcs_radio.specs.declared.report.Report.{Report}
 use Rattle.etcs_bits.specs.declared.variables.train3.Train3.{Train3}
-use Rattle.etcs_schema.specs.Chosen.{Choice, behind, chosen, either, last}
+use Rattle.etcs_schema.specs.Choices.{Choice, numbered_members, chosen, either, last}
 use Rattle.etcs_schema.specs.Head.{Packet}
-use Rattle.etcs_schema.specs.KeyedVariables.{HasKeys, keys_by, variables_at}
-use Rattle.etcs_schema.specs.Shape.{Part, Shape, key, renamed, sized, struct, with_bits, ◌then◌}
+use Rattle.etcs_schema.specs.KeyedVariables.{HasKeys, keys_by, keyed_variables}
+use Rattle.etcs_schema.specs.Codec.{MemberCodec, Codec, key, renamed, sized, struct, with_bits, ◌then◌}
 use Rattle.etcs_json.specs.Transition.{level}
 use Rattle.etcs_schema.specs.Variables.{is_allowed, named_numbers, number, scale}
 
 -- the identity of a group, as its country and its number there
-abbrev pub identity : List ℕ → List ℕ → Part identity_layout.rows
+abbrev pub identity : List ℕ → List ℕ → MemberCodec identity_layout.rows
 identity country group = struct identity_struct (key country (number nid_c.fields) then key group (number nid_bg.fields))
 
 -- a group whose bits are one number of 24 bits
@@ -32,24 +32,24 @@ lrbg_allowed i allowed =
     ((omega (arith, whole), refl), ((omega (arith, rest), refl), tt))
 
 -- NID_LRBG or NID_PRVLRBG, as its country and its number there
-abbrev pub lrbg : List ℕ → List ℕ → Part lrbg_rows
+abbrev pub lrbg : List ℕ → List ℕ → MemberCodec lrbg_rows
 lrbg country group = with_bits lrbg_rows lrbg_allowed (identity country group)
 
 -- Q_DIRLRBG, Q_DLRBG and Q_DIRTRAIN: a direction or a side, as seen from the group
-abbrev pub side : Shape Train3
+abbrev pub side : Codec Train3
 side = named_numbers train3_variable train3_number train3_of train3_names
 
 pub length_keys : (n : ℕ) → HasKeys (length_numbered.next n) (codes "l_trainint" ∷ [])
 length_keys n = keys_by _ _ _ (n == 0) tt (keys_by _ _ _ (n == 1) (λ _. tt) (keys_by _ _ _ (n == 2) (λ _. tt) tt))
 
 -- Q_LENGTH, and L_TRAININT at 1 and 2: whether the train is complete, and its length
-abbrev pub integrity : Part q_length.rows
-integrity = variables_at (codes "q_length" ∷ codes "l_trainint" ∷ []) q_length length_keys
+abbrev pub integrity : MemberCodec q_length.rows
+integrity = keyed_variables (codes "q_length" ∷ codes "l_trainint" ∷ []) q_length length_keys
 
 -- ---- the members after the groups
 
 -- where the train is, as seen from the group; whether it is complete, how it runs, in which mode and level
-unfoldable pub situation : Part situation_layout.rows
+unfoldable pub situation : MemberCodec situation_layout.rows
 situation =
     key (codes "d_lrbg") (number d_lrbg.fields) then key (codes "q_dirlrbg") side then key (codes "q_dlrbg") side
     then key (codes "l_doubtover") (number l_doubtover.fields) then key (codes "l_doubtunder") (number l_doubtunder.fields) then integrity then key (codes "v_train") (number v_train.fields)
@@ -60,13 +60,13 @@ situation =
 -- packet 0
 unfoldable pub with_one : Packet 0 with_one_layout.rows
 unfolding situation
-with_one = behind (sized 8 (key (codes "q_scale") scale then lrbg (codes "nid_c") (codes "nid_bg") then situation)) refl
+with_one = numbered_members (sized 8 (key (codes "q_scale") scale then lrbg (codes "nid_c") (codes "nid_bg") then situation)) refl
 
 -- packet 1: the previous group comes after the group
 unfoldable pub with_two : Packet 1 with_two_layout.rows
 unfolding situation
 with_two =
-    behind (sized 8 (key (codes "q_scale") scale then lrbg (codes "nid_c") (codes "nid_bg")
+    numbered_members (sized 8 (key (codes "q_scale") scale then lrbg (codes "nid_c") (codes "nid_bg")
     then lrbg (codes "prv_nid_c") (codes "prv_nid_bg") then situation)) refl
 
 -- packet 0 or 1
@@ -78,5 +78,5 @@ either_nid (inl p) = refl
 either_nid (inr p) = refl
 
 -- a position report; NID_PACKET is read first
-unfoldable pub report : Shape Report
+unfoldable pub report : Codec Report
 report = renamed report_of numbered_of again (chosen (codes "nid_packet") (is_allowed (plain 1)) either_report (λ v _. either_nid v))

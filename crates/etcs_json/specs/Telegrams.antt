@@ -11,10 +11,10 @@ use Rattle.etcs_telegram.specs.Record.{Telegram}
 use Rattle.etcs_telegram.specs.Sizes.{user_bits}
 use Rattle.etcs_telegram.specs.declared.size.Size.{Size}
 use Rattle.etcs_telegram.specs.declared.size.Size.TheVariants.{Short, Long}
-use Rattle.etcs_schema.specs.Listed.{listed}
+use Rattle.etcs_schema.specs.Lists.{listed}
 use Rattle.etcs_schema.specs.Reading.{as_kind, allowed_number}
 use Rattle.etcs_json.specs.Report.{identity}
-use Rattle.etcs_schema.specs.Shape.{ObjectOf, Part, Shape, closed, key, named, number_again, number_data, struct, unstated, ◌then◌}
+use Rattle.etcs_schema.specs.Codec.{ObjectMembers, MemberCodec, Codec, closed, key, named, number_again, number_data, struct, unstated, ◌then◌}
 use Rattle.etcs_json.specs.TrackPackets.{track_packet}
 use Rattle.etcs_schema.specs.Variables.{duplicate, flag, number, version}
 
@@ -23,28 +23,28 @@ abbrev pub is_size : ℕ → Bool
 is_size n = (n == 210) || (n == 830)
 
 -- the size of a telegram of 210 or 830 user bits
-abbrev pub size_with : ℕ → Size
-size_with n = if n == 210 then Short else Long
+abbrev pub size_from_bits : ℕ → Size
+size_from_bits n = if n == 210 then Short else Long
 
 pub is_one : (s : Size) → is_size (user_bits s) ≡ true
 is_one Short = refl
 is_one Long = refl
 
-pub size_again : (s : Size) → size_with (user_bits s) ≡ s
+pub size_again : (s : Size) → size_from_bits (user_bits s) ≡ s
 size_again Short = refl
 size_again Long = refl
 
 -- a size, as its number of user bits (SUBSET-036, 4.3)
-abbrev pub size : Shape Size
+abbrev pub size : Codec Size
 size = record {
   rows = λ _. [];
   to = λ s. number_data (user_bits s);
-  of = λ d. as_kind size_with (allowed_number is_size d);
-  again = λ s _. ap (as_kind size_with) (number_again is_size (user_bits s) (is_one s)) ∙ ap Ok (size_again s);
+  of = λ d. as_kind size_from_bits (allowed_number is_size d);
+  again = λ s _. ap (as_kind size_from_bits) (number_again is_size (user_bits s) (is_one s)) ∙ ap Ok (size_again s);
 }
 
 -- the header; the bits have Q_UPDOWN and Q_MEDIA too
-unfoldable pub header : Part header_layout.rows
+unfoldable pub header : MemberCodec header_layout.rows
 header =
     struct header_struct
     (unstated (only_number 1 1 Downlink) 1 (key (codes "m_version") version
@@ -56,7 +56,7 @@ abbrev pub telegram_rows : Telegram → List Row
 telegram_rows t = header_layout.rows t.header ++ flat_map track_layout.rows t.packets
 
 -- a telegram with any number of packets, also with more than fit its size
-unfoldable pub telegram : ObjectOf telegram_rows
+unfoldable pub telegram : ObjectMembers telegram_rows
 unfolding header
 telegram =
     closed (named

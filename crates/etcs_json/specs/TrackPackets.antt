@@ -14,11 +14,11 @@ use Rattle.etcs_profile.specs.declared.raw.RawPacket.{RawPacket}
 use Rattle.etcs_profile.specs.declared.track.TrackPacket.{TrackPacket}
 use Rattle.etcs_profile.specs.PacketNumbers.{nid_raw, nid_track}
 use Rattle.etcs_profile.specs.Raw.{other_of, others as other_bits}
-use Rattle.etcs_schema.specs.Chosen.{behind, Choice, HasNumber, begins_with, chosen, either, others}
+use Rattle.etcs_schema.specs.Choices.{numbered_members, Choice, HasNumber, begins_with, chosen, either, others}
 use Rattle.etcs_schema.specs.Fault.{Fault, Range, here}
 use Rattle.etcs_schema.specs.Head.{Packet, headed, scaled, nid_range}
-use Rattle.etcs_schema.specs.Reading.{◌>>=◌, at_key}
-use Rattle.etcs_schema.specs.Shape.{ObjectOf, Part, both_of, closed, first_and_others, key, key_if, list, list_from_one, object, only, struct, within, ◌then◌, Shape, renamed}
+use Rattle.etcs_schema.specs.Reading.{◌>>=◌, required_member}
+use Rattle.etcs_schema.specs.Codec.{ObjectMembers, MemberCodec, decoded_pair, closed, first_and_others, key, optional_key, list, non_empty_list, object, only, struct, tested, ◌then◌, Codec, renamed}
 use Rattle.etcs_schema.specs.Variables.{direction, flag, number, scale, is_allowed}
 use Rattle.etcs_json.specs.Authority.{with_main, without_main}
 use Rattle.etcs_json.specs.Cover.{cover}
@@ -34,45 +34,45 @@ unfolding alone
 profile_short layout p allowed = le-leb (23 + width ((elements layout).rows p.1)) 8191 (omega (arith, allowed.1.0.0))
 
 -- a packet with a list of elements at this key; it is refused if it is too long
-abbrev pub profile : {X : Type 0} → List ℕ → (layout : Format X) → ObjectOf layout.rows → Part (rest (elements layout)).rows
+abbrev pub profile : {X : Type 0} → List ℕ → (layout : Format X) → ObjectMembers layout.rows → MemberCodec (rest (elements layout)).rows
 profile name layout element =
-    within (here Range) (is_short layout) (profile_short layout) (headed (struct profile_struct (scaled (key name (list_from_one (object element))))))
+    tested (here Range) (is_short layout) (profile_short layout) (headed (struct profile_struct (scaled (key name (non_empty_list (object element))))))
 
 -- what such a packet is read as
-abbrev pub profile_of : {X : Type 0} → List ℕ → Format X → (Data → Result X Fault) → Data → Result (Dir × Profile X) Fault
-profile_of name layout element d =
-    both_of (at_key direction.of (codes "q_dir"))
-    (λ e. both_of (at_key scale.of (codes "q_scale")) (at_key (first_and_others element 32) name) e >>= λ p. Ok (profile_struct.make p)) d >>= only (here Range) (is_short layout)
+abbrev pub decoded_profile : {X : Type 0} → List ℕ → Format X → (Data → Result X Fault) → Data → Result (Dir × Profile X) Fault
+decoded_profile name layout element d =
+    decoded_pair (required_member direction.of (codes "q_dir"))
+    (λ e. decoded_pair (required_member scale.of (codes "q_scale")) (required_member (first_and_others element 32) name) e >>= λ p. Ok (profile_struct.make p)) d >>= only (here Range) (is_short layout)
 
 -- a balise group ahead; it has a country if and only if Q_NEWCOUNTRY is 1
-unfoldable pub link : ObjectOf link_layout.rows
+unfoldable pub link : ObjectMembers link_layout.rows
 link =
     closed (struct link_struct
-    (key (codes "d_link") (number d_link.fields) then key_if (codes "nid_c") (number nid_c.fields) then key (codes "nid_bg") (number nid_bg.fields)
+    (key (codes "d_link") (number d_link.fields) then optional_key (codes "nid_c") (number nid_c.fields) then key (codes "nid_bg") (number nid_bg.fields)
     then key (codes "q_linkorientation") flag then key (codes "q_linkreaction") (number q_linkreaction.fields) then key (codes "q_locacc") (number q_locacc.fields))) refl
 
 -- what packet 5 has after its number
 unfoldable pub linking : Packet 5 (rest (elements link_layout)).rows
-linking = behind (profile (codes "links") link_layout link) refl
+linking = numbered_members (profile (codes "links") link_layout link) refl
 
 -- a gradient, and the place where it begins
-unfoldable pub gradient_element : ObjectOf gradient_layout.rows
+unfoldable pub gradient_element : ObjectMembers gradient_layout.rows
 gradient_element =
     closed (struct gradient_struct
     (key (codes "d_gradient") (number d_gradient.fields) then key (codes "q_gdir") flag then key (codes "g_a") (number g_a.fields))) refl
 
 -- what packet 21 has after its number
 unfoldable pub gradient : Packet 21 (rest (elements gradient_layout)).rows
-gradient = behind (profile (codes "elements") gradient_layout gradient_element) refl
+gradient = numbered_members (profile (codes "elements") gradient_layout gradient_element) refl
 
 -- another speed for some trains
-unfoldable pub difference : ObjectOf difference_layout.rows
+unfoldable pub difference : ObjectMembers difference_layout.rows
 difference =
     closed (struct difference_struct
     (key (codes "q_diff") (number q_diff.fields) then key (codes "nc") (number nc_diff.fields) then key (codes "v_diff") (number v_diff.fields))) refl
 
 -- a speed, and the place where it begins
-unfoldable pub speed_element : ObjectOf speed_layout.rows
+unfoldable pub speed_element : ObjectMembers speed_layout.rows
 speed_element =
     closed (struct speed_struct
     (key (codes "d_static") (number d_static.fields) then key (codes "v_static") (number v_static.fields) then key (codes "q_front") flag
@@ -80,7 +80,7 @@ speed_element =
 
 -- what packet 27 has after its number
 unfoldable pub speed_profile : Packet 27 (rest (elements speed_layout)).rows
-speed_profile = behind (profile (codes "elements") speed_layout speed_element) refl
+speed_profile = numbered_members (profile (codes "elements") speed_layout speed_element) refl
 
 -- ---- the packet of a number
 
@@ -104,5 +104,5 @@ track_numbered =
     raw refl) refl) refl) refl) refl) refl) refl
 
 -- NID_PACKET is read first; 255, the end mark, is the number of no packet
-abbrev pub track_packet : Shape TrackPacket
+abbrev pub track_packet : Codec TrackPacket
 track_packet = renamed track_of parts_of again (chosen (codes "nid_packet") (is_allowed (ranged 8 254 256)) track_numbered (λ v nid. nid_range (track_numbered.number v) nid.0 nid.1))

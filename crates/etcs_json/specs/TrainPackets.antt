@@ -7,11 +7,11 @@ use Rattle.etcs_radio.specs.TrainNumbers.{nid_raw}
 use Rattle.etcs_radio.specs.TrainPacket.{NumberedTrainPacket, again, parts_of, train_of}
 use Rattle.etcs_radio.specs.declared.raw_train.RawTrainPacket.{RawTrainPacket}
 use Rattle.etcs_radio.specs.declared.train_packet.TrainPacket.{TrainPacket}
-use Rattle.etcs_schema.specs.Chosen.{Choice, HasNumber, begins_with, chosen, either, others}
+use Rattle.etcs_schema.specs.Choices.{Choice, HasNumber, begins_with, chosen, either, others}
 use Rattle.etcs_schema.specs.Head.{nid_range}
 use Rattle.etcs_json.specs.RawTrain.{raw_train_packet}
 use Rattle.etcs_json.specs.Report.{with_one, with_two}
-use Rattle.etcs_schema.specs.Shape.{Shape, object, renamed}
+use Rattle.etcs_schema.specs.Codec.{Codec, object, renamed}
 use Rattle.etcs_schema.specs.Variables.{is_allowed}
 
 pub raw_has : (p : RawTrainPacket) → HasNumber (codes "nid_packet") p.number ((object raw_train_packet).to p)
@@ -26,5 +26,5 @@ abbrev pub train_numbered : Choice (codes "nid_packet") nid_train NumberedTrainP
 train_numbered = either with_one (either with_two raw refl) refl
 
 -- NID_PACKET is read first; 255, the end mark, is the number of no packet
-abbrev pub train_packet : Shape TrainPacket
+abbrev pub train_packet : Codec TrainPacket
 train_packet = renamed train_of parts_of again (chosen (codes "nid_packet") (is_allowed (ranged 8 254 256)) train_numbered (λ v nid. nid_range (train_numbered.number v) nid.0 nid.1))

@@ -3,12 +3,12 @@
 ghost use Rattle.std.specs.Prelude.{◌≡◌, ◌∷◌, [], Some, Ok, IfOk, OnErr, OnOk};
 ghost use Rattle.serde_json.specs.Data.{Data};
 ghost use Rattle.serde_json.specs.View.{view};
-ghost use Rattle.etcs_schema.specs.Fault.{Gives, IfMemory};
-ghost use Rattle.etcs_schema.specs.Sending.{entries_tokens, tokens_of};
-ghost use Rattle.etcs_schema.specs.Shape.{Shape};
+ghost use Rattle.etcs_schema.specs.Fault.{Returns, IfMemory};
+ghost use Rattle.etcs_schema.specs.Writing.{entries_tokens, data_tokens};
+ghost use Rattle.etcs_schema.specs.Codec.{Codec};
 
 use etcs_bits::Memory;
-use etcs_schema::{FormError, Marks, Node};
+use etcs_schema::{FormError, JsonValue, TokenWriter};
 use json::Token;
 use serde_json::Value;
 use std::alloc::Global;
@@ -17,7 +17,7 @@ use std::alloc::Global;
 pub trait Form: Drop {
     /// What a value is written as, and what any JSON value is read as. Reading what was written gives each
     /// value in range again.
-    ghost shape: { Shape Self };
+    ghost codec: { Codec Self };
 
     /// The condition, in the value's own terms, that it is in the range of its form. It always holds if the
     /// value's type keeps its numbers and lists in range.
@@ -33,47 +33,47 @@ pub trait Form: Drop {
     /// The form as a JSON value, which is read as this value again if the value is in range. Fails only if
     /// memory runs out; then no form is returned.
     fn to_form(&self, alloc: Global) -> Result<Value, Memory>
-        ensures form { IfOk result (λ v. view v ≡ shape.to self.now) }
+        ensures form { IfOk result (λ v. view v ≡ codec.to self.now) }
         ensures again { IfOk result
-            (λ v. in_range self.now → shape.of (view v) ≡ Ok self.now) }
+            (λ v. in_range self.now → codec.of (view v) ≡ Ok self.now) }
 
         // A form without allocation never fails.
         ensures memory { OnErr result builds };
 
     /// Reads a form from any JSON value, with the result of [`Form::of_form`].
-    fn of_node<N: Node>(alloc: Global, node: &N) -> Result<Self, FormError>
-        ensures gives { Gives (λ x. x) result (shape.of (N.shows node.now)) }
+    fn read_json<N: JsonValue>(alloc: Global, node: &N) -> Result<Self, FormError>
+        ensures gives { Returns (λ x. x) result (codec.of (N.value node.now)) }
 
         // Reading without allocation never runs out of memory.
-        ensures memory { IfMemory result (asks (N.shows node.now)) };
+        ensures memory { IfMemory result (asks (N.value node.now)) };
 
     /// Reads a form. The error is its first fault, in the order in which the form is read, with the path to
     /// it.
     fn of_form(alloc: Global, value: &Value) -> Result<Self, FormError>
-        ensures gives { Gives (λ x. x) result (shape.of (view value.now)) }
+        ensures gives { Returns (λ x. x) result (codec.of (view value.now)) }
 
         // Reading without allocation never runs out of memory.
         ensures memory { IfMemory result (asks (view value.now)) }
     {
-        Self::of_node(alloc, &value)
+        Self::read_json(alloc, &value)
     }
 }
 
 /// A value whose form can be written token by token, without a JSON value in memory.
-pub trait InPieces: Form {
+pub trait WriteJson: Form {
     /// Writes the form to a writer of JSON, or to a [`LineText`](etcs_digits::LineText). Fails only if memory
     /// runs out; part of the form might then be written.
-    fn send_to<M: Marks>(&self, out: &mut M) -> Result<(), Memory>
-        ensures { OnOk result (M.adds (tokens_of (Self.shape.to self.now)) out.old out.new) };
+    fn write_json<M: TokenWriter>(&self, out: &mut M) -> Result<(), Memory>
+        ensures { OnOk result (M.adds (data_tokens (Self.codec.to self.now)) out.old out.new) };
 
     /// Writes a member: a key, and the form as its value.
     #[inline(always)]
-    fn send_at<M: Marks>(&self, name: &str, out: &mut M) -> Result<(), Memory>
+    fn write_json_member<M: TokenWriter>(&self, name: &str, out: &mut M) -> Result<(), Memory>
         ensures { OnOk result (M.adds
-            (entries_tokens ((name.now, Some (Self.shape.to self.now)) ∷ [])) out.old out.new) }
+            (entries_tokens ((name.now, Some (Self.codec.to self.now)) ∷ [])) out.old out.new) }
     {
         out.token(Token::Key(name))?;
-        self.send_to(out)?;
+        self.write_json(out)?;
         Ok(())
     }
 }

@@ -2,11 +2,11 @@
 //!
 //! A [`Form`] has `to_form`, which makes a JSON value, and `of_form`, which reads one or returns a
 //! [`FormError`], the first fault with its path. The form of a [`Record`] is an object. Each form is stated
-//! once, as a `Shape` of `etcs_schema`: what is written, what is read, and that reading what was written
-//! gives the same value. [`InPieces`] writes a form token by token. Read `form.rt` and `record.rt` first,
+//! once, as a `Codec` of `etcs_schema`: what is written, what is read, and that reading what was written
+//! gives the same value. [`WriteJson`] writes a form token by token. Read `form.rt` and `record.rt` first,
 //! with `specs/TrackPackets.antt`, then `packets/track_form.rt`.
 //!
-//! A form is read from a [`Node`]: a value of `serde_json`, or the tape of tokens that [`JsonText::read`]
+//! A form is read from a [`JsonValue`]: a value of `serde_json`, or the tape of tokens that [`ParsedJson::read`]
 //! makes from a text in less time. Documents of railway lines are in `etcs_document`.
 #![tactic(auto)]
 
@@ -20,7 +20,7 @@ mod record;
 mod writing;
 
 pub use etcs_schema::{
-    FormError, JsonError, JsonText, Node, Path, Step, TapeItems, TapeNode, check_keys,
+    FormError, JsonError, JsonValue, ParsedJson, Path, Step, TapeItems, TapeValue, check_keys,
 };
-pub use form::{Form, InPieces};
+pub use form::{Form, WriteJson};
 pub use record::Record;

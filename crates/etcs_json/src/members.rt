@@ -4,39 +4,39 @@
 ghost use Rattle.std.specs.Prelude.{◌≡◌, ◌∷◌, ◌++◌, [], List, Some, Result, OnOk};
 ghost use Rattle.serde_json.specs.Data.{Data, array};
 ghost use Rattle.etcs_schema.specs.Entries.{Entry};
-ghost use Rattle.etcs_schema.specs.Fault.{Fault, Gives};
-ghost use Rattle.etcs_schema.specs.Listed.{all_of};
-ghost use Rattle.etcs_schema.specs.Reading.{at_key, at_key_if, list_of};
-ghost use Rattle.etcs_schema.specs.Shape.{both_of, first_and_others, items_of, number_data, optional as data_if};
+ghost use Rattle.etcs_schema.specs.Fault.{Fault, Returns};
+ghost use Rattle.etcs_schema.specs.Lists.{unbounded_list};
+ghost use Rattle.etcs_schema.specs.Reading.{required_member, optional_member, bounded_list};
+ghost use Rattle.etcs_schema.specs.Codec.{decoded_pair, first_and_others, encoded_items, number_data, optional as data_if};
 
-use crate::reading::{read_first_and, read_items, read_list};
-use crate::writing::Sink;
-use crate::{Form, InPieces};
+use crate::reading::{read_items, read_list, read_non_empty};
+use crate::writing::MemberWriter;
+use crate::{Form, WriteJson};
 use etcs_bits::{Items, Memory};
 use etcs_schema::reading::{member, under};
-use etcs_schema::{FormError, Node, Step};
+use etcs_schema::{FormError, JsonValue, Step};
 use std::alloc::Global;
 use std::marker::Model;
 
 // ---- writing
 
 /// Members with their values.
-pub(crate) trait SendMembers {
+pub(crate) trait WriteMembers {
     /// The members.
     ghost entries: { Self → List Entry };
 
     /// Writes them one after the other. Fails only if memory runs out.
-    fn send<S: Sink>(&self, out: &mut S) -> Result<(), Memory>
-        ensures { OnOk result (S.takes (entries self.now) out.old out.new) };
+    fn write<S: MemberWriter>(&self, out: &mut S) -> Result<(), Memory>
+        ensures { OnOk result (S.writes (entries self.now) out.old out.new) };
 
-    /// The same as `send`, stated for any entries that are equal to these, so that a caller proves only the
+    /// The same as `write`, stated for any entries that are equal to these, so that a caller proves only the
     /// equation.
     #[inline(always)]
-    final fn send_all<S: Sink>(&self, out: &mut S) -> Result<(), Memory>
+    final fn write_all<S: MemberWriter>(&self, out: &mut S) -> Result<(), Memory>
         ensures { (es : List Entry) → es ≡ entries self.now
-            → OnOk result (S.takes es out.old out.new) }
+            → OnOk result (S.writes es out.old out.new) }
     {
-        self.send(out)
+        self.write(out)
     }
 }
 
@@ -44,12 +44,12 @@ pub(crate) trait SendMembers {
 #[derive(Drop)]
 pub(crate) struct Member<'a, T>(pub(crate) &'static str, pub(crate) &'a T);
 
-impl<T: InPieces> SendMembers for Member<'_, T> {
-    ghost entries = { λ m. (m.0.now, Some (T.shape.to m.1.now)) ∷ [] };
+impl<T: WriteJson> WriteMembers for Member<'_, T> {
+    ghost entries = { λ m. (m.0.now, Some (T.codec.to m.1.now)) ∷ [] };
 
     #[inline(always)]
-    fn send<S: Sink>(&self, out: &mut S) -> Result<(), Memory> {
-        out.send_key(self.0, self.1)
+    fn write<S: MemberWriter>(&self, out: &mut S) -> Result<(), Memory> {
+        out.write_member(self.0, self.1)
     }
 }
 
@@ -57,12 +57,12 @@ impl<T: InPieces> SendMembers for Member<'_, T> {
 #[derive(Drop)]
 pub(crate) struct OptionalMember<'a, T>(pub(crate) &'static str, pub(crate) &'a Option<T>);
 
-impl<T: InPieces> SendMembers for OptionalMember<'_, T> {
-    ghost entries = { λ m. (m.0.now, data_if T.shape.to m.1.now) ∷ [] };
+impl<T: WriteJson> WriteMembers for OptionalMember<'_, T> {
+    ghost entries = { λ m. (m.0.now, data_if T.codec.to m.1.now) ∷ [] };
 
     #[inline(always)]
-    fn send<S: Sink>(&self, out: &mut S) -> Result<(), Memory> {
-        out.send_key_if(self.0, self.1)
+    fn write<S: MemberWriter>(&self, out: &mut S) -> Result<(), Memory> {
+        out.write_optional(self.0, self.1)
     }
 }
 
@@ -70,12 +70,12 @@ impl<T: InPieces> SendMembers for OptionalMember<'_, T> {
 #[derive(Drop)]
 pub(crate) struct NumberMember(pub(crate) &'static str, pub(crate) u64);
 
-impl SendMembers for NumberMember {
+impl WriteMembers for NumberMember {
     ghost entries = { λ m. (m.0.now, Some (number_data m.1)) ∷ [] };
 
     #[inline(always)]
-    fn send<S: Sink>(&self, out: &mut S) -> Result<(), Memory> {
-        out.send_number(self.0, self.1)
+    fn write<S: MemberWriter>(&self, out: &mut S) -> Result<(), Memory> {
+        out.write_number(self.0, self.1)
     }
 }
 
@@ -83,12 +83,12 @@ impl SendMembers for NumberMember {
 #[derive(Drop)]
 pub(crate) struct ListMember<'a, T>(pub(crate) &'static str, pub(crate) &'a [T]);
 
-impl<T: InPieces> SendMembers for ListMember<'_, T> {
-    ghost entries = { λ m. (m.0.now, Some (array (items_of T.shape.to m.1.now))) ∷ [] };
+impl<T: WriteJson> WriteMembers for ListMember<'_, T> {
+    ghost entries = { λ m. (m.0.now, Some (array (encoded_items T.codec.to m.1.now))) ∷ [] };
 
     #[inline(always)]
-    fn send<S: Sink>(&self, out: &mut S) -> Result<(), Memory> {
-        out.send_list_at(self.0, self.1)
+    fn write<S: MemberWriter>(&self, out: &mut S) -> Result<(), Memory> {
+        out.write_list(self.0, self.1)
     }
 }
 
@@ -100,50 +100,50 @@ pub(crate) struct NonEmptyMember<'a, T>(
     pub(crate) &'a [T],
 );
 
-impl<T: InPieces> SendMembers for NonEmptyMember<'_, T> {
-    ghost entries = { λ m. (m.0.now, Some (array (items_of T.shape.to (m.1.now ∷ m.2.now)))) ∷ [] };
+impl<T: WriteJson> WriteMembers for NonEmptyMember<'_, T> {
+    ghost entries = { λ m. (m.0.now, Some (array (encoded_items T.codec.to (m.1.now ∷ m.2.now)))) ∷ [] };
 
     #[inline(always)]
-    fn send<S: Sink>(&self, out: &mut S) -> Result<(), Memory> {
-        out.send_first_and(self.0, self.1, self.2)
+    fn write<S: MemberWriter>(&self, out: &mut S) -> Result<(), Memory> {
+        out.write_non_empty(self.0, self.1, self.2)
     }
 }
 
-impl<A: SendMembers, B: SendMembers> SendMembers for (A, B) {
+impl<A: WriteMembers, B: WriteMembers> WriteMembers for (A, B) {
     ghost entries = { λ p. A.entries p.0 ++ B.entries p.1 };
 
     #[inline(always)]
-    fn send<S: Sink>(&self, out: &mut S) -> Result<(), Memory> {
-        self.0.send(out)?;
-        self.1.send(out)
+    fn write<S: MemberWriter>(&self, out: &mut S) -> Result<(), Memory> {
+        self.0.write(out)?;
+        self.1.write(out)
     }
 }
 
 // ---- reading
 
 /// A value that is read from a JSON value.
-pub(crate) trait FromNode: Drop {
+pub(crate) trait FromJson: Drop {
     /// What reading gives.
     ghost reads: { Data → Result Self Fault };
 
     /// Reads it.
-    fn from_node<N: Node>(alloc: Global, node: &N) -> Result<Self, FormError>
-        ensures { Gives (λ x. x) result (reads (N.shows node.now)) };
+    fn from_json<N: JsonValue>(alloc: Global, node: &N) -> Result<Self, FormError>
+        ensures { Returns (λ x. x) result (reads (N.value node.now)) };
 }
 
-impl<T: Form> FromNode for T {
-    ghost reads = { T.shape.of };
+impl<T: Form> FromJson for T {
+    ghost reads = { T.codec.of };
 
     #[inline(always)]
-    fn from_node<N: Node>(alloc: Global, node: &N) -> Result<T, FormError> {
-        T::of_node(alloc, node)
+    fn from_json<N: JsonValue>(alloc: Global, node: &N) -> Result<T, FormError> {
+        T::read_json(alloc, node)
     }
 }
 
-impl<T: Form> FromNode for Items<T> {
-    ghost reads = { list_of T.shape.of 0 31 };
+impl<T: Form> FromJson for Items<T> {
+    ghost reads = { bounded_list T.codec.of 0 31 };
 
-    fn from_node<N: Node>(alloc: Global, node: &N) -> Result<Items<T>, FormError> {
+    fn from_json<N: JsonValue>(alloc: Global, node: &N) -> Result<Items<T>, FormError> {
         let items = read_list(alloc, node, 0, 31)?;
         Ok(Items::new(items))
     }
@@ -161,11 +161,11 @@ impl<T> Model for Listed<T> {
     ghost view = { λ m. m.value.items };
 }
 
-impl<T: Form> FromNode for Listed<T> {
-    ghost reads = { all_of T.shape.of };
+impl<T: Form> FromJson for Listed<T> {
+    ghost reads = { unbounded_list T.codec.of };
 
-    #[tactic(auto, unfolding(etcs_schema::specs::Listed::all_of))]
-    fn from_node<N: Node>(alloc: Global, node: &N) -> Result<Listed<T>, FormError> {
+    #[tactic(auto, unfolding(etcs_schema::specs::Lists::unbounded_list))]
+    fn from_json<N: JsonValue>(alloc: Global, node: &N) -> Result<Listed<T>, FormError> {
         match node.items() {
             None => Err(FormError::kind(alloc)),
             Some(items) => {
@@ -193,12 +193,12 @@ impl<T> Model for NonEmpty<T> {
     ghost invariant = { λ m. length m.further.items < 32 };
 }
 
-impl<T: Form> FromNode for NonEmpty<T> {
-    ghost reads = { first_and_others T.shape.of 32 };
+impl<T: Form> FromJson for NonEmpty<T> {
+    ghost reads = { first_and_others T.codec.of 32 };
 
     #[tactic(auto, using(crate::proofs::ReadLemmas::few_listed))]
-    fn from_node<N: Node>(alloc: Global, node: &N) -> Result<NonEmpty<T>, FormError> {
-        let (first, further) = read_first_and(alloc, node, 32)?;
+    fn from_json<N: JsonValue>(alloc: Global, node: &N) -> Result<NonEmpty<T>, FormError> {
+        let (first, further) = read_non_empty(alloc, node, 32)?;
         Ok(NonEmpty { first, further })
     }
 }
@@ -212,36 +212,40 @@ pub(crate) trait ReadMembers: Drop {
     ghost reads: { Self.Keys → Data → Result Self Fault };
 
     /// Reads it.
-    fn read<N: Node>(alloc: Global, node: &N, keys: Self::Keys) -> Result<Self, FormError>
-        ensures { Gives (λ x. x) result (reads keys (N.shows node.now)) };
+    fn read<N: JsonValue>(alloc: Global, node: &N, keys: Self::Keys) -> Result<Self, FormError>
+        ensures { Returns (λ x. x) result (reads keys (N.value node.now)) };
 }
 
 // A required member. Inlined: a constant key is found in less time.
-impl<T: FromNode> ReadMembers for T {
+impl<T: FromJson> ReadMembers for T {
     type Keys = &'static str;
 
-    ghost reads = { λ key. at_key T.reads key.now };
+    ghost reads = { λ key. required_member T.reads key.now };
 
     #[inline(always)]
     #[tactic(auto, using(etcs_schema::proofs::Objects::member_read))]
-    fn read<N: Node>(alloc: Global, node: &N, key: &'static str) -> Result<T, FormError> {
+    fn read<N: JsonValue>(alloc: Global, node: &N, key: &'static str) -> Result<T, FormError> {
         let found = member(alloc, node, key)?;
-        under(key, T::from_node(alloc, &found))
+        under(key, T::from_json(alloc, &found))
     }
 }
 
 // An optional member.
-impl<T: FromNode> ReadMembers for Option<T> {
+impl<T: FromJson> ReadMembers for Option<T> {
     type Keys = &'static str;
 
-    ghost reads = { λ key. at_key_if T.reads key.now };
+    ghost reads = { λ key. optional_member T.reads key.now };
 
     #[inline(always)]
-    #[tactic(auto, using(etcs_schema::proofs::Objects::fails_under), unfolding(etcs_schema::specs::Reading::at_key_if))]
-    fn read<N: Node>(alloc: Global, node: &N, key: &'static str) -> Result<Option<T>, FormError> {
+    #[tactic(auto, using(etcs_schema::proofs::Objects::fails_under), unfolding(etcs_schema::specs::Reading::optional_member))]
+    fn read<N: JsonValue>(
+        alloc: Global,
+        node: &N,
+        key: &'static str,
+    ) -> Result<Option<T>, FormError> {
         match node.member(key) {
             None => Ok(None),
-            Some(found) => match T::from_node(alloc, &found) {
+            Some(found) => match T::from_json(alloc, &found) {
                 Ok(read) => Ok(Some(read)),
                 Err(error) => Err(error.under(Step::Key(key))),
             },
@@ -253,10 +257,10 @@ impl<T: FromNode> ReadMembers for Option<T> {
 impl<A: ReadMembers, B: ReadMembers> ReadMembers for (A, B) {
     type Keys = (A::Keys, B::Keys);
 
-    ghost reads = { λ keys. both_of (A.reads keys.0) (B.reads keys.1) };
+    ghost reads = { λ keys. decoded_pair (A.reads keys.0) (B.reads keys.1) };
 
     #[inline(always)]
-    fn read<N: Node>(
+    fn read<N: JsonValue>(
         alloc: Global,
         node: &N,
         keys: (A::Keys, B::Keys),
@@ -276,9 +280,9 @@ macro_rules! pairs {
 }
 
 // Writes members in the byte order of their keys.
-macro_rules! send_members {
+macro_rules! write_members {
     ($out:ident; $($member:expr),+ $(,)?) => {
-        $crate::members::SendMembers::send_all(&$crate::members::pairs!($($member),+), $out)
+        $crate::members::WriteMembers::write_all(&$crate::members::pairs!($($member),+), $out)
     };
 }
 
@@ -314,4 +318,4 @@ pub(crate) use check_members;
 pub(crate) use make_record;
 pub(crate) use pairs;
 pub(crate) use read_record;
-pub(crate) use send_members;
+pub(crate) use write_members;

@@ -1,42 +1,42 @@
 //! Reading the parts of a form.
 
 ghost use Rattle.std.specs.Prelude.{◌≡◌, ◌==◌, ℕ, Bool, true, IfOk, IsOk};
-ghost use Rattle.etcs_schema.specs.Chosen.{any_object, first_at};
-ghost use Rattle.etcs_schema.specs.Fault.{Gives, IfMemory, IsUnder, key};
-ghost use Rattle.etcs_schema.specs.Reading.{at_key, at_key_if, items_at, list_of, member_at, no_key, allowed_number};
-ghost use Rattle.etcs_schema.specs.Shape.{first_and_others, fixed};
+ghost use Rattle.etcs_schema.specs.Choices.{any_object, tag_member};
+ghost use Rattle.etcs_schema.specs.Fault.{Returns, IfMemory, IsPrefixedResult, key};
+ghost use Rattle.etcs_schema.specs.Reading.{required_member, optional_member, indexed_items, bounded_list, any_member, absent_member, allowed_number};
+ghost use Rattle.etcs_schema.specs.Codec.{first_and_others, fixed};
 
 use crate::Form;
 use crate::members::ReadMembers;
 use etcs_schema::reading::{check_object, member, under};
-use etcs_schema::{FormError, Node, Step};
+use etcs_schema::{FormError, JsonValue, Step};
 use std::alloc::Global;
 
 /// Reads the member that decides the form of an object, whatever other keys the object has. Refusing a value
 /// that is not an object allocates nothing.
-pub(crate) fn read_first<T: Form, N: Node>(
+pub(crate) fn read_first<T: Form, N: JsonValue>(
     alloc: Global,
     node: &N,
     name: &'static str,
 ) -> Result<T, FormError>
-    ensures first { Gives (λ x. x) result (first_at T.shape.of name.now (N.shows node.now)) }
-    ensures memory { IfMemory result (IsOk (any_object (N.shows node.now))) }
+    ensures first { Returns (λ x. x) result (tag_member T.codec.of name.now (N.value node.now)) }
+    ensures memory { IfMemory result (IsOk (any_object (N.value node.now))) }
 {
     check_object(alloc, node)?;
     T::read(alloc, node, name)
 }
 
 /// Reads the remaining items of a list.
-pub(crate) fn read_items<T: Form, N: Node>(
+pub(crate) fn read_items<T: Form, N: JsonValue>(
     alloc: Global,
     items: N::Items,
 ) -> Result<Vec<T>, FormError>
-    ensures { Gives (λ v. v.items) result (items_at T.shape.of 0 (N.rest items)) }
+    ensures { Returns (λ v. v.items) result (indexed_items T.codec.of 0 (N.rest items)) }
 {
     let mut items = items;
     let mut found = Vec::new(alloc);
     'items: while let Some(node) = N::next_item(&mut items) {
-        match T::of_node(alloc, &node) {
+        match T::read_json(alloc, &node) {
             Ok(item) => {
                 if found.push(item).is_err() {
                     return Err(FormError::Memory);
@@ -49,13 +49,13 @@ pub(crate) fn read_items<T: Form, N: Node>(
 }
 
 /// Reads a list of `low` to `high` items. The count is checked before the items.
-pub(crate) fn read_list<T: Form, N: Node>(
+pub(crate) fn read_list<T: Form, N: JsonValue>(
     alloc: Global,
     node: &N,
     low: usize,
     high: usize,
 ) -> Result<Vec<T>, FormError>
-    ensures { Gives (λ v. v.items) result (list_of T.shape.of low high (N.shows node.now)) }
+    ensures { Returns (λ v. v.items) result (bounded_list T.codec.of low high (N.value node.now)) }
 {
     match node.has_between(low, high) {
         None => Err(FormError::kind(alloc)),
@@ -73,13 +73,13 @@ pub(crate) fn read_list<T: Form, N: Node>(
 }
 
 /// Reads a list of 1 to `high` items, as the first and the others.
-pub(crate) fn read_first_and<T: Form, N: Node>(
+pub(crate) fn read_non_empty<T: Form, N: JsonValue>(
     alloc: Global,
     node: &N,
     high: usize,
 ) -> Result<(T, Vec<T>), FormError>
-    ensures { Gives (λ p. (p.0, p.1.items)) result
-        (first_and_others T.shape.of high (N.shows node.now)) }
+    ensures { Returns (λ p. (p.0, p.1.items)) result
+        (first_and_others T.codec.of high (N.value node.now)) }
 {
     let mut items = read_list(alloc, node, 1, high)?;
     if items.is_empty() {
@@ -101,8 +101,8 @@ pub(crate) trait Numbers {
 
 // Reads an allowed number.
 #[tactic(auto, unfolding(etcs_schema::specs::Reading::allowed_number))]
-fn number_in<T: Numbers, N: Node>(alloc: Global, node: &N) -> Result<u64, FormError>
-    ensures gives { Gives (λ n. n) result (allowed_number T.test (N.shows node.now)) }
+fn read_allowed<T: Numbers, N: JsonValue>(alloc: Global, node: &N) -> Result<u64, FormError>
+    ensures gives { Returns (λ n. n) result (allowed_number T.test (N.value node.now)) }
     ensures has { IfOk result (λ n. T.test n ≡ true) }
 {
     match node.number() {
@@ -114,14 +114,14 @@ fn number_in<T: Numbers, N: Node>(alloc: Global, node: &N) -> Result<u64, FormEr
 
 /// Reads a required member that must be an allowed number.
 #[tactic(auto, using(etcs_schema::proofs::Objects::member_read, etcs_schema::proofs::Objects::under_keeps))]
-pub(crate) fn read_number<T: Numbers, N: Node>(
+pub(crate) fn read_number<T: Numbers, N: JsonValue>(
     alloc: Global,
     node: &N,
     name: &'static str,
 ) -> Result<u64, FormError>
-    ensures gives { Gives (λ n. n) result (at_key (allowed_number T.test) name.now (N.shows node.now)) }
+    ensures gives { Returns (λ n. n) result (required_member (allowed_number T.test) name.now (N.value node.now)) }
     ensures has { IfOk result (λ n. T.test n ≡ true) }
 {
     let found = member(alloc, node, name)?;
-    under(name, number_in::<T, N>(alloc, &found))
+    under(name, read_allowed::<T, N>(alloc, &found))
 }

@@ -3,16 +3,16 @@
 ghost use Rattle.std.specs.Prelude.{◌≡◌, map, IsOk, OnOk};
 ghost use Rattle.std.specs.List.{flat_map};
 ghost use Rattle.etcs_bits.specs.layout.Rows.{AreAllowed};
-ghost use Rattle.etcs_schema.specs.Fault.{Gives, IfMemory};
-ghost use Rattle.etcs_schema.specs.Reading.{object_with};
-ghost use Rattle.etcs_schema.specs.Shape.{Object, shape_of};
-ghost use Rattle.etcs_schema.specs.Sending.{sorted, sorted_keys};
+ghost use Rattle.etcs_schema.specs.Fault.{Returns, IfMemory};
+ghost use Rattle.etcs_schema.specs.Reading.{only_keys};
+ghost use Rattle.etcs_schema.specs.Codec.{Object, object_codec};
+ghost use Rattle.etcs_schema.specs.Writing.{sorted, sorted_keys};
 
-use crate::writing::Sink;
-use crate::writing::building::NewObject;
-use crate::{Form, InPieces};
+use crate::writing::MemberWriter;
+use crate::writing::object_builder::ObjectBuilder;
+use crate::{Form, WriteJson};
 use etcs_bits::{Layout, Memory, are_allowed};
-use etcs_schema::{FormError, Marks, Node, check_keys};
+use etcs_schema::{FormError, JsonValue, TokenWriter, check_keys};
 use json::Token;
 use serde_json::Value;
 use std::alloc::Global;
@@ -48,16 +48,16 @@ impl<T: LayoutRecord> InRange for T {
 }
 
 /// A record whose members can be written and read.
-pub(crate) trait Members: InRange {
+pub(crate) trait ObjectCodec: InRange {
     /// Writes the members in the byte order of their keys.
-    fn send_members<S: Sink>(&self, out: &mut S) -> Result<(), Memory>
-        ensures { OnOk result (S.takes (sorted (Self.object.part.to self.now)) out.old out.new) };
+    fn write_members<S: MemberWriter>(&self, out: &mut S) -> Result<(), Memory>
+        ensures { OnOk result (S.writes (sorted (Self.object.members.to self.now)) out.old out.new) };
 
     /// Reads an object with only these members. Refusing its keys allocates nothing.
-    fn of_members<N: Node>(alloc: Global, node: &N) -> Result<Self, FormError>
-        ensures gives { Gives (λ x. x) result ((shape_of Self.object).of (N.shows node.now)) }
+    fn read_object<N: JsonValue>(alloc: Global, node: &N) -> Result<Self, FormError>
+        ensures gives { Returns (λ x. x) result ((object_codec Self.object).of (N.value node.now)) }
         ensures memory { IfMemory result
-            (IsOk (object_with Self.object.part.keys (N.shows node.now))) };
+            (IsOk (only_keys Self.object.members.keys (N.value node.now))) };
 }
 
 /// Lemma without code: each number of a record is allowed, if the record's type ensures it.
@@ -79,53 +79,53 @@ pub(crate) fn prove_all_allowed<T: Layout>(items: &[T])
 /// Refuses a value that is not an object, and an object with a key that the record does not have. Refusing
 /// allocates nothing. The keys are in byte order, as in most objects.
 #[tactic(auto, using(etcs_schema::proofs::Keys::sorted_gives))]
-pub(crate) fn check_record<T: Record, N: Node>(
+pub(crate) fn check_record<T: Record, N: JsonValue>(
     alloc: Global,
     node: &N,
     keys: &[&str],
 ) -> Result<(), FormError>
-    requires { map (λ l. l.now) keys.now ≡ sorted_keys T.object.part.keys }
-    ensures keys { Gives (λ u. u) result (object_with T.object.part.keys (N.shows node.now)) }
+    requires { map (λ l. l.now) keys.now ≡ sorted_keys T.object.members.keys }
+    ensures keys { Returns (λ u. u) result (only_keys T.object.members.keys (N.value node.now)) }
     ensures memory { IfMemory result ⊥ }
 {
     check_keys(alloc, node, keys)
 }
 
-impl<T: Members> Form for T {
-    ghost shape = { shape_of T.object };
+impl<T: ObjectCodec> Form for T {
+    ghost codec = { object_codec T.object };
 
     ghost in_range = { T.bounded };
 
     ghost builds = { Unit {0} };
 
-    ghost asks = { λ d. IsOk (object_with T.object.part.keys d) };
+    ghost asks = { λ d. IsOk (only_keys T.object.members.keys d) };
 
     fn to_form(&self, alloc: Global) -> Result<Value, Memory> {
         // Only for the proof that the form is read again.
         self.prove_in_range();
-        let mut out = NewObject::new(alloc);
-        self.send_members(&mut out)?;
+        let mut out = ObjectBuilder::new(alloc);
+        self.write_members(&mut out)?;
         Ok(out.into_value())
     }
 
-    fn of_node<N: Node>(alloc: Global, node: &N) -> Result<Self, FormError> {
-        T::of_members(alloc, node)
+    fn read_json<N: JsonValue>(alloc: Global, node: &N) -> Result<Self, FormError> {
+        T::read_object(alloc, node)
     }
 }
 
-impl<T: Members> InPieces for T {
-    fn send_to<M: Marks>(&self, out: &mut M) -> Result<(), Memory> {
+impl<T: ObjectCodec> WriteJson for T {
+    fn write_json<M: TokenWriter>(&self, out: &mut M) -> Result<(), Memory> {
         out.token(Token::BeginObject)?;
-        self.send_members(out)?;
+        self.write_members(out)?;
         out.token(Token::EndObject)?;
         Ok(())
     }
 
     // The default body again, so that it is inlined: the key is then a constant.
     #[inline(always)]
-    fn send_at<M: Marks>(&self, name: &str, out: &mut M) -> Result<(), Memory> {
+    fn write_json_member<M: TokenWriter>(&self, name: &str, out: &mut M) -> Result<(), Memory> {
         out.token(Token::Key(name))?;
-        self.send_to(out)?;
+        self.write_json(out)?;
         Ok(())
     }
 }

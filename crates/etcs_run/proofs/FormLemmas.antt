@@ -11,8 +11,8 @@ use Rattle.etcs_radio.specs.declared.message.Message.{Message}
 use Rattle.etcs_radio.specs.Message.{IsTooBig as IsMessageTooBig, used_bits as message_bits}
 use Rattle.etcs_radio.specs.Text.{IsCanonicalText as IsMessageText}
 use Rattle.etcs_radio.proofs.EncodeLemmas.{encoding_message, never_too_big}
-use Rattle.etcs_schema.specs.Fault.{Fault, Fails}
-use Rattle.etcs_schema.specs.Shape.{Shape}
+use Rattle.etcs_schema.specs.Fault.{Fault, ReturnsError}
+use Rattle.etcs_schema.specs.Codec.{Codec}
 use Rattle.etcs_document.specs.Refusal.{line_words}
 use Rattle.etcs_schema.specs.declared.error.FormError.{FormError}
 use Rattle.etcs_schema.specs.declared.error.FormError.TheVariants as forms
@@ -52,7 +52,7 @@ refused_early result text texts.PadBits early not_hex wrong_size pad_bits header
 refused_early result text (texts.Fault f) early not_hex wrong_size pad_bits header = header f early
 
 -- a form that is refused, unless memory ran out, has this fault, in the same words
-pub form_refused : {X : Type 0} (why : FormError) (read : Result X Fault) → why ≢ forms.Memory → Fails why read
+pub form_refused : {X : Type 0} (why : FormError) (read : Result X Fault) → why ≢ forms.Memory → ReturnsError why read
     → or_fault read ≡ Err (line_words (Form why))
 unfolding line_words
 form_refused forms.Memory read other fails = absurd (other refl)
@@ -71,9 +71,9 @@ value_read line d utf8 is =
     ∙ ap or_no_json is
 
 -- the line's record is the record of the text's value
-pub text_read : {X : Type 0} (shape : Shape X) (line text : List ℕ) (d found : Data) → text ≡ line → IsUtf8 line → read text ≡ Some d → found ≡ d → parsed_record shape line ≡ or_fault (shape.of found)
-text_read shape line text d found same utf8 is shown =
-    ap (λ value. value then λ e. or_fault (shape.of e)) (value_read line d utf8 (ap read (sym same) ∙ is)) ∙ ap (λ e. or_fault (shape.of e)) (sym shown)
+pub text_read : {X : Type 0} (codec : Codec X) (line text : List ℕ) (d found : Data) → text ≡ line → IsUtf8 line → read text ≡ Some d → found ≡ d → parsed_record codec line ≡ or_fault (codec.of found)
+text_read codec line text d found same utf8 is shown =
+    ap (λ value. value then λ e. or_fault (codec.of e)) (value_read line d utf8 (ap read (sym same) ∙ is)) ∙ ap (λ e. or_fault (codec.of e)) (sym shown)
 
 no_value_by : (line : List ℕ) (b : Bool) → is_utf8 line ≡ b → (IsUtf8 line → read line ≡ None)
     → (if b then or_no_json (read line) else Err (line_words Json)) ≡ Err (line_words Json)
@@ -86,8 +86,8 @@ unfolding parsed_value
 no_value line none = no_value_by line (is_utf8 line) refl none
 
 -- a line that is not JSON has no record
-pub no_record : {X : Type 0} (shape : Shape X) (line : List ℕ) → (IsUtf8 line → read line ≡ None) → parsed_record shape line ≡ Err (line_words Json)
-no_record shape line none = ap (λ value. value then λ e. or_fault (shape.of e)) (no_value line none)
+pub no_record : {X : Type 0} (codec : Codec X) (line : List ℕ) → (IsUtf8 line → read line ≡ None) → parsed_record codec line ≡ Err (line_words Json)
+no_record codec line none = ap (λ value. value then λ e. or_fault (codec.of e)) (no_value line none)
 
 -- a call gives what an equal meaning is
 pub gives_same : {X Y : Type 0} (view : X → Y) (result : Result X Unwritten) (m n : Result Y (List ℕ)) → Gives view result m → n ≡ m → Gives view result n

@@ -2,7 +2,7 @@
 use Rattle.std.specs.Prelude.{ℕ, List, [], Option, Some, None}
 use Rattle.etcs_json.specs.AnyMessage.{message}
 use Rattle.etcs_json.specs.Telegrams.{telegram}
-use Rattle.etcs_schema.specs.Shape.{object}
+use Rattle.etcs_schema.specs.Codec.{object}
 use Rattle.etcs_document.specs.declared.refusal.Refusal.TheVariants.{Usage}
 use Rattle.etcs_run.specs.Checking.{check_output}
 use Rattle.etcs_run.specs.Command.{parsed_command}

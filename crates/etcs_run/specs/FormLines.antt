@@ -11,7 +11,7 @@ use Rattle.serde_json.specs.Data.{Data}
 use Rattle.serde_json.specs.Read.{read}
 use Rattle.etcs_schema.specs.Fault.{Fault}
 use Rattle.etcs_document.specs.Refusal.{form_fault_words, line_words}
-use Rattle.etcs_schema.specs.Shape.{Shape}
+use Rattle.etcs_schema.specs.Codec.{Codec}
 use Rattle.etcs_document.specs.declared.refusal.LineFault.TheVariants.{Json, TooBig}
 use Rattle.etcs_run.specs.HexText.{message_text, telegram_text}
 use Rattle.etcs_run.specs.TextLineMeaning.{Meaning}
@@ -37,8 +37,8 @@ or_fault (Ok x) = Ok x
 or_fault (Err f) = Err (form_fault_words f)
 
 -- the record whose form the line is, or the reason why there is none
-abbrev pub parsed_record : {X : Type 0} → Shape X → List ℕ → Result X (List ℕ)
-parsed_record shape line = parsed_value line then λ d. or_fault (shape.of d)
+abbrev pub parsed_record : {X : Type 0} → Codec X → List ℕ → Result X (List ℕ)
+parsed_record codec line = parsed_value line then λ d. or_fault (codec.of d)
 
 -- the text with the end of the line, unless the record is too big to have one
 abbrev pub text_unless : Bool → List ℕ → Result (List ℕ) (List ℕ)
@@ -53,5 +53,5 @@ unfoldable pub message_line : Message → Result (List ℕ) (List ℕ)
 message_line m = text_unless (nat_lt 8184 (message_bits m)) (message_text m)
 
 -- what a line means as the form of a record: the record's text, or the reason why there is none
-unfoldable pub encoded : {X : Type 0} → Shape X → (X → Result (List ℕ) (List ℕ)) → Meaning
-encoded shape text line = parsed_record shape line then text
+unfoldable pub encoded : {X : Type 0} → Codec X → (X → Result (List ℕ) (List ℕ)) → Meaning
+encoded codec text line = parsed_record codec line then text

@@ -7,7 +7,7 @@ use Rattle.etcs_telegram.specs.Record.{Telegram}
 use Rattle.etcs_telegram.specs.declared.error.TextError.{TextError}
 use Rattle.etcs_telegram.specs.declared.error.TextError.TheVariants as texts
 use Rattle.etcs_document.specs.Refusal.{line_words}
-use Rattle.etcs_schema.specs.Shape.{object}
+use Rattle.etcs_schema.specs.Codec.{object}
 use Rattle.etcs_json.specs.Telegrams.{telegram}
 use Rattle.etcs_document.specs.declared.refusal.LineFault.TheVariants.{Text}
 use Rattle.etcs_run.specs.JsonLine.{json_line_text}

@@ -11,7 +11,7 @@ use etcs_bits::Memory;
 use etcs_document::LineFault;
 use etcs_json::Form;
 use etcs_radio::Message;
-use etcs_schema::{FormError, JsonError, JsonText, Node};
+use etcs_schema::{FormError, JsonError, JsonValue, ParsedJson};
 use etcs_telegram::Telegram;
 use json::Scratch;
 use serde_json::Value;
@@ -33,10 +33,10 @@ fn value_of(alloc: Global, line: &[u8]) -> Result<Value, Unwritten>
 }
 
 // The record whose form the JSON value is.
-fn record_of<T: Form, N: Node>(alloc: Global, node: &N) -> Result<T, Unwritten>
-    ensures { Gives (λ x. x) result (or_fault (T.shape.of (N.shows node.now))) }
+fn record_of<T: Form, N: JsonValue>(alloc: Global, node: &N) -> Result<T, Unwritten>
+    ensures { Gives (λ x. x) result (or_fault (T.codec.of (N.value node.now))) }
 {
-    match T::of_node(alloc, node) {
+    match T::read_json(alloc, node) {
         Ok(record) => Ok(record),
         Err(why) => match why {
             FormError::Memory => Err(Unwritten::Memory),
@@ -47,7 +47,7 @@ fn record_of<T: Form, N: Node>(alloc: Global, node: &N) -> Result<T, Unwritten>
 
 // The record whose form the line is, if the line is too long for a tape.
 fn record_of_value<T: Form>(alloc: Global, line: &[u8]) -> Result<T, Unwritten>
-    ensures { Gives (λ x. x) result (parsed_record T.shape line.now) }
+    ensures { Gives (λ x. x) result (parsed_record T.codec line.now) }
 {
     let value = value_of(alloc, line)?;
     record_of(alloc, &&value)
@@ -59,12 +59,12 @@ fn record_in_line<T: Form>(
     scratch: &mut Scratch,
     line: &[u8],
 ) -> Result<T, Unwritten>
-    ensures { Gives (λ x. x) result (parsed_record T.shape line.now) }
+    ensures { Gives (λ x. x) result (parsed_record T.codec line.now) }
 {
     let Ok(text) = str::from_utf8(line) else {
         return Err(Unwritten::Refused(LineFault::Json));
     };
-    match JsonText::read(text, scratch, Vec::new(alloc)) {
+    match ParsedJson::read(text, scratch, Vec::new(alloc)) {
         Ok(json) => record_of(alloc, &json.root()),
         Err(JsonError::NotJson) => Err(Unwritten::Refused(LineFault::Json)),
         Err(JsonError::Memory) => Err(Unwritten::Memory),
@@ -146,7 +146,7 @@ impl<T> Encoding<T> {
 impl<T: Form + Encoded> TextLineMeaning for Encoding<T> {
     ghost use Rattle.etcs_run.specs.FormLines.{encoded};
 
-    ghost meaning = { encoded T.shape T.line };
+    ghost meaning = { encoded T.codec T.line };
 
     fn text(&mut self, alloc: Global, room: Vec<u8>, line: &[u8]) -> Result<Vec<u8>, Unwritten> {
         let record: T = record_in_line(alloc, &mut self.scratch, line)?;

@@ -5,15 +5,15 @@ ghost use Rattle.etcs_run.specs.JsonLine.{json_line_text};
 
 use etcs_bits::Memory;
 use etcs_digits::LineText;
-use etcs_json::InPieces;
+use etcs_json::WriteJson;
 
 /// The JSON line of a value, with its `\n`, in the buffer `room`, whose content is lost. Fails only if memory
 /// runs out; then the buffer is dropped.
-pub fn json_line<T: InPieces>(room: Vec<u8>, value: &T) -> Result<Vec<u8>, Memory>
-    ensures { IfOk result (λ line. line.items ≡ json_line_text T.shape value.now) }
+pub fn json_line<T: WriteJson>(room: Vec<u8>, value: &T) -> Result<Vec<u8>, Memory>
+    ensures { IfOk result (λ line. line.items ≡ json_line_text T.codec value.now) }
 {
     let mut out = LineText::new(room);
-    value.send_to(&mut out)?;
+    value.write_json(&mut out)?;
     let line = out.into_line()?;
     Ok(line)
 }

@@ -15,7 +15,7 @@ use Rattle.serde_json.specs.Data.{Data, Items, array, item, no_items}
 use Rattle.serde_json.specs.Find.{as_array}
 use Rattle.serde_json.specs.Read.{of_items, of_json}
 use Rattle.etcs_schema.specs.Reading.{data_list}
-use Rattle.etcs_schema.specs.node.Tape.{data_of, is_sound, items_data, list_or}
+use Rattle.etcs_schema.specs.json_value.Tape.{tokens_data, is_sound, items_data, list_or}
 use Rattle.etcs_schema.proofs.TapeLemmas.{each_kind, some_mapped, sound_from, sound_has}
 
 -- ---- the items inside a list, and the list
@@ -97,7 +97,7 @@ parted j js ds h = parted_at j js ds (of_json j) (of_items js) refl refl h
 pub record Taken (old us new : List Token) : Type 0 where
   pub item_sound : is_sound us ≡ true
   pub rest_sound : is_sound (begin_array ∷ new) ≡ true
-  pub is : items_data old ≡ data_of us ∷ items_data new
+  pub is : items_data old ≡ tokens_data us ∷ items_data new
 
 taken_at : (old us new : List Token) (s : SoundItems old) (j : json.Json) (js : json.Items) → s.text ≡ json.item j js → BeginsWith us j → InItems new js → Taken old us new
 taken_at old us new s j js text begins more =
@@ -107,7 +107,7 @@ taken_at old us new s j js text begins more =
     record {
       item_sound = first.0;
       rest_sound = further.0;
-      is = s.same ∙ sym (ap data_list p.whole) ∙ ap (λ d. d ∷ data_list p.further) (sym first.1) ∙ ap (λ ds. data_of us ∷ ds) (sym further.1);
+      is = s.same ∙ sym (ap data_list p.whole) ∙ ap (λ d. d ∷ data_list p.further) (sym first.1) ∙ ap (λ ds. tokens_data us ∷ ds) (sym further.1);
     }
 
 pub taken : (old us new : List Token) → is_sound (begin_array ∷ old) ≡ true → NextItem old (Some us) new → Taken old us new
@@ -131,13 +131,13 @@ still_sound old new (Some us) sound next stays = (taken old us new sound next).r
 array_none : (j : json.Json) (d : Data) → of_json j ≡ Some d → find.as_array j ≡ None → as_array d ≡ None
 array_none = each_kind (λ j d. find.as_array j ≡ None → as_array d ≡ None) (λ e. refl) (λ b e. refl) (λ s n e f. refl) (λ s e. refl) (λ js ds e f. absurd (cc)) (λ ms ns e f. refl)
 
-pub no_list : (ts : List Token) → is_sound ts ≡ true → ((j : json.Json) → BeginsWith ts j → find.as_array j ≡ None) → None ≡ option_map data_list (as_array (data_of ts))
+pub no_list : (ts : List Token) → is_sound ts ≡ true → ((j : json.Json) → BeginsWith ts j → find.as_array j ≡ None) → None ≡ option_map data_list (as_array (tokens_data ts))
 no_list ts sound h =
     let s = sound_has ts sound in
     ap (option_map data_list) (sym (ap as_array s.same ∙ array_none s.text s.read s.is (h s.text s.stands)))
 
 pub a_list : (ts us : List Token) → is_sound ts ≡ true → ((j : json.Json) → BeginsWith ts j → (js : json.Items) × (j ≡ json.array js) × InItems us js)
-    → (is_sound (begin_array ∷ us) ≡ true) × (Some (items_data us) ≡ option_map data_list (as_array (data_of ts)))
+    → (is_sound (begin_array ∷ us) ≡ true) × (Some (items_data us) ≡ option_map data_list (as_array (tokens_data ts)))
 a_list ts us sound h =
     let s = sound_has ts sound in
     let f = h s.text s.stands in

@@ -9,7 +9,7 @@ pub mod TextLemmas
 pub mod SortedLemmas
 pub mod Objects
 pub mod ListLemmas
-pub mod SendingLemmas
+pub mod WritingLemmas
 pub mod BodyTextLemmas
 pub mod PathLemmas
 pub mod AnyList

@@ -6,39 +6,39 @@ use Rattle.serde_json.specs.Data.{Data, Items, item, no_items}
 use Rattle.serde_json.specs.Find.{as_array}
 use Rattle.serde_json.specs.View.{view, items_view}
 use Rattle.serde_json.specs.declared.value.Value.{Value}
-use Rattle.etcs_schema.specs.Fault.{Fails, Fault, Gives, IsDeeper, Kind, Range, here, list_item, under}
-use Rattle.etcs_schema.specs.Reading.{counts_between, ◌>>=◌, bounded_list_or, data_list, items_at, list_of, with_first}
-use Rattle.etcs_schema.specs.Shape.{items_of}
+use Rattle.etcs_schema.specs.Fault.{ReturnsError, Fault, Returns, IsPrefixedError, Kind, Range, here, list_item, prefixed_result}
+use Rattle.etcs_schema.specs.Reading.{has_bounded_length, ◌>>=◌, bounded_list_or, data_list, indexed_items, bounded_list, with_first}
+use Rattle.etcs_schema.specs.Codec.{encoded_items}
 use Rattle.etcs_schema.specs.declared.error.FormError.{FormError}
 use Rattle.etcs_schema.proofs.Objects.{fails_same, fails_under, none_mapped}
 use Rattle.etcs_schema.proofs.TapeLemmas.{or_this, some_mapped}
 
 -- ---- the items of a list, as a node has them
 
-pub list_none : {A B : Type 0} (f : Items → B) (read : Data → Result A Fault) (low high : ℕ) (d : Data) → None ≡ option_map f (as_array d) → list_of read low high d ≡ Err (here Kind)
-unfolding list_of
+pub list_none : {A B : Type 0} (f : Items → B) (read : Data → Result A Fault) (low high : ℕ) (d : Data) → None ≡ option_map f (as_array d) → bounded_list read low high d ≡ Err (here Kind)
+unfolding bounded_list
 list_none f read low high d e = ap (bounded_list_or read low high) (none_mapped f (as_array d) e)
 
-pub list_counted : {A : Type 0} (read : Data → Result A Fault) (low high : ℕ) (d : Data) (fits : Bool) → Some fits ≡ option_map (λ ds. counts_between low high (data_list ds)) (as_array d)
-    → (rest : List Data) → Some rest ≡ option_map data_list (as_array d) → list_of read low high d ≡ if fits then items_at read 0 rest else Err (here Range)
-unfolding list_of
+pub list_counted : {A : Type 0} (read : Data → Result A Fault) (low high : ℕ) (d : Data) (fits : Bool) → Some fits ≡ option_map (λ ds. has_bounded_length low high (data_list ds)) (as_array d)
+    → (rest : List Data) → Some rest ≡ option_map data_list (as_array d) → bounded_list read low high d ≡ if fits then indexed_items read 0 rest else Err (here Range)
+unfolding bounded_list
 list_counted read low high d fits e rest f =
-    let m = some_mapped (λ ds. counts_between low high (data_list ds)) fits (as_array d) (sym e) in
+    let m = some_mapped (λ ds. has_bounded_length low high (data_list ds)) fits (as_array d) (sym e) in
     let k = some_mapped data_list rest (as_array d) (sym f) in
     let same : m.0 ≡ k.0 = ap (or_this m.0) (sym m.1 ∙ k.1) in
     ap (bounded_list_or read low high) m.1
-    ∙ ap (λ b. if b then items_at read 0 (data_list m.0) else Err (here Range)) m.2
-    ∙ ap (λ ds. if fits then items_at read 0 ds else Err (here Range)) (ap data_list same ∙ k.2)
+    ∙ ap (λ b. if b then indexed_items read 0 (data_list m.0) else Err (here Range)) m.2
+    ∙ ap (λ ds. if fits then indexed_items read 0 ds else Err (here Range)) (ap data_list same ∙ k.2)
 
-pub list_misfits : {A : Type 0} (read : Data → Result A Fault) (low high : ℕ) (d : Data) → Some false ≡ option_map (λ ds. counts_between low high (data_list ds)) (as_array d)
-    → list_of read low high d ≡ Err (here Range)
-unfolding list_of
+pub list_misfits : {A : Type 0} (read : Data → Result A Fault) (low high : ℕ) (d : Data) → Some false ≡ option_map (λ ds. has_bounded_length low high (data_list ds)) (as_array d)
+    → bounded_list read low high d ≡ Err (here Range)
+unfolding bounded_list
 list_misfits read low high d e =
-    let m = some_mapped (λ ds. counts_between low high (data_list ds)) false (as_array d) (sym e) in
-    ap (bounded_list_or read low high) m.1 ∙ ap (λ b. if b then items_at read 0 (data_list m.0) else Err (here Range)) m.2
+    let m = some_mapped (λ ds. has_bounded_length low high (data_list ds)) false (as_array d) (sym e) in
+    ap (bounded_list_or read low high) m.1 ∙ ap (λ b. if b then indexed_items read 0 (data_list m.0) else Err (here Range)) m.2
 
-pub gives_equal : {X Y : Type 0} (view : X → Y) (result : Result X FormError) (r s : Result Y Fault) → Gives view result r → s ≡ r → Gives view result s
-gives_equal view result r s h e = subst (Gives view result) (sym e) h
+pub gives_equal : {X Y : Type 0} (view : X → Y) (result : Result X FormError) (r s : Result Y Fault) → Returns view result r → s ≡ r → Returns view result s
+gives_equal view result r s h e = subst (Returns view result) (sym e) h
 
 items_push : Items → Data → Items
 items_push no_items d = item d no_items
@@ -49,16 +49,16 @@ unfolding items_push
 items_view-push [] v is d e f = rw (← e, f) refl
 items_view-push (w ∷ vs) v is d e f = rw (← e) (ap (item (view w)) (items_view-push vs v (items_view vs) d refl f))
 
-items_of-push : {X : Type 0} (to : X → Data) (xs : List X) (x : X) → items_of to (xs ++ x ∷ []) ≡ items_push (items_of to xs) (to x)
+encoded_items-push : {X : Type 0} (to : X → Data) (xs : List X) (x : X) → encoded_items to (xs ++ x ∷ []) ≡ items_push (encoded_items to xs) (to x)
 unfolding items_push
-items_of-push to [] x = refl
-items_of-push to (y ∷ xs) x = ap (item (to y)) (items_of-push to xs x)
+encoded_items-push to [] x = refl
+encoded_items-push to (y ∷ xs) x = ap (item (to y)) (encoded_items-push to xs x)
 
 pub built_more : {X : Type 0} (to : X → Data) (xs : List X) (i : ℕ) (x : X) (vs : List Value) (v : Value) (ws : List Value) → i < length xs → x ≡ get_or xs i x
-    → items_view vs ≡ items_of to (take i xs) → view v ≡ to x → ws ≡ vs ++ v ∷ [] → items_view ws ≡ items_of to (take (i + 1) xs)
+    → items_view vs ≡ encoded_items to (take i xs) → view v ≡ to x → ws ≡ vs ++ v ∷ [] → items_view ws ≡ encoded_items to (take (i + 1) xs)
 built_more to xs i x vs v ws lt is so_far one pushed =
-    ap items_view pushed ∙ items_view-push vs v _ (to x) so_far one ∙ sym (items_of-push to (take i xs) x)
-    ∙ ap (items_of to) (ap (λ y. take i xs ++ y ∷ []) is ∙ sym (take_more xs i x lt))
+    ap items_view pushed ∙ items_view-push vs v _ (to x) so_far one ∙ sym (encoded_items-push to (take i xs) x)
+    ∙ ap (encoded_items to) (ap (λ y. take i xs ++ y ∷ []) is ∙ sym (take_more xs i x lt))
 
 -- ---- one item after the other
 
@@ -71,29 +71,29 @@ front_empty : {A : Type 0} (r : Result (List A) Fault) → with_front [] r ≡ r
 front_empty (Ok xs) = refl
 front_empty (Err f) = refl
 
-pub front_none : {A : Type 0} (read : Data → Result A Fault) (ds : List Data) (xs : List A) → xs ≡ [] → with_front xs (items_at read (length xs) ds) ≡ items_at read 0 ds
-front_none read ds xs none = ap (λ ys. with_front ys (items_at read (length ys) ds)) none ∙ front_empty (items_at read 0 ds)
+pub front_none : {A : Type 0} (read : Data → Result A Fault) (ds : List Data) (xs : List A) → xs ≡ [] → with_front xs (indexed_items read (length xs) ds) ≡ indexed_items read 0 ds
+front_none read ds xs none = ap (λ ys. with_front ys (indexed_items read (length ys) ds)) none ∙ front_empty (indexed_items read 0 ds)
 
 front_push : {A : Type 0} (xs : List A) (x : A) (r : Result (List A) Fault) → with_front (xs ++ x ∷ []) r ≡ with_front xs (with_first x r)
 front_push xs x (Err f) = refl
 front_push xs x (Ok ys) = ap Ok (append_assoc xs (x ∷ []) ys)
 
 pub item_read : {A : Type 0} (read : Data → Result A Fault) (xs ys : List A) (old new : List Data) (d : Data) (x : A) (all : Result (List A) Fault) → old ≡ d ∷ new → read d ≡ Ok x → ys ≡ xs ++ x ∷ []
-    → with_front xs (items_at read (length xs) old) ≡ all → with_front ys (items_at read (length ys) new) ≡ all
+    → with_front xs (indexed_items read (length xs) old) ≡ all → with_front ys (indexed_items read (length ys) new) ≡ all
 item_read read xs ys old new d x all is e pushed so_far =
-    ap (λ zs. with_front zs (items_at read (length zs) new)) pushed
-    ∙ ap (λ n. with_front (xs ++ x ∷ []) (items_at read n new)) (length-append xs (x ∷ []))
-    ∙ front_push xs x (items_at read (length xs + 1) new)
-    ∙ sym (ap (λ r. with_front xs (under (list_item (length xs)) r >>= λ y. with_first y (items_at read (length xs + 1) new))) e)
-    ∙ sym (ap (λ ds. with_front xs (items_at read (length xs) ds)) is) ∙ so_far
+    ap (λ zs. with_front zs (indexed_items read (length zs) new)) pushed
+    ∙ ap (λ n. with_front (xs ++ x ∷ []) (indexed_items read n new)) (length-append xs (x ∷ []))
+    ∙ front_push xs x (indexed_items read (length xs + 1) new)
+    ∙ sym (ap (λ r. with_front xs (prefixed_result (list_item (length xs)) r >>= λ y. with_first y (indexed_items read (length xs + 1) new))) e)
+    ∙ sym (ap (λ ds. with_front xs (indexed_items read (length xs) ds)) is) ∙ so_far
 
 pub item_fails : {A : Type 0} (read : Data → Result A Fault) (xs : List A) (old new : List Data) (d : Data) (all : Result (List A) Fault) (inner outer : FormError) → old ≡ d ∷ new
-    → with_front xs (items_at read (length xs) old) ≡ all → IsDeeper (list_item (length xs)) inner outer → Fails inner (read d) → Fails outer all
+    → with_front xs (indexed_items read (length xs) old) ≡ all → IsPrefixedError (list_item (length xs)) inner outer → ReturnsError inner (read d) → ReturnsError outer all
 item_fails read xs old new d all inner outer is so_far deep fails =
     let step = list_item (length xs) in
-    fails_same outer (under step (read d)) all (fails_under step inner outer (read d) (under step (read d)) deep fails refl)
-    (λ f e. sym so_far ∙ ap (λ ds. with_front xs (items_at read (length xs) ds)) is ∙ ap (λ r. with_front xs (r >>= λ y. with_first y (items_at read (length xs + 1) new))) e)
+    fails_same outer (prefixed_result step (read d)) all (fails_under step inner outer (read d) (prefixed_result step (read d)) deep fails refl)
+    (λ f e. sym so_far ∙ ap (λ ds. with_front xs (indexed_items read (length xs) ds)) is ∙ ap (λ r. with_front xs (r >>= λ y. with_first y (indexed_items read (length xs + 1) new))) e)
 
 pub all_read : {A : Type 0} (read : Data → Result A Fault) (xs : List A) (rest : List Data) (all : Result (List A) Fault) → rest ≡ []
-    → with_front xs (items_at read (length xs) rest) ≡ all → all ≡ Ok xs
-all_read read xs rest all none so_far = sym so_far ∙ ap (λ ds. with_front xs (items_at read (length xs) ds)) none ∙ ap Ok (append-nil xs)
+    → with_front xs (indexed_items read (length xs) rest) ≡ all → all ≡ Ok xs
+all_read read xs rest all none so_far = sym so_far ∙ ap (λ ds. with_front xs (indexed_items read (length xs) ds)) none ∙ ap Ok (append-nil xs)

@@ -10,7 +10,7 @@ use Rattle.serde_json.specs.Data.{Data, Members, no_members, put}
 use Rattle.serde_json.specs.Find.{get, get_member}
 use Rattle.serde_json.specs.Read.{of_json, of_members}
 use Rattle.serde_json.proofs.Views.{get_member-put, get_member-put_other}
-use Rattle.etcs_schema.specs.node.Tape.{data_of, is_sound}
+use Rattle.etcs_schema.specs.json_value.Tape.{tokens_data, is_sound}
 use Rattle.etcs_schema.proofs.TapeLemmas.{each_kind, sound_from, sound_has}
 
 -- the value of the last member with a name, or the value found before
@@ -50,12 +50,12 @@ member_none None now e h = sym h
 member_none (Some j) now e h = absurd (cc)
 
 -- no member with that name
-pub no_member : (ts : List Token) (name : List ℕ) → is_sound ts ≡ true → ((j : json.Json) → BeginsWith ts j → Finds None (find.get name j)) → None ≡ get name (data_of ts)
+pub no_member : (ts : List Token) (name : List ℕ) → is_sound ts ≡ true → ((j : json.Json) → BeginsWith ts j → Finds None (find.get name j)) → None ≡ get name (tokens_data ts)
 no_member ts name sound h =
     let s = sound_has ts sound in
     member_none (find.get name s.text) (get name s.read) (h s.text s.stands) (get_is name s.text s.read s.is) ∙ ap (get name) (sym s.same)
 
-member_some : (us : List Token) (j : json.Json) (o : Option json.Json) (now : Option Data) → BeginsWith us j → o ≡ Some j → InData o now None → (is_sound us ≡ true) × (Some (data_of us) ≡ now)
+member_some : (us : List Token) (j : json.Json) (o : Option json.Json) (now : Option Data) → BeginsWith us j → o ≡ Some j → InData o now None → (is_sound us ≡ true) × (Some (tokens_data us) ≡ now)
 member_some us j None now h e m = absurd (cc)
 member_some us j (Some i) now h e m =
     let f = sound_from us j m.0 h (ap of_json (sym (Some_inj i j e)) ∙ m.1) in
@@ -63,7 +63,7 @@ member_some us j (Some i) now h e m =
 
 -- the member with that name
 pub a_member : (ts us : List Token) (name : List ℕ) → is_sound ts ≡ true → ((j : json.Json) → BeginsWith ts j → Finds (Some us) (find.get name j))
-    → (is_sound us ≡ true) × (Some (data_of us) ≡ get name (data_of ts))
+    → (is_sound us ≡ true) × (Some (tokens_data us) ≡ get name (tokens_data ts))
 a_member ts us name sound h =
     let s = sound_has ts sound in
     let f = h s.text s.stands in

@@ -6,12 +6,12 @@ use Rattle.serde_json.specs.declared.value.Value.{Value}
 use Rattle.serde_json.specs.Data.{Data, Members, no_members, object}
 use Rattle.serde_json.specs.Find.{as_object, get}
 use Rattle.etcs_bits.specs.layout.Rows.{AreAllowed}
-use Rattle.etcs_schema.specs.Shape.{Object, Shape}
-use Rattle.etcs_schema.specs.Entries.{are_apart, are_known, members_onto, object_of}
-use Rattle.etcs_schema.specs.Chosen.{any_object, object_or}
-use Rattle.etcs_schema.specs.Fault.{Fault, Fails, Gives, IsAround, IsDeeper, IsFault, IsUnder, Kind, Step, Unknown, fault_of, here, key, under}
-use Rattle.etcs_schema.specs.Reading.{◌>>=◌, at_key, key_or, known_or, member_at, object_with}
-use Rattle.etcs_schema.specs.Sending.{sorted}
+use Rattle.etcs_schema.specs.Codec.{Object, Codec}
+use Rattle.etcs_schema.specs.Entries.{are_apart, are_known, with_entries, entries_object}
+use Rattle.etcs_schema.specs.Choices.{any_object, object_or}
+use Rattle.etcs_schema.specs.Fault.{Fault, ReturnsError, Returns, IsPrefixedFault, IsPrefixedError, IsFault, IsPrefixedResult, Kind, Step, Unknown, error_fault, here, key, prefixed_result}
+use Rattle.etcs_schema.specs.Reading.{◌>>=◌, required_member, key_or, known_or, any_member, only_keys}
+use Rattle.etcs_schema.specs.Writing.{sorted}
 use Rattle.etcs_schema.specs.declared.error.FormError.{FormError}
 use Rattle.etcs_schema.proofs.SortedLemmas.{onto_sorted}
 use Rattle.etcs_schema.proofs.TapeLemmas.{some_mapped}
@@ -21,18 +21,18 @@ fails_at None f r is read = tt
 fails_at (Some g) f r is read = read ∙ ap (λ x. Err x) (sym is)
 
 -- the error is what is read
-pub fails_as : {Y : Type 0} → (e : FormError) (f : Fault) (r : Result Y Fault) → IsFault e f → r ≡ Err f → Fails e r
-fails_as e f r is read = fails_at (fault_of e) f r is read
+pub fails_as : {Y : Type 0} → (e : FormError) (f : Fault) (r : Result Y Fault) → IsFault e f → r ≡ Err f → ReturnsError e r
+fails_as e f r is read = fails_at (error_fault e) f r is read
 
-under_at : {Y : Type 0} (step : Step) (inner outer : Option Fault) (r s : Result Y Fault) → IfSome outer (λ f. IsAround step f inner)
-    → IfSome inner (λ f. r ≡ Err f) → s ≡ under step r → IfSome outer (λ f. s ≡ Err f)
+under_at : {Y : Type 0} (step : Step) (inner outer : Option Fault) (r s : Result Y Fault) → IfSome outer (λ f. IsPrefixedFault step f inner)
+    → IfSome inner (λ f. r ≡ Err f) → s ≡ prefixed_result step r → IfSome outer (λ f. s ≡ Err f)
 under_at step inner None r s deep fails is = tt
 under_at step None (Some f) r s deep fails is = absurd deep
-under_at step (Some g) (Some f) r s deep fails is = is ∙ ap (under step) fails ∙ ap (λ x. Err x) (sym deep)
+under_at step (Some g) (Some f) r s deep fails is = is ∙ ap (prefixed_result step) fails ∙ ap (λ x. Err x) (sym deep)
 
 -- a fault as the enclosing value reports it
-pub fails_under : {Y : Type 0} → (step : Step) (inner outer : FormError) (r s : Result Y Fault) → IsDeeper step inner outer → Fails inner r → s ≡ under step r → Fails outer s
-fails_under step inner outer r s deep fails is = under_at step (fault_of inner) (fault_of outer) r s deep fails is
+pub fails_under : {Y : Type 0} → (step : Step) (inner outer : FormError) (r s : Result Y Fault) → IsPrefixedError step inner outer → ReturnsError inner r → s ≡ prefixed_result step r → ReturnsError outer s
+fails_under step inner outer r s deep fails is = under_at step (error_fault inner) (error_fault outer) r s deep fails is
 
 -- ---- the keys of an object
 
@@ -40,12 +40,12 @@ pub none_mapped : {A B : Type 0} (f : A → B) (o : Option A) → None ≡ optio
 none_mapped f None e = refl
 none_mapped f (Some a) e = absurd (cc)
 
-pub keys_none : (keys : List (List ℕ)) (d : Data) → None ≡ option_map (are_known keys) (as_object d) → object_with keys d ≡ Err (here Kind)
-unfolding object_with
+pub keys_none : (keys : List (List ℕ)) (d : Data) → None ≡ option_map (are_known keys) (as_object d) → only_keys keys d ≡ Err (here Kind)
+unfolding only_keys
 keys_none keys d e = ap (known_or keys) (none_mapped (are_known keys) (as_object d) e)
 
-pub keys_known : (keys : List (List ℕ)) (d : Data) (known : Bool) → Some known ≡ option_map (are_known keys) (as_object d) → object_with keys d ≡ if known then Ok tt else Err (here Unknown)
-unfolding object_with
+pub keys_known : (keys : List (List ℕ)) (d : Data) (known : Bool) → Some known ≡ option_map (are_known keys) (as_object d) → only_keys keys d ≡ if known then Ok tt else Err (here Unknown)
+unfolding only_keys
 keys_known keys d known e =
     let found = some_mapped (are_known keys) known (as_object d) (sym e) in
     ap (known_or keys) found.1 ∙ ap (λ b. if b then Ok tt else Err (here Unknown)) found.2
@@ -59,32 +59,32 @@ unfolding any_object
 some_object keys d known e = ap object_or (some_mapped (are_known keys) known (as_object d) (sym e)).1
 
 -- an empty object with the members inserted is the object of the form
-pub made_object : {X : Type 0} (o : Object X) (x : X) (old new : Members) (d : Data) → old ≡ no_members → new ≡ members_onto old (sorted (o.part.to x)) → d ≡ object new
-    → d ≡ object_of (o.part.to x)
+pub made_object : {X : Type 0} (o : Object X) (x : X) (old new : Members) (d : Data) → old ≡ no_members → new ≡ with_entries old (sorted (o.members.to x)) → d ≡ object new
+    → d ≡ entries_object (o.members.to x)
 made_object o x old new d none made is =
-    let apart = ap are_apart (o.part.has_keys x) ∙ o.apart in
-    is ∙ ap object (made ∙ ap (λ ms. members_onto ms (sorted (o.part.to x))) none ∙ onto_sorted (o.part.to x) apart)
+    let apart = ap are_apart (o.members.has_keys x) ∙ o.apart in
+    is ∙ ap object (made ∙ ap (λ ms. with_entries ms (sorted (o.members.to x))) none ∙ onto_sorted (o.members.to x) apart)
 
 same_at : {X Y : Type 0} (o : Option Fault) (r : Result X Fault) (s : Result Y Fault) → IfSome o (λ f. r ≡ Err f) → ((f : Fault) → r ≡ Err f → s ≡ Err f) → IfSome o (λ f. s ≡ Err f)
 same_at None r s fails same = tt
 same_at (Some f) r s fails same = same f fails
 
 -- what fails with each fault of another reading
-pub fails_same : {X Y : Type 0} → (e : FormError) (r : Result X Fault) (s : Result Y Fault) → Fails e r → ((f : Fault) → r ≡ Err f → s ≡ Err f) → Fails e s
-fails_same e r s fails same = same_at (fault_of e) r s fails same
+pub fails_same : {X Y : Type 0} → (e : FormError) (r : Result X Fault) (s : Result Y Fault) → ReturnsError e r → ((f : Fault) → r ≡ Err f → s ≡ Err f) → ReturnsError e s
+fails_same e r s fails same = same_at (error_fault e) r s fails same
 
 -- an error that is passed on is what the outer reading gives
 pub fails_up : {X Y A : Type 0} (view : X → Y) (result : Result X FormError) (e : FormError) (r : Result A Fault) (s : Result Y Fault)
-    → IsErrAnd result (λ y. y ≡ e) → Fails e r → ((f : Fault) → r ≡ Err f → s ≡ Err f) → Gives view result s
+    → IsErrAnd result (λ y. y ≡ e) → ReturnsError e r → ((f : Fault) → r ≡ Err f → s ≡ Err f) → Returns view result s
 fails_up view (Ok x) e r s passed fails same = absurd passed
 fails_up view (Err y) e r s passed fails same = rw passed (fails_same e r s fails same)
 
 -- what was written is read again
-pub read_again : {X : Type 0} (s : Shape X) (x : X) (d : Data) → d ≡ s.to x → AreAllowed (s.rows x) → s.of d ≡ Ok x
+pub read_again : {X : Type 0} (s : Codec X) (x : X) (d : Data) → d ≡ s.to x → AreAllowed (s.rows x) → s.of d ≡ Ok x
 read_again s x d is allowed = ap s.of is ∙ s.again x allowed
 
 -- what is read again has a form of its own
-pub own_form : {X : Type 0} (s : Shape X) (x y : X) → AreAllowed (s.rows x) → AreAllowed (s.rows y) → s.to x ≡ s.to y → x ≡ y
+pub own_form : {X : Type 0} (s : Codec X) (x y : X) → AreAllowed (s.rows x) → AreAllowed (s.rows y) → s.to x ≡ s.to y → x ≡ y
 own_form s x y first second same =
     let one = s.again x first in
     let other = s.again y second in
@@ -92,7 +92,7 @@ own_form s x y first second same =
     cc
 
 -- what a call wrote is read again, unless it failed
-pub written_again : {X E : Type 0} → (s : Shape X) (x : X) (result : Result Value E) → AreAllowed (s.rows x) → IfOk result (λ v. view v ≡ s.to x) → IfOk result (λ v. Unit {0} → s.of (view v) ≡ Ok x)
+pub written_again : {X E : Type 0} → (s : Codec X) (x : X) (result : Result Value E) → AreAllowed (s.rows x) → IfOk result (λ v. view v ≡ s.to x) → IfOk result (λ v. Unit {0} → s.of (view v) ≡ Ok x)
 written_again s x (Ok v) allowed is = λ _. read_again s x (view v) is allowed
 written_again s x (Err e) allowed is = tt
 
@@ -110,34 +110,34 @@ missing_at : {A : Type 0} (read : Data → Result A Fault) (name : List ℕ) (o 
 missing_at read name None f e = ap (λ r. Err (fault_or f r)) e
 missing_at read name (Some d) f e = absurd (cc)
 
-found_at : {A : Type 0} (read : Data → Result A Fault) (name : List ℕ) (o : Option Data) (d : Data) → key_or (λ e. Ok e) name o ≡ Ok d → key_or read name o ≡ under (key name) (read d)
+found_at : {A : Type 0} (read : Data → Result A Fault) (name : List ℕ) (o : Option Data) (d : Data) → key_or (λ e. Ok e) name o ≡ Ok d → key_or read name o ≡ prefixed_result (key name) (read d)
 found_at read name None d e = absurd (cc)
-found_at read name (Some c) d e = ap (λ x. under (key name) (read x)) (ap (data_or d) e)
+found_at read name (Some c) d e = ap (λ x. prefixed_result (key name) (read x)) (ap (data_or d) e)
 
 -- a required member is missing
 pub member_missing : {X Y : Type 0} (view : X → Y) (result : Result X FormError) (e : FormError) (read : Data → Result Y Fault) (name : List ℕ) (d : Data)
-    → IsErrAnd result (λ y. y ≡ e) → Fails e (member_at name d) → Gives view result (at_key read name d)
-unfolding at_key
-member_missing view result e read name d passed fails = fails_up view result e (member_at name d) (at_key read name d) passed fails (missing_at read name (get name d))
+    → IsErrAnd result (λ y. y ≡ e) → ReturnsError e (any_member name d) → Returns view result (required_member read name d)
+unfolding required_member
+member_missing view result e read name d passed fails = fails_up view result e (any_member name d) (required_member read name d) passed fails (missing_at read name (get name d))
 
-under_is : {X Y : Type 0} (view : X → Y) (step : Step) (inner outer : Result X FormError) (r s : Result Y Fault) → Gives view inner r → IsUnder step inner outer → s ≡ under step r → Gives view outer s
-under_is view step (Ok x) outer r s gives is e = subst (λ o. Gives view o s) (sym is) (e ∙ ap (under step) gives)
+under_is : {X Y : Type 0} (view : X → Y) (step : Step) (inner outer : Result X FormError) (r s : Result Y Fault) → Returns view inner r → IsPrefixedResult step inner outer → s ≡ prefixed_result step r → Returns view outer s
+under_is view step (Ok x) outer r s gives is e = subst (λ o. Returns view o s) (sym is) (e ∙ ap (prefixed_result step) gives)
 under_is view step (Err inner) (Ok x) r s gives is e = absurd is
 under_is view step (Err inner) (Err outer) r s gives is e = fails_under step inner outer r s is gives e
 
 -- the member is there, and is read
 pub member_read : {X Y : Type 0} (view : X → Y) (inner outer : Result X FormError) (read : Data → Result Y Fault) (name : List ℕ) (d found : Data)
-    → member_at name d ≡ Ok found → Gives view inner (read found) → IsUnder (key name) inner outer → Gives view outer (at_key read name d)
-unfolding at_key
-member_read view inner outer read name d found is gives around = under_is view (key name) inner outer (read found) (at_key read name d) gives around (found_at read name (get name d) found is)
+    → any_member name d ≡ Ok found → Returns view inner (read found) → IsPrefixedResult (key name) inner outer → Returns view outer (required_member read name d)
+unfolding required_member
+member_read view inner outer read name d found is gives around = under_is view (key name) inner outer (read found) (required_member read name d) gives around (found_at read name (get name d) found is)
 
 -- a member that is only checked
-pub gives_unit : {Y : Type 0} (view : Unit {0} → Y) (result : Result (Unit {0}) FormError) (r : Result Y Fault) → Gives view result r → Gives (λ u. u) result (r >>= λ _. Ok tt)
+pub gives_unit : {Y : Type 0} (view : Unit {0} → Y) (result : Result (Unit {0}) FormError) (r : Result Y Fault) → Returns view result r → Returns (λ u. u) result (r >>= λ _. Ok tt)
 gives_unit view (Ok u) r gives = ap (λ s. s >>= λ _. Ok tt) gives
 gives_unit view (Err e) r fails = fails_same e r (r >>= λ _. Ok tt) fails (λ f is. ap (λ s. s >>= λ _. Ok tt) is)
 
 -- what holds of the value that was read
-pub under_keeps : {X : Type 0} (P : X → Type 0) (step : Step) (inner outer : Result X FormError) → IfOk inner P → IsUnder step inner outer → IfOk outer P
+pub under_keeps : {X : Type 0} (P : X → Type 0) (step : Step) (inner outer : Result X FormError) → IfOk inner P → IsPrefixedResult step inner outer → IfOk outer P
 under_keeps P step (Ok x) outer holds is = subst (λ o. IfOk o P) (sym is) holds
 under_keeps P step (Err inner) (Ok x) holds is = absurd is
 under_keeps P step (Err inner) (Err outer) holds is = tt

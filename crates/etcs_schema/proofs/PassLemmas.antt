@@ -8,7 +8,7 @@ use Rattle.json.specs.Json as json
 use Rattle.json.specs.Tree.{depth, items_depth, members_depth, items_tokens, json_tokens, members_tokens}
 use Rattle.serde_json.specs.Data.{Data, Items, Members, array, item, no_members, number, object, put}
 use Rattle.serde_json.specs.Read.{number_of, of_items, of_json, of_members}
-use Rattle.etcs_schema.specs.node.Tape.{are_in_range}
+use Rattle.etcs_schema.specs.json_value.Tape.{are_in_range}
 
 -- it is read, and below `nested` lists and objects it is not too deep
 abbrev reads : ℕ → Bool → ℕ → Bool

@@ -9,8 +9,8 @@ use Rattle.std.specs.Cmp.Lexicographic.{slice_cmp}
 use Rattle.std.specs.Ordering.{match_ordering, ordering_reverse}
 use Rattle.serde_json.specs.Data.{Data, Members, member, no_members, put}
 use Rattle.etcs_schema.specs.EntryLemmas.{apart_sym}
-use Rattle.etcs_schema.specs.Entries.{Entry, keys_of, put_or, members_onto, is_among, are_apart}
-use Rattle.etcs_schema.specs.Sending.{insert, onto, sorted}
+use Rattle.etcs_schema.specs.Entries.{Entry, entry_keys, put_or, with_entries, is_known, are_apart}
+use Rattle.etcs_schema.specs.Writing.{insert, insert_all, sorted}
 
 -- the keys that are there, in this order
 abbrev pub member_or : List ℕ → Option Data → Members → Members
@@ -24,37 +24,37 @@ members_of (e ∷ es) = member_or e.0 e.1 (members_of es)
 or_swapped : (a b c : Bool) → (a || (b || c)) ≡ (b || (a || c))
 or_swapped a b c = grind (arith, nat_tests)
 
-among_inserted_at : (o : Ordering) (k : List ℕ) (e f : Entry) (fs : List Entry) → is_among k (keys_of (insert e fs)) ≡ (bytes_eq k e.0 || is_among k (keys_of fs))
-    → is_among k (keys_of (match_ordering o (e ∷ f ∷ fs) (e ∷ f ∷ fs) (f ∷ insert e fs))) ≡ (bytes_eq k e.0 || (bytes_eq k f.0 || is_among k (keys_of fs)))
+among_inserted_at : (o : Ordering) (k : List ℕ) (e f : Entry) (fs : List Entry) → is_known k (entry_keys (insert e fs)) ≡ (bytes_eq k e.0 || is_known k (entry_keys fs))
+    → is_known k (entry_keys (match_ordering o (e ∷ f ∷ fs) (e ∷ f ∷ fs) (f ∷ insert e fs))) ≡ (bytes_eq k e.0 || (bytes_eq k f.0 || is_known k (entry_keys fs)))
 among_inserted_at Less k e f fs later = refl
 among_inserted_at Equal k e f fs later = refl
-among_inserted_at Greater k e f fs later = ap (λ b. bytes_eq k f.0 || b) later ∙ or_swapped (bytes_eq k f.0) (bytes_eq k e.0) (is_among k (keys_of fs))
+among_inserted_at Greater k e f fs later = ap (λ b. bytes_eq k f.0 || b) later ∙ or_swapped (bytes_eq k f.0) (bytes_eq k e.0) (is_known k (entry_keys fs))
 
-among_inserted : (k : List ℕ) (e : Entry) (es : List Entry) → is_among k (keys_of (insert e es)) ≡ (bytes_eq k e.0 || is_among k (keys_of es))
+among_inserted : (k : List ℕ) (e : Entry) (es : List Entry) → is_known k (entry_keys (insert e es)) ≡ (bytes_eq k e.0 || is_known k (entry_keys es))
 among_inserted k e [] = refl
 among_inserted k e (f ∷ fs) = among_inserted_at _ k e f fs (among_inserted k e fs)
 
 -- the keys stay the same
-pub among_onto : (k : List ℕ) (done es : List Entry) → is_among k (keys_of (onto done es)) ≡ (is_among k (keys_of es) || is_among k (keys_of done))
+pub among_onto : (k : List ℕ) (done es : List Entry) → is_known k (entry_keys (insert_all done es)) ≡ (is_known k (entry_keys es) || is_known k (entry_keys done))
 among_onto k done [] = refl
 among_onto k done (e ∷ es) =
-    among_onto k (insert e done) es ∙ ap (λ b. is_among k (keys_of es) || b) (among_inserted k e done)
-    ∙ or_swapped (is_among k (keys_of es)) (bytes_eq k e.0) (is_among k (keys_of done)) ∙ sym (or_assoc (bytes_eq k e.0) (is_among k (keys_of es)) (is_among k (keys_of done)))
+    among_onto k (insert e done) es ∙ ap (λ b. is_known k (entry_keys es) || b) (among_inserted k e done)
+    ∙ or_swapped (is_known k (entry_keys es)) (bytes_eq k e.0) (is_known k (entry_keys done)) ∙ sym (or_assoc (bytes_eq k e.0) (is_known k (entry_keys es)) (is_known k (entry_keys done)))
 
-not_inserted : (k : List ℕ) (e : Entry) (es : List Entry) → bytes_eq k e.0 ≡ false → is_among k (keys_of es) ≡ false → is_among k (keys_of (insert e es)) ≡ false
+not_inserted : (k : List ℕ) (e : Entry) (es : List Entry) → bytes_eq k e.0 ≡ false → is_known k (entry_keys es) ≡ false → is_known k (entry_keys (insert e es)) ≡ false
 not_inserted k e es other none = among_inserted k e es ∙ or_from _ _ other none
 
 -- the keys of the first are none of the second's
 AreNew : List Entry → List Entry → Type 0
 AreNew [] done = Unit {0}
-AreNew (e ∷ es) done = (is_among e.0 (keys_of done) ≡ false) × AreNew es done
+AreNew (e ∷ es) done = (is_known e.0 (entry_keys done) ≡ false) × AreNew es done
 
 new_at_first : (es : List Entry) → AreNew es []
 unfolding AreNew
 new_at_first [] = tt
 new_at_first (e ∷ es) = (refl, new_at_first es)
 
-still_new : (e : Entry) (es done : List Entry) → is_among e.0 (keys_of es) ≡ false → AreNew es done → AreNew es (insert e done)
+still_new : (e : Entry) (es done : List Entry) → is_known e.0 (entry_keys es) ≡ false → AreNew es done → AreNew es (insert e done)
 unfolding AreNew
 still_new e [] done none new = tt
 still_new e (f ∷ fs) done none new =
@@ -98,7 +98,7 @@ put_some_at Less k d f fs is above other later = put_first k d (f ∷ fs) (is, a
 put_some_at Equal k d f fs is above other later = absurd (not_equal k f.0 other is)
 put_some_at Greater k d f fs is above other later = put_later k f.0 d f.1 (members_of fs) _ is later
 
-put_some : (k : List ℕ) (d : Data) (es : List Entry) → IsAscending es → is_among k (keys_of es) ≡ false → put k d (members_of es) ≡ members_of (insert (k, Some d) es)
+put_some : (k : List ℕ) (d : Data) (es : List Entry) → IsAscending es → is_known k (entry_keys es) ≡ false → put k d (members_of es) ≡ members_of (insert (k, Some d) es)
 unfolding IsAscending
 put_some k d [] up none = refl
 put_some k d (f ∷ fs) up none =
@@ -115,7 +115,7 @@ insert_none : (k : List ℕ) (es : List Entry) → members_of es ≡ members_of 
 insert_none k [] = refl
 insert_none k (f ∷ fs) = insert_none_at _ k f fs (insert_none k fs)
 
-put_insert : (k : List ℕ) (o : Option Data) (es : List Entry) → IsAscending es → is_among k (keys_of es) ≡ false → put_or k o (members_of es) ≡ members_of (insert (k, o) es)
+put_insert : (k : List ℕ) (o : Option Data) (es : List Entry) → IsAscending es → is_known k (entry_keys es) ≡ false → put_or k o (members_of es) ≡ members_of (insert (k, o) es)
 put_insert k None es up none = insert_none k es
 put_insert k (Some d) es up none = put_some k d es up none
 
@@ -140,14 +140,14 @@ ascending_insert_at Greater e f fs is other above up later =
     let back : slice_cmp nat_cmp f.0 e.0 ≡ Less = nat_list_cmp_total.antisymm f.0 e.0 ∙ ap ordering_reverse is in
     (above_insert f.0 e fs back above, later)
 
-ascending_insert : (e : Entry) (es : List Entry) → IsAscending es → is_among e.0 (keys_of es) ≡ false → IsAscending (insert e es)
+ascending_insert : (e : Entry) (es : List Entry) → IsAscending es → is_known e.0 (entry_keys es) ≡ false → IsAscending (insert e es)
 unfolding IsAbove IsAscending
 ascending_insert e [] up none = (tt, tt)
 ascending_insert e (f ∷ fs) up none =
     let both = or_parts _ _ none in
     ascending_insert_at _ e f fs refl both.0 up.0 up.1 (ascending_insert e fs up.1 both.1)
 
-onto_members : (done es : List Entry) → IsAscending done → are_apart (keys_of es) ≡ true → AreNew es done → members_onto (members_of done) es ≡ members_of (onto done es)
+onto_members : (done es : List Entry) → IsAscending done → are_apart (entry_keys es) ≡ true → AreNew es done → with_entries (members_of done) es ≡ members_of (insert_all done es)
 unfolding AreNew
 onto_members done [] up apart new = refl
 onto_members done (e ∷ es) up apart new =
@@ -156,13 +156,13 @@ onto_members done (e ∷ es) up apart new =
     (onto_members (insert e done) es (ascending_insert e done up new.0) both.1 (still_new e es done (not-true _ both.0) new.1))
 
 -- members that are inserted one after the other make one object, in any order
-pub made_members : (es : List Entry) → are_apart (keys_of es) ≡ true → members_onto no_members es ≡ members_of (sorted es)
+pub made_members : (es : List Entry) → are_apart (entry_keys es) ≡ true → with_entries no_members es ≡ members_of (sorted es)
 unfolding IsAscending
 made_members es apart = onto_members [] es tt apart (new_at_first es)
 
 -- ---- entries that are in order
 
-ascending_onto : (done es : List Entry) → IsAscending done → are_apart (keys_of es) ≡ true → AreNew es done → IsAscending (onto done es)
+ascending_onto : (done es : List Entry) → IsAscending done → are_apart (entry_keys es) ≡ true → AreNew es done → IsAscending (insert_all done es)
 unfolding AreNew
 ascending_onto done [] up apart new = up
 ascending_onto done (e ∷ es) up apart new =
@@ -187,13 +187,13 @@ unfolding IsAscending
 put_last [] f fs up = put_alone f.0 f.1
 put_last (e ∷ done) f fs up = put_last_at f.0 f.1 e.0 e.1 (members_of done) _ (above_in e.0 done f fs up.0) (put_last done f fs up.1)
 
-onto_last : (done fs : List Entry) → IsAscending (done ++ fs) → members_onto (members_of done) fs ≡ members_of (done ++ fs)
+onto_last : (done fs : List Entry) → IsAscending (done ++ fs) → with_entries (members_of done) fs ≡ members_of (done ++ fs)
 onto_last done [] up = ap members_of (sym (append-nil done))
 onto_last done (f ∷ fs) up =
     let same : (done ++ f ∷ []) ++ fs ≡ done ++ f ∷ fs = append_assoc done (f ∷ []) fs in
-    ap (λ ms. members_onto ms fs) (put_last done f fs up) ∙ onto_last (done ++ f ∷ []) fs (subst IsAscending (sym same) up) ∙ ap members_of same
+    ap (λ ms. with_entries ms fs) (put_last done f fs up) ∙ onto_last (done ++ f ∷ []) fs (subst IsAscending (sym same) up) ∙ ap members_of same
 
 -- members that are sorted first make the same object
-pub onto_sorted : (es : List Entry) → are_apart (keys_of es) ≡ true → members_onto no_members (sorted es) ≡ members_onto no_members es
+pub onto_sorted : (es : List Entry) → are_apart (entry_keys es) ≡ true → with_entries no_members (sorted es) ≡ with_entries no_members es
 unfolding IsAscending
 onto_sorted es apart = onto_last [] (sorted es) (ascending_onto [] es tt apart (new_at_first es)) ∙ sym (made_members es apart)

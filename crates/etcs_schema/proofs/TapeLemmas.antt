@@ -14,7 +14,7 @@ use Rattle.json.proofs.Unique.Spelling.{value-json_tokens_back}
 use Rattle.serde_json.specs.Data.{Num, Data, Items, Members, null, boolean, number, string, array, object, no_members}
 use Rattle.serde_json.specs.Find.{as_number, as_str, as_u64}
 use Rattle.serde_json.specs.Read.{number_of, of_items, of_json, of_members}
-use Rattle.etcs_schema.specs.node.Tape.{data_of, data_or, first_data, is_sound}
+use Rattle.etcs_schema.specs.json_value.Tape.{tokens_data, data_or, first_data, is_sound}
 
 -- ---- an option that is mapped
 
@@ -59,10 +59,10 @@ pub record Sound (ts : List Token) : Type 0 where
   pub read : Data
   pub stands : BeginsWith ts text
   pub is : of_json text ≡ Some read
-  pub same : data_of ts ≡ read
+  pub same : tokens_data ts ≡ read
 
-pub sound_from : (ts : List Token) (j : json.Json) (d : Data) → BeginsWith ts j → of_json j ≡ Some d → (is_sound ts ≡ true) × (data_of ts ≡ d)
-unfolding data_of
+pub sound_from : (ts : List Token) (j : json.Json) (d : Data) → BeginsWith ts j → of_json j ≡ Some d → (is_sound ts ≡ true) × (tokens_data ts ≡ d)
+unfolding tokens_data
 sound_from ts j d h is = let e : first_data ts ≡ Some d = begins ts j h ∙ is in (ap is_some e, ap data_or e)
 
 sound_json : (ts : List Token) (j : json.Json) (r : List Token) → value (length ts) ts ≡ Some (j, r) → (o : Option Data) → of_json j ≡ o → is_some o ≡ true → Sound ts
@@ -93,21 +93,21 @@ each_kind P p q r s t u (json.object ms) d e = let m = some_mapped object d (of_
 
 -- ---- numbers and texts
 
-number_in : (j : json.Json) (d : Data) → of_json j ≡ Some d → option_and_then (λ s. option_and_then as_u64 (number_of s)) (find.as_number j) ≡ option_and_then as_u64 (as_number d)
-number_in =
+row_number : (j : json.Json) (d : Data) → of_json j ≡ Some d → option_and_then (λ s. option_and_then as_u64 (number_of s)) (find.as_number j) ≡ option_and_then as_u64 (as_number d)
+row_number =
     each_kind (λ j d. option_and_then (λ s. option_and_then as_u64 (number_of s)) (find.as_number j) ≡ option_and_then as_u64 (as_number d))
     refl (λ b. refl) (λ s n e. ap (option_and_then as_u64) e) (λ s. refl) (λ js ds e. refl) (λ ms ns e. refl)
 
 -- the number of an element
 pub number_is : (ts : List Token) (r : Option (List ℕ)) → is_sound ts ≡ true → ((j : json.Json) → BeginsWith ts j → r ≡ find.as_number j)
-    → option_and_then (λ s. option_and_then as_u64 (number_of s)) r ≡ option_and_then as_u64 (as_number (data_of ts))
+    → option_and_then (λ s. option_and_then as_u64 (number_of s)) r ≡ option_and_then as_u64 (as_number (tokens_data ts))
 number_is ts r sound h =
     let s = sound_has ts sound in
-    ap (option_and_then (λ t. option_and_then as_u64 (number_of t))) (h s.text s.stands) ∙ number_in s.text s.read s.is ∙ ap (λ x. option_and_then as_u64 (as_number x)) (sym s.same)
+    ap (option_and_then (λ t. option_and_then as_u64 (number_of t))) (h s.text s.stands) ∙ row_number s.text s.read s.is ∙ ap (λ x. option_and_then as_u64 (as_number x)) (sym s.same)
 
 text_in : (j : json.Json) (d : Data) → of_json j ≡ Some d → find.as_str j ≡ as_str d
 text_in = each_kind (λ j d. find.as_str j ≡ as_str d) refl (λ b. refl) (λ s n e. refl) (λ s. refl) (λ js ds e. refl) (λ ms ns e. refl)
 
 -- the text of an element
-pub text_is : (ts : List Token) (r : Option (List ℕ)) → is_sound ts ≡ true → ((j : json.Json) → BeginsWith ts j → r ≡ find.as_str j) → r ≡ as_str (data_of ts)
+pub text_is : (ts : List Token) (r : Option (List ℕ)) → is_sound ts ≡ true → ((j : json.Json) → BeginsWith ts j → r ≡ find.as_str j) → r ≡ as_str (tokens_data ts)
 text_is ts r sound h = let s = sound_has ts sound in h s.text s.stands ∙ text_in s.text s.read s.is ∙ ap as_str (sym s.same)

@@ -15,15 +15,15 @@ use Rattle.json.proofs.Printed.Trees.{value-json_tokens}
 use Rattle.json.proofs.Unique.Spelling.{tokens-document, value-json_tokens_back}
 use Rattle.serde_json.specs.Data.{Data}
 use Rattle.serde_json.specs.Read.{of_json, read}
-use Rattle.etcs_schema.specs.node.Tape.{are_in_range, data_of, is_sound}
+use Rattle.etcs_schema.specs.json_value.Tape.{are_in_range, tokens_data, is_sound}
 use Rattle.etcs_schema.proofs.PassLemmas.{pass_tells}
 use Rattle.etcs_schema.proofs.TapeLemmas.{sound_from}
 
 -- ---- the value of a text, at one depth and at another
 
 -- what is read at 127 levels is read at 128
-deeper : (ts r : List Token) (j : json.Json) → value 127 ts ≡ Some (j, r) → value 128 ts ≡ Some (j, r)
-deeper ts r j e =
+prefixed : (ts r : List Token) (j : json.Json) → value 127 ts ≡ Some (j, r) → value 128 ts ≡ Some (j, r)
+prefixed ts r j e =
     ap (value 128) (value-json_tokens_back 127 ts r j e) ∙ value-json_tokens j 128 r (omega (arith, value-depth 127 ts r j e))
 
 abbrev last : Option (json.Json × List Token) → Option json.Json
@@ -36,7 +36,7 @@ last_is (Some (i, t ∷ ts)) j e = absurd (cc)
 
 -- what serde_json reads is what the tape reads
 same_at : (ts : List Token) (o : Option json.Json) (j : json.Json) → last (value 127 ts) ≡ o → o ≡ Some j → last (value 128 ts) ≡ Some j
-same_at ts o j e is = ap last (deeper ts [] j (last_is (value 127 ts) j (e ∙ is)))
+same_at ts o j e is = ap last (prefixed ts [] j (last_is (value 127 ts) j (e ∙ is)))
 
 -- ---- a text that is not JSON
 
@@ -50,7 +50,7 @@ not_json text none = none_read text (last (value 127 (tokens text))) refl none
 -- ---- a text that is JSON
 
 -- a value that was read by the tape, and that the pass lets through
-passed_at : (text : List ℕ) (j : json.Json) → document text ≡ Some j → (o : Option Data) → of_json j ≡ o → is_some o ≡ true → nat_le (depth j) 127 ≡ true → (is_sound (tokens text) ≡ true) × (read text ≡ Some (data_of (tokens text)))
+passed_at : (text : List ℕ) (j : json.Json) → document text ≡ Some j → (o : Option Data) → of_json j ≡ o → is_some o ≡ true → nat_le (depth j) 127 ≡ true → (is_sound (tokens text) ≡ true) × (read text ≡ Some (tokens_data (tokens text)))
 passed_at text j is None e some flat = absurd (cc)
 passed_at text j is (Some d) e some flat =
     let spelled : tokens text ≡ json_tokens j ++ [] = tokens-document text j is ∙ sym (append-nil (json_tokens j)) in
@@ -60,7 +60,7 @@ passed_at text j is (Some d) e some flat =
     let sound = sound_from (tokens text) j d begins e in
     (sound.0, ap (λ o. option_and_then of_json (last o)) whole ∙ e ∙ ap Some (sym sound.1))
 
-pub passed : (text : List ℕ) (j : json.Json) → document text ≡ Some j → are_in_range (Some 0) (tokens text) ≡ true → (is_sound (tokens text) ≡ true) × (read text ≡ Some (data_of (tokens text)))
+pub passed : (text : List ℕ) (j : json.Json) → document text ≡ Some j → are_in_range (Some 0) (tokens text) ≡ true → (is_sound (tokens text) ≡ true) × (read text ≡ Some (tokens_data (tokens text)))
 passed text j is pass =
     let tells : is_some (of_json j) && nat_le (depth j) 127 ≡ true = sym (pass_tells j) ∙ ap (are_in_range (Some 0)) (sym (tokens-document text j is)) ∙ pass in
     let parts = and_parts (is_some (of_json j)) (nat_le (depth j) 127) tells in

@@ -9,14 +9,14 @@ use Rattle.hex.proofs.HexLemmas.{decode_of-encode_lower}
 use Rattle.etcs_bits.specs.bits.Number.{bits_of_bytes, num, num_of_bits}
 use Rattle.etcs_bits.proofs.NumberLemmas.{num-num_of_bits, num_of_bits-lt, num_of_bits-small}
 use Rattle.etcs_bits.proofs.ViewLemmas.{zeros_are}
-use Rattle.etcs_schema.specs.BodyText.{are_padded, body_bytes, body_of, body_text, bytes_for, bytes_in, decoded_or, filled_up, first_bits}
+use Rattle.etcs_schema.specs.BodyText.{are_padded, body_bytes, decoded_body, body_text, byte_count, packed_bytes, decoded_or, padded_bits, first_bits}
 
 -- ---- bytes of bits
 
-pub length-bytes_in : (n : ℕ) (bits : List Bool) → length (bytes_in n bits) ≡ n
-unfolding bytes_in
-length-bytes_in zero bits = refl
-length-bytes_in (suc n) bits = ap suc (length-bytes_in n (drop 8 bits))
+pub length-packed_bytes : (n : ℕ) (bits : List Bool) → length (packed_bytes n bits) ≡ n
+unfolding packed_bytes
+length-packed_bytes zero bits = refl
+length-packed_bytes (suc n) bits = ap suc (length-packed_bytes n (drop 8 bits))
 
 byte_small : (bits : List Bool) → num_of_bits (take 8 bits) < 256
 byte_small bits =
@@ -25,15 +25,15 @@ byte_small bits =
     let top : 2 ^ length (take 8 bits) ≤ 2 ^ 8 = pow_mono few in
     omega (arith, small, top)
 
-pub are_bytes : (n : ℕ) (bits : List Bool) → IsBytes (bytes_in n bits)
-unfolding bytes_in
+pub are_bytes : (n : ℕ) (bits : List Bool) → IsBytes (packed_bytes n bits)
+unfolding packed_bytes
 are_bytes zero bits i = omega arith
 are_bytes (suc n) bits zero = byte_small bits
 are_bytes (suc n) bits (suc i) = are_bytes n (drop 8 bits) i
 
 -- bits of whole bytes: converting to bytes and back gives the same bits
-pub bits_again : (n : ℕ) (bits : List Bool) → length bits ≡ 8 * n → bits_of_bytes (bytes_in n bits) ≡ bits
-unfolding bytes_in bits_of_bytes
+pub bits_again : (n : ℕ) (bits : List Bool) → length bits ≡ 8 * n → bits_of_bytes (packed_bytes n bits) ≡ bits
+unfolding packed_bytes bits_of_bytes
 bits_again zero bits none = sym (nil_from_length bits none)
 bits_again (suc n) bits count =
     let front : length (take 8 bits) ≡ 8 = length-take-le 8 bits (omega (arith, count)) in
@@ -45,16 +45,16 @@ bits_again (suc n) bits count =
 -- ---- a body
 
 -- the bits and the zeros are whole bytes
-pub filled_length : (bits : List Bool) → length (filled_up bits) ≡ 8 * bytes_for (length bits)
-filled_length bits = rw (length-append, length-replicate) (omega arith)
+pub padded_length : (bits : List Bool) → length (padded_bits bits) ≡ 8 * byte_count (length bits)
+padded_length bits = rw (length-append, length-replicate) (omega arith)
 
-pub body_bits : (body : List Bool) → bits_of_bytes (body_bytes body) ≡ filled_up body
-body_bits body = bits_again (bytes_for (length body)) (filled_up body) (filled_length body)
+pub body_bits : (body : List Bool) → bits_of_bytes (body_bytes body) ≡ padded_bits body
+body_bits body = bits_again (byte_count (length body)) (padded_bits body) (padded_length body)
 
 zeros_padded : (count : ℕ) (body : List Bool) → length body ≡ count
     → are_padded count (body_bytes body) ≡ true
 zeros_padded count body is =
-    let k = 8 * bytes_for (length body) - length body in
+    let k = 8 * byte_count (length body) - length body in
     let none : num_of_bits (replicate k false) ≡ 0 =
     ap num_of_bits (sym (zeros_are k)) ∙ num_of_bits-small k 0 (pow_pos k) in
     ap (λ bits. num_of_bits (drop count bits) == 0) (body_bits body)
@@ -63,15 +63,15 @@ zeros_padded count body is =
 
 bits_first : (body : List Bool) → first_bits (length body) (body_bytes body) ≡ Ok body
 bits_first body =
-    let count : length (body_bytes body) ≡ bytes_for (length body) =
-    length-bytes_in (bytes_for (length body)) (filled_up body) in
+    let count : length (body_bytes body) ≡ byte_count (length body) =
+    length-packed_bytes (byte_count (length body)) (padded_bits body) in
     let padded = zeros_padded (length body) body refl in
     let same : take (length body) (bits_of_bytes (body_bytes body)) ≡ body =
     ap (take (length body)) (body_bits body) ∙ take_at body _ (length body) refl in
-    rw (count, eq-eqb (bytes_for (length body)) (bytes_for (length body)) refl, padded, same) refl
+    rw (count, eq-eqb (byte_count (length body)) (byte_count (length body)) refl, padded, same) refl
 
 -- the text of a body is read as the body
-pub body_again : (body : List Bool) → body_of (length body) (string (body_text body)) ≡ Ok body
-unfolding body_of
+pub body_again : (body : List Bool) → decoded_body (length body) (string (body_text body)) ≡ Ok body
+unfolding decoded_body
 body_again body =
-    ap (decoded_or (length body)) (decode_of-encode_lower (body_bytes body) (are_bytes (bytes_for (length body)) (filled_up body))) ∙ bits_first body
+    ap (decoded_or (length body)) (decode_of-encode_lower (body_bytes body) (are_bytes (byte_count (length body)) (padded_bits body))) ∙ bits_first body

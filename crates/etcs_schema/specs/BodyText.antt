@@ -8,21 +8,21 @@ use Rattle.etcs_bits.specs.bits.Number.{bits_of_bytes, num_of_bits}
 use Rattle.etcs_schema.specs.Fault.{Fault, Kind, Range, here}
 
 -- the number of bytes for this number of bits
-abbrev pub bytes_for : ℕ → ℕ
-bytes_for bits = (bits + 7) / 8
+abbrev pub byte_count : ℕ → ℕ
+byte_count bits = (bits + 7) / 8
 
 -- the bits, and then zeros up to a whole byte
-abbrev pub filled_up : List Bool → List Bool
-filled_up bits = bits ++ replicate (8 * bytes_for (length bits) - length bits) false
+abbrev pub padded_bits : List Bool → List Bool
+padded_bits bits = bits ++ replicate (8 * byte_count (length bits) - length bits) false
 
 -- the first n bytes, each made of eight bits
-unfoldable pub bytes_in : ℕ → List Bool → List ℕ
-bytes_in zero bits = []
-bytes_in (suc n) bits = num_of_bits (take 8 bits) ∷ bytes_in n (drop 8 bits)
+unfoldable pub packed_bytes : ℕ → List Bool → List ℕ
+packed_bytes zero bits = []
+packed_bytes (suc n) bits = num_of_bits (take 8 bits) ∷ packed_bytes n (drop 8 bits)
 
 -- the bytes of a body
 abbrev pub body_bytes : List Bool → List ℕ
-body_bytes body = bytes_in (bytes_for (length body)) (filled_up body)
+body_bytes body = packed_bytes (byte_count (length body)) (padded_bits body)
 
 -- the text of a body
 abbrev pub body_text : List Bool → List ℕ
@@ -35,7 +35,7 @@ are_padded count bytes = num_of_bits (drop count (bits_of_bytes bytes)) == 0
 -- the first `count` bits of exactly as many bytes as these bits need; no other bit may be set
 abbrev pub first_bits : ℕ → List ℕ → Result (List Bool) Fault
 first_bits count bytes =
-    if (length bytes == bytes_for count) && are_padded count bytes
+    if (length bytes == byte_count count) && are_padded count bytes
     then Ok (take count (bits_of_bytes bytes)) else Err (here Range)
 
 abbrev pub decoded_or : ℕ → Result (List ℕ) FromHexError → Result (List Bool) Fault
@@ -47,5 +47,5 @@ digits_or count None = Err (here Kind)
 digits_or count (Some digits) = decoded_or count (decode_of digits)
 
 -- a body of `count` bits
-unfoldable pub body_of : ℕ → Data → Result (List Bool) Fault
-body_of count d = digits_or count (as_str d)
+unfoldable pub decoded_body : ℕ → Data → Result (List Bool) Fault
+decoded_body count d = digits_or count (as_str d)

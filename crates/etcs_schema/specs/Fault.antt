@@ -34,38 +34,38 @@ abbrev pub at_once : Reason → Step → Fault
 at_once reason step = fault reason (step ∷ [])
 
 -- the same fault with this step in front of its path, as the enclosing value reports it
-abbrev pub deeper : Step → Fault → Fault
-deeper step f = fault f.reason (step ∷ f.path)
+abbrev pub prefixed : Step → Fault → Fault
+prefixed step f = fault f.reason (step ∷ f.path)
 
-abbrev pub under : {A : Type 0} → Step → Result A Fault → Result A Fault
-under step (Ok x) = Ok x
-under step (Err f) = Err (deeper step f)
+abbrev pub prefixed_result : {A : Type 0} → Step → Result A Fault → Result A Fault
+prefixed_result step (Ok x) = Ok x
+prefixed_result step (Err f) = Err (prefixed step f)
 
 -- ---- the fault of an error
 
-abbrev pub step_of : CodeStep → Step
-step_of (code.Key name) = key name.now
-step_of (code.Place i) = list_item i
+abbrev pub step_view : CodeStep → Step
+step_view (code.Key name) = key name.now
+step_view (code.Place i) = list_item i
 
-abbrev pub fault_of : FormError → Option Fault
-fault_of errors.Memory = None
-fault_of (errors.Missing path) = Some (fault Missing (map step_of path.items))
-fault_of (errors.Unknown path) = Some (fault Unknown (map step_of path.items))
-fault_of (errors.Kind path) = Some (fault Kind (map step_of path.items))
-fault_of (errors.Range path) = Some (fault Range (map step_of path.items))
+abbrev pub error_fault : FormError → Option Fault
+error_fault errors.Memory = None
+error_fault (errors.Missing path) = Some (fault Missing (map step_view path.items))
+error_fault (errors.Unknown path) = Some (fault Unknown (map step_view path.items))
+error_fault (errors.Kind path) = Some (fault Kind (map step_view path.items))
+error_fault (errors.Range path) = Some (fault Range (map step_view path.items))
 
 -- the error is this fault, unless memory ran out
 abbrev pub IsFault : FormError → Fault → Type 0
-IsFault e f = IfSome (fault_of e) (λ g. g ≡ f)
+IsFault e f = IfSome (error_fault e) (λ g. g ≡ f)
 
 -- reading ends in this error, unless memory ran out
-abbrev pub Fails : {Y : Type 0} → FormError → Result Y Fault → Type 0
-Fails e read = IfSome (fault_of e) (λ f. read ≡ Err f)
+abbrev pub ReturnsError : {Y : Type 0} → FormError → Result Y Fault → Type 0
+ReturnsError e read = IfSome (error_fault e) (λ f. read ≡ Err f)
 
 -- What a call returned, seen through `view`, is what reading gives, unless memory ran out.
-abbrev pub Gives : {X Y : Type 0} → (X → Y) → Result X FormError → Result Y Fault → Type 0
-Gives view (Ok x) read = read ≡ Ok (view x)
-Gives view (Err e) read = Fails e read
+abbrev pub Returns : {X Y : Type 0} → (X → Y) → Result X FormError → Result Y Fault → Type 0
+Returns view (Ok x) read = read ≡ Ok (view x)
+Returns view (Err e) read = ReturnsError e read
 
 -- what must hold if the error is that memory ran out
 abbrev pub OfMemory : FormError → Type 0 → Type 0
@@ -81,16 +81,16 @@ IfMemory (Ok x) P = Unit {0}
 IfMemory (Err e) P = OfMemory e P
 
 -- the first fault is the second one with this step in front of its path
-abbrev pub IsAround : Step → Fault → Option Fault → Type 0
-IsAround step f None = ⊥
-IsAround step f (Some g) = f ≡ deeper step g
+abbrev pub IsPrefixedFault : Step → Fault → Option Fault → Type 0
+IsPrefixedFault step f None = ⊥
+IsPrefixedFault step f (Some g) = f ≡ prefixed step g
 
 -- the outer error is the inner one with this step in front of its path, unless memory ran out
-abbrev pub IsDeeper : Step → FormError → FormError → Type 0
-IsDeeper step inner outer = IfSome (fault_of outer) (λ f. IsAround step f (fault_of inner))
+abbrev pub IsPrefixedError : Step → FormError → FormError → Type 0
+IsPrefixedError step inner outer = IfSome (error_fault outer) (λ f. IsPrefixedFault step f (error_fault inner))
 
 -- what a call returned, as the enclosing value reports it: the same value, or its fault with this step in
 -- front
-abbrev pub IsUnder : {X : Type 0} → Step → Result X FormError → Result X FormError → Type 0
-IsUnder step (Ok x) outer = outer ≡ Ok x
-IsUnder step (Err inner) outer = IsErrAnd outer (λ e. IsDeeper step inner e)
+abbrev pub IsPrefixedResult : {X : Type 0} → Step → Result X FormError → Result X FormError → Type 0
+IsPrefixedResult step (Ok x) outer = outer ≡ Ok x
+IsPrefixedResult step (Err inner) outer = IsErrAnd outer (λ e. IsPrefixedError step inner e)

@@ -2,27 +2,27 @@
 -- absent: NID_NTC is in the object if and only if it is in the bits.
 use Rattle.std.specs.Prelude.{◌≡◌, ℕ, Bool, true, false, List, [], ◌∷◌, Option, Result, Ok, Err, if◌then◌else◌, drop, option_map, refl}
 use Rattle.etcs_schema.specs.Prelude.{slice_get, ap, sym, ◌∙◌, Data, AreRowsOf, Fields, nothing, field, ◌▹◌, sized, Format, AreAllowed, Row, row}
-use Rattle.etcs_schema.specs.Entries.{Entry, Holds, keys_of}
+use Rattle.etcs_schema.specs.Entries.{Entry, HasEntries, entry_keys}
 use Rattle.etcs_schema.specs.Fault.{Fault, Range, here}
-use Rattle.etcs_schema.specs.Reading.{◌>>=◌, allowed_number, at_key, no_key, unwanted_or}
-use Rattle.etcs_schema.specs.Shape.{Part, key_again, number_again, number_data, optional}
+use Rattle.etcs_schema.specs.Reading.{◌>>=◌, allowed_number, required_member, absent_member, unwanted_or}
+use Rattle.etcs_schema.specs.Codec.{MemberCodec, key_again, number_again, number_data, optional}
 use Rattle.etcs_schema.specs.Variables.{is_allowed, number_allowed}
 
 -- the number of the row at this index, if there is one
-abbrev pub number_in : ℕ → List Row → Option ℕ
-number_in i rows = option_map (λ r. r.number) (slice_get rows i)
+abbrev pub row_number : ℕ → List Row → Option ℕ
+row_number i rows = option_map (λ r. r.number) (slice_get rows i)
 
 -- each number at its key, and nothing at the remaining keys
-abbrev pub members_at : List (List ℕ) → List Row → List Entry
-members_at [] rows = []
-members_at (k ∷ ks) rows = (k, optional number_data (number_in 0 rows)) ∷ members_at ks (drop 1 rows)
+abbrev pub variable_entries : List (List ℕ) → List Row → List Entry
+variable_entries [] rows = []
+variable_entries (k ∷ ks) rows = (k, optional number_data (row_number 0 rows)) ∷ variable_entries ks (drop 1 rows)
 
 -- the rows whose numbers are at the keys
 abbrev pub rows_read : Fields → List (List ℕ) → Data → Result (List Row) Fault
 rows_read nothing [] d = Ok []
-rows_read nothing (k ∷ ks) d = no_key k d >>= λ u. rows_read nothing ks d
+rows_read nothing (k ∷ ks) d = absent_member k d >>= λ u. rows_read nothing ks d
 rows_read (field x next) (k ∷ ks) d =
-    at_key (allowed_number (is_allowed x)) k d >>= λ n. rows_read (next n) ks d
+    required_member (allowed_number (is_allowed x)) k d >>= λ n. rows_read (next n) ks d
     >>= λ rows. Ok (row x n ∷ rows)
 rows_read other ks d = Err (here Range)
 
@@ -38,14 +38,14 @@ pub keys_by : (a b : Fields) (ks : List (List ℕ)) (is : Bool) → HasKeys a ks
 keys_by a b ks true one other = one
 keys_by a b ks false one other = other
 
-pub keys_at : (ks : List (List ℕ)) (rows : List Row) → keys_of (members_at ks rows) ≡ ks
+pub keys_at : (ks : List (List ℕ)) (rows : List Row) → entry_keys (variable_entries ks rows) ≡ ks
 keys_at [] rows = refl
 keys_at (k ∷ ks) rows = ap (λ ls. k ∷ ls) (keys_at ks (drop 1 rows))
 
 pub rows_again : (fields : Fields) (ks : List (List ℕ)) → HasKeys fields ks → (rows : List Row)
     → AreRowsOf fields rows → AreAllowed rows
-    → (d : Data) → Holds (members_at ks rows) d → rows_read fields ks d ≡ Ok rows
-unfolding no_key
+    → (d : Data) → HasEntries (variable_entries ks rows) d → rows_read fields ks d ≡ Ok rows
+unfolding absent_member
 rows_again nothing [] has rows are allowed d holds = ap Ok (sym are)
 rows_again nothing (k ∷ ks) has rows are allowed d holds =
     let free = rw are at holds in rw (ap (unwanted_or k) free.0, rows_again nothing ks has [] refl tt d free.1) (ap Ok (sym are))
@@ -59,11 +59,11 @@ rows_again (a ▹ b) ks has rows are allowed d holds = absurd has
 rows_again (sized before body) ks has rows are allowed d holds = absurd has
 
 -- the variables of a layout, each at its key
-abbrev pub variables_at : {X : Type 0} (ks : List (List ℕ)) (layout : Format X) → HasKeys layout.fields ks
-    → Part layout.rows
-variables_at ks layout has = record {
+abbrev pub keyed_variables : {X : Type 0} (ks : List (List ℕ)) (layout : Format X) → HasKeys layout.fields ks
+    → MemberCodec layout.rows
+keyed_variables ks layout has = record {
   keys = ks;
-  to = λ x. members_at ks (layout.rows x);
+  to = λ x. variable_entries ks (layout.rows x);
   of = λ d. rows_read layout.fields ks d >>= λ rows. Ok (layout.of rows);
   has_keys = λ x. keys_at ks (layout.rows x);
   again = λ x d allowed holds.

@@ -2,7 +2,7 @@
 use Rattle.std.specs.Prelude.{◌&&◌, ◌+◌, ℕ, Bool, List, [], ◌∷◌, length, Option, Some, None, Result, Ok, Err, if◌then◌else◌, nat_le, option_and_then}
 use Rattle.etcs_schema.specs.Prelude.{Data, Items, item, no_items, Members, get, as_object, as_array, as_number, as_u64}
 use Rattle.etcs_schema.specs.Entries.{are_known}
-use Rattle.etcs_schema.specs.Fault.{Fault, Missing, Unknown, Kind, Range, key, list_item, at_once, here, under}
+use Rattle.etcs_schema.specs.Fault.{Fault, Missing, Unknown, Kind, Range, key, list_item, at_once, here, prefixed_result}
 
 infixl 10 ◌>>=◌
 abbrev pub ◌>>=◌ : {A B : Type 0} → Result A Fault → (A → Result B Fault) → Result B Fault
@@ -28,27 +28,27 @@ with_first x (Ok xs) = Ok (x ∷ xs)
 with_first x (Err f) = Err f
 
 -- the items; the first one has this index
-abbrev pub items_at : {A : Type 0} → (Data → Result A Fault) → ℕ → List Data → Result (List A) Fault
-items_at read i [] = Ok []
-items_at read i (d ∷ ds) = under (list_item i) (read d) >>= λ x. with_first x (items_at read (i + 1) ds)
+abbrev pub indexed_items : {A : Type 0} → (Data → Result A Fault) → ℕ → List Data → Result (List A) Fault
+indexed_items read i [] = Ok []
+indexed_items read i (d ∷ ds) = prefixed_result (list_item i) (read d) >>= λ x. with_first x (indexed_items read (i + 1) ds)
 
 abbrev pub data_list : Items → List Data
 data_list no_items = []
 data_list (item d ds) = d ∷ data_list ds
 
 -- `low` to `high` items
-abbrev pub counts_between : ℕ → ℕ → List Data → Bool
-counts_between low high ds = nat_le low (length ds) && nat_le (length ds) high
+abbrev pub has_bounded_length : ℕ → ℕ → List Data → Bool
+has_bounded_length low high ds = nat_le low (length ds) && nat_le (length ds) high
 
 abbrev pub bounded_list_or : {A : Type 0} → (Data → Result A Fault) → ℕ → ℕ → Option Items
     → Result (List A) Fault
 bounded_list_or read low high None = Err (here Kind)
 bounded_list_or read low high (Some ds) =
-    if counts_between low high (data_list ds) then items_at read 0 (data_list ds) else Err (here Range)
+    if has_bounded_length low high (data_list ds) then indexed_items read 0 (data_list ds) else Err (here Range)
 
 -- a list of `low` to `high` items
-unfoldable pub list_of : {A : Type 0} → (Data → Result A Fault) → ℕ → ℕ → Data → Result (List A) Fault
-list_of read low high d = bounded_list_or read low high (as_array d)
+unfoldable pub bounded_list : {A : Type 0} → (Data → Result A Fault) → ℕ → ℕ → Data → Result (List A) Fault
+bounded_list read low high d = bounded_list_or read low high (as_array d)
 
 -- ---- the members of an object
 
@@ -57,33 +57,33 @@ known_or keys None = Err (here Kind)
 known_or keys (Some ms) = if are_known keys ms then Ok tt else Err (here Unknown)
 
 -- an object with only these keys
-unfoldable pub object_with : List (List ℕ) → Data → Result (Unit {0}) Fault
-object_with keys d = known_or keys (as_object d)
+unfoldable pub only_keys : List (List ℕ) → Data → Result (Unit {0}) Fault
+only_keys keys d = known_or keys (as_object d)
 
 abbrev pub key_or : {A : Type 0} → (Data → Result A Fault) → List ℕ → Option Data → Result A Fault
 key_or read name None = Err (at_once Missing (key name))
-key_or read name (Some d) = under (key name) (read d)
+key_or read name (Some d) = prefixed_result (key name) (read d)
 
 -- a required member
-unfoldable pub at_key : {A : Type 0} → (Data → Result A Fault) → List ℕ → Data → Result A Fault
-at_key read name d = key_or read name (get name d)
+unfoldable pub required_member : {A : Type 0} → (Data → Result A Fault) → List ℕ → Data → Result A Fault
+required_member read name d = key_or read name (get name d)
 
 -- a required member of any kind
-abbrev pub member_at : List ℕ → Data → Result Data Fault
-member_at name d = at_key (λ e. Ok e) name d
+abbrev pub any_member : List ℕ → Data → Result Data Fault
+any_member name d = required_member (λ e. Ok e) name d
 
 abbrev pub option_or : {A : Type 0} → (Data → Result A Fault) → List ℕ → Option Data → Result (Option A) Fault
 option_or read name None = Ok None
-option_or read name (Some d) = as_kind (λ x. Some x) (under (key name) (read d))
+option_or read name (Some d) = as_kind (λ x. Some x) (prefixed_result (key name) (read d))
 
 -- an optional member
-unfoldable pub at_key_if : {A : Type 0} → (Data → Result A Fault) → List ℕ → Data → Result (Option A) Fault
-at_key_if read name d = option_or read name (get name d)
+unfoldable pub optional_member : {A : Type 0} → (Data → Result A Fault) → List ℕ → Data → Result (Option A) Fault
+optional_member read name d = option_or read name (get name d)
 
 abbrev pub unwanted_or : List ℕ → Option Data → Result (Unit {0}) Fault
 unwanted_or name None = Ok tt
 unwanted_or name (Some d) = Err (at_once Range (key name))
 
 -- a key that must be absent
-unfoldable pub no_key : List ℕ → Data → Result (Unit {0}) Fault
-no_key name d = unwanted_or name (get name d)
+unfoldable pub absent_member : List ℕ → Data → Result (Unit {0}) Fault
+absent_member name d = unwanted_or name (get name d)

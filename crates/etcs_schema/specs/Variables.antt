@@ -10,7 +10,7 @@ use Rattle.etcs_bits.specs.declared.variables.version.Version.{Version}
 use Rattle.etcs_bits.specs.variables.VariableLemmas.{AreNames, dir_names, dup_names, scale_names, version_names}
 use Rattle.etcs_bits.specs.variables.VariableValues.{dir_of, dup_of, flag_of, scale_of, version_of}
 use Rattle.etcs_schema.specs.Reading.{allowed_number}
-use Rattle.etcs_schema.specs.Shape.{Shape, number_again, number_data, renamed}
+use Rattle.etcs_schema.specs.Codec.{Codec, number_again, number_data, renamed}
 
 -- whether a number fits in the bits of a variable and is allowed
 abbrev pub is_allowed : Variable → ℕ → Bool
@@ -25,21 +25,21 @@ unfolding alone
 variable_again x n allowed = number_again (is_allowed x) n (number_allowed x n allowed.0)
 
 -- a variable as its number
-abbrev pub variable : Variable → Shape ℕ
+abbrev pub variable : Variable → Codec ℕ
 variable x =
     record { rows = alone x; to = number_data; of = allowed_number (is_allowed x); again = variable_again x }
 
 -- the first variable of some fields; without fields, a variable that allows no number
-abbrev pub variable_of : Fields → Variable
-variable_of (field x next) = x
-variable_of other = record { width = 0; allows = λ _. false; refusal = Spare; closes = false }
+abbrev pub first_variable : Fields → Variable
+first_variable (field x next) = x
+first_variable other = record { width = 0; allows = λ _. false; refusal = Spare; closes = false }
 
-abbrev pub number : Fields → Shape ℕ
-number f = variable (variable_of f)
+abbrev pub number : Fields → Codec ℕ
+number f = variable (first_variable f)
 
 -- a variable whose numbers have names in an enum
 abbrev pub named_numbers : {X : Type 0} (x : Variable) (tag : X → ℕ) (of : ℕ → X) → AreNames x tag of
-    → Shape X
+    → Codec X
 named_numbers x tag of are = renamed of tag (λ v. (are v).0) (variable x)
 
 pub flag_names : AreNames (plain 1) worth flag_of
@@ -47,21 +47,21 @@ flag_names true = (refl, refl)
 flag_names false = (refl, refl)
 
 -- a flag is the number of its bit
-abbrev pub flag : Shape Bool
+abbrev pub flag : Codec Bool
 flag = named_numbers (plain 1) worth flag_of flag_names
 
 -- Q_DIR: the running directions that a packet is for
-abbrev pub direction : Shape Dir
+abbrev pub direction : Codec Dir
 direction = named_numbers dir_variable dir_number dir_of dir_names
 
 -- Q_SCALE: the unit of distances
-abbrev pub scale : Shape Scale
+abbrev pub scale : Codec Scale
 scale = named_numbers scale_variable scale_number scale_of scale_names
 
 -- M_DUP: which neighbour the balise duplicates
-abbrev pub duplicate : Shape Dup
+abbrev pub duplicate : Codec Dup
 duplicate = named_numbers duplicate_variable dup_number dup_of dup_names
 
 -- M_VERSION: the version of the ETCS system
-abbrev pub version : Shape Version
+abbrev pub version : Codec Version
 version = named_numbers version_variable version_number version_of version_names

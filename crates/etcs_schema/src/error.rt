@@ -1,7 +1,7 @@
 //! Why a JSON value is not the form of a record, and at which path.
 
 ghost use Rattle.std.specs.Prelude.{◌≡◌, ◌∷◌, Some, IfOk, map};
-ghost use Rattle.etcs_schema.specs.Fault.{IsDeeper, IsFault, Kind, Missing, OfMemory, Range, Unknown, at_once, here, key, step_of};
+ghost use Rattle.etcs_schema.specs.Fault.{IsPrefixedError, IsFault, Kind, Missing, OfMemory, Range, Unknown, at_once, here, key, step_view};
 
 use etcs_bits::Memory;
 use std::alloc::Global;
@@ -43,7 +43,7 @@ pub enum FormError {
 impl fmt::Display for Step {
     ghost use Rattle.etcs_schema.specs.Path.{step_words};
 
-    ghost output = { λ step. Some (step_words (step_of step)) };
+    ghost output = { λ step. Some (step_words (step_view step)) };
 
     fn fmt<W: fmt::Write>(&self, f: &mut fmt::Formatter<W>) -> fmt::Result {
         match self {
@@ -60,7 +60,7 @@ pub struct Path<'a>(pub &'a [Step]);
 impl fmt::Display for Path<'_> {
     ghost use Rattle.etcs_schema.specs.Path.{path_words};
 
-    ghost output = { λ path. Some (path_words (map step_of path.0.now)) };
+    ghost output = { λ path. Some (path_words (map step_view path.0.now)) };
 
     fn fmt<W: fmt::Write>(&self, f: &mut fmt::Formatter<W>) -> fmt::Result {
         if self.0.is_empty() {
@@ -134,7 +134,7 @@ impl FormError {
 
     // The same fault with this step in front of its path, as the enclosing value reports it.
     fn moved(self, step: Step) -> Result<FormError, Memory>
-        ensures { IfOk result (λ e. IsDeeper (step_of step) self e) }
+        ensures { IfOk result (λ e. IsPrefixedError (step_view step) self e) }
     {
         match self {
             FormError::Memory => Ok(FormError::Memory),
@@ -147,7 +147,7 @@ impl FormError {
 
     /// The same fault with this step in front of its path, as the enclosing value reports it.
     pub fn under(self, step: Step) -> FormError
-        ensures { IsDeeper (step_of step) self result }
+        ensures { IsPrefixedError (step_view step) self result }
     {
         match self.moved(step) {
             Ok(error) => error,

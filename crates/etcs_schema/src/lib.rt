@@ -1,19 +1,19 @@
 //! What all JSON forms of records have in common, independent of the records.
 //!
-//! A form is described once, as a `Shape`: what is written, what is read, and that reading what was written
-//! gives the same value (`specs/Shape.antt`). A form is read from a [`Node`]: a value of `serde_json`, or the
-//! tape of tokens that [`JsonText::read`] makes from a text in less time. It is written to a [`Marks`]. A value
+//! A form is described once, as a `Codec`: what is written, what is read, and that reading what was written
+//! gives the same value (`specs/Codec.antt`). A form is read from a [`JsonValue`]: a value of `serde_json`, or the
+//! tape of tokens that [`ParsedJson::read`] makes from a text in less time. It is written to a [`TokenWriter`]. A value
 //! that is not a form has a [`FormError`], the first fault with its path.
 #![tactic(auto)]
 
 mod error;
-mod marks;
-mod node;
+mod json_value;
 pub mod reading;
+mod token_writer;
 
 pub use error::{FormError, Path, Step};
-pub use marks::Marks;
-pub use node::Node;
-pub use node::json_text::{JsonError, JsonText};
-pub use node::keys::check_keys;
-pub use node::tape_node::{TapeItems, TapeNode};
+pub use json_value::JsonValue;
+pub use json_value::keys::check_keys;
+pub use json_value::parsed_json::{JsonError, ParsedJson};
+pub use json_value::tape_value::{TapeItems, TapeValue};
+pub use token_writer::TokenWriter;

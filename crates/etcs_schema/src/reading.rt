@@ -1,19 +1,19 @@
 //! Finding and reading members of an object.
 
 ghost use Rattle.std.specs.Prelude.{◌≡◌, ◌==◌};
-ghost use Rattle.etcs_schema.specs.Chosen.{any_object};
-ghost use Rattle.etcs_schema.specs.Fault.{Gives, IfMemory, IsUnder, key};
-ghost use Rattle.etcs_schema.specs.Reading.{allowed_number, member_at, no_key};
-ghost use Rattle.etcs_schema.specs.Shape.{fixed};
+ghost use Rattle.etcs_schema.specs.Choices.{any_object};
+ghost use Rattle.etcs_schema.specs.Fault.{Returns, IfMemory, IsPrefixedResult, key};
+ghost use Rattle.etcs_schema.specs.Reading.{allowed_number, any_member, absent_member};
+ghost use Rattle.etcs_schema.specs.Codec.{fixed};
 
 use crate::error::{FormError, Step};
-use crate::node::Node;
+use crate::json_value::JsonValue;
 use std::alloc::Global;
 
 /// The member at a required key.
-#[tactic(auto, using(crate::proofs::Objects::fails_as), unfolding(crate::specs::Reading::at_key))]
-pub fn member<N: Node>(alloc: Global, node: &N, name: &'static str) -> Result<N, FormError>
-    ensures { Gives N.shows result (member_at name.now (N.shows node.now)) }
+#[tactic(auto, using(crate::proofs::Objects::fails_as), unfolding(crate::specs::Reading::required_member))]
+pub fn member<N: JsonValue>(alloc: Global, node: &N, name: &'static str) -> Result<N, FormError>
+    ensures { Returns N.value result (any_member name.now (N.value node.now)) }
 {
     match node.member(name) {
         None => Err(FormError::missing(alloc, name)),
@@ -23,7 +23,7 @@ pub fn member<N: Node>(alloc: Global, node: &N, name: &'static str) -> Result<N,
 
 /// The result of reading the member at a key. A fault gets the step to that member.
 pub fn under<X>(name: &'static str, read: Result<X, FormError>) -> Result<X, FormError>
-    ensures { IsUnder (key name.now) read result }
+    ensures { IsPrefixedResult (key name.now) read result }
 {
     match read {
         Ok(found) => Ok(found),
@@ -32,9 +32,9 @@ pub fn under<X>(name: &'static str, read: Result<X, FormError>) -> Result<X, For
 }
 
 /// Refuses a value that is not an object.
-#[tactic(auto, using(crate::proofs::Objects::fails_as, crate::proofs::Objects::some_object), unfolding(crate::specs::Chosen::any_object))]
-pub fn check_object<N: Node>(alloc: Global, node: &N) -> Result<(), FormError>
-    ensures object { Gives (λ u. u) result (any_object (N.shows node.now)) }
+#[tactic(auto, using(crate::proofs::Objects::fails_as, crate::proofs::Objects::some_object), unfolding(crate::specs::Choices::any_object))]
+pub fn check_object<N: JsonValue>(alloc: Global, node: &N) -> Result<(), FormError>
+    ensures object { Returns (λ u. u) result (any_object (N.value node.now)) }
     ensures memory { IfMemory result ⊥ }
 {
     match node.has_only(&[]) {
@@ -45,8 +45,8 @@ pub fn check_object<N: Node>(alloc: Global, node: &N) -> Result<(), FormError>
 
 // Refuses any value but this number.
 #[tactic(auto, unfolding(crate::specs::Reading::allowed_number))]
-fn check_number<N: Node>(alloc: Global, node: &N, number: u64) -> Result<(), FormError>
-    ensures { Gives (λ _. number) result (allowed_number (λ n. n == number) (N.shows node.now)) }
+fn check_number<N: JsonValue>(alloc: Global, node: &N, number: u64) -> Result<(), FormError>
+    ensures { Returns (λ _. number) result (allowed_number (λ n. n == number) (N.value node.now)) }
 {
     match node.number() {
         None => Err(FormError::kind(alloc)),
@@ -56,22 +56,26 @@ fn check_number<N: Node>(alloc: Global, node: &N, number: u64) -> Result<(), For
 }
 
 /// Reads a required member that must have this number.
-pub fn read_fixed<N: Node>(
+pub fn read_fixed<N: JsonValue>(
     alloc: Global,
     node: &N,
     name: &'static str,
     number: u64,
 ) -> Result<(), FormError>
-    ensures { Gives (λ u. u) result ((fixed name.now number).of (N.shows node.now)) }
+    ensures { Returns (λ u. u) result ((fixed name.now number).of (N.value node.now)) }
 {
     let found = member(alloc, node, name)?;
     under(name, check_number(alloc, &found, number))
 }
 
 /// Refuses an object that has this key.
-#[tactic(auto, using(crate::proofs::Objects::fails_as), unfolding(crate::specs::Reading::no_key))]
-pub fn check_absent<N: Node>(alloc: Global, node: &N, name: &'static str) -> Result<(), FormError>
-    ensures { Gives (λ u. u) result (no_key name.now (N.shows node.now)) }
+#[tactic(auto, using(crate::proofs::Objects::fails_as), unfolding(crate::specs::Reading::absent_member))]
+pub fn check_absent<N: JsonValue>(
+    alloc: Global,
+    node: &N,
+    name: &'static str,
+) -> Result<(), FormError>
+    ensures { Returns (λ u. u) result (absent_member name.now (N.value node.now)) }
 {
     match node.member(name) {
         None => Ok(()),

@@ -2,7 +2,7 @@
 
 use crate::token_messages::REPORTS;
 use crate::tokens::PACKETS;
-use etcs_form::{Form, FormError, InPieces, Step};
+use etcs_form::{Form, FormError, Step, WriteJson};
 use etcs_packet::{RawPacket, TrackPacket};
 use etcs_profile::{Authority, Linking};
 use etcs_radio::{Message, RawTrainPacket, Report, TrainPacket};
@@ -17,11 +17,11 @@ fn value_of(alloc: Global, text: &str) -> Result<Value, Fail> {
 }
 
 // Whether the text is the form of a record that is written as this text again: as a value, and in pieces.
-fn comes_back<T: InPieces>(alloc: Global, text: &str) -> Result<bool, Fail> {
+fn comes_back<T: WriteJson>(alloc: Global, text: &str) -> Result<bool, Fail> {
     let record = T::of_form(alloc, &value_of(alloc, text)?)?;
     let form = record.to_form(alloc)?;
     let mut out = Writer::new(Vec::new(alloc));
-    record.send_to(&mut out)?;
+    record.write_json(&mut out)?;
     let written = form.to_string(alloc).map_err(|_| "no memory")?;
     Ok(written.as_str() == text && out.into_inner().as_slice() == text.as_bytes())
 }

@@ -1,19 +1,19 @@
 //! What several tests use: reading the tape of a text.
 
-use etcs_form::{FormError, InPieces, JsonError, JsonText};
+use etcs_form::{FormError, JsonError, ParsedJson, WriteJson};
 use json::{Scratch, Writer};
 use serde_json::Value;
 use std::alloc::Global;
 use std::test::Fail;
 
 // The result of reading a form: the text that is written for the record, or the fault.
-fn told<T: InPieces>(alloc: Global, read: Result<T, FormError>) -> Result<String, Fail> {
+fn told<T: WriteJson>(alloc: Global, read: Result<T, FormError>) -> Result<String, Fail> {
     let record = match read {
         Ok(record) => record,
         Err(fault) => return Ok(format!(in alloc; "{fault}")?),
     };
     let mut out = Writer::new(Vec::new(alloc));
-    record.send_to(&mut out)?;
+    record.write_json(&mut out)?;
     match String::from_utf8(out.into_inner()) {
         Ok(text) => Ok(text),
         Err(_) => Err("no text was sent".into()),
@@ -22,10 +22,10 @@ fn told<T: InPieces>(alloc: Global, read: Result<T, FormError>) -> Result<String
 
 /// The result of reading the tape of a text: the text that is written for the record, the fault of the form,
 /// or that the text is not JSON. Reading a JSON value of the text gives the same result.
-pub fn read_of_tape<T: InPieces>(alloc: Global, text: &str) -> Result<String, Fail> {
+pub fn read_of_tape<T: WriteJson>(alloc: Global, text: &str) -> Result<String, Fail> {
     let mut scratch = Scratch::new(alloc);
-    let of_tape = match JsonText::read(text, &mut scratch, Vec::new(alloc)) {
-        Ok(json) => told(alloc, T::of_node(alloc, &json.root()))?,
+    let of_tape = match ParsedJson::read(text, &mut scratch, Vec::new(alloc)) {
+        Ok(json) => told(alloc, T::read_json(alloc, &json.root()))?,
         Err(JsonError::NotJson) => String::from_str(alloc, "no JSON")?,
         Err(JsonError::Memory) | Err(JsonError::TooLong) => return Err("no tape".into()),
     };

@@ -2,15 +2,15 @@
 
 ghost use Rattle.std.specs.Prelude.{IsOk};
 ghost use Rattle.etcs_json.specs.AnyMessage.{numbered};
-ghost use Rattle.etcs_schema.specs.Chosen.{any_object};
+ghost use Rattle.etcs_schema.specs.Choices.{any_object};
 
 use crate::reading::{Numbers, read_number};
 use crate::record::InRange;
-use crate::{Form, InPieces};
+use crate::{Form, WriteJson};
 use etcs_bits::Memory;
 use etcs_radio::Message;
 use etcs_schema::reading::check_object;
-use etcs_schema::{FormError, Marks, Node};
+use etcs_schema::{FormError, JsonValue, TokenWriter};
 use serde_json::Value;
 use std::alloc::Global;
 
@@ -26,7 +26,7 @@ impl Numbers for Message {
 impl Form for Message {
     ghost use Rattle.etcs_json.specs.AnyMessage.{message};
 
-    ghost shape = { message };
+    ghost codec = { message };
 
     ghost builds = { Unit {0} };
 
@@ -47,22 +47,22 @@ impl Form for Message {
         }
     }
 
-    fn of_node<N: Node>(alloc: Global, node: &N) -> Result<Self, FormError> {
+    fn read_json<N: JsonValue>(alloc: Global, node: &N) -> Result<Self, FormError> {
         check_object(alloc, node)?;
         match read_number::<Message, N>(alloc, node, "nid_message")? {
-            3 => Ok(Message::Movement(Form::of_node(alloc, node)?)),
-            136 => Ok(Message::Position(Form::of_node(alloc, node)?)),
+            3 => Ok(Message::Movement(Form::read_json(alloc, node)?)),
+            136 => Ok(Message::Position(Form::read_json(alloc, node)?)),
             _ => Err(FormError::range_at(alloc, "nid_message")),
         }
     }
 }
 
 #[tactic(auto, unfolding(crate::specs::AnyMessage::message))]
-impl InPieces for Message {
-    fn send_to<M: Marks>(&self, out: &mut M) -> Result<(), Memory> {
+impl WriteJson for Message {
+    fn write_json<M: TokenWriter>(&self, out: &mut M) -> Result<(), Memory> {
         match self {
-            Message::Movement(message) => message.send_to(out),
-            Message::Position(message) => message.send_to(out),
+            Message::Movement(message) => message.write_json(out),
+            Message::Position(message) => message.write_json(out),
         }
     }
 }

@@ -2,20 +2,20 @@
 
 use crate::Record;
 use crate::members::{
-    ListMember, Listed, Member, NumberMember, ReadMembers, check_members, pairs, send_members,
+    ListMember, Listed, Member, NumberMember, ReadMembers, check_members, pairs, write_members,
 };
-use crate::record::{InRange, Members, prove_all_allowed, prove_allowed};
-use crate::writing::Sink;
+use crate::record::{InRange, ObjectCodec, prove_all_allowed, prove_allowed};
+use crate::writing::MemberWriter;
 use etcs_bits::{Identity, Memory};
 use etcs_radio::MovementMessage;
 use etcs_schema::reading::read_fixed;
-use etcs_schema::{FormError, Node};
+use etcs_schema::{FormError, JsonValue};
 use std::alloc::Global;
 
 impl Record for MovementMessage {
-    ghost use Rattle.etcs_schema.specs.Chosen.{with_number};
+    ghost use Rattle.etcs_schema.specs.Choices.{with_number};
     ghost use Rattle.etcs_json.specs.Messages.{movement};
-    ghost use Rattle.etcs_schema.specs.Shape.{whole};
+    ghost use Rattle.etcs_schema.specs.Codec.{whole};
     ghost use Rattle.etcs_json.specs.TrackPackets.{track_packet};
 
     ghost object = { whole (with_number (movement track_packet)) };
@@ -32,10 +32,10 @@ impl InRange for MovementMessage {
 }
 
 #[tactic(auto, unfolding(crate::specs::Messages::movement))]
-impl Members for MovementMessage {
-    fn send_members<S: Sink>(&self, out: &mut S) -> Result<(), Memory> {
+impl ObjectCodec for MovementMessage {
+    fn write_members<S: MemberWriter>(&self, out: &mut S) -> Result<(), Memory> {
         let lrbg = self.lrbg();
-        send_members!(out;
+        write_members!(out;
             Member("m_ack", &self.ack()),
             Member("nid_bg", &lrbg.group),
             Member("nid_c", &lrbg.country),
@@ -45,7 +45,7 @@ impl Members for MovementMessage {
         )
     }
 
-    fn of_members<N: Node>(alloc: Global, node: &N) -> Result<Self, FormError> {
+    fn read_object<N: JsonValue>(alloc: Global, node: &N) -> Result<Self, FormError> {
         check_members!(alloc, node; "m_ack", "nid_bg", "nid_c", "nid_message", "packets", "t_train");
         read_fixed(alloc, node, "nid_message", 3)?;
         let keys = pairs!("t_train", "m_ack", "nid_c", "nid_bg", "packets");

@@ -2,20 +2,20 @@
 
 use crate::Record;
 use crate::members::{
-    ListMember, Listed, Member, NumberMember, ReadMembers, check_members, pairs, send_members,
+    ListMember, Listed, Member, NumberMember, ReadMembers, check_members, pairs, write_members,
 };
-use crate::record::{InRange, Members, prove_all_allowed, prove_allowed};
-use crate::writing::Sink;
+use crate::record::{InRange, ObjectCodec, prove_all_allowed, prove_allowed};
+use crate::writing::MemberWriter;
 use etcs_bits::Memory;
 use etcs_radio::PositionMessage;
 use etcs_schema::reading::read_fixed;
-use etcs_schema::{FormError, Node};
+use etcs_schema::{FormError, JsonValue};
 use std::alloc::Global;
 
 impl Record for PositionMessage {
-    ghost use Rattle.etcs_schema.specs.Chosen.{with_number};
+    ghost use Rattle.etcs_schema.specs.Choices.{with_number};
     ghost use Rattle.etcs_json.specs.Messages.{position};
-    ghost use Rattle.etcs_schema.specs.Shape.{whole};
+    ghost use Rattle.etcs_schema.specs.Codec.{whole};
     ghost use Rattle.etcs_json.specs.TrainPackets.{train_packet};
 
     ghost object = { whole (with_number (position train_packet)) };
@@ -31,9 +31,9 @@ impl InRange for PositionMessage {
 }
 
 #[tactic(auto, unfolding(crate::specs::Messages::position))]
-impl Members for PositionMessage {
-    fn send_members<S: Sink>(&self, out: &mut S) -> Result<(), Memory> {
-        send_members!(out;
+impl ObjectCodec for PositionMessage {
+    fn write_members<S: MemberWriter>(&self, out: &mut S) -> Result<(), Memory> {
+        write_members!(out;
             Member("nid_engine", &self.engine()),
             NumberMember("nid_message", 136),
             ListMember("packets", self.packets()),
@@ -41,7 +41,7 @@ impl Members for PositionMessage {
         )
     }
 
-    fn of_members<N: Node>(alloc: Global, node: &N) -> Result<Self, FormError> {
+    fn read_object<N: JsonValue>(alloc: Global, node: &N) -> Result<Self, FormError> {
         check_members!(alloc, node; "nid_engine", "nid_message", "packets", "t_train");
         read_fixed(alloc, node, "nid_message", 136)?;
         let found = ReadMembers::read(alloc, node, pairs!("t_train", "nid_engine", "packets"))?;

@@ -5,13 +5,13 @@ ghost use Rattle.etcs_telegram.specs.Sizes.{user_bits};
 ghost use Rattle.etcs_json.specs.Telegrams.{header};
 
 use crate::members::{
-    ListMember, Listed, Member, ReadMembers, check_members, pairs, read_record, send_members,
+    ListMember, Listed, Member, ReadMembers, check_members, pairs, read_record, write_members,
 };
-use crate::record::{InRange, Members, prove_all_allowed, prove_allowed};
-use crate::writing::Sink;
-use crate::{Form, InPieces, Record};
+use crate::record::{InRange, ObjectCodec, prove_all_allowed, prove_allowed};
+use crate::writing::MemberWriter;
+use crate::{Form, Record, WriteJson};
 use etcs_bits::Memory;
-use etcs_schema::{FormError, Marks, Node};
+use etcs_schema::{FormError, JsonValue, TokenWriter};
 use etcs_telegram::{Header, Size, Telegram};
 use serde_json::Value;
 use std::alloc::Global;
@@ -30,13 +30,13 @@ fn user_bit_count(size: Size) -> u64
 impl Form for Size {
     ghost use Rattle.etcs_json.specs.Telegrams.{size};
 
-    ghost shape = { size };
+    ghost codec = { size };
 
     fn to_form(&self, _alloc: Global) -> Result<Value, Memory> {
         Ok(Value::from(user_bit_count(*self)))
     }
 
-    fn of_node<N: Node>(alloc: Global, node: &N) -> Result<Self, FormError> {
+    fn read_json<N: JsonValue>(alloc: Global, node: &N) -> Result<Self, FormError> {
         match node.number() {
             None => Err(FormError::kind(alloc)),
             Some(210) => Ok(Size::Short),
@@ -46,14 +46,14 @@ impl Form for Size {
     }
 }
 
-impl InPieces for Size {
+impl WriteJson for Size {
     #[inline(always)]
-    fn send_to<M: Marks>(&self, out: &mut M) -> Result<(), Memory> {
+    fn write_json<M: TokenWriter>(&self, out: &mut M) -> Result<(), Memory> {
         out.number(user_bit_count(*self))
     }
 
     #[inline(always)]
-    fn send_at<M: Marks>(&self, name: &str, out: &mut M) -> Result<(), Memory> {
+    fn write_json_member<M: TokenWriter>(&self, name: &str, out: &mut M) -> Result<(), Memory> {
         out.member(name, user_bit_count(*self))
     }
 }
@@ -64,7 +64,7 @@ impl ReadMembers for Header {
     ghost reads = { λ _. header.of };
 
     #[tactic(auto, unfolding(crate::specs::Telegrams::header))]
-    fn read<N: Node>(alloc: Global, node: &N, _keys: ()) -> Result<Header, FormError> {
+    fn read<N: JsonValue>(alloc: Global, node: &N, _keys: ()) -> Result<Header, FormError> {
         read_record!(Header, alloc, node;
             version "m_version",
             position "n_pig",
@@ -78,7 +78,7 @@ impl ReadMembers for Header {
 }
 
 impl Record for Telegram {
-    ghost use Rattle.etcs_schema.specs.Shape.{whole};
+    ghost use Rattle.etcs_schema.specs.Codec.{whole};
     ghost use Rattle.etcs_json.specs.Telegrams.{telegram};
 
     ghost object = { whole telegram };
@@ -93,10 +93,10 @@ impl InRange for Telegram {
 }
 
 #[tactic(auto, unfolding(crate::specs::Telegrams::telegram, crate::specs::Telegrams::header))]
-impl Members for Telegram {
-    fn send_members<S: Sink>(&self, out: &mut S) -> Result<(), Memory> {
+impl ObjectCodec for Telegram {
+    fn write_members<S: MemberWriter>(&self, out: &mut S) -> Result<(), Memory> {
         let header = &self.header;
-        send_members!(out;
+        write_members!(out;
             Member("m_dup", &header.dup),
             Member("m_mcount", &header.counter),
             Member("m_version", &header.version),
@@ -110,7 +110,7 @@ impl Members for Telegram {
         )
     }
 
-    fn of_members<N: Node>(alloc: Global, node: &N) -> Result<Self, FormError> {
+    fn read_object<N: JsonValue>(alloc: Global, node: &N) -> Result<Self, FormError> {
         check_members!(alloc, node; "m_dup", "m_mcount", "m_version", "n_pig", "n_total",
             "nid_bg", "nid_c", "packets", "q_link", "user_bits");
         let keys = pairs!("user_bits", (), "packets");

@@ -3,23 +3,25 @@
 ghost use Rattle.std.specs.Prelude.{◌≡◌, OnOk};
 ghost use Rattle.etcs_profile.specs.Authority.{authority_number, authority_of_parts};
 ghost use Rattle.etcs_json.specs.Authority.{either_authority, with_main, without_main};
-ghost use Rattle.etcs_json.specs.AuthoritySending.{sent_members};
-ghost use Rattle.etcs_schema.specs.Chosen.{with_number};
-ghost use Rattle.etcs_schema.specs.Fault.{Gives};
+ghost use Rattle.etcs_json.specs.AuthorityWriting.{written_members};
+ghost use Rattle.etcs_schema.specs.Choices.{with_number};
+ghost use Rattle.etcs_schema.specs.Fault.{Returns};
 ghost use Rattle.etcs_schema.specs.Reading.{as_kind};
-ghost use Rattle.etcs_schema.specs.Shape.{whole};
+ghost use Rattle.etcs_schema.specs.Codec.{whole};
 
-use crate::members::{ListMember, Member, NumberMember, OptionalMember, ReadMembers, send_members};
+use crate::members::{
+    ListMember, Member, NumberMember, OptionalMember, ReadMembers, write_members,
+};
 use crate::packets::terms_form::{Terms, authority_of};
 use crate::reading::read_first;
 use crate::record::{check_record, prove_allowed};
-use crate::writing::Sink;
-use crate::writing::building::NewObject;
-use crate::{Form, InPieces, Record};
+use crate::writing::MemberWriter;
+use crate::writing::object_builder::ObjectBuilder;
+use crate::{Form, Record, WriteJson};
 use etcs_bits::{Dir, Memory, Ranged, Scale, Speed};
 use etcs_profile::Authority;
 use etcs_schema::reading::read_fixed;
-use etcs_schema::{FormError, Marks, Node};
+use etcs_schema::{FormError, JsonValue, TokenWriter};
 use json::Token;
 use serde_json::Value;
 use std::alloc::Global;
@@ -56,11 +58,11 @@ fn packet_number(authority: &Authority) -> u64
 }
 
 // Writes the members in the byte order of their keys.
-#[tactic(auto, unfolding(crate::specs::AuthoritySending::sent_members))]
-fn send_authority<S: Sink>(out: &mut S, authority: &Authority) -> Result<(), Memory>
-    ensures { OnOk result (S.takes (sent_members authority.now) out.old out.new) }
+#[tactic(auto, unfolding(crate::specs::AuthorityWriting::written_members))]
+fn write_authority<S: MemberWriter>(out: &mut S, authority: &Authority) -> Result<(), Memory>
+    ensures { OnOk result (S.writes (written_members authority.now) out.old out.new) }
 {
-    send_members!(out;
+    write_members!(out;
         OptionalMember("danger_point", &authority.danger_point()),
         Member("end_speed", &authority.end_speed()),
         Member("end_timeout", &authority.end_timeout()),
@@ -86,8 +88,8 @@ impl Record for WithoutMain {
 
 // Reads the members of packet 12.
 #[tactic(auto, unfolding(crate::specs::Authority::with_main))]
-fn read_main_and_terms<N: Node>(alloc: Global, node: &N) -> Result<WithMain, FormError>
-    ensures { Gives (λ p. p) result ((with_number with_main).part.of (N.shows node.now)) }
+fn read_main_and_terms<N: JsonValue>(alloc: Global, node: &N) -> Result<WithMain, FormError>
+    ensures { Returns (λ p. p) result ((with_number with_main).members.of (N.value node.now)) }
 {
     read_fixed(alloc, node, "nid_packet", 12)?;
     let dir = ReadMembers::read(alloc, node, "q_dir")?;
@@ -99,8 +101,8 @@ fn read_main_and_terms<N: Node>(alloc: Global, node: &N) -> Result<WithMain, For
 
 // Reads the members of packet 15.
 #[tactic(auto, unfolding(crate::specs::Authority::without_main))]
-fn read_terms_alone<N: Node>(alloc: Global, node: &N) -> Result<WithoutMain, FormError>
-    ensures { Gives (λ p. p) result ((with_number without_main).part.of (N.shows node.now)) }
+fn read_terms_alone<N: JsonValue>(alloc: Global, node: &N) -> Result<WithoutMain, FormError>
+    ensures { Returns (λ p. p) result ((with_number without_main).members.of (N.value node.now)) }
 {
     read_fixed(alloc, node, "nid_packet", 15)?;
     let dir = ReadMembers::read(alloc, node, "q_dir")?;
@@ -110,9 +112,9 @@ fn read_terms_alone<N: Node>(alloc: Global, node: &N) -> Result<WithoutMain, For
 }
 
 /// Reads packet 12.
-pub(crate) fn read_with_main<N: Node>(alloc: Global, node: &N) -> Result<Authority, FormError>
-    ensures { Gives (λ a. a) result
-        (as_kind authority_of_parts (either_authority.of 12 (N.shows node.now))) }
+pub(crate) fn read_with_main<N: JsonValue>(alloc: Global, node: &N) -> Result<Authority, FormError>
+    ensures { Returns (λ a. a) result
+        (as_kind authority_of_parts (either_authority.of 12 (N.value node.now))) }
 {
     #[tactic(auto, unfolding(crate::specs::Authority::with_main, crate::specs::Authority::terms, crate::specs::Authority::end_parts))]
     check_record::<WithMain, N>(alloc, node, &KEYS)?;
@@ -121,9 +123,12 @@ pub(crate) fn read_with_main<N: Node>(alloc: Global, node: &N) -> Result<Authori
 }
 
 /// Reads packet 15.
-pub(crate) fn read_without_main<N: Node>(alloc: Global, node: &N) -> Result<Authority, FormError>
-    ensures { Gives (λ a. a) result
-        (as_kind authority_of_parts (either_authority.of 15 (N.shows node.now))) }
+pub(crate) fn read_without_main<N: JsonValue>(
+    alloc: Global,
+    node: &N,
+) -> Result<Authority, FormError>
+    ensures { Returns (λ a. a) result
+        (as_kind authority_of_parts (either_authority.of 15 (N.value node.now))) }
 {
     #[tactic(auto, unfolding(crate::specs::Authority::without_main, crate::specs::Authority::terms, crate::specs::Authority::end_parts))]
     check_record::<WithoutMain, N>(alloc, node, &KEYS[..11])?;
@@ -134,10 +139,10 @@ pub(crate) fn read_without_main<N: Node>(alloc: Global, node: &N) -> Result<Auth
 #[tactic(auto, unfolding(crate::specs::Authority::authority))]
 impl Form for Authority {
     ghost use Rattle.std.specs.Prelude.{IsOk};
-    ghost use Rattle.etcs_schema.specs.Chosen.{any_object};
+    ghost use Rattle.etcs_schema.specs.Choices.{any_object};
     ghost use Rattle.etcs_json.specs.Authority.{authority};
 
-    ghost shape = { authority };
+    ghost codec = { authority };
 
     ghost builds = { Unit {0} };
 
@@ -147,12 +152,12 @@ impl Form for Authority {
     fn to_form(&self, alloc: Global) -> Result<Value, Memory> {
         // Only for the proof that the form is read again.
         prove_allowed(self);
-        let mut out = NewObject::new(alloc);
-        send_authority(&mut out, self)?;
+        let mut out = ObjectBuilder::new(alloc);
+        write_authority(&mut out, self)?;
         Ok(out.into_value())
     }
 
-    fn of_node<N: Node>(alloc: Global, node: &N) -> Result<Self, FormError> {
+    fn read_json<N: JsonValue>(alloc: Global, node: &N) -> Result<Self, FormError> {
         let number: Ranged<8, 254, 256> = read_first(alloc, node, "nid_packet")?;
         match number.number() {
             12 => read_with_main(alloc, node),
@@ -162,10 +167,10 @@ impl Form for Authority {
     }
 }
 
-impl InPieces for Authority {
-    fn send_to<M: Marks>(&self, out: &mut M) -> Result<(), Memory> {
+impl WriteJson for Authority {
+    fn write_json<M: TokenWriter>(&self, out: &mut M) -> Result<(), Memory> {
         out.token(Token::BeginObject)?;
-        send_authority(out, self)?;
+        write_authority(out, self)?;
         out.token(Token::EndObject)?;
         Ok(())
     }

@@ -1,15 +1,15 @@
 //! The forms of the parts of movement authorities: sections and timers, danger point and overlap.
 
 ghost use Rattle.etcs_json.specs.Authority.{danger_point, end_timer, overlap, section, section_timer};
-ghost use Rattle.etcs_schema.specs.Shape.{whole};
+ghost use Rattle.etcs_schema.specs.Codec.{whole};
 
 use crate::Record;
-use crate::members::{Member, OptionalMember, check_members, read_record, send_members};
-use crate::record::{LayoutRecord, Members};
-use crate::writing::Sink;
+use crate::members::{Member, OptionalMember, check_members, read_record, write_members};
+use crate::record::{LayoutRecord, ObjectCodec};
+use crate::writing::MemberWriter;
 use etcs_bits::Memory;
 use etcs_profile::{DangerPoint, EndTimer, Overlap, Section, SectionTimer};
-use etcs_schema::{FormError, Node};
+use etcs_schema::{FormError, JsonValue};
 use std::alloc::Global;
 
 impl Record for SectionTimer {
@@ -20,16 +20,16 @@ impl LayoutRecord for SectionTimer {
     ghost keeps = { λ x allowed _. allowed tt };
 }
 
-#[tactic(auto, unfolding(crate::specs::Authority::section_timer, etcs_schema::specs::Reading::object_with, etcs_schema::specs::Reading::at_key))]
-impl Members for SectionTimer {
-    fn send_members<S: Sink>(&self, out: &mut S) -> Result<(), Memory> {
-        send_members!(out;
+#[tactic(auto, unfolding(crate::specs::Authority::section_timer, etcs_schema::specs::Reading::only_keys, etcs_schema::specs::Reading::required_member))]
+impl ObjectCodec for SectionTimer {
+    fn write_members<S: MemberWriter>(&self, out: &mut S) -> Result<(), Memory> {
+        write_members!(out;
             Member("d_sectiontimerstoploc", &self.stop),
             Member("t_sectiontimer", &self.time),
         )
     }
 
-    fn of_members<N: Node>(alloc: Global, node: &N) -> Result<Self, FormError> {
+    fn read_object<N: JsonValue>(alloc: Global, node: &N) -> Result<Self, FormError> {
         check_members!(alloc, node; "d_sectiontimerstoploc", "t_sectiontimer");
         read_record!(SectionTimer, alloc, node;
             time "t_sectiontimer",
@@ -47,15 +47,15 @@ impl LayoutRecord for Section {
 }
 
 #[tactic(auto, unfolding(crate::specs::Authority::section))]
-impl Members for Section {
-    fn send_members<S: Sink>(&self, out: &mut S) -> Result<(), Memory> {
-        send_members!(out;
+impl ObjectCodec for Section {
+    fn write_members<S: MemberWriter>(&self, out: &mut S) -> Result<(), Memory> {
+        write_members!(out;
             Member("l_section", &self.length),
             OptionalMember("section_timer", &self.timer),
         )
     }
 
-    fn of_members<N: Node>(alloc: Global, node: &N) -> Result<Self, FormError> {
+    fn read_object<N: JsonValue>(alloc: Global, node: &N) -> Result<Self, FormError> {
         check_members!(alloc, node; "l_section", "section_timer");
         read_record!(Section, alloc, node;
             length "l_section",
@@ -72,16 +72,16 @@ impl LayoutRecord for EndTimer {
     ghost keeps = { λ x allowed _. allowed tt };
 }
 
-#[tactic(auto, unfolding(crate::specs::Authority::end_timer, etcs_schema::specs::Reading::object_with, etcs_schema::specs::Reading::at_key))]
-impl Members for EndTimer {
-    fn send_members<S: Sink>(&self, out: &mut S) -> Result<(), Memory> {
-        send_members!(out;
+#[tactic(auto, unfolding(crate::specs::Authority::end_timer, etcs_schema::specs::Reading::only_keys, etcs_schema::specs::Reading::required_member))]
+impl ObjectCodec for EndTimer {
+    fn write_members<S: MemberWriter>(&self, out: &mut S) -> Result<(), Memory> {
+        write_members!(out;
             Member("d_endtimerstartloc", &self.start),
             Member("t_endtimer", &self.time),
         )
     }
 
-    fn of_members<N: Node>(alloc: Global, node: &N) -> Result<Self, FormError> {
+    fn read_object<N: JsonValue>(alloc: Global, node: &N) -> Result<Self, FormError> {
         check_members!(alloc, node; "d_endtimerstartloc", "t_endtimer");
         read_record!(EndTimer, alloc, node;
             time "t_endtimer",
@@ -99,15 +99,15 @@ impl LayoutRecord for DangerPoint {
 }
 
 #[tactic(auto, unfolding(crate::specs::Authority::danger_point))]
-impl Members for DangerPoint {
-    fn send_members<S: Sink>(&self, out: &mut S) -> Result<(), Memory> {
-        send_members!(out;
+impl ObjectCodec for DangerPoint {
+    fn write_members<S: MemberWriter>(&self, out: &mut S) -> Result<(), Memory> {
+        write_members!(out;
             Member("d_dp", &self.distance),
             Member("v_releasedp", &self.release_speed),
         )
     }
 
-    fn of_members<N: Node>(alloc: Global, node: &N) -> Result<Self, FormError> {
+    fn read_object<N: JsonValue>(alloc: Global, node: &N) -> Result<Self, FormError> {
         check_members!(alloc, node; "d_dp", "v_releasedp");
         read_record!(DangerPoint, alloc, node;
             distance "d_dp",
@@ -125,9 +125,9 @@ impl LayoutRecord for Overlap {
 }
 
 #[tactic(auto, unfolding(crate::specs::Authority::overlap))]
-impl Members for Overlap {
-    fn send_members<S: Sink>(&self, out: &mut S) -> Result<(), Memory> {
-        send_members!(out;
+impl ObjectCodec for Overlap {
+    fn write_members<S: MemberWriter>(&self, out: &mut S) -> Result<(), Memory> {
+        write_members!(out;
             Member("d_ol", &self.length),
             Member("d_startol", &self.start),
             Member("t_ol", &self.time),
@@ -135,7 +135,7 @@ impl Members for Overlap {
         )
     }
 
-    fn of_members<N: Node>(alloc: Global, node: &N) -> Result<Self, FormError> {
+    fn read_object<N: JsonValue>(alloc: Global, node: &N) -> Result<Self, FormError> {
         check_members!(alloc, node; "d_ol", "d_startol", "t_ol", "v_releaseol");
         read_record!(Overlap, alloc, node;
             start "d_startol",

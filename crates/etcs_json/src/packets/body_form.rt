@@ -1,16 +1,16 @@
 //! L_PACKET and the body that it counts, in the forms of packets whose layout is not known.
 
 ghost use Rattle.std.specs.Prelude.{◌≡◌, ◌+◌, ◌≤◌, ◌<◌, codes, length, IfOk};
-ghost use Rattle.etcs_schema.specs.BodyText.{body_of};
-ghost use Rattle.etcs_schema.specs.Fault.{Gives};
-ghost use Rattle.etcs_schema.specs.Measured.{is_length, measured_of};
-ghost use Rattle.etcs_schema.specs.Reading.{at_key};
+ghost use Rattle.etcs_schema.specs.BodyText.{decoded_body};
+ghost use Rattle.etcs_schema.specs.Fault.{Returns};
+ghost use Rattle.etcs_schema.specs.CountedBody.{is_length, decoded_counted_body};
+ghost use Rattle.etcs_schema.specs.Reading.{required_member};
 
 use crate::packets::body_text::body_in;
 use crate::reading::{Numbers, read_number};
 use etcs_bits::Bits;
 use etcs_schema::reading::{member, under};
-use etcs_schema::{FormError, Node};
+use etcs_schema::{FormError, JsonValue};
 use std::alloc::Global;
 
 /// L_PACKET: how many bits a packet has. `head` is the number of bits before the body.
@@ -33,10 +33,10 @@ impl<const HEAD: u32> Numbers for PacketLength<HEAD> {
 }
 
 // Reads a body of `count` bits.
-#[tactic(auto, unfolding(etcs_schema::specs::BodyText::body_of))]
-fn read_text<N: Node>(alloc: Global, node: &N, count: usize) -> Result<Bits, FormError>
+#[tactic(auto, unfolding(etcs_schema::specs::BodyText::decoded_body))]
+fn read_text<N: JsonValue>(alloc: Global, node: &N, count: usize) -> Result<Bits, FormError>
     requires { count ≤ 8170 }
-    ensures gives { Gives (λ b. b) result (body_of count (N.shows node.now)) }
+    ensures gives { Returns (λ b. b) result (decoded_body count (N.value node.now)) }
     ensures len { IfOk result (λ b. length b ≡ count) }
 {
     match node.text() {
@@ -47,9 +47,9 @@ fn read_text<N: Node>(alloc: Global, node: &N, count: usize) -> Result<Bits, For
 
 // Reads the member `body`.
 #[tactic(auto, using(etcs_schema::proofs::Objects::member_read, etcs_schema::proofs::Objects::under_keeps))]
-fn read_body<N: Node>(alloc: Global, node: &N, count: usize) -> Result<Bits, FormError>
+fn read_body<N: JsonValue>(alloc: Global, node: &N, count: usize) -> Result<Bits, FormError>
     requires { count ≤ 8170 }
-    ensures gives { Gives (λ b. b) result (at_key (body_of count) (codes "body") (N.shows node.now)) }
+    ensures gives { Returns (λ b. b) result (required_member (decoded_body count) (codes "body") (N.value node.now)) }
     ensures len { IfOk result (λ b. length b ≡ count) }
 {
     let found = member(alloc, node, "body")?;
@@ -58,12 +58,12 @@ fn read_body<N: Node>(alloc: Global, node: &N, count: usize) -> Result<Bits, For
 
 /// Reads the members `l_packet` and `body`. `HEAD` is the number of bits before the body, 21 or
 /// more.
-pub(crate) fn read_measured<const HEAD: u32, N: Node>(
+pub(crate) fn read_counted_body<const HEAD: u32, N: JsonValue>(
     alloc: Global,
     node: &N,
 ) -> Result<Bits, FormError>
     requires { 21 ≤ HEAD }
-    ensures gives { Gives (λ b. b) result (measured_of HEAD (N.shows node.now)) }
+    ensures gives { Returns (λ b. b) result (decoded_counted_body HEAD (N.value node.now)) }
     ensures short { IfOk result (λ b. HEAD + length b < 8192) }
 {
     let length = read_number::<PacketLength<HEAD>, N>(alloc, node, "l_packet")?;

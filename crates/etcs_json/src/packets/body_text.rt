@@ -4,11 +4,11 @@ ghost use Rattle.std.specs.Prelude.{◌≡◌, ◌+◌, ◌*◌, ◌<◌, ◌≤
 ghost use Rattle.hex.specs.Hex.{decode_of};
 ghost use Rattle.serde_json.specs.Data.{string};
 ghost use Rattle.etcs_bits.specs.bits.Number.{num_of_bits};
-ghost use Rattle.etcs_schema.specs.BodyText.{are_padded, body_bytes, body_text, bytes_for, decoded_or, filled_up, first_bits};
-ghost use Rattle.etcs_schema.specs.Fault.{Gives};
+ghost use Rattle.etcs_schema.specs.BodyText.{are_padded, body_bytes, body_text, byte_count, decoded_or, padded_bits, first_bits};
+ghost use Rattle.etcs_schema.specs.Fault.{Returns};
 
-use crate::members::SendMembers;
-use crate::writing::Sink;
+use crate::members::WriteMembers;
+use crate::writing::MemberWriter;
 use etcs_bits::{BitSlice, Bits, Memory};
 use etcs_schema::FormError;
 use hex::FromHexError;
@@ -22,9 +22,9 @@ const FEW_BITS: usize = 1024;
 #[inline]
 #[tactic(auto, using(etcs_schema::proofs::BodyTextLemmas::whole_byte, etcs_schema::proofs::BodyTextLemmas::last_byte, etcs_schema::proofs::BodyTextLemmas::byte_small))]
 fn byte_at(bits: &BitSlice<'_>, at: usize) -> u8
-    requires inside { at + 8 ≤ 8 * bytes_for (length bits.now) }
+    requires inside { at + 8 ≤ 8 * byte_count (length bits.now) }
     requires not_past { at < length bits.now }
-    ensures { result ≡ num_of_bits (take 8 (drop at (filled_up bits.now))) }
+    ensures { result ≡ num_of_bits (take 8 (drop at (padded_bits bits.now))) }
 {
     let left = bits.len() - at;
     if left >= 8 {
@@ -34,10 +34,10 @@ fn byte_at(bits: &BitSlice<'_>, at: usize) -> u8
 }
 
 // The bytes of the bits. The rest of the array carries no information.
-#[tactic(auto, unfolding(etcs_schema::specs::BodyText::bytes_in))]
+#[tactic(auto, unfolding(etcs_schema::specs::BodyText::packed_bytes))]
 fn bytes_of<const BYTES: usize>(bits: &BitSlice<'_>) -> [u8; BYTES]
     requires { length bits.now ≤ 8 * BYTES }
-    ensures { take (bytes_for (length bits.now)) result ≡ body_bytes bits.now }
+    ensures { take (byte_count (length bits.now)) result ≡ body_bytes bits.now }
 {
     let mut bytes = [0; BYTES];
     'bytes: for i in 0..bits.len().div_ceil(8) {
@@ -47,13 +47,13 @@ fn bytes_of<const BYTES: usize>(bits: &BitSlice<'_>) -> [u8; BYTES]
 }
 
 // Writes the body, with buffers for `BYTES` bytes and for their digits.
-fn send_in_room<const BYTES: usize, const DIGITS: usize, S: Sink>(
+fn write_in_room<const BYTES: usize, const DIGITS: usize, S: MemberWriter>(
     out: &mut S,
     bits: &Bits,
 ) -> Result<(), Memory>
     requires bytes { length bits.now ≤ 8 * BYTES }
     requires digits { (2 * BYTES ≤ DIGITS) × (DIGITS ≤ 2044) }
-    ensures { OnOk result (S.takes
+    ensures { OnOk result (S.writes
         ((codes "body", Some (string (body_text bits.now))) ∷ []) out.old out.new) }
 {
     let bytes: [u8; BYTES] = bytes_of(&bits.slice());
@@ -66,7 +66,7 @@ fn send_in_room<const BYTES: usize, const DIGITS: usize, S: Sink>(
     let Ok(text) = str::from_utf8(room) else {
         unreachable!("digits are text")
     };
-    out.send_text("body", text)
+    out.write_text("body", text)
 }
 
 /// The member `body`. No packet's body has more than 8,170 bits, which are 1,022 bytes.
@@ -85,14 +85,14 @@ impl<'a> Model for BodyMember<'a> {
     ghost invariant = { λ m. length m.body.now ≤ 8170 };
 }
 
-impl SendMembers for BodyMember<'_> {
+impl WriteMembers for BodyMember<'_> {
     ghost entries = { λ body. (codes "body", Some (string (body_text body))) ∷ [] };
 
-    fn send<S: Sink>(&self, out: &mut S) -> Result<(), Memory> {
+    fn write<S: MemberWriter>(&self, out: &mut S) -> Result<(), Memory> {
         if self.body.len() <= FEW_BITS {
-            send_in_room::<128, 256, S>(out, self.body)
+            write_in_room::<128, 256, S>(out, self.body)
         } else {
-            send_in_room::<1022, 2044, S>(out, self.body)
+            write_in_room::<1022, 2044, S>(out, self.body)
         }
     }
 }
@@ -100,7 +100,7 @@ impl SendMembers for BodyMember<'_> {
 // Whether the bits after the first `count` are zeros.
 fn is_padded(bytes: &[u8], count: usize) -> bool
     requires many { count ≤ 8170 }
-    requires whole { length bytes.now ≡ bytes_for count }
+    requires whole { length bytes.now ≡ byte_count count }
     ensures { result ≡ are_padded count bytes.now }
 {
     let whole = 8 * bytes.len();
@@ -111,7 +111,7 @@ fn is_padded(bytes: &[u8], count: usize) -> bool
 // The first bits of exactly as many bytes as these bits need. No other bit may be set.
 fn bits_in(alloc: Global, bytes: &[u8], count: usize) -> Result<Bits, FormError>
     requires { count ≤ 8170 }
-    ensures gives { Gives (λ b. b) result (first_bits count bytes.now) }
+    ensures gives { Returns (λ b. b) result (first_bits count bytes.now) }
     ensures len { IfOk result (λ b. length b ≡ count) }
 {
     if bytes.len() == count.div_ceil(8) && is_padded(bytes, count) {
@@ -125,7 +125,7 @@ fn bits_in(alloc: Global, bytes: &[u8], count: usize) -> Result<Bits, FormError>
 /// Reads the text of a body of `count` bits.
 pub(crate) fn body_in(alloc: Global, text: &str, count: usize) -> Result<Bits, FormError>
     requires { count ≤ 8170 }
-    ensures gives { Gives (λ b. b) result (decoded_or count (decode_of text.now)) }
+    ensures gives { Returns (λ b. b) result (decoded_or count (decode_of text.now)) }
     ensures len { IfOk result (λ b. length b ≡ count) }
 {
     match hex::decode(alloc, text) {

@@ -1,16 +1,16 @@
 //! The form of virtual balise cover markers, packet 0.
 
 ghost use Rattle.etcs_json.specs.Cover.{cover_marker};
-ghost use Rattle.etcs_schema.specs.Shape.{whole};
+ghost use Rattle.etcs_schema.specs.Codec.{whole};
 
 use crate::Record;
-use crate::members::{Member, NumberMember, ReadMembers, check_members, send_members};
-use crate::record::{LayoutRecord, Members};
-use crate::writing::Sink;
+use crate::members::{Member, NumberMember, ReadMembers, check_members, write_members};
+use crate::record::{LayoutRecord, ObjectCodec};
+use crate::writing::MemberWriter;
 use etcs_bits::Memory;
 use etcs_packet::CoverMarker;
 use etcs_schema::reading::read_fixed;
-use etcs_schema::{FormError, Node};
+use etcs_schema::{FormError, JsonValue};
 use std::alloc::Global;
 
 impl Record for CoverMarker {
@@ -22,15 +22,15 @@ impl LayoutRecord for CoverMarker {
 }
 
 #[tactic(auto, unfolding(crate::specs::Cover::cover_marker, crate::specs::Cover::cover))]
-impl Members for CoverMarker {
-    fn send_members<S: Sink>(&self, out: &mut S) -> Result<(), Memory> {
-        send_members!(out;
+impl ObjectCodec for CoverMarker {
+    fn write_members<S: MemberWriter>(&self, out: &mut S) -> Result<(), Memory> {
+        write_members!(out;
             NumberMember("nid_packet", 0),
             Member("nid_vbcmk", &self.marker),
         )
     }
 
-    fn of_members<N: Node>(alloc: Global, node: &N) -> Result<Self, FormError> {
+    fn read_object<N: JsonValue>(alloc: Global, node: &N) -> Result<Self, FormError> {
         check_members!(alloc, node; "nid_packet", "nid_vbcmk");
         read_fixed(alloc, node, "nid_packet", 0)?;
         let marker = ReadMembers::read(alloc, node, "nid_vbcmk")?;

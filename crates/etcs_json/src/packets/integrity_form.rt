@@ -2,16 +2,16 @@
 
 ghost use Rattle.std.specs.Prelude.{◌≡◌};
 ghost use Rattle.etcs_radio.specs.Integrity.{length_number as number_of_length, q_length};
-ghost use Rattle.etcs_schema.specs.KeyedVariables.{number_in};
+ghost use Rattle.etcs_schema.specs.KeyedVariables.{row_number};
 ghost use Rattle.etcs_json.specs.Report.{integrity};
 
 use crate::members::ReadMembers;
 use crate::packets::number_forms::read_number;
-use crate::{Form, InPieces};
+use crate::{Form, WriteJson};
 use etcs_bits::{Distance, Memory, Plain};
 use etcs_radio::{Integrity, Train3};
 use etcs_schema::reading::check_absent;
-use etcs_schema::{FormError, Marks, Node};
+use etcs_schema::{FormError, JsonValue, TokenWriter};
 use serde_json::Value;
 use std::alloc::Global;
 
@@ -30,7 +30,7 @@ pub(crate) fn length_number(integrity: Integrity) -> u64
 /// The length that is confirmed: L_TRAININT, 15 bits, at Q_LENGTH 1 and 2.
 #[tactic(auto, unfolding(etcs_bits::specs::layout::Rows::alone))]
 pub(crate) fn confirmed_length(integrity: Integrity) -> Option<Distance>
-    ensures { result ≡ number_in 1 (q_length.rows integrity) }
+    ensures { result ≡ row_number 1 (q_length.rows integrity) }
 {
     match integrity {
         Integrity::Q1(length) => Some(length),
@@ -46,8 +46,8 @@ impl ReadMembers for Integrity {
 
     ghost reads = { λ _. integrity.of };
 
-    #[tactic(auto, using(crate::proofs::KeyedLemmas::length_numbers, crate::proofs::KeyedLemmas::length_ends), unfolding(etcs_schema::specs::Reading::at_key, etcs_schema::specs::Reading::no_key))]
-    fn read<N: Node>(alloc: Global, node: &N, _keys: ()) -> Result<Integrity, FormError> {
+    #[tactic(auto, using(crate::proofs::KeyedLemmas::length_numbers, crate::proofs::KeyedLemmas::length_ends), unfolding(etcs_schema::specs::Reading::required_member, etcs_schema::specs::Reading::absent_member))]
+    fn read<N: JsonValue>(alloc: Global, node: &N, _keys: ()) -> Result<Integrity, FormError> {
         let number: Plain<2> = ReadMembers::read(alloc, node, "q_length")?;
         if number.number() == 1 {
             return Ok(Integrity::Q1(ReadMembers::read(alloc, node, "l_trainint")?));
@@ -67,25 +67,25 @@ impl ReadMembers for Integrity {
 impl Form for Train3 {
     ghost use Rattle.etcs_json.specs.Report.{side};
 
-    ghost shape = { side };
+    ghost codec = { side };
 
     fn to_form(&self, _alloc: Global) -> Result<Value, Memory> {
         Ok(Value::from(u64::from(self.number())))
     }
 
-    fn of_node<N: Node>(alloc: Global, node: &N) -> Result<Self, FormError> {
+    fn read_json<N: JsonValue>(alloc: Global, node: &N) -> Result<Self, FormError> {
         read_number!(alloc, node, Train3)
     }
 }
 
-impl InPieces for Train3 {
+impl WriteJson for Train3 {
     #[inline(always)]
-    fn send_to<M: Marks>(&self, out: &mut M) -> Result<(), Memory> {
+    fn write_json<M: TokenWriter>(&self, out: &mut M) -> Result<(), Memory> {
         out.number(u64::from(self.number()))
     }
 
     #[inline(always)]
-    fn send_at<M: Marks>(&self, name: &str, out: &mut M) -> Result<(), Memory> {
+    fn write_json_member<M: TokenWriter>(&self, name: &str, out: &mut M) -> Result<(), Memory> {
         out.member(name, u64::from(self.number()))
     }
 }

@@ -4,9 +4,9 @@
 ghost use Rattle.etcs_bits.specs.variables.Variables.{plain, ranged};
 ghost use Rattle.etcs_schema.specs.Variables.{direction, duplicate, flag, scale, variable, version};
 
-use crate::{Form, InPieces};
+use crate::{Form, WriteJson};
 use etcs_bits::{Dir, Dup, Memory, Plain, Ranged, Scale, Version};
-use etcs_schema::{FormError, Marks, Node};
+use etcs_schema::{FormError, JsonValue, TokenWriter};
 use serde_json::Value;
 use std::alloc::Global;
 
@@ -29,61 +29,61 @@ macro_rules! read_number {
 pub(crate) use read_number;
 
 impl<const W: u32> Form for Plain<W> {
-    ghost shape = { variable (plain W) };
+    ghost codec = { variable (plain W) };
 
     fn to_form(&self, _alloc: Global) -> Result<Value, Memory> {
         Ok(Value::from(u64::from(self.number())))
     }
 
-    fn of_node<N: Node>(alloc: Global, node: &N) -> Result<Self, FormError> {
+    fn read_json<N: JsonValue>(alloc: Global, node: &N) -> Result<Self, FormError> {
         read_number!(alloc, node, Plain)
     }
 }
 
-impl<const W: u32> InPieces for Plain<W> {
+impl<const W: u32> WriteJson for Plain<W> {
     #[inline(always)]
-    fn send_to<M: Marks>(&self, out: &mut M) -> Result<(), Memory> {
+    fn write_json<M: TokenWriter>(&self, out: &mut M) -> Result<(), Memory> {
         out.number(u64::from(self.number()))
     }
 
     #[inline(always)]
-    fn send_at<M: Marks>(&self, name: &str, out: &mut M) -> Result<(), Memory> {
+    fn write_json_member<M: TokenWriter>(&self, name: &str, out: &mut M) -> Result<(), Memory> {
         out.member(name, u64::from(self.number()))
     }
 }
 
 impl<const W: u32, const LAST: u32, const FROM: u32> Form for Ranged<W, LAST, FROM> {
-    ghost shape = { variable (ranged W LAST FROM) };
+    ghost codec = { variable (ranged W LAST FROM) };
 
     fn to_form(&self, _alloc: Global) -> Result<Value, Memory> {
         Ok(Value::from(u64::from(self.number())))
     }
 
-    fn of_node<N: Node>(alloc: Global, node: &N) -> Result<Self, FormError> {
+    fn read_json<N: JsonValue>(alloc: Global, node: &N) -> Result<Self, FormError> {
         read_number!(alloc, node, Ranged)
     }
 }
 
-impl<const W: u32, const LAST: u32, const FROM: u32> InPieces for Ranged<W, LAST, FROM> {
+impl<const W: u32, const LAST: u32, const FROM: u32> WriteJson for Ranged<W, LAST, FROM> {
     #[inline(always)]
-    fn send_to<M: Marks>(&self, out: &mut M) -> Result<(), Memory> {
+    fn write_json<M: TokenWriter>(&self, out: &mut M) -> Result<(), Memory> {
         out.number(u64::from(self.number()))
     }
 
     #[inline(always)]
-    fn send_at<M: Marks>(&self, name: &str, out: &mut M) -> Result<(), Memory> {
+    fn write_json_member<M: TokenWriter>(&self, name: &str, out: &mut M) -> Result<(), Memory> {
         out.member(name, u64::from(self.number()))
     }
 }
 
 impl Form for bool {
-    ghost shape = { flag };
+    ghost codec = { flag };
 
     fn to_form(&self, _alloc: Global) -> Result<Value, Memory> {
         Ok(Value::from(if *self { 1u64 } else { 0u64 }))
     }
 
-    fn of_node<N: Node>(alloc: Global, node: &N) -> Result<Self, FormError> {
+    fn read_json<N: JsonValue>(alloc: Global, node: &N) -> Result<Self, FormError> {
         match node.number() {
             None => Err(FormError::kind(alloc)),
             Some(0) => Ok(false),
@@ -93,110 +93,110 @@ impl Form for bool {
     }
 }
 
-impl InPieces for bool {
+impl WriteJson for bool {
     #[inline(always)]
-    fn send_to<M: Marks>(&self, out: &mut M) -> Result<(), Memory> {
+    fn write_json<M: TokenWriter>(&self, out: &mut M) -> Result<(), Memory> {
         out.number(if *self { 1u64 } else { 0u64 })
     }
 
     #[inline(always)]
-    fn send_at<M: Marks>(&self, name: &str, out: &mut M) -> Result<(), Memory> {
+    fn write_json_member<M: TokenWriter>(&self, name: &str, out: &mut M) -> Result<(), Memory> {
         out.member(name, if *self { 1u64 } else { 0u64 })
     }
 }
 
 impl Form for Dir {
-    ghost shape = { direction };
+    ghost codec = { direction };
 
     fn to_form(&self, _alloc: Global) -> Result<Value, Memory> {
         Ok(Value::from(u64::from(self.number())))
     }
 
-    fn of_node<N: Node>(alloc: Global, node: &N) -> Result<Self, FormError> {
+    fn read_json<N: JsonValue>(alloc: Global, node: &N) -> Result<Self, FormError> {
         read_number!(alloc, node, Dir)
     }
 }
 
-impl InPieces for Dir {
+impl WriteJson for Dir {
     #[inline(always)]
-    fn send_to<M: Marks>(&self, out: &mut M) -> Result<(), Memory> {
+    fn write_json<M: TokenWriter>(&self, out: &mut M) -> Result<(), Memory> {
         out.number(u64::from(self.number()))
     }
 
     #[inline(always)]
-    fn send_at<M: Marks>(&self, name: &str, out: &mut M) -> Result<(), Memory> {
+    fn write_json_member<M: TokenWriter>(&self, name: &str, out: &mut M) -> Result<(), Memory> {
         out.member(name, u64::from(self.number()))
     }
 }
 
 impl Form for Scale {
-    ghost shape = { scale };
+    ghost codec = { scale };
 
     fn to_form(&self, _alloc: Global) -> Result<Value, Memory> {
         Ok(Value::from(u64::from(self.number())))
     }
 
-    fn of_node<N: Node>(alloc: Global, node: &N) -> Result<Self, FormError> {
+    fn read_json<N: JsonValue>(alloc: Global, node: &N) -> Result<Self, FormError> {
         read_number!(alloc, node, Scale)
     }
 }
 
-impl InPieces for Scale {
+impl WriteJson for Scale {
     #[inline(always)]
-    fn send_to<M: Marks>(&self, out: &mut M) -> Result<(), Memory> {
+    fn write_json<M: TokenWriter>(&self, out: &mut M) -> Result<(), Memory> {
         out.number(u64::from(self.number()))
     }
 
     #[inline(always)]
-    fn send_at<M: Marks>(&self, name: &str, out: &mut M) -> Result<(), Memory> {
+    fn write_json_member<M: TokenWriter>(&self, name: &str, out: &mut M) -> Result<(), Memory> {
         out.member(name, u64::from(self.number()))
     }
 }
 
 impl Form for Dup {
-    ghost shape = { duplicate };
+    ghost codec = { duplicate };
 
     fn to_form(&self, _alloc: Global) -> Result<Value, Memory> {
         Ok(Value::from(u64::from(self.number())))
     }
 
-    fn of_node<N: Node>(alloc: Global, node: &N) -> Result<Self, FormError> {
+    fn read_json<N: JsonValue>(alloc: Global, node: &N) -> Result<Self, FormError> {
         read_number!(alloc, node, Dup)
     }
 }
 
-impl InPieces for Dup {
+impl WriteJson for Dup {
     #[inline(always)]
-    fn send_to<M: Marks>(&self, out: &mut M) -> Result<(), Memory> {
+    fn write_json<M: TokenWriter>(&self, out: &mut M) -> Result<(), Memory> {
         out.number(u64::from(self.number()))
     }
 
     #[inline(always)]
-    fn send_at<M: Marks>(&self, name: &str, out: &mut M) -> Result<(), Memory> {
+    fn write_json_member<M: TokenWriter>(&self, name: &str, out: &mut M) -> Result<(), Memory> {
         out.member(name, u64::from(self.number()))
     }
 }
 
 impl Form for Version {
-    ghost shape = { version };
+    ghost codec = { version };
 
     fn to_form(&self, _alloc: Global) -> Result<Value, Memory> {
         Ok(Value::from(u64::from(self.number())))
     }
 
-    fn of_node<N: Node>(alloc: Global, node: &N) -> Result<Self, FormError> {
+    fn read_json<N: JsonValue>(alloc: Global, node: &N) -> Result<Self, FormError> {
         read_number!(alloc, node, Version)
     }
 }
 
-impl InPieces for Version {
+impl WriteJson for Version {
     #[inline(always)]
-    fn send_to<M: Marks>(&self, out: &mut M) -> Result<(), Memory> {
+    fn write_json<M: TokenWriter>(&self, out: &mut M) -> Result<(), Memory> {
         out.number(u64::from(self.number()))
     }
 
     #[inline(always)]
-    fn send_at<M: Marks>(&self, name: &str, out: &mut M) -> Result<(), Memory> {
+    fn write_json_member<M: TokenWriter>(&self, name: &str, out: &mut M) -> Result<(), Memory> {
         out.member(name, u64::from(self.number()))
     }
 }

@@ -4,19 +4,19 @@ ghost use Rattle.std.specs.Prelude.{◌≡◌, length, true};
 ghost use Rattle.etcs_profile.specs.FoundRaw.{raw_with};
 ghost use Rattle.etcs_profile.specs.PacketNumbers.{is_kept, nid_raw};
 ghost use Rattle.etcs_json.specs.Raw.{raw_packet};
-ghost use Rattle.etcs_schema.specs.Shape.{whole};
+ghost use Rattle.etcs_schema.specs.Codec.{whole};
 ghost use Rattle.etcs_schema.specs.Variables.{is_allowed};
 
 use crate::Record;
-use crate::members::{Member, NumberMember, ReadMembers, check_members, send_members};
-use crate::packets::body_form::{packet_length, read_measured};
+use crate::members::{Member, NumberMember, ReadMembers, check_members, write_members};
+use crate::packets::body_form::{packet_length, read_counted_body};
 use crate::packets::body_text::BodyMember;
 use crate::reading::{Numbers, read_number};
-use crate::record::{InRange, Members, prove_allowed};
-use crate::writing::Sink;
+use crate::record::{InRange, ObjectCodec, prove_allowed};
+use crate::writing::MemberWriter;
 use etcs_bits::{Bits, Dir, Memory};
 use etcs_packet::RawPacket;
-use etcs_schema::{FormError, Node};
+use etcs_schema::{FormError, JsonValue};
 use std::alloc::Global;
 
 // The bits before the body: NID_PACKET, Q_DIR and L_PACKET.
@@ -51,11 +51,11 @@ fn packet_of(number: u8, dir: Dir, body: Bits) -> RawPacket
     }
 }
 
-#[tactic(auto, unfolding(crate::specs::Raw::raw_packet, etcs_schema::specs::Reading::object_with, etcs_schema::specs::Reading::at_key))]
-impl Members for RawPacket {
-    fn send_members<S: Sink>(&self, out: &mut S) -> Result<(), Memory> {
+#[tactic(auto, unfolding(crate::specs::Raw::raw_packet, etcs_schema::specs::Reading::only_keys, etcs_schema::specs::Reading::required_member))]
+impl ObjectCodec for RawPacket {
+    fn write_members<S: MemberWriter>(&self, out: &mut S) -> Result<(), Memory> {
         let body = self.body();
-        send_members!(out;
+        write_members!(out;
             BodyMember { body },
             NumberMember("l_packet", packet_length(HEAD_BITS, body)),
             NumberMember("nid_packet", u64::from(self.number())),
@@ -63,11 +63,11 @@ impl Members for RawPacket {
         )
     }
 
-    fn of_members<N: Node>(alloc: Global, node: &N) -> Result<Self, FormError> {
+    fn read_object<N: JsonValue>(alloc: Global, node: &N) -> Result<Self, FormError> {
         check_members!(alloc, node; "body", "l_packet", "nid_packet", "q_dir");
         let number = read_number::<Self, N>(alloc, node, "nid_packet")?;
         let dir = ReadMembers::read(alloc, node, "q_dir")?;
-        let body = read_measured::<HEAD_BITS, N>(alloc, node)?;
+        let body = read_counted_body::<HEAD_BITS, N>(alloc, node)?;
         Ok(packet_of(number as u8, dir, body))
     }
 }

@@ -2,28 +2,28 @@
 
 ghost use Rattle.std.specs.Prelude.{◌≡◌, OnOk};
 ghost use Rattle.etcs_radio.specs.Report.{report_of, report_with as what_is_with};
-ghost use Rattle.etcs_schema.specs.Chosen.{with_number};
-ghost use Rattle.etcs_schema.specs.Fault.{Gives};
+ghost use Rattle.etcs_schema.specs.Choices.{with_number};
+ghost use Rattle.etcs_schema.specs.Fault.{Returns};
 ghost use Rattle.etcs_schema.specs.Reading.{as_kind};
-ghost use Rattle.etcs_schema.specs.Shape.{whole};
+ghost use Rattle.etcs_schema.specs.Codec.{whole};
 ghost use Rattle.etcs_json.specs.Report.{either_report, identity, situation, with_one, with_two};
-ghost use Rattle.etcs_json.specs.ReportSending.{first_members, last_members, sent_members};
+ghost use Rattle.etcs_json.specs.ReportWriting.{first_members, last_members, written_members};
 
 use crate::members::{
     Member, NumberMember, OptionalMember, ReadMembers, make_record, pairs, read_record,
-    send_members,
+    write_members,
 };
 use crate::packets::integrity_form::{confirmed_length, length_number};
 use crate::packets::level_form::national_system_of;
 use crate::reading::read_first;
 use crate::record::{check_record, prove_allowed};
-use crate::writing::Sink;
-use crate::writing::building::NewObject;
-use crate::{Form, InPieces, Record};
+use crate::writing::MemberWriter;
+use crate::writing::object_builder::ObjectBuilder;
+use crate::{Form, Record, WriteJson};
 use etcs_bits::{Distance, Identity, Level, Memory, Plain, Scale};
 use etcs_radio::{Integrity, Report, Train3};
 use etcs_schema::reading::read_fixed;
-use etcs_schema::{FormError, Marks, Node};
+use etcs_schema::{FormError, JsonValue, TokenWriter};
 use json::Token;
 use serde_json::Value;
 use std::alloc::Global;
@@ -47,7 +47,7 @@ impl ReadMembers for Identity {
 
     ghost reads = { λ keys. (identity keys.0.now keys.1.now).of };
 
-    fn read<N: Node>(
+    fn read<N: JsonValue>(
         alloc: Global,
         node: &N,
         keys: (&'static str, &'static str),
@@ -76,8 +76,8 @@ impl Record for WithTwo {
 
 // Reads the members after the groups.
 #[tactic(auto, unfolding(crate::specs::Report::situation))]
-fn read_situation<N: Node>(alloc: Global, node: &N) -> Result<Situation, FormError>
-    ensures { Gives (λ s. s) result (situation.of (N.shows node.now)) }
+fn read_situation<N: JsonValue>(alloc: Global, node: &N) -> Result<Situation, FormError>
+    ensures { Returns (λ s. s) result (situation.of (N.value node.now)) }
 {
     let state = pairs!((), "v_train", "q_dirtrain", "m_mode", "m_level");
     let doubts = pairs!("l_doubtover", "l_doubtunder", state);
@@ -103,8 +103,8 @@ fn report_with(
 
 // Reads the members of packet 0.
 #[tactic(auto, unfolding(crate::specs::Report::with_one))]
-fn read_with_one<N: Node>(alloc: Global, node: &N) -> Result<WithOne, FormError>
-    ensures { Gives (λ p. p) result ((with_number with_one).part.of (N.shows node.now)) }
+fn read_with_one<N: JsonValue>(alloc: Global, node: &N) -> Result<WithOne, FormError>
+    ensures { Returns (λ p. p) result ((with_number with_one).members.of (N.value node.now)) }
 {
     read_fixed(alloc, node, "nid_packet", 0)?;
     let scale = ReadMembers::read(alloc, node, "q_scale")?;
@@ -115,8 +115,8 @@ fn read_with_one<N: Node>(alloc: Global, node: &N) -> Result<WithOne, FormError>
 
 // Reads the members of packet 1.
 #[tactic(auto, unfolding(crate::specs::Report::with_two))]
-fn read_with_two<N: Node>(alloc: Global, node: &N) -> Result<WithTwo, FormError>
-    ensures { Gives (λ p. p) result ((with_number with_two).part.of (N.shows node.now)) }
+fn read_with_two<N: JsonValue>(alloc: Global, node: &N) -> Result<WithTwo, FormError>
+    ensures { Returns (λ p. p) result ((with_number with_two).members.of (N.value node.now)) }
 {
     read_fixed(alloc, node, "nid_packet", 1)?;
     let scale = ReadMembers::read(alloc, node, "q_scale")?;
@@ -127,8 +127,8 @@ fn read_with_two<N: Node>(alloc: Global, node: &N) -> Result<WithTwo, FormError>
 }
 
 /// Reads packet 0.
-pub(crate) fn read_one<N: Node>(alloc: Global, node: &N) -> Result<Report, FormError>
-    ensures { Gives (λ r. r) result (as_kind report_of (either_report.of 0 (N.shows node.now))) }
+pub(crate) fn read_one<N: JsonValue>(alloc: Global, node: &N) -> Result<Report, FormError>
+    ensures { Returns (λ r. r) result (as_kind report_of (either_report.of 0 (N.value node.now))) }
 {
     #[tactic(auto, unfolding(crate::specs::Report::with_one, crate::specs::Report::situation))]
     check_record::<WithOne, N>(alloc, node, keys_with!())?;
@@ -137,8 +137,8 @@ pub(crate) fn read_one<N: Node>(alloc: Global, node: &N) -> Result<Report, FormE
 }
 
 /// Reads packet 1.
-pub(crate) fn read_two<N: Node>(alloc: Global, node: &N) -> Result<Report, FormError>
-    ensures { Gives (λ r. r) result (as_kind report_of (either_report.of 1 (N.shows node.now))) }
+pub(crate) fn read_two<N: JsonValue>(alloc: Global, node: &N) -> Result<Report, FormError>
+    ensures { Returns (λ r. r) result (as_kind report_of (either_report.of 1 (N.value node.now))) }
 {
     #[tactic(auto, unfolding(crate::specs::Report::with_two, crate::specs::Report::situation))]
     check_record::<WithTwo, N>(alloc, node, keys_with!("prv_nid_bg", "prv_nid_c"))?;
@@ -147,11 +147,11 @@ pub(crate) fn read_two<N: Node>(alloc: Global, node: &N) -> Result<Report, FormE
 }
 
 // Writes the members up to NID_PACKET, in the byte order of their keys.
-#[tactic(auto, unfolding(crate::specs::ReportSending::first_members))]
-fn send_first<S: Sink>(out: &mut S, report: &Report) -> Result<(), Memory>
-    ensures { OnOk result (S.takes (first_members report.now) out.old out.new) }
+#[tactic(auto, unfolding(crate::specs::ReportWriting::first_members))]
+fn write_first<S: MemberWriter>(out: &mut S, report: &Report) -> Result<(), Memory>
+    ensures { OnOk result (S.writes (first_members report.now) out.old out.new) }
 {
-    send_members!(out;
+    write_members!(out;
         Member("d_lrbg", &report.distance),
         Member("l_doubtover", &report.doubt_over),
         Member("l_doubtunder", &report.doubt_under),
@@ -166,11 +166,11 @@ fn send_first<S: Sink>(out: &mut S, report: &Report) -> Result<(), Memory>
 }
 
 // Writes the members after NID_PACKET.
-#[tactic(auto, unfolding(crate::specs::ReportSending::last_members))]
-fn send_last<S: Sink>(out: &mut S, report: &Report) -> Result<(), Memory>
-    ensures { OnOk result (S.takes (last_members report.now) out.old out.new) }
+#[tactic(auto, unfolding(crate::specs::ReportWriting::last_members))]
+fn write_last<S: MemberWriter>(out: &mut S, report: &Report) -> Result<(), Memory>
+    ensures { OnOk result (S.writes (last_members report.now) out.old out.new) }
 {
-    send_members!(out;
+    write_members!(out;
         OptionalMember("prv_nid_bg", &report.previous.map(|previous| previous.group)),
         OptionalMember("prv_nid_c", &report.previous.map(|previous| previous.country)),
         Member("q_dirlrbg", &report.orientation),
@@ -183,20 +183,20 @@ fn send_last<S: Sink>(out: &mut S, report: &Report) -> Result<(), Memory>
 }
 
 // Writes all members.
-fn send_report<S: Sink>(out: &mut S, report: &Report) -> Result<(), Memory>
-    ensures { OnOk result (S.takes (sent_members report.now) out.old out.new) }
+fn write_report<S: MemberWriter>(out: &mut S, report: &Report) -> Result<(), Memory>
+    ensures { OnOk result (S.writes (written_members report.now) out.old out.new) }
 {
-    send_first(out, report)?;
-    send_last(out, report)
+    write_first(out, report)?;
+    write_last(out, report)
 }
 
 #[tactic(auto, unfolding(crate::specs::Report::report))]
 impl Form for Report {
     ghost use Rattle.std.specs.Prelude.{IsOk};
-    ghost use Rattle.etcs_schema.specs.Chosen.{any_object};
+    ghost use Rattle.etcs_schema.specs.Choices.{any_object};
     ghost use Rattle.etcs_json.specs.Report.{report};
 
-    ghost shape = { report };
+    ghost codec = { report };
 
     ghost builds = { Unit {0} };
 
@@ -206,12 +206,12 @@ impl Form for Report {
     fn to_form(&self, alloc: Global) -> Result<Value, Memory> {
         // Only for the proof that the form is read again.
         prove_allowed(self);
-        let mut out = NewObject::new(alloc);
-        send_report(&mut out, self)?;
+        let mut out = ObjectBuilder::new(alloc);
+        write_report(&mut out, self)?;
         Ok(out.into_value())
     }
 
-    fn of_node<N: Node>(alloc: Global, node: &N) -> Result<Self, FormError> {
+    fn read_json<N: JsonValue>(alloc: Global, node: &N) -> Result<Self, FormError> {
         let number: Plain<1> = read_first(alloc, node, "nid_packet")?;
         match number.number() {
             0 => read_one(alloc, node),
@@ -220,10 +220,10 @@ impl Form for Report {
     }
 }
 
-impl InPieces for Report {
-    fn send_to<M: Marks>(&self, out: &mut M) -> Result<(), Memory> {
+impl WriteJson for Report {
+    fn write_json<M: TokenWriter>(&self, out: &mut M) -> Result<(), Memory> {
         out.token(Token::BeginObject)?;
-        send_report(out, self)?;
+        write_report(out, self)?;
         out.token(Token::EndObject)?;
         Ok(())
     }

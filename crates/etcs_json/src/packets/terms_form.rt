@@ -3,14 +3,14 @@
 ghost use Rattle.std.specs.Prelude.{◌≡◌};
 ghost use Rattle.etcs_profile.specs.Authority.{authority_value};
 ghost use Rattle.etcs_json.specs.Authority.{section, terms};
-ghost use Rattle.etcs_schema.specs.Reading.{list_of};
-ghost use Rattle.etcs_schema.specs.Shape.{object};
+ghost use Rattle.etcs_schema.specs.Reading.{bounded_list};
+ghost use Rattle.etcs_schema.specs.Codec.{object};
 
-use crate::members::{FromNode, ReadMembers, make_record, pairs};
+use crate::members::{FromJson, ReadMembers, make_record, pairs};
 use crate::reading::read_list;
 use etcs_bits::{Dir, Distance, Scale, Speed, Time};
 use etcs_profile::{Authority, BuildError, DangerPoint, EndTimer, Overlap, Section, SectionTimer};
-use etcs_schema::{FormError, Node};
+use etcs_schema::{FormError, JsonValue};
 use std::alloc::Global;
 use std::marker::Model;
 
@@ -31,11 +31,11 @@ impl Model for Sections {
     ghost invariant = { λ s. length s.value.items < 32 };
 }
 
-impl FromNode for Sections {
-    ghost reads = { list_of (object section).of 0 31 };
+impl FromJson for Sections {
+    ghost reads = { bounded_list (object section).of 0 31 };
 
     #[tactic(auto, using(crate::proofs::ReadLemmas::few_listed))]
-    fn from_node<N: Node>(alloc: Global, node: &N) -> Result<Sections, FormError> {
+    fn from_json<N: JsonValue>(alloc: Global, node: &N) -> Result<Sections, FormError> {
         let value = read_list(alloc, node, 0, 31)?;
         Ok(Sections { value })
     }
@@ -72,7 +72,7 @@ impl ReadMembers for Terms {
     ghost reads = { λ _. terms.of };
 
     #[tactic(auto, unfolding(crate::specs::Authority::terms, crate::specs::Authority::end_parts))]
-    fn read<N: Node>(alloc: Global, node: &N, _keys: ()) -> Result<Terms, FormError> {
+    fn read<N: JsonValue>(alloc: Global, node: &N, _keys: ()) -> Result<Terms, FormError> {
         let keys = pairs!("section_timer", "end_timer", "danger_point", "overlap");
         let keys = pairs!("end_speed", "end_timeout", "sections", "l_endsection", keys);
         let found = ReadMembers::read(alloc, node, keys)?;

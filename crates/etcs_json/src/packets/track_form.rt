@@ -6,22 +6,22 @@ ghost use Rattle.std.specs.Prelude.{◌≡◌, ◌<◌, ◌≤◌, ◌∷◌, []
 ghost use Rattle.std.specs.List.{AllByRecursion};
 ghost use Rattle.etcs_profile.specs.Elements.{profile as made_of};
 ghost use Rattle.serde_json.specs.Data.{Data, array};
-ghost use Rattle.etcs_schema.specs.Fault.{Gives, Range, here};
+ghost use Rattle.etcs_schema.specs.Fault.{Returns, Range, here};
 ghost use Rattle.etcs_schema.specs.Head.{packet};
-ghost use Rattle.etcs_json.specs.TrackPackets.{difference, gradient, gradient_element, is_short, link, linking, profile_of, speed_element, speed_profile, track_packet};
-ghost use Rattle.etcs_schema.specs.Shape.{items_of, only, number_data, whole};
+ghost use Rattle.etcs_json.specs.TrackPackets.{difference, gradient, gradient_element, is_short, link, linking, decoded_profile, speed_element, speed_profile, track_packet};
+ghost use Rattle.etcs_schema.specs.Codec.{encoded_items, only, number_data, whole};
 ghost use Rattle.etcs_schema.specs.Variables.{direction, scale};
 ghost use Rattle.serde_json.specs.View.{view};
 
 use crate::members::{
     ListMember, Member, NonEmpty, NonEmptyMember, NumberMember, OptionalMember, ReadMembers,
-    check_members, pairs, read_record, send_members,
+    check_members, pairs, read_record, write_members,
 };
 use crate::packets::authority_form::{read_with_main, read_without_main};
 use crate::reading::read_first;
-use crate::record::{InRange, LayoutRecord, Members, prove_allowed};
-use crate::writing::Sink;
-use crate::{Form, InPieces, Record};
+use crate::record::{InRange, LayoutRecord, ObjectCodec, prove_allowed};
+use crate::writing::MemberWriter;
+use crate::{Form, Record, WriteJson};
 use etcs_bits::{Dir, Layout, Memory, Ranged, Scale};
 use etcs_packet::TrackPacket;
 use etcs_profile::{
@@ -29,24 +29,24 @@ use etcs_profile::{
     SpeedProfile,
 };
 use etcs_schema::reading::read_fixed;
-use etcs_schema::{FormError, Marks, Node};
+use etcs_schema::{FormError, JsonValue, TokenWriter};
 use serde_json::Value;
 use std::alloc::Global;
 
 // Writes the members of a packet of elements. `name` is the key of the list of its elements.
-fn send_profile<const N: u32, T: InPieces + Layout, S: Sink>(
+fn write_profile<const N: u32, T: WriteJson + Layout, S: MemberWriter>(
     out: &mut S,
     name: &'static str,
     packet: &Packet<N, Elements<T>>,
 ) -> Result<(), Memory>
-    ensures { OnOk result (S.takes (
-        (name.now, Some (array (items_of T.shape.to (packet.now.1.first ∷ packet.now.1.further))))
+    ensures { OnOk result (S.writes (
+        (name.now, Some (array (encoded_items T.codec.to (packet.now.1.first ∷ packet.now.1.further))))
         ∷ (codes "nid_packet", Some (number_data N))
         ∷ (codes "q_dir", Some (direction.to packet.now.0))
         ∷ (codes "q_scale", Some (scale.to packet.now.1.scale)) ∷ [])
         out.old out.new) }
 {
-    send_members!(out;
+    write_members!(out;
         NonEmptyMember(name, packet.first(), packet.further()),
         NumberMember("nid_packet", u64::from(N)),
         Member("q_dir", &packet.dir()),
@@ -63,7 +63,7 @@ fn packet_of<const N: u32, T: Form + Layout>(
     further: Vec<T>,
 ) -> Result<Packet<N, Elements<T>>, FormError>
     ensures { length further.items < 32 → T.fit first × AllByRecursion T.fit further.items
-        → Gives (λ p. p) result (only (here Range) (is_short T.format) (dir, made_of scale first further.items)) }
+        → Returns (λ p. p) result (only (here Range) (is_short T.format) (dir, made_of scale first further.items)) }
 {
     match Elements::new(scale, first, further) {
         Ok(body) => match Packet::of(dir, body) {
@@ -75,13 +75,13 @@ fn packet_of<const N: u32, T: Form + Layout>(
 }
 
 // Reads the members of a packet of elements after its number.
-fn read_profile<const K: u32, T: Form + Layout, N: Node>(
+fn read_profile<const K: u32, T: Form + Layout, N: JsonValue>(
     alloc: Global,
     node: &N,
     name: &'static str,
 ) -> Result<Packet<K, Elements<T>>, FormError>
-    requires { (d : Data) → (x : T) → T.shape.of d ≡ Ok x → T.fit x }
-    ensures { Gives (λ p. p) result (profile_of name.now T.format T.shape.of (N.shows node.now)) }
+    requires { (d : Data) → (x : T) → T.codec.of d ≡ Ok x → T.fit x }
+    ensures { Returns (λ p. p) result (decoded_profile name.now T.format T.codec.of (N.value node.now)) }
 {
     let found = ReadMembers::read(alloc, node, pairs!("q_dir", "q_scale", name))?;
     let (dir, (scale, NonEmpty { first, further })) = found;
@@ -99,9 +99,9 @@ impl LayoutRecord for Link {
 }
 
 #[tactic(auto, unfolding(crate::specs::TrackPackets::link))]
-impl Members for Link {
-    fn send_members<S: Sink>(&self, out: &mut S) -> Result<(), Memory> {
-        send_members!(out;
+impl ObjectCodec for Link {
+    fn write_members<S: MemberWriter>(&self, out: &mut S) -> Result<(), Memory> {
+        write_members!(out;
             Member("d_link", &self.distance),
             Member("nid_bg", &self.group),
             OptionalMember("nid_c", &self.country),
@@ -111,7 +111,7 @@ impl Members for Link {
         )
     }
 
-    fn of_members<N: Node>(alloc: Global, node: &N) -> Result<Self, FormError> {
+    fn read_object<N: JsonValue>(alloc: Global, node: &N) -> Result<Self, FormError> {
         check_members!(alloc, node; "d_link", "nid_bg", "nid_c", "q_linkorientation", "q_linkreaction", "q_locacc");
         read_record!(Link, alloc, node;
             distance "d_link",
@@ -133,12 +133,12 @@ impl LayoutRecord for Linking {
 }
 
 #[tactic(auto, unfolding(crate::specs::TrackPackets::linking))]
-impl Members for Linking {
-    fn send_members<S: Sink>(&self, out: &mut S) -> Result<(), Memory> {
-        send_profile(out, "links", self)
+impl ObjectCodec for Linking {
+    fn write_members<S: MemberWriter>(&self, out: &mut S) -> Result<(), Memory> {
+        write_profile(out, "links", self)
     }
 
-    fn of_members<N: Node>(alloc: Global, node: &N) -> Result<Self, FormError> {
+    fn read_object<N: JsonValue>(alloc: Global, node: &N) -> Result<Self, FormError> {
         check_members!(alloc, node; "links", "nid_packet", "q_dir", "q_scale");
         read_fixed(alloc, node, "nid_packet", 5)?;
         read_profile(alloc, node, "links")
@@ -155,17 +155,17 @@ impl LayoutRecord for GradientElement {
     ghost keeps = { λ x allowed _. allowed tt };
 }
 
-#[tactic(auto, unfolding(crate::specs::TrackPackets::gradient_element, etcs_schema::specs::Reading::object_with, etcs_schema::specs::Reading::at_key))]
-impl Members for GradientElement {
-    fn send_members<S: Sink>(&self, out: &mut S) -> Result<(), Memory> {
-        send_members!(out;
+#[tactic(auto, unfolding(crate::specs::TrackPackets::gradient_element, etcs_schema::specs::Reading::only_keys, etcs_schema::specs::Reading::required_member))]
+impl ObjectCodec for GradientElement {
+    fn write_members<S: MemberWriter>(&self, out: &mut S) -> Result<(), Memory> {
+        write_members!(out;
             Member("d_gradient", &self.distance),
             Member("g_a", &self.gradient),
             Member("q_gdir", &self.uphill),
         )
     }
 
-    fn of_members<N: Node>(alloc: Global, node: &N) -> Result<Self, FormError> {
+    fn read_object<N: JsonValue>(alloc: Global, node: &N) -> Result<Self, FormError> {
         check_members!(alloc, node; "d_gradient", "g_a", "q_gdir");
         read_record!(GradientElement, alloc, node;
             distance "d_gradient",
@@ -184,12 +184,12 @@ impl LayoutRecord for Gradient {
 }
 
 #[tactic(auto, unfolding(crate::specs::TrackPackets::gradient))]
-impl Members for Gradient {
-    fn send_members<S: Sink>(&self, out: &mut S) -> Result<(), Memory> {
-        send_profile(out, "elements", self)
+impl ObjectCodec for Gradient {
+    fn write_members<S: MemberWriter>(&self, out: &mut S) -> Result<(), Memory> {
+        write_profile(out, "elements", self)
     }
 
-    fn of_members<N: Node>(alloc: Global, node: &N) -> Result<Self, FormError> {
+    fn read_object<N: JsonValue>(alloc: Global, node: &N) -> Result<Self, FormError> {
         check_members!(alloc, node; "elements", "nid_packet", "q_dir", "q_scale");
         read_fixed(alloc, node, "nid_packet", 21)?;
         read_profile(alloc, node, "elements")
@@ -207,16 +207,16 @@ impl LayoutRecord for Difference {
 }
 
 #[tactic(auto, unfolding(crate::specs::TrackPackets::difference))]
-impl Members for Difference {
-    fn send_members<S: Sink>(&self, out: &mut S) -> Result<(), Memory> {
-        send_members!(out;
+impl ObjectCodec for Difference {
+    fn write_members<S: MemberWriter>(&self, out: &mut S) -> Result<(), Memory> {
+        write_members!(out;
             Member("nc", &self.category),
             Member("q_diff", &self.kind),
             Member("v_diff", &self.speed),
         )
     }
 
-    fn of_members<N: Node>(alloc: Global, node: &N) -> Result<Self, FormError> {
+    fn read_object<N: JsonValue>(alloc: Global, node: &N) -> Result<Self, FormError> {
         check_members!(alloc, node; "nc", "q_diff", "v_diff");
         read_record!(Difference, alloc, node;
             kind "q_diff",
@@ -240,9 +240,9 @@ impl InRange for SpeedElement {
 }
 
 #[tactic(auto, unfolding(crate::specs::TrackPackets::speed_element))]
-impl Members for SpeedElement {
-    fn send_members<S: Sink>(&self, out: &mut S) -> Result<(), Memory> {
-        send_members!(out;
+impl ObjectCodec for SpeedElement {
+    fn write_members<S: MemberWriter>(&self, out: &mut S) -> Result<(), Memory> {
+        write_members!(out;
             Member("d_static", &self.distance),
             ListMember("differences", self.differences.as_slice()),
             Member("q_front", &self.front),
@@ -250,7 +250,7 @@ impl Members for SpeedElement {
         )
     }
 
-    fn of_members<N: Node>(alloc: Global, node: &N) -> Result<Self, FormError> {
+    fn read_object<N: JsonValue>(alloc: Global, node: &N) -> Result<Self, FormError> {
         check_members!(alloc, node; "d_static", "differences", "q_front", "v_static");
         read_record!(SpeedElement, alloc, node;
             distance "d_static",
@@ -270,12 +270,12 @@ impl LayoutRecord for SpeedProfile {
 }
 
 #[tactic(auto, using(crate::proofs::ReadLemmas::few_at), unfolding(crate::specs::TrackPackets::speed_profile, crate::specs::TrackPackets::speed_element))]
-impl Members for SpeedProfile {
-    fn send_members<S: Sink>(&self, out: &mut S) -> Result<(), Memory> {
-        send_profile(out, "elements", self)
+impl ObjectCodec for SpeedProfile {
+    fn write_members<S: MemberWriter>(&self, out: &mut S) -> Result<(), Memory> {
+        write_profile(out, "elements", self)
     }
 
-    fn of_members<N: Node>(alloc: Global, node: &N) -> Result<Self, FormError> {
+    fn read_object<N: JsonValue>(alloc: Global, node: &N) -> Result<Self, FormError> {
         check_members!(alloc, node; "elements", "nid_packet", "q_dir", "q_scale");
         read_fixed(alloc, node, "nid_packet", 27)?;
         read_profile(alloc, node, "elements")
@@ -285,7 +285,7 @@ impl Members for SpeedProfile {
 // ---- the packet of a number
 
 // Evaluates `$value` for the record of the packet.
-macro_rules! of_each {
+macro_rules! match_packet {
     ($this:expr, $packet:ident => $value:expr) => {
         match $this {
             TrackPacket::Cover($packet) => $value,
@@ -304,15 +304,15 @@ macro_rules! of_each {
 fn form_of(alloc: Global, packet: &TrackPacket) -> Result<Value, Memory>
     ensures { IfOk result (λ v. view v ≡ track_packet.to packet.now) }
 {
-    of_each!(packet, own => own.to_form(alloc))
+    match_packet!(packet, own => own.to_form(alloc))
 }
 
 #[tactic(auto, using(crate::proofs::SumLemmas::with_main_read, crate::proofs::SumLemmas::without_main_read, crate::proofs::SumLemmas::cover_read), unfolding(crate::specs::Cover::cover_marker))]
 impl Form for TrackPacket {
     ghost use Rattle.std.specs.Prelude.{IsOk};
-    ghost use Rattle.etcs_schema.specs.Chosen.{any_object};
+    ghost use Rattle.etcs_schema.specs.Choices.{any_object};
 
-    ghost shape = { track_packet };
+    ghost codec = { track_packet };
 
     ghost builds = { Unit {0} };
 
@@ -324,24 +324,24 @@ impl Form for TrackPacket {
         form_of(alloc, self)
     }
 
-    fn of_node<N: Node>(alloc: Global, node: &N) -> Result<Self, FormError> {
+    fn read_json<N: JsonValue>(alloc: Global, node: &N) -> Result<Self, FormError> {
         let number: Ranged<8, 254, 256> = read_first(alloc, node, "nid_packet")?;
         match number.number() {
-            0 => Ok(TrackPacket::Cover(Form::of_node(alloc, node)?)),
-            5 => Ok(TrackPacket::Linking(Form::of_node(alloc, node)?)),
+            0 => Ok(TrackPacket::Cover(Form::read_json(alloc, node)?)),
+            5 => Ok(TrackPacket::Linking(Form::read_json(alloc, node)?)),
             12 => Ok(TrackPacket::Authority(read_with_main(alloc, node)?)),
             15 => Ok(TrackPacket::Authority(read_without_main(alloc, node)?)),
-            21 => Ok(TrackPacket::Gradient(Form::of_node(alloc, node)?)),
-            27 => Ok(TrackPacket::Speed(Form::of_node(alloc, node)?)),
-            41 => Ok(TrackPacket::Transition(Form::of_node(alloc, node)?)),
-            _ => Ok(TrackPacket::Raw(Form::of_node(alloc, node)?)),
+            21 => Ok(TrackPacket::Gradient(Form::read_json(alloc, node)?)),
+            27 => Ok(TrackPacket::Speed(Form::read_json(alloc, node)?)),
+            41 => Ok(TrackPacket::Transition(Form::read_json(alloc, node)?)),
+            _ => Ok(TrackPacket::Raw(Form::read_json(alloc, node)?)),
         }
     }
 }
 
 #[tactic(auto, using(crate::proofs::SumLemmas::authority_to), unfolding(crate::specs::Cover::cover_marker))]
-impl InPieces for TrackPacket {
-    fn send_to<M: Marks>(&self, out: &mut M) -> Result<(), Memory> {
-        of_each!(self, packet => packet.send_to(out))
+impl WriteJson for TrackPacket {
+    fn write_json<M: TokenWriter>(&self, out: &mut M) -> Result<(), Memory> {
+        match_packet!(self, packet => packet.write_json(out))
     }
 }

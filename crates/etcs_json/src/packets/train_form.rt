@@ -7,10 +7,10 @@ ghost use Rattle.etcs_json.specs.TrainPackets.{train_packet};
 use crate::packets::report_form::{read_one, read_two};
 use crate::reading::read_first;
 use crate::record::prove_allowed;
-use crate::{Form, InPieces};
+use crate::{Form, WriteJson};
 use etcs_bits::{Memory, Ranged};
 use etcs_radio::TrainPacket;
-use etcs_schema::{FormError, Marks, Node};
+use etcs_schema::{FormError, JsonValue, TokenWriter};
 use serde_json::Value;
 use std::alloc::Global;
 
@@ -28,9 +28,9 @@ fn form_of(alloc: Global, packet: &TrainPacket) -> Result<Value, Memory>
 #[tactic(auto, using(crate::proofs::SumLemmas::with_one_read, crate::proofs::SumLemmas::with_two_read))]
 impl Form for TrainPacket {
     ghost use Rattle.std.specs.Prelude.{IsOk};
-    ghost use Rattle.etcs_schema.specs.Chosen.{any_object};
+    ghost use Rattle.etcs_schema.specs.Choices.{any_object};
 
-    ghost shape = { train_packet };
+    ghost codec = { train_packet };
 
     ghost builds = { Unit {0} };
 
@@ -43,22 +43,22 @@ impl Form for TrainPacket {
         form_of(alloc, self)
     }
 
-    fn of_node<N: Node>(alloc: Global, node: &N) -> Result<Self, FormError> {
+    fn read_json<N: JsonValue>(alloc: Global, node: &N) -> Result<Self, FormError> {
         let number: Ranged<8, 254, 256> = read_first(alloc, node, "nid_packet")?;
         match number.number() {
             0 => Ok(TrainPacket::Report(read_one(alloc, node)?)),
             1 => Ok(TrainPacket::Report(read_two(alloc, node)?)),
-            _ => Ok(TrainPacket::Raw(Form::of_node(alloc, node)?)),
+            _ => Ok(TrainPacket::Raw(Form::read_json(alloc, node)?)),
         }
     }
 }
 
 #[tactic(auto, using(crate::proofs::SumLemmas::report_to))]
-impl InPieces for TrainPacket {
-    fn send_to<M: Marks>(&self, out: &mut M) -> Result<(), Memory> {
+impl WriteJson for TrainPacket {
+    fn write_json<M: TokenWriter>(&self, out: &mut M) -> Result<(), Memory> {
         match self {
-            TrainPacket::Report(report) => report.send_to(out),
-            TrainPacket::Raw(packet) => packet.send_to(out),
+            TrainPacket::Report(report) => report.write_json(out),
+            TrainPacket::Raw(packet) => packet.write_json(out),
         }
     }
 }

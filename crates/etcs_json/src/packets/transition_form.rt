@@ -2,21 +2,21 @@
 
 ghost use Rattle.std.proofs.Common.{lit<};
 ghost use Rattle.etcs_schema.specs.Head.{packet};
-ghost use Rattle.etcs_schema.specs.Shape.{whole};
+ghost use Rattle.etcs_schema.specs.Codec.{whole};
 ghost use Rattle.etcs_json.specs.Transition.{level_order, transition};
 
 use crate::Record;
 use crate::members::{
     Member, NonEmpty, NonEmptyMember, NumberMember, OptionalMember, ReadMembers, check_members,
-    pairs, read_record, send_members,
+    pairs, read_record, write_members,
 };
 use crate::packets::level_form::national_system_of;
-use crate::record::{LayoutRecord, Members};
-use crate::writing::Sink;
+use crate::record::{LayoutRecord, ObjectCodec};
+use crate::writing::MemberWriter;
 use etcs_bits::Memory;
 use etcs_profile::{LevelOrder, Transition};
 use etcs_schema::reading::read_fixed;
-use etcs_schema::{FormError, Node};
+use etcs_schema::{FormError, JsonValue};
 use std::alloc::Global;
 
 impl Record for LevelOrder {
@@ -28,19 +28,19 @@ impl LayoutRecord for LevelOrder {
 }
 
 #[tactic(auto, unfolding(crate::specs::Transition::level_order))]
-impl Members for LevelOrder {
+impl ObjectCodec for LevelOrder {
     #[tactic(auto, unfolding(crate::specs::Transition::level_order, etcs_bits::specs::layout::Rows::alone))]
-    fn send_members<S: Sink>(&self, out: &mut S) -> Result<(), Memory> {
+    fn write_members<S: MemberWriter>(&self, out: &mut S) -> Result<(), Memory> {
         let ntc = national_system_of(self.level);
         let number = u64::from(self.level.number());
-        send_members!(out;
+        write_members!(out;
             Member("l_ackleveltr", &self.acknowledge),
             NumberMember("m_leveltr", number),
             OptionalMember("nid_ntc", &ntc),
         )
     }
 
-    fn of_members<N: Node>(alloc: Global, node: &N) -> Result<Self, FormError> {
+    fn read_object<N: JsonValue>(alloc: Global, node: &N) -> Result<Self, FormError> {
         check_members!(alloc, node; "l_ackleveltr", "m_leveltr", "nid_ntc");
         read_record!(LevelOrder, alloc, node;
             level "m_leveltr",
@@ -58,9 +58,9 @@ impl LayoutRecord for Transition {
 }
 
 #[tactic(auto, unfolding(crate::specs::Transition::transition))]
-impl Members for Transition {
-    fn send_members<S: Sink>(&self, out: &mut S) -> Result<(), Memory> {
-        send_members!(out;
+impl ObjectCodec for Transition {
+    fn write_members<S: MemberWriter>(&self, out: &mut S) -> Result<(), Memory> {
+        write_members!(out;
             Member("d_leveltr", &self.d_leveltr()),
             NumberMember("nid_packet", 41),
             Member("q_dir", &self.dir()),
@@ -69,7 +69,7 @@ impl Members for Transition {
         )
     }
 
-    fn of_members<N: Node>(alloc: Global, node: &N) -> Result<Self, FormError> {
+    fn read_object<N: JsonValue>(alloc: Global, node: &N) -> Result<Self, FormError> {
         check_members!(alloc, node; "d_leveltr", "nid_packet", "q_dir", "q_scale", "transitions");
         read_fixed(alloc, node, "nid_packet", 41)?;
         let keys = pairs!("q_dir", "q_scale", "d_leveltr", "transitions");

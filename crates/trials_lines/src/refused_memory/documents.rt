@@ -2,8 +2,8 @@
 
 use super::{Answer, expect_answers};
 use etcs_form::{
-    Form, InPieces, JsonError, JsonText, LineError, LineFault, Refusal, check_in_order, check_text,
-    read_line, refusal_text, report, report_counts,
+    Form, JsonError, LineError, LineFault, ParsedJson, Refusal, WriteJson, check_in_order,
+    check_text, read_line, refusal_text, report, report_counts,
 };
 use etcs_radio::Message;
 use etcs_telegram::{Telegram, TextError};
@@ -81,25 +81,25 @@ fn value_of(alloc: Global, text: &str) -> Result<Value, LineError> {
 }
 
 // Whether the record of a tape is sent as the text that the tape was made of.
-fn tape<T: InPieces>(alloc: Global, form: &str) -> Answer {
+fn tape<T: WriteJson>(alloc: Global, form: &str) -> Answer {
     let mut scratch = Scratch::new(alloc);
-    let json = match JsonText::read(form, &mut scratch, Vec::new(alloc)) {
+    let json = match ParsedJson::read(form, &mut scratch, Vec::new(alloc)) {
         Ok(json) => json,
         Err(JsonError::Memory) => return Err(LineError::Memory),
         Err(_) => return Ok(false),
     };
-    let record = T::of_node(alloc, &json.root())?;
+    let record = T::read_json(alloc, &json.root())?;
     let mut out = Writer::new(Vec::new(alloc));
-    record.send_to(&mut out)?;
+    record.write_json(&mut out)?;
     Ok(out.into_inner().as_slice() == form.as_bytes())
 }
 
 // The form of a record: read as a value, written as a value and in pieces.
-fn form<T: InPieces>(alloc: Global, form: &str) -> Answer {
+fn form<T: WriteJson>(alloc: Global, form: &str) -> Answer {
     let record = T::of_form(alloc, &value_of(alloc, form)?)?;
     let value = record.to_form(alloc)?;
     let mut out = Writer::new(Vec::new(alloc));
-    record.send_to(&mut out)?;
+    record.write_json(&mut out)?;
     let sent = out.into_inner();
     let text = value.to_string(alloc).map_err(|_| LineError::Memory)?;
     Ok(text.as_str() == form && sent.as_slice() == form.as_bytes())

@@ -1,4 +1,4 @@
-use Rattle.etcs_schema.specs.Shape.{object_again}
+use Rattle.etcs_schema.specs.Codec.{object_again}
 use Rattle.etcs_json.specs.Telegrams.{telegram}
 use Rattle.etcs_json.proofs.LawLemmas.{telegram_allowed}
 use Rattle.etcs_json.proofs.laws.telegrams_are_read_again.Goals as goal

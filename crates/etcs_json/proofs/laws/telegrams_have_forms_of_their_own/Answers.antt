@@ -1,4 +1,4 @@
-use Rattle.etcs_schema.specs.Shape.{object}
+use Rattle.etcs_schema.specs.Codec.{object}
 use Rattle.etcs_json.specs.Telegrams.{telegram}
 use Rattle.etcs_json.proofs.LawLemmas.{telegram_allowed}
 use Rattle.etcs_schema.proofs.Objects.{own_form}

@@ -3,7 +3,7 @@ use Rattle.etcs_schema.proofs.ListLemmas.{all_read, front_none, item_fails, item
 use Rattle.etcs_json.proofs.reading.read_items.Goals as goal
 
 pub items-init : goal.items-init
-items-init g c = front_none g.T.Form.shape.of (g.N.Node.rest c.args.items) _ c.new-found.ensures.items
+items-init g c = front_none g.T.Form.codec.of (g.N.JsonValue.rest c.args.items) _ c.new-found.ensures.items
 
 -- the fault is at the first item that is not read
 pub returns-in-Err : goal.returns-in-Err
@@ -12,7 +12,7 @@ returns-in-Err g c =
     item_fails _ _ _ _ _ _ _ _ c.in-Some.ensures c.items.invariant (rw place at c.under.ensures) c.in-Err.ensures.gives
 
 pub items-preserved : goal.items-preserved
-items-preserved g c = item_read g.T.Form.shape.of c.items.found.items _ _ _ _ _ _ c.in-Some.ensures c.in-Ok.ensures.gives (search rules) c.items.invariant
+items-preserved g c = item_read g.T.Form.codec.of c.items.found.items _ _ _ _ _ _ c.in-Some.ensures c.in-Ok.ensures.gives (search rules) c.items.invariant
 
 pub returns : goal.returns
 returns g c = all_read _ _ _ _ c.in_default.ensures.0 c.items.invariant

@@ -9,7 +9,7 @@ returns-in-None g c = fails_as _ _ _ c.kind.ensures.fault (list_none _ _ _ _ _ c
 pub returns-in-Some-items : goal.returns-in-Some-items
 returns-in-Some-items g c =
     gives_equal (λ v. v.items) _ _ _ c.read_items.ensures
-    (list_counted g.T.Form.shape.of c.args.low c.args.high _ true (rw c.if-fits.true at c.in-Some.ensures) _ c.in-Some-items.ensures)
+    (list_counted g.T.Form.codec.of c.args.low c.args.high _ true (rw c.if-fits.true at c.in-Some.ensures) _ c.in-Some-items.ensures)
 
 pub returns-else-fits : goal.returns-else-fits
-returns-else-fits g c = fails_as _ _ _ c.range.ensures.fault (list_misfits g.T.Form.shape.of c.args.low c.args.high _ (rw c.if-fits.false at c.in-Some.ensures))
+returns-else-fits g c = fails_as _ _ _ c.range.ensures.fault (list_misfits g.T.Form.codec.of c.args.low c.args.high _ (rw c.if-fits.false at c.in-Some.ensures))

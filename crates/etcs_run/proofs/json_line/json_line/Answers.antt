@@ -2,7 +2,7 @@ use Rattle.std.proofs.Common.{◌∙◌, ◌++◌, ap}
 use Rattle.std.specs.Prelude.{codes}
 use Rattle.serde_json.proofs.Texts.{print-outline}
 use Rattle.etcs_digits.specs.LineText.{puts}
-use Rattle.etcs_schema.specs.Sending.{tokens_of}
+use Rattle.etcs_schema.specs.Writing.{data_tokens}
 use Rattle.etcs_run.specs.JsonLine.{json_line_text}
 use Rattle.etcs_run.proofs.json_line.json_line.Goals as goal
 
@@ -10,6 +10,6 @@ use Rattle.etcs_run.proofs.json_line.json_line.Goals as goal
 pub returns : goal.returns
 unfolding json_line_text
 returns g c =
-    let d = g.T.Form.shape.to c.args.value.now in
-    c.in_ok-line.ensures (tokens_of d) (c.in_ok-send_to.ensures ∙ ap (λ l. puts l (tokens_of d)) c.new-out.ensures)
+    let d = g.T.Form.codec.to c.args.value.now in
+    c.in_ok-line.ensures (data_tokens d) (c.in_ok-write_json.ensures ∙ ap (λ l. puts l (data_tokens d)) c.new-out.ensures)
     ∙ ap (λ s. s ++ codes "\n") (print-outline d)

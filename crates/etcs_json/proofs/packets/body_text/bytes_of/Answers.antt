@@ -1,5 +1,5 @@
 use Rattle.std.proofs.Common.{◌∙◌, length-set, arith}
-use Rattle.etcs_schema.specs.BodyText.{filled_up}
+use Rattle.etcs_schema.specs.BodyText.{padded_bits}
 use Rattle.etcs_schema.proofs.BodyTextLemmas.{bytes_more}
 use Rattle.etcs_json.proofs.packets.body_text.bytes_of.Goals as goal
 
@@ -7,5 +7,5 @@ use Rattle.etcs_json.proofs.packets.body_text.bytes_of.Goals as goal
 pub bytes-preserved : goal.bytes-preserved
 bytes-preserved g c = record {
   whole = length-set c.bytes.bytes c.bytes.i _ ∙ c.bytes.invariant.whole;
-  so_far = bytes_more c.bytes.bytes c.bytes.i (filled_up c.args.bits.now) _ (omega arith) c.byte_at.ensures c.bytes.invariant.so_far;
+  so_far = bytes_more c.bytes.bytes c.bytes.i (padded_bits c.args.bits.now) _ (omega arith) c.byte_at.ensures c.bytes.invariant.so_far;
 }

@@ -1,0 +1,73 @@
+//! Which keys an object may have.
+
+ghost use Rattle.std.specs.Prelude.{◌≡◌, is_some, map};
+ghost use Rattle.std.specs.List.{list_any};
+ghost use Rattle.std.specs.Str.{bytes_eq};
+ghost use Rattle.serde_json.specs.View.{members_view};
+ghost use Rattle.etcs_schema.specs.Entries.{are_known, is_known};
+ghost use Rattle.etcs_schema.specs.Fault.{Returns, IfMemory};
+ghost use Rattle.etcs_schema.specs.Reading.{only_keys};
+
+use crate::{FormError, JsonValue};
+use serde_json::{Map, Value};
+use std::alloc::Global;
+
+// Whether a key is one of these.
+fn is_one_of(name: &str, keys: &[&str]) -> bool
+    ensures { result ≡ list_any (λ l. bytes_eq name.now l.now) keys.now }
+{
+    keys.iter().any(|key| name == *key)
+}
+
+/// Whether a key is one of these.
+pub(crate) fn is_key(name: &str, keys: &[&str]) -> bool
+    ensures { result ≡ is_known name.now (map (λ l. l.now) keys.now) }
+{
+    is_one_of(name, keys)
+}
+
+/// The index after a key that is in the list at `from` or later, 0 for any other key of the list, and `None`
+/// if the key is not in the list. So keys that come in the order of the list are found at once.
+#[inline]
+pub(crate) fn place_after(name: &str, keys: &[&str], from: usize) -> Option<usize>
+    ensures { is_some result ≡ is_known name.now (map (λ l. l.now) keys.now) }
+{
+    let mut place = from;
+    'places: while place < keys.len() {
+        if name == keys[place] {
+            return Some(place + 1);
+        }
+        place += 1;
+    }
+    if is_key(name, keys) { Some(0) } else { None }
+}
+
+/// Whether each key of an object is one of these.
+pub(crate) fn all_among(members: &Map<String, Value>, keys: &[&str]) -> bool
+    ensures { result ≡ are_known (map (λ l. l.now) keys.now) (members_view members.now.entries) }
+{
+    for name in members.keys() {
+        if !is_key(name.as_str(), keys) {
+            return false;
+        }
+    }
+    true
+}
+
+/// Refuses a value that is not an object, and an object with a key that is none of these. Refusing allocates
+/// nothing.
+pub fn check_keys<N: JsonValue>(alloc: Global, node: &N, keys: &[&str]) -> Result<(), FormError>
+    ensures keys { Returns (λ u. u) result (only_keys (map (λ l. l.now) keys.now) (N.value node.now)) }
+    ensures memory { IfMemory result ⊥ }
+{
+    match node.has_only(keys) {
+        None => Err(FormError::kind(alloc)),
+        Some(known) => {
+            if known {
+                Ok(())
+            } else {
+                Err(FormError::unknown(alloc))
+            }
+        }
+    }
+}
