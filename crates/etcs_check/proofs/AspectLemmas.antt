@@ -8,13 +8,13 @@ use mathlib.Core.Logic.{◌⊎◌, inl, inr}
 use Rattle.etcs_telegram.specs.Record.{Telegram}
 use Rattle.etcs_group.specs.Places.{At}
 use Rattle.etcs_group.specs.Group.{AreAlike}
-use Rattle.etcs_group.specs.Controlled.{count_of, IsControlled, HasAt, IsFixed, IsSwitched, AreOneGroup}
+use Rattle.etcs_group.specs.Controlled.{balise_count, IsControlled, Shows, IsFixed, IsSwitched, AreOneGroup}
 use Rattle.etcs_group.specs.Laws.{MakesOneMessage}
 use Rattle.etcs_group.proofs.PlaceLemmas.{some_at, one_at, at_list_any, list_any-at, At-take, at_take}
 use Rattle.etcs_group.proofs.MixtureLemmas.{mixtures_are_decided}
 use Rattle.etcs_check.specs.Soundness.{IsSoundGroup, IsSoundControlled, first_aspect}
 use Rattle.etcs_check.specs.Findings.{has_counter, is_counter_taken, mark_differs}
-use Rattle.etcs_check.specs.Aspects.{all_at, is_steady, has_aspect_counter, is_ambiguous}
+use Rattle.etcs_check.specs.Aspects.{all_pass, is_steady, has_aspect_counter, is_ambiguous}
 use Rattle.etcs_check.specs.Violation.{GroupPart}
 use Rattle.etcs_profile.specs.declared.run.Run.{Run}
 use Rattle.etcs_check.specs.Laws.{SoundMixturesAreDecided}
@@ -34,12 +34,12 @@ at-list_all : {X : Type 0} (p : X → Bool) (xs : List X) → ((i : ℕ) (x : X)
 at-list_all p [] h = refl
 at-list_all p (y ∷ xs) h = and_from (p y) (list_all p xs) (h 0 y refl) (at-list_all p xs (λ i x at. h (suc i) x at))
 
-all_at-says : (test : Telegram → Bool) (b : ℕ) (aspects : List (List Telegram)) → all_at test b aspects ≡ true → (a : ℕ) (t : Telegram) → HasAt aspects a b t → test t ≡ true
-all_at-says test b aspects h a t has =
+all_pass-says : (test : Telegram → Bool) (b : ℕ) (aspects : List (List Telegram)) → all_pass test b aspects ≡ true → (a : ℕ) (t : Telegram) → Shows aspects a b t → test t ≡ true
+all_pass-says test b aspects h a t has =
     ap (λ o. option_map_or test o false) (sym has.2) ∙ list_all-at (λ group. option_map_or test (slice_get group b) false) aspects h a has.0 has.1
 
-all_at-is : (test : Telegram → Bool) (b : ℕ) (aspects : List (List Telegram)) → ((a : ℕ) (group : List Telegram) → At aspects a group → (t : Telegram) × At group b t × (test t ≡ true)) → all_at test b aspects ≡ true
-all_at-is test b aspects h =
+all_pass-is : (test : Telegram → Bool) (b : ℕ) (aspects : List (List Telegram)) → ((a : ℕ) (group : List Telegram) → At aspects a group → (t : Telegram) × At group b t × (test t ≡ true)) → all_pass test b aspects ≡ true
+all_pass-is test b aspects h =
     at-list_all (λ group. option_map_or test (slice_get group b) false) aspects (λ a group at. let t = h a group at in ap (λ o. option_map_or test o false) t.1 ∙ t.2)
 
 -- ---- the first aspect
@@ -48,7 +48,7 @@ pub first_at : (aspects : List (List Telegram)) → 0 < length aspects → At as
 first_at [] lt = absurd (omega arith)
 first_at (g ∷ gs) lt = refl
 
-count_is : (aspects : List (List Telegram)) → count_of aspects ≡ length (first_aspect aspects)
+count_is : (aspects : List (List Telegram)) → balise_count aspects ≡ length (first_aspect aspects)
 count_is [] = refl
 count_is (g ∷ gs) = refl
 
@@ -63,7 +63,7 @@ module _ (aspects : List (List Telegram)) (controlled : IsControlled aspects) wh
   as_long a group at = controlled.counts a group at ∙ count_is aspects
 
   -- aspect 0 has a balise at each place of an aspect
-  first_has : (a p : ℕ) (t : Telegram) → HasAt aspects a p t → (f : Telegram) × At (first_aspect aspects) p f
+  first_has : (a p : ℕ) (t : Telegram) → Shows aspects a p t → (f : Telegram) × At (first_aspect aspects) p f
   first_has a p t has =
       let w = slice_get_within has.0 p t has.2 in
       let l = as_long a has.0 has.1 in
@@ -76,13 +76,13 @@ module _ (aspects : List (List Telegram)) (controlled : IsControlled aspects) wh
       one_at aspects 0 group (first_aspect aspects) (subst (λ k. At aspects k group) z at) first_here
 
   -- at a place that is fixed or switched the counters distinguish the aspects
-  told-is : (b : ℕ) (t : Telegram) → At (first_aspect aspects) b t → IsFixed aspects b ⊎ IsSwitched aspects b → (all_at (is_steady t) b aspects || all_at has_aspect_counter b aspects) ≡ true
+  told-is : (b : ℕ) (t : Telegram) → At (first_aspect aspects) b t → IsFixed aspects b ⊎ IsSwitched aspects b → (all_pass (is_steady t) b aspects || all_pass has_aspect_counter b aspects) ≡ true
   told-is b t at told = elim told [
-    | inl fixed ↦ or_left _ _ (all_at-is (is_steady t) b aspects (λ a group at'.
+    | inl fixed ↦ or_left _ _ (all_pass-is (is_steady t) b aspects (λ a group at'.
         let u = here a group at' in
         let e = fixed 0 a t u.0 (first_aspect aspects, first_here, at) (group, at', u.1) in
         (u.0, u.1, and_from _ _ (eq-eqb _ _ (ap (λ (x : Telegram). x.header.counter) (sym e.0) ∙ e.1)) ((Decides-same_telegram t u.0).1 e.0))))
-    | inr switched ↦ or_right _ _ (all_at-is has_aspect_counter b aspects (λ a group at'.
+    | inr switched ↦ or_right _ _ (all_pass-is has_aspect_counter b aspects (λ a group at'.
         let u = here a group at' in
         (u.0, u.1, lt-ltb _ _ (switched a u.0 (group, at', u.1)))))
   ]
@@ -99,9 +99,9 @@ module _ (aspects : List (List Telegram)) (controlled : IsControlled aspects) wh
     | inr few ↦ and_left _ _ (le-ltb _ _ few)
   ]
 
-  steady_at : (p : ℕ) (f : Telegram) → all_at (is_steady f) p aspects ≡ true → (a : ℕ) (t : Telegram) → HasAt aspects a p t → (f ≡ t) × (t.header.counter ≡ 255)
+  steady_at : (p : ℕ) (f : Telegram) → all_pass (is_steady f) p aspects ≡ true → (a : ℕ) (t : Telegram) → Shows aspects a p t → (f ≡ t) × (t.header.counter ≡ 255)
   steady_at p f h a t has =
-      let s = and_parts _ _ (all_at-says (is_steady f) p aspects h a t has) in
+      let s = and_parts _ _ (all_pass-says (is_steady f) p aspects h a t has) in
       ((Decides-same_telegram f t).0 s.1, eqb-true _ _ s.0)
 
   -- a place that is not ambiguous is fixed or switched
@@ -111,12 +111,12 @@ module _ (aspects : List (List Telegram)) (controlled : IsControlled aspects) wh
         let f = some_at (first_aspect aspects) p lt in
         elim (and_cases (ltb 1 (length aspects)) _ (told_at f.0 f.1)) [
           | inl one ↦ absurd (both_ways _ one (lt-ltb _ _ many))
-          | inr told ↦ elim (or_cases (all_at (is_steady f.0) p aspects) (all_at has_aspect_counter p aspects) (not-false _ told)) [
+          | inr told ↦ elim (or_cases (all_pass (is_steady f.0) p aspects) (all_pass has_aspect_counter p aspects) (not-false _ told)) [
             | inl steady ↦ inl (λ a b t u ht hu.
                 let x = steady_at p f.0 steady a t ht in
                 let y = steady_at p f.0 steady b u hu in
                 (sym x.0 ∙ y.0, x.1))
-            | inr counted ↦ inr (λ a t has. ltb-true _ _ (all_at-says has_aspect_counter p aspects counted a t has))
+            | inr counted ↦ inr (λ a t has. ltb-true _ _ (all_pass-says has_aspect_counter p aspects counted a t has))
           ]
         ]
     | inr ge ↦ inr (λ a t has.
@@ -138,7 +138,7 @@ pub mark-is : (t f : Telegram) → t.header.dup ≡ f.header.dup → mark_differ
 mark-is t f e = not_from_true _ ((Decides-same_mark t.header.dup f.header.dup).1 e)
 
 -- an earlier aspect has a counter that is taken
-pub taken-at : (aspects : List (List Telegram)) (a : ℕ) (t : Telegram) → is_counter_taken (take a aspects) t ≡ true → (c : ℕ) × (q : ℕ) × (u : Telegram) × (c < a) × HasAt aspects c q u × (t.header.counter < 254) × (u.header.counter ≡ t.header.counter)
+pub taken-at : (aspects : List (List Telegram)) (a : ℕ) (t : Telegram) → is_counter_taken (take a aspects) t ≡ true → (c : ℕ) × (q : ℕ) × (u : Telegram) × (c < a) × Shows aspects c q u × (t.header.counter < 254) × (u.header.counter ≡ t.header.counter)
 taken-at aspects a t taken =
     let parts = and_parts (ltb t.header.counter 254) _ taken in
     let r = list_any-at (has_counter t.header.counter) (take a aspects) parts.1 in
@@ -147,7 +147,7 @@ taken-at aspects a t taken =
     (r.0, q.0, q.1, before.0, (r.1, before.1, q.2), ltb-true _ _ parts.0, eqb-true _ _ q.3)
 
 -- no telegram of an earlier aspect has a counter that is not taken
-pub fresh-says : (aspects : List (List Telegram)) (a : ℕ) (u : Telegram) → is_counter_taken (take a aspects) u ≡ false → (k q : ℕ) (t : Telegram) → k < a → HasAt aspects k q t → u.header.counter < 254 → t.header.counter ≢ u.header.counter
+pub fresh-says : (aspects : List (List Telegram)) (a : ℕ) (u : Telegram) → is_counter_taken (take a aspects) u ≡ false → (k q : ℕ) (t : Telegram) → k < a → Shows aspects k q t → u.header.counter < 254 → t.header.counter ≢ u.header.counter
 fresh-says aspects a u fresh k q t lt ht low same = elim (and_cases (ltb u.header.counter 254) _ fresh) [
   | inl high ↦ both_ways _ high (lt-ltb _ _ low)
   | inr fresh ↦ both_ways _ fresh (at_list_any (has_counter u.header.counter) (take a aspects) k ht.0 (at_take a aspects k ht.0 lt ht.1)
@@ -163,16 +163,16 @@ HasGroupParts new aspects =
     × ((a : ℕ) (group : List Telegram) → At aspects a group → HasAspectParts aspects a group)
 
 module _ (new : Type 0) (aspects : List (List Telegram)) (controlled : IsControlled aspects) (parts : HasGroupParts new aspects) where
-  alike_at : (a p : ℕ) (t f : Telegram) → HasAt aspects a p t → At (first_aspect aspects) 0 f → AreAlike t f
+  alike_at : (a p : ℕ) (t f : Telegram) → Shows aspects a p t → At (first_aspect aspects) 0 f → AreAlike t f
   alike_at a p t f has at0 = parts.1 a has.0 has.1 rules.HeaderDiffers None (Some p) None t f has.2 at0
 
-  one_mark : (a b p : ℕ) (t u : Telegram) → HasAt aspects a p t → HasAt aspects b p u → t.header.dup ≡ u.header.dup
+  one_mark : (a b p : ℕ) (t u : Telegram) → Shows aspects a p t → Shows aspects b p u → t.header.dup ≡ u.header.dup
   one_mark a b p t u ht hu =
       let f = first_has aspects controlled a p t ht in
       parts.1 a ht.0 ht.1 rules.MarksDiffer None (Some p) None t f.0 ht.2 f.1 ∙ sym (parts.1 b hu.0 hu.1 rules.MarksDiffer None (Some p) None u f.0 hu.2 f.1)
 
   -- a counter of an earlier aspect is another one
-  later_differs : (a c p q : ℕ) (t u : Telegram) → c < a → HasAt aspects a p t → HasAt aspects c q u → t.header.counter < 254 → t.header.counter ≢ u.header.counter
+  later_differs : (a c p q : ℕ) (t u : Telegram) → c < a → Shows aspects a p t → Shows aspects c q u → t.header.counter < 254 → t.header.counter ≢ u.header.counter
   later_differs a c p q t u lt ht hu low = parts.1 a ht.0 ht.1 rules.NotToldApart None (Some p) None c q t u lt ht.2 hu low
 
   one_group : 1 < length aspects → AreOneGroup aspects
@@ -197,7 +197,7 @@ module _ (new : Type 0) (aspects : List (List Telegram)) (controlled : IsControl
 -- ---- all parts hold if sound
 
 module _ (aspects : List (List Telegram)) (controlled : IsControlled aspects) (sound : IsSoundControlled aspects) where
-  alike_all : (a p : ℕ) (t f : Telegram) → HasAt aspects a p t → At (first_aspect aspects) 0 f → AreAlike t f
+  alike_all : (a p : ℕ) (t f : Telegram) → Shows aspects a p t → At (first_aspect aspects) 0 f → AreAlike t f
   alike_all a p t f has at0 = elim (cases_lt 1 (length aspects)) [
     | inl many ↦ (sound.one many).alike a 0 p 0 t f has (first_aspect aspects, first_here aspects controlled, at0)
     | inr few ↦
@@ -205,7 +205,7 @@ module _ (aspects : List (List Telegram)) (controlled : IsControlled aspects) (s
         (sound.sound a has.0 has.1).formed.alike p t f has.2 (subst (λ g. At g 0 f) (sym g) at0)
   ]
 
-  mark_first : (a p : ℕ) (t f : Telegram) → HasAt aspects a p t → At (first_aspect aspects) p f → t.header.dup ≡ f.header.dup
+  mark_first : (a p : ℕ) (t f : Telegram) → Shows aspects a p t → At (first_aspect aspects) p f → t.header.dup ≡ f.header.dup
   mark_first a p t f has at = elim (cases_lt 1 (length aspects)) [
     | inl many ↦ (sound.one many).marks a 0 p t f has (first_aspect aspects, first_here aspects controlled, at)
     | inr few ↦
@@ -214,7 +214,7 @@ module _ (aspects : List (List Telegram)) (controlled : IsControlled aspects) (s
   ]
 
   -- two counters below 254 of two aspects differ
-  fresh_all : (a p c q : ℕ) (t u : Telegram) → c < a → HasAt aspects a p t → HasAt aspects c q u → t.header.counter < 254 → t.header.counter ≢ u.header.counter
+  fresh_all : (a p c q : ℕ) (t u : Telegram) → c < a → Shows aspects a p t → Shows aspects c q u → t.header.counter < 254 → t.header.counter ≢ u.header.counter
   fresh_all a p c q t u lt ht hu low same =
       let w = slice_get_within aspects a ht.0 ht.1 in
       (sound.one (omega arith)).distinct a c p q t u (omega arith) ht hu low (subst (λ n. n < 254) same low) same

@@ -17,11 +17,11 @@ use Rattle.etcs_radio.specs.declared.message.Message.TheVariants as messages
 use Rattle.etcs_group.specs.Group.{Telegrams, Aspects}
 use Rattle.etcs_group.specs.Places.{At, element_passes}
 use Rattle.etcs_check.specs.Aspects.{is_ambiguous, is_used, site_spot}
-use Rattle.etcs_check.specs.Line.{none_and, directions, rules_at, cells_at, cells_of, group_cells, message_cells, group_findings, message_findings, group_at, group_list, message_at, message_list, findings}
-use Rattle.etcs_check.specs.Facts.{packets_alone, packets_at, speech_of, speech_in, is_short_profile, packet_fact, aspect_fact, whole_fact, group_fact, message_fact, fact_at, StatesFact}
-use Rattle.etcs_check.specs.Findings.{all_rules, balise_fact, finding_of, for_each, is_unmodelled, pair_differs}
+use Rattle.etcs_check.specs.Line.{none_and, directions, rule_findings, spot_cells, cells_for_aspect, group_cells, message_cells, group_findings, message_findings, line_group_findings, group_list, line_message_findings, message_list, findings}
+use Rattle.etcs_check.specs.Facts.{packets_alone, aspect_packets, aspect_speech, message_speech, is_short_profile, packet_fact, aspect_fact, whole_fact, group_fact, message_fact, site_fact, StatesFact}
+use Rattle.etcs_check.specs.Findings.{all_rules, balise_fact, new_finding, for_each, is_unmodelled, pair_differs}
 use Rattle.etcs_check.specs.Laws.{FindingsAreTheFactsInOrder}
-use Rattle.etcs_check.specs.Order.{site_order, site_place, rule_number, direction_order, none_first, order_of, is_of, by_rule, IsListOf}
+use Rattle.etcs_check.specs.Order.{site_order, site_place, rule_number, direction_order, none_first, sort_key, has_rule, by_rule, IsFindings}
 use Rattle.etcs_check.specs.Profiles.{gradient_reach, speed_reach}
 use Rattle.etcs_check.specs.Soundness.{first_aspect}
 use Rattle.etcs_check.specs.declared.finding.Finding.{Finding}
@@ -69,31 +69,31 @@ module _ (spot : Spot) (count : ℕ) (packets : Option ℕ → List TrackPacket)
   abbrev to_rule : Option Run → Option ℕ → Option ℕ → List ℕ
   to_rule run b k = site_order spot.site ∷ site_place spot.site ∷ none_first spot.aspect ∷ direction_order run ∷ none_first b ∷ none_first k ∷ []
 
-  cell_block : (run : Option Run) (b k : Option ℕ) → IsBlock cell_order (to_rule run b k) 1 (1 + length all_rules) (flat_map (λ rule. finding_of rule spot run b k ∷ []) all_rules)
-  cell_block run b k = blocks cell_order (to_rule run b k) (λ rule. finding_of rule spot run b k ∷ []) all_rules 1 (λ i n rule e at.
+  cell_block : (run : Option Run) (b k : Option ℕ) → IsBlock cell_order (to_rule run b k) 1 (1 + length all_rules) (flat_map (λ rule. new_finding rule spot run b k ∷ []) all_rules)
+  cell_block run b k = blocks cell_order (to_rule run b k) (λ rule. new_finding rule spot run b k ∷ []) all_rules 1 (λ i n rule e at.
       let f = rising rule_number all_rules 1 refl i rule at in
-      fact_block cell_order (to_rule run b k) n (rule_number rule) [] true (finding_of rule spot run b k) (f ∙ sym e) refl)
+      fact_block cell_order (to_rule run b k) n (rule_number rule) [] true (new_finding rule spot run b k) (f ∙ sym e) refl)
 
-  packets_block : (run : Option Run) (b : Option ℕ) → IsBlock cell_order (to_packet run b) 0 (0 + length (none_and (length (packets b)))) (flat_map (rules_at spot run b) (none_and (length (packets b))))
-  packets_block run b = blocks cell_order (to_packet run b) (rules_at spot run b) (none_and (length (packets b))) 0 (λ i n k e at.
+  packets_block : (run : Option Run) (b : Option ℕ) → IsBlock cell_order (to_packet run b) 0 (0 + length (none_and (length (packets b)))) (flat_map (rule_findings spot run b) (none_and (length (packets b))))
+  packets_block run b = blocks cell_order (to_packet run b) (rule_findings spot run b) (none_and (length (packets b))) 0 (λ i n k e at.
       let f = none_rising (length (packets b)) i k at in
       under cell_order (to_packet run b) n (none_first k) (f ∙ sym e) (cell_block run b k))
 
-  balises_block : (run : Option Run) → IsBlock cell_order (to_balise run) 0 (0 + length (none_and count)) (flat_map (λ b. flat_map (rules_at spot run b) (none_and (length (packets b)))) (none_and count))
-  balises_block run = blocks cell_order (to_balise run) (λ b. flat_map (rules_at spot run b) (none_and (length (packets b)))) (none_and count) 0 (λ i n b e at.
+  balises_block : (run : Option Run) → IsBlock cell_order (to_balise run) 0 (0 + length (none_and count)) (flat_map (λ b. flat_map (rule_findings spot run b) (none_and (length (packets b)))) (none_and count))
+  balises_block run = blocks cell_order (to_balise run) (λ b. flat_map (rule_findings spot run b) (none_and (length (packets b)))) (none_and count) 0 (λ i n b e at.
       let f = none_rising count i b at in
       under cell_order (to_balise run) n (none_first b) (f ∙ sym e) (packets_block run b))
 
-  spot_block : IsBlock cell_order to_aspect (none_first spot.aspect) (suc (none_first spot.aspect)) (cells_at spot count packets)
+  spot_block : IsBlock cell_order to_aspect (none_first spot.aspect) (suc (none_first spot.aspect)) (spot_cells spot count packets)
   spot_block = under cell_order to_aspect (none_first spot.aspect) (none_first spot.aspect) refl
-      (blocks cell_order to_direction (λ run. flat_map (λ b. flat_map (rules_at spot run b) (none_and (length (packets b)))) (none_and count)) directions 0 (λ i n run e at.
+      (blocks cell_order to_direction (λ run. flat_map (λ b. flat_map (rule_findings spot run b) (none_and (length (packets b)))) (none_and count)) directions 0 (λ i n run e at.
       under cell_order to_direction n (direction_order run) (rising direction_order directions 0 refl i run at ∙ sym e) (balises_block run)))
 
 -- ---- sorted by rule
 
 -- for one rule and site, the order of cells implies the order of findings
 rule_first : (f g : Finding) → site_order f.site ≡ site_order g.site → site_place f.site ≡ site_place g.site → rule_number f.rule ≡ rule_number g.rule
-    → slice_cmp nat_cmp (cell_order f) (cell_order g) ≡ Less → slice_cmp nat_cmp (order_of f) (order_of g) ≡ Less
+    → slice_cmp nat_cmp (cell_order f) (cell_order g) ≡ Less → slice_cmp nat_cmp (sort_key f) (sort_key g) ≡ Less
 rule_first f g here place same less =
     let e : nat_cmp (site_order f.site) (site_order g.site) ≡ Equal = ap (nat_cmp (site_order f.site)) (sym here) ∙ tied_itself nat_cmp_total (site_order f.site) in
     let p : nat_cmp (site_place f.site) (site_place g.site) ≡ Equal = ap (nat_cmp (site_place f.site)) (sym place) ∙ tied_itself nat_cmp_total (site_place f.site) in
@@ -103,12 +103,12 @@ rule_first f g here place same less =
 -- sorting by rule keeps the members
 by_rule-at : (xs : List Finding) (i : ℕ) (f : Finding) → At (by_rule xs) i f → (j : ℕ) × At xs j f
 by_rule-at xs i f at =
-    let r = flat_map-at (λ rule. filter (is_of rule) xs) all_rules i f at in
-    let q = filter-at (is_of r.1) xs r.2 f r.4 in
+    let r = flat_map-at (λ rule. filter (has_rule rule) xs) all_rules i f at in
+    let q = filter-at (has_rule r.1) xs r.2 f r.4 in
     (q.0, q.1)
 
 at-by_rule : (xs : List Finding) (j : ℕ) (f : Finding) → At xs j f → IsListed f (by_rule xs)
-at-by_rule xs j f at = rules-listed (λ rule. filter (is_of rule) xs) f.rule f (at-filter (is_of f.rule) xs j f at (eq-eqb (rule_number f.rule) (rule_number f.rule) refl))
+at-by_rule xs j f at = rules-listed (λ rule. filter (has_rule rule) xs) f.rule f (at-filter (has_rule f.rule) xs j f at (eq-eqb (rule_number f.rule) (rule_number f.rule) refl))
 
 -- one site has these numbers
 site_is : (s t : Site) → site_order s ≡ site_order t → site_place s ≡ site_place t → s ≡ t
@@ -122,14 +122,14 @@ module _ (site : Site) {low high : ℕ} {cells : List Finding} (block : IsBlock 
   in_site : (f : Finding) (i : ℕ) → At cells i f → (site_order f.site ≡ site_order site) × (site_place f.site ≡ site_place site)
   in_site f i at = let b = (block.begins i f at).4 in (cc b, cc b)
 
-  of_rule : (rule : Rule) (f : Finding) (i : ℕ) → At (filter (is_of rule) (filter test cells)) i f → (site_order f.site ≡ site_order site) × (site_place f.site ≡ site_place site) × (rule_number f.rule ≡ rule_number rule)
+  of_rule : (rule : Rule) (f : Finding) (i : ℕ) → At (filter (has_rule rule) (filter test cells)) i f → (site_order f.site ≡ site_order site) × (site_place f.site ≡ site_place site) × (rule_number f.rule ≡ rule_number rule)
   of_rule rule f i at =
-      let r = filter-at (is_of rule) (filter test cells) i f at in
+      let r = filter-at (has_rule rule) (filter test cells) i f at in
       let q = filter-at test cells r.0 f r.1 in
       let s = in_site f q.0 q.1 in
       (s.0, s.1, eqb-true (rule_number f.rule) (rule_number rule) r.2)
 
-  class_block : (rule : Rule) → IsBlock order_of (site_order site ∷ site_place site ∷ []) (rule_number rule) (suc (rule_number rule)) (filter (is_of rule) (filter test cells))
+  class_block : (rule : Rule) → IsBlock sort_key (site_order site ∷ site_place site ∷ []) (rule_number rule) (suc (rule_number rule)) (filter (has_rule rule) (filter test cells))
   class_block rule = record {
     begins = λ i f at.
         let o = of_rule rule f i at in (
@@ -143,13 +143,13 @@ module _ (site : Site) {low high : ℕ} {cells : List Finding} (block : IsBlock 
         let o = of_rule rule f i at in
         let q = of_rule rule g j at' in
         rule_first f g (o.0 ∙ sym q.0) (o.1 ∙ sym q.1) (o.2 ∙ sym q.2)
-        (AreOrdered-filter cell_order (is_of rule) (filter test cells) (AreOrdered-filter cell_order test cells block.ordered) i j f g lt at at');
+        (AreOrdered-filter cell_order (has_rule rule) (filter test cells) (AreOrdered-filter cell_order test cells block.ordered) i j f g lt at at');
   }
 
   -- the facts among cells, sorted by rule
-  sorted_block : IsBlock order_of (site_order site ∷ []) (site_place site) (suc (site_place site)) (by_rule (filter test cells))
-  sorted_block = under order_of (site_order site ∷ []) (site_place site) (site_place site) refl (blocks order_of (site_order site ∷ site_place site ∷ []) (λ rule. filter (is_of rule) (filter test cells)) all_rules 1 (λ i n rule e at.
-      subst (λ m. IsBlock order_of (site_order site ∷ site_place site ∷ []) m (suc m) (filter (is_of rule) (filter test cells))) (rising rule_number all_rules 1 refl i rule at ∙ sym e) (class_block rule)))
+  sorted_block : IsBlock sort_key (site_order site ∷ []) (site_place site) (suc (site_place site)) (by_rule (filter test cells))
+  sorted_block = under sort_key (site_order site ∷ []) (site_place site) (site_place site) refl (blocks sort_key (site_order site ∷ site_place site ∷ []) (λ rule. filter (has_rule rule) (filter test cells)) all_rules 1 (λ i n rule e at.
+      subst (λ m. IsBlock sort_key (site_order site ∷ site_place site ∷ []) m (suc m) (filter (has_rule rule) (filter test cells))) (rising rule_number all_rules 1 refl i rule at ∙ sym e) (class_block rule)))
 
   sorted_states : (i : ℕ) (f : Finding) → At (by_rule (filter test cells)) i f → (f.site ≡ site) × (test f ≡ true)
   sorted_states i f at =
@@ -183,33 +183,33 @@ a_direction (Some runs.Nominal) = (1, refl)
 a_direction (Some runs.Reverse) = (2, refl)
 
 cell_listed : (spot : Spot) (count : ℕ) (packets : Option ℕ → List TrackPacket) (rule : Rule) (run : Option Run) (b k : Option ℕ) → InRange count b → InRange (length (packets b)) k
-    → IsListed (finding_of rule spot run b k) (cells_at spot count packets)
+    → IsListed (new_finding rule spot run b k) (spot_cells spot count packets)
 cell_listed spot count packets rule run b k h g =
-    let f = finding_of rule spot run b k in
+    let f = new_finding rule spot run b k in
     let d = a_direction run in
     let p = in_range count b h in
     let q = in_range (length (packets b)) k g in
-    let r = rules-listed (λ rule. finding_of rule spot run b k ∷ []) rule f (0, refl) in
-    let s = at-flat_map (rules_at spot run b) (none_and (length (packets b))) q.0 k r.0 f q.1 r.1 in
-    let t = at-flat_map (λ b. flat_map (rules_at spot run b) (none_and (length (packets b)))) (none_and count) p.0 b s.0 f p.1 s.1 in
-    at-flat_map (λ run. flat_map (λ b. flat_map (rules_at spot run b) (none_and (length (packets b)))) (none_and count)) directions d.0 run t.0 f d.1 t.1
+    let r = rules-listed (λ rule. new_finding rule spot run b k ∷ []) rule f (0, refl) in
+    let s = at-flat_map (rule_findings spot run b) (none_and (length (packets b))) q.0 k r.0 f q.1 r.1 in
+    let t = at-flat_map (λ b. flat_map (rule_findings spot run b) (none_and (length (packets b)))) (none_and count) p.0 b s.0 f p.1 s.1 in
+    at-flat_map (λ run. flat_map (λ b. flat_map (rule_findings spot run b) (none_and (length (packets b)))) (none_and count)) directions d.0 run t.0 f d.1 t.1
 
 -- a place at which an element passes a test is in the list, and a balise with a packet is in the group
 place_of : {X : Type 0} (xs : List X) (i : ℕ) (test : X → Bool) → element_passes xs i test ≡ true → i < length xs
 place_of xs i test h = let r = passed xs i test h in slice_get_within xs i r.0 r.1
 
-packet_of : (group : Telegrams) (b k : ℕ) (test : TrackPacket → Bool) → element_passes (packets_at group (Some b)) k test ≡ true → (b < length group) × (k < length (packets_at group (Some b)))
+packet_of : (group : Telegrams) (b k : ℕ) (test : TrackPacket → Bool) → element_passes (aspect_packets group (Some b)) k test ≡ true → (b < length group) × (k < length (aspect_packets group (Some b)))
 packet_of group b k test h =
-    let r = passed (packets_at group (Some b)) k test h in
+    let r = passed (aspect_packets group (Some b)) k test h in
     let s = packet_stands group b k r.0 r.1 in
-    (slice_get_within group b s.0 s.1, slice_get_within (packets_at group (Some b)) k r.0 r.1)
+    (slice_get_within group b s.0 s.1, slice_get_within (aspect_packets group (Some b)) k r.0 r.1)
 
 module _ (first : Telegrams) (before : Aspects) (group : Telegrams) where
-  aspect_range : (rule : Rule) (run : Option Run) (b k : Option ℕ) → aspect_fact first before group rule run b k ≡ true → InRange (length group) b × InRange (length (packets_at group b)) k
+  aspect_range : (rule : Rule) (run : Option Run) (b k : Option ℕ) → aspect_fact first before group rule run b k ≡ true → InRange (length group) b × InRange (length (aspect_packets group b)) k
   aspect_range rules.DuplicatesDiffer (Some run) (Some b) None h = (place_of group b (λ t. pair_differs run t (slice_get group (b + 1))) h, tt)
   aspect_range rules.NotModelled None (Some b) (Some k) h = packet_of group b k is_unmodelled h
-  aspect_range rules.GradientShort (Some run) (Some b) (Some k) h = packet_of group b k (is_short_profile gradient_reach (speech_of group) run (Some b)) h
-  aspect_range rules.SpeedShort (Some run) (Some b) (Some k) h = packet_of group b k (is_short_profile speed_reach (speech_of group) run (Some b)) h
+  aspect_range rules.GradientShort (Some run) (Some b) (Some k) h = packet_of group b k (is_short_profile gradient_reach (aspect_speech group) run (Some b)) h
+  aspect_range rules.SpeedShort (Some run) (Some b) (Some k) h = packet_of group b k (is_short_profile speed_reach (aspect_speech group) run (Some b)) h
   aspect_range rules.NotModelled None None (Some k) h = absurd (both_ways false refl h)
   aspect_range rules.GradientShort (Some run) None (Some k) h = absurd (both_ways false refl h)
   aspect_range rules.SpeedShort (Some run) None (Some k) h = absurd (both_ways false refl h)
@@ -219,7 +219,7 @@ module _ (first : Telegrams) (before : Aspects) (group : Telegrams) where
   aspect_range rule run b k h = absurd (both_ways false refl h)
 
 whole_range : (used : Bool) (aspects : Aspects) (rule : Rule) (run : Option Run) (b k : Option ℕ) → whole_fact used aspects rule run b k ≡ true
-    → InRange (length (first_aspect aspects)) b × InRange (length (packets_at (first_aspect aspects) b)) k
+    → InRange (length (first_aspect aspects)) b × InRange (length (aspect_packets (first_aspect aspects) b)) k
 whole_range used aspects rules.IdentityUsed None None None h = (tt, tt)
 whole_range used aspects rules.NotToldApart None (Some b) None h = (place_of (first_aspect aspects) b (is_ambiguous aspects b) h, tt)
 whole_range used aspects rule run b k h = absurd (both_ways false refl h)
@@ -233,34 +233,34 @@ module _ (used : Bool) (aspects : Aspects) (site : Site) where
   named = if ltb 1 (length aspects) then aspects else []
 
   group_celled : (rule : Rule) (aspect : Option ℕ) (run : Option Run) (b k : Option ℕ) → group_fact used aspects rule aspect run b k ≡ true
-      → IsListed (finding_of rule (record { site = site; aspect = aspect }) run b k) (group_cells site aspects)
+      → IsListed (new_finding rule (record { site = site; aspect = aspect }) run b k) (group_cells site aspects)
   unfolding named
   group_celled rule None run b k h =
       let first = first_aspect aspects in
-      let range : InRange (length first) b × InRange (length (packets_at first b)) k = elim (or_cases (whole_fact used aspects rule run b k) _ h) [
+      let range : InRange (length first) b × InRange (length (aspect_packets first b)) k = elim (or_cases (whole_fact used aspects rule run b k) _ h) [
         | inl w ↦ whole_range used aspects rule run b k w
         | inr r ↦
             let q = and_parts (not (ltb 1 (length aspects))) _ r in
             let s = passed aspects 0 (λ group. aspect_fact first (take 0 aspects) group rule run b k) q.1 in
-            subst (λ (g : Telegrams). InRange (length g) b × InRange (length (packets_at g b)) k) (first_is aspects s.0 s.1) (aspect_range first (take 0 aspects) s.0 rule run b k s.2)
+            subst (λ (g : Telegrams). InRange (length g) b × InRange (length (aspect_packets g b)) k) (first_is aspects s.0 s.1) (aspect_range first (take 0 aspects) s.0 rule run b k s.2)
       ] in
-      let l = cell_listed (site_spot site) (length first) (packets_at first) rule run b k range.0 range.1 in
-      (l.0, At-append_left (cells_of (site_spot site) first) (for_each named (λ a group. cells_of (record { site = site; aspect = Some a }) group)) l.0 (finding_of rule (site_spot site) run b k) l.1)
+      let l = cell_listed (site_spot site) (length first) (aspect_packets first) rule run b k range.0 range.1 in
+      (l.0, At-append_left (cells_for_aspect (site_spot site) first) (for_each named (λ a group. cells_for_aspect (record { site = site; aspect = Some a }) group)) l.0 (new_finding rule (site_spot site) run b k) l.1)
   group_celled rule (Some a) run b k h =
       let first = first_aspect aspects in
       let q = and_parts (ltb 1 (length aspects)) _ h in
       let s = passed aspects a (λ group. aspect_fact first (take a aspects) group rule run b k) q.1 in
       let range = aspect_range first (take a aspects) s.0 rule run b k s.2 in
       let spot : Spot = record { site = site; aspect = Some a } in
-      let f = finding_of rule spot run b k in
+      let f = new_finding rule spot run b k in
       let at : At named a s.0 = subst (λ (m : Bool). At (if m then aspects else []) a s.0) (sym q.0) s.1 in
-      let l = each-listed (λ a group. cells_of (record { site = site; aspect = Some a }) group) named a s.0 f at (cell_listed spot (length s.0) (packets_at s.0) rule run b k range.0 range.1) in
-      At-append_right (cells_of (site_spot site) first) (for_each named (λ a group. cells_of (record { site = site; aspect = Some a }) group)) l.0 f l.1
+      let l = each-listed (λ a group. cells_for_aspect (record { site = site; aspect = Some a }) group) named a s.0 f at (cell_listed spot (length s.0) (aspect_packets s.0) rule run b k range.0 range.1) in
+      At-append_right (cells_for_aspect (site_spot site) first) (for_each named (λ a group. cells_for_aspect (record { site = site; aspect = Some a }) group)) l.0 f l.1
 
-packet_range : (packets : List TrackPacket) (rule : Rule) (run : Option Run) (b k : Option ℕ) → packet_fact (speech_in packets) rule run b k ≡ true → InRange 0 b × InRange (length (packets_alone packets b)) k
+packet_range : (packets : List TrackPacket) (rule : Rule) (run : Option Run) (b k : Option ℕ) → packet_fact (message_speech packets) rule run b k ≡ true → InRange 0 b × InRange (length (packets_alone packets b)) k
 packet_range packets rules.NotModelled None None (Some k) h = (tt, place_of packets k is_unmodelled h)
-packet_range packets rules.GradientShort (Some run) None (Some k) h = (tt, place_of packets k (is_short_profile gradient_reach (speech_in packets) run None) h)
-packet_range packets rules.SpeedShort (Some run) None (Some k) h = (tt, place_of packets k (is_short_profile speed_reach (speech_in packets) run None) h)
+packet_range packets rules.GradientShort (Some run) None (Some k) h = (tt, place_of packets k (is_short_profile gradient_reach (message_speech packets) run None) h)
+packet_range packets rules.SpeedShort (Some run) None (Some k) h = (tt, place_of packets k (is_short_profile speed_reach (message_speech packets) run None) h)
 packet_range packets rules.NotModelled None (Some b) (Some k) h = absurd (both_ways false refl h)
 packet_range packets rules.GradientShort (Some run) (Some b) (Some k) h = absurd (both_ways false refl h)
 packet_range packets rules.SpeedShort (Some run) (Some b) (Some k) h = absurd (both_ways false refl h)
@@ -269,7 +269,7 @@ packet_range packets rule (Some run) None None h = (tt, tt)
 packet_range packets rule run b k h = absurd (both_ways false refl h)
 
 message_celled : (site : Site) (m : Message) (rule : Rule) (aspect : Option ℕ) (run : Option Run) (b k : Option ℕ) → message_fact m rule aspect run b k ≡ true
-    → IsListed (finding_of rule (record { site = site; aspect = aspect }) run b k) (message_cells site m)
+    → IsListed (new_finding rule (record { site = site; aspect = aspect }) run b k) (message_cells site m)
 message_celled site (messages.Movement m) rule None run b k h =
     let range = packet_range m.packets rule run b k h in
     cell_listed (site_spot site) 0 (packets_alone m.packets) rule run b k range.0 range.1
@@ -281,11 +281,11 @@ group_block : (site : Site) (aspects : Aspects) → IsBlock cell_order (site_ord
 group_block site aspects =
     let named = if ltb 1 (length aspects) then aspects else [] in
     joined cell_order (site_order site ∷ site_place site ∷ []) (omega arith) (omega arith)
-    (spot_block (site_spot site) (length (first_aspect aspects)) (packets_at (first_aspect aspects)))
-    (each_block cell_order (site_order site ∷ site_place site ∷ []) (λ a group. cells_of (record { site = site; aspect = Some a }) group) named 1 (λ a n group e at.
+    (spot_block (site_spot site) (length (first_aspect aspects)) (aspect_packets (first_aspect aspects)))
+    (each_block cell_order (site_order site ∷ site_place site ∷ []) (λ a group. cells_for_aspect (record { site = site; aspect = Some a }) group) named 1 (λ a n group e at.
     let f : suc a ≡ n = omega arith in
-    subst (λ m. IsBlock cell_order (site_order site ∷ site_place site ∷ []) m (suc m) (cells_of (record { site = site; aspect = Some a }) group)) f
-    (spot_block (record { site = site; aspect = Some a }) (length group) (packets_at group))))
+    subst (λ m. IsBlock cell_order (site_order site ∷ site_place site ∷ []) m (suc m) (cells_for_aspect (record { site = site; aspect = Some a }) group)) f
+    (spot_block (record { site = site; aspect = Some a }) (length group) (aspect_packets group))))
 
 message_block : (site : Site) (m : Message) → IsBlock cell_order (site_order site ∷ site_place site ∷ []) 0 1 (message_cells site m)
 message_block site (messages.Movement m) = spot_block (site_spot site) 0 (packets_alone m.packets)
@@ -329,43 +329,43 @@ module _ (site : Site) (m : Message) where
 -- ---- the findings of a line
 
 module _ (groups : List Aspects) (messages : List Message) where
-  findings_ordered : AreOrdered order_of (findings groups messages)
+  findings_ordered : AreOrdered sort_key (findings groups messages)
   unfolding group_findings message_findings
   findings_ordered =
-      let first = under order_of [] 0 0 refl (each_block order_of (0 ∷ []) (group_at groups) groups 0 (λ g n aspects e at.
+      let first = under sort_key [] 0 0 refl (each_block sort_key (0 ∷ []) (line_group_findings groups) groups 0 (λ g n aspects e at.
       let f : g ≡ n = omega arith in
-      subst (λ m. IsBlock order_of (0 ∷ []) m (suc m) (group_at groups g aspects)) f
+      subst (λ m. IsBlock sort_key (0 ∷ []) m (suc m) (line_group_findings groups g aspects)) f
       (sorted_block (sites.Group g) (group_block (sites.Group g) aspects) (of_group (sites.Group g) (is_used (take g groups) aspects) aspects)))) in
-      let second = under order_of [] 1 1 refl (each_block order_of (1 ∷ []) message_at messages 0 (λ i n m e at.
+      let second = under sort_key [] 1 1 refl (each_block sort_key (1 ∷ []) line_message_findings messages 0 (λ i n m e at.
       let f : i ≡ n = omega arith in
-      subst (λ k. IsBlock order_of (1 ∷ []) k (suc k) (message_at i m)) f
+      subst (λ k. IsBlock sort_key (1 ∷ []) k (suc k) (line_message_findings i m)) f
       (sorted_block (sites.Message i) (message_block (sites.Message i) m) (of_message (sites.Message i) m)))) in
-      (joined order_of [] {low = 0} {mid = 1} {high = 2} (omega arith) (omega arith) first second).ordered
+      (joined sort_key [] {low = 0} {mid = 1} {high = 2} (omega arith) (omega arith) first second).ordered
 
   pub each_fact_is_listed : (f : Finding) → StatesFact groups messages f → IsListed f (findings groups messages)
   each_fact_is_listed f h = at f.site refl h
     where
-      at : (s : Site) → f.site ≡ s → fact_at groups messages s f ≡ true → IsListed f (findings groups messages)
+      at : (s : Site) → f.site ≡ s → site_fact groups messages s f ≡ true → IsListed f (findings groups messages)
       at (sites.Group g) e h =
           let r = passed groups g (λ aspects. group_fact (is_used (take g groups) aspects) aspects f.rule f.aspect f.dir f.balise f.packet) h in
-          let l = each-listed (group_at groups) groups g r.0 f r.1 (group_listed (sites.Group g) (is_used (take g groups) r.0) r.0 f e r.2) in
+          let l = each-listed (line_group_findings groups) groups g r.0 f r.1 (group_listed (sites.Group g) (is_used (take g groups) r.0) r.0 f e r.2) in
           (l.0, At-append_left (group_list groups) (message_list messages) l.0 f l.1)
       at (sites.Message i) e h =
           let r = passed messages i (λ m. message_fact m f.rule f.aspect f.dir f.balise f.packet) h in
-          let l = each-listed message_at messages i r.0 f r.1 (message_listed (sites.Message i) r.0 f e r.2) in
+          let l = each-listed line_message_findings messages i r.0 f r.1 (message_listed (sites.Message i) r.0 f e r.2) in
           At-append_right (group_list groups) (message_list messages) l.0 f l.1
 
   pub findings_state : (i : ℕ) (f : Finding) → At (findings groups messages) i f → StatesFact groups messages f
   findings_state i f h = elim (At-append_cases (group_list groups) (message_list messages) i f h) [
     | inl p ↦
-        let r = each-at (group_at groups) groups i f p in
+        let r = each-at (line_group_findings groups) groups i f p in
         let s = group_states (sites.Group r.0) (is_used (take r.0 groups) r.1) r.1 r.2 f r.4 in
-        subst (λ s. fact_at groups messages s f ≡ true) (sym s.0)
+        subst (λ s. site_fact groups messages s f ≡ true) (sym s.0)
         (element_passes-at groups r.0 (λ aspects. group_fact (is_used (take r.0 groups) aspects) aspects f.rule f.aspect f.dir f.balise f.packet) r.1 r.3 ∙ s.1)
     | inr q ↦
-        let r = each-at message_at messages q.0 f q.1 in
+        let r = each-at line_message_findings messages q.0 f q.1 in
         let s = message_states (sites.Message r.0) r.1 r.2 f r.4 in
-        subst (λ s. fact_at groups messages s f ≡ true) (sym s.0)
+        subst (λ s. site_fact groups messages s f ≡ true) (sym s.0)
         (element_passes-at messages r.0 (λ m. message_fact m f.rule f.aspect f.dir f.balise f.packet) r.1 r.3 ∙ s.1)
   ]
 
@@ -373,12 +373,12 @@ module _ (groups : List Aspects) (messages : List Message) where
 
 pub findings_are_the_facts_in_order : FindingsAreTheFactsInOrder
 findings_are_the_facts_in_order groups messages found = (
-  λ is. subst (IsListOf groups messages) (sym is) (record {
+  λ is. subst (IsFindings groups messages) (sym is) (record {
     facts = findings_state groups messages;
     all = each_fact_is_listed groups messages;
     ordered = findings_ordered groups messages;
   }),
-  λ list. one_list order_of found (findings groups messages) list.ordered (findings_ordered groups messages)
+  λ list. one_list sort_key found (findings groups messages) list.ordered (findings_ordered groups messages)
       (λ i f at. each_fact_is_listed groups messages f (list.facts i f at))
       (λ i f at. list.all f (findings_state groups messages i f at)),
 )

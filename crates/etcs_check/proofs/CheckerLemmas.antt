@@ -10,7 +10,7 @@ use Rattle.etcs_telegram.specs.Record.{Telegram}
 use Rattle.etcs_group.specs.Controlled.{IsControlled}
 use Rattle.etcs_check.specs.Aspects.{is_used}
 use Rattle.etcs_check.specs.Identities.{HasIdentity, identity_number}
-use Rattle.etcs_check.specs.Line.{findings, group_findings, group_list, message_at}
+use Rattle.etcs_check.specs.Line.{findings, group_findings, group_list, line_message_findings}
 use Rattle.etcs_check.specs.LineChecker.{CheckerState, HasChecked, TakesGroups, TakesMessages}
 use Rattle.etcs_check.specs.declared.finding.Finding.{Finding}
 use Rattle.etcs_check.specs.declared.finding.Site.TheVariants as sites
@@ -50,12 +50,12 @@ pub group_taken : (old new : CheckerState) (h g : List (List Telegram)) → h �
 group_taken old new h g is controlled numbered found others count counted kept =
     subst (λ x. TakesGroups old (x ∷ []) new) is (taken old new h controlled numbered found others count counted kept)
 
-pub message_taken : (old new : CheckerState) (m : Message) → new.about_messages ≡ old.about_messages ++ message_at old.messages m → new.about_groups ≡ old.about_groups
+pub message_taken : (old new : CheckerState) (m : Message) → new.about_messages ≡ old.about_messages ++ line_message_findings old.messages m → new.about_groups ≡ old.about_groups
     → new.messages ≡ old.messages + 1 → new.groups ≡ old.groups → ((n : ℕ) → contains nat_cmp new.identities n ≡ contains nat_cmp old.identities n) → TakesMessages old (m ∷ []) new
 message_taken old new m found others count counted kept gs ms was = record {
   about_groups = others ∙ was.about_groups;
   about_messages =
-      found ∙ ap₂ ◌++◌ was.about_messages (ap (λ n. message_at n m) was.messages_counted) ∙ sym (messages_found ms m);
+      found ∙ ap₂ ◌++◌ was.about_messages (ap (λ n. line_message_findings n m) was.messages_counted) ∙ sym (messages_found ms m);
   groups_counted = counted ∙ was.groups_counted;
   messages_counted = count ∙ ap (λ n. n + 1) was.messages_counted ∙ sym (length-append ms (m ∷ []));
   seen = λ n. kept n ∙ was.seen n;

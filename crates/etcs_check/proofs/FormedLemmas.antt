@@ -10,11 +10,11 @@ use Rattle.etcs_bits.specs.declared.variables.duplicate.Dup.TheVariants as dups
 use Rattle.etcs_bits.specs.variables.Variables.{version_number}
 use Rattle.etcs_telegram.specs.Record.{Telegram}
 use Rattle.etcs_group.specs.Places.{At}
-use Rattle.etcs_group.specs.Group.{named_by, partner_of, AreAlike}
+use Rattle.etcs_group.specs.Group.{named_neighbour, partner_place, AreAlike}
 use Rattle.etcs_group.proofs.PlaceLemmas.{one_at}
 use Rattle.etcs_group.proofs.MarkLemmas.{partner-says, partner-is}
 use Rattle.etcs_check.specs.Duplicates.{same_identity}
-use Rattle.etcs_check.specs.Findings.{header_differs, is_outside, differs_from, is_unanswered, first_counter, counter_differs}
+use Rattle.etcs_check.specs.Findings.{header_differs, is_outside, is_other, is_unanswered, first_counter, counter_differs}
 use Rattle.etcs_check.proofs.NumberLemmas.{version_same, same_identity-says, same_identity-is}
 use Rattle.etcs_check.specs.Violation.{IsFirstCounted}
 
@@ -37,43 +37,43 @@ alike-is t first a =
 
 -- ---- duplicate flags
 
-differs_from-false : (o : Option ℕ) (b : ℕ) → differs_from o b ≡ false → o ≡ Some b
-differs_from-false None b h = cc
-differs_from-false (Some q) b h = ap Some (eqb-true q b (not-false _ h))
+is_other-false : (o : Option ℕ) (b : ℕ) → is_other o b ≡ false → o ≡ Some b
+is_other-false None b h = cc
+is_other-false (Some q) b h = ap Some (eqb-true q b (not-false _ h))
 
-other-is_false : (o : Option ℕ) (b : ℕ) → o ≡ Some b → differs_from o b ≡ false
+other-is_false : (o : Option ℕ) (b : ℕ) → o ≡ Some b → is_other o b ≡ false
 other-is_false o b e = rw e (not_from_true _ (eq-eqb b b refl))
 
 -- a duplicate flag that is not outside has a partner
-pub inside-says : (group : List Telegram) (b : ℕ) (t : Telegram) → At group b t → is_outside (length group) t.header.dup b ≡ false → t.header.dup ≢ dups.Single → IsSome (partner_of group b)
+pub inside-says : (group : List Telegram) (b : ℕ) (t : Telegram) → At group b t → is_outside (length group) t.header.dup b ≡ false → t.header.dup ≢ dups.Single → IsSome (partner_place group b)
 inside-says group b t at inside marked = go t.header.dup refl b at inside
   where
-    some : (b q : ℕ) → partner_of group b ≡ Some q → IsSome (partner_of group b)
+    some : (b q : ℕ) → partner_place group b ≡ Some q → IsSome (partner_place group b)
     some b q e = rw e refl
 
-    go : (m : Dup) → t.header.dup ≡ m → (b : ℕ) → At group b t → is_outside (length group) m b ≡ false → IsSome (partner_of group b)
+    go : (m : Dup) → t.header.dup ≡ m → (b : ℕ) → At group b t → is_outside (length group) m b ≡ false → IsSome (partner_place group b)
     go dups.Single e b at h = absurd (marked e)
     go dups.Next e b at h =
         let w = slice_get_within group b t at in
         let n = eqb-false _ _ h in
-        some b (b + 1) (partner-is group b (b + 1) t at (ap (λ m. named_by m b) e) (omega arith))
+        some b (b + 1) (partner-is group b (b + 1) t at (ap (λ m. named_neighbour m b) e) (omega arith))
     go dups.Previous e zero at h = absurd (both_ways true h refl)
     go dups.Previous e (suc a) at h =
         let w = slice_get_within group (suc a) t at in
-        some (suc a) a (partner-is group (suc a) a t at (ap (λ m. named_by m (suc a)) e) (omega arith))
+        some (suc a) a (partner-is group (suc a) a t at (ap (λ m. named_neighbour m (suc a)) e) (omega arith))
 
 -- a duplicate flag that is answered names a balise that names this one
-pub answered-says : (group : List Telegram) (b : ℕ) → ((t : Telegram) → At group b t → is_unanswered group (partner_of group b) b ≡ false) → (q : ℕ) → partner_of group b ≡ Some q → partner_of group q ≡ Some b
+pub answered-says : (group : List Telegram) (b : ℕ) → ((t : Telegram) → At group b t → is_unanswered group (partner_place group b) b ≡ false) → (q : ℕ) → partner_place group b ≡ Some q → partner_place group q ≡ Some b
 answered-says group b answered q e =
     let r = partner-says group b q e in
     let h : is_unanswered group (Some q) b ≡ false = ap (λ o. is_unanswered group o b) (sym e) ∙ answered r.0 r.1 in
-    differs_from-false (partner_of group q) b h
+    is_other-false (partner_place group q) b h
 
 -- a counter below 254 that does not differ is the first one
 pub counter-says : (group : List Telegram) (t : Telegram) → counter_differs group t ≡ false → t.header.counter < 254 → first_counter group ≡ Some t.header.counter
-counter-says group t one lt = elim (and_cases (ltb t.header.counter 254) (differs_from (first_counter group) t.header.counter) one) [
+counter-says group t one lt = elim (and_cases (ltb t.header.counter 254) (is_other (first_counter group) t.header.counter) one) [
   | inl no' ↦ absurd (both_ways _ no' (lt-ltb _ _ lt))
-  | inr same ↦ differs_from-false (first_counter group) t.header.counter same
+  | inr same ↦ is_other-false (first_counter group) t.header.counter same
 ]
 
 -- ---- no fact if the part holds
@@ -87,37 +87,37 @@ alike_first first t h = go (slice_get first 0) refl
     go (Some f) e = alike-is t f (h f e)
 
 -- a duplicate flag with a partner is not outside
-pub inside-is : (group : List Telegram) (b : ℕ) (t : Telegram) → At group b t → (t.header.dup ≢ dups.Single → IsSome (partner_of group b)) → is_outside (length group) t.header.dup b ≡ false
+pub inside-is : (group : List Telegram) (b : ℕ) (t : Telegram) → At group b t → (t.header.dup ≢ dups.Single → IsSome (partner_place group b)) → is_outside (length group) t.header.dup b ≡ false
 inside-is group b t at has = go t.header.dup refl has
   where
-    named : (o : Option ℕ) → partner_of group b ≡ o → IsSome o → (q : ℕ) × (named_by t.header.dup b ≡ Some q) × (q < length group)
+    named : (o : Option ℕ) → partner_place group b ≡ o → IsSome o → (q : ℕ) × (named_neighbour t.header.dup b ≡ Some q) × (q < length group)
     named None e h = absurd (both_ways false refl h)
     named (Some q) e h =
         let r = partner-says group b q e in
-        (q, subst (λ (x : Telegram). named_by x.header.dup b ≡ Some q) (one_at group b r.0 t r.1 at) r.2, r.3)
+        (q, subst (λ (x : Telegram). named_neighbour x.header.dup b ≡ Some q) (one_at group b r.0 t r.1 at) r.2, r.3)
 
-    first : (b q : ℕ) → named_by dups.Previous b ≡ Some q → eqb b 0 ≡ false
+    first : (b q : ℕ) → named_neighbour dups.Previous b ≡ Some q → eqb b 0 ≡ false
     first zero q e = absurd (none-some q e)
     first (suc a) q e = let n : suc a ≢ 0 = omega arith in ne_eqb (suc a) 0 n
 
-    go : (m : Dup) → t.header.dup ≡ m → (t.header.dup ≢ dups.Single → IsSome (partner_of group b)) → is_outside (length group) m b ≡ false
+    go : (m : Dup) → t.header.dup ≡ m → (t.header.dup ≢ dups.Single → IsSome (partner_place group b)) → is_outside (length group) m b ≡ false
     go dups.Single e has = refl
     go dups.Next e has =
-        let n = named (partner_of group b) refl (has (λ f. let g : dups.Next ≡ dups.Single = sym e ∙ f in cc)) in
-        let s = same_Some (b + 1) n.0 (sym (ap (λ m. named_by m b) e) ∙ n.1) in
+        let n = named (partner_place group b) refl (has (λ f. let g : dups.Next ≡ dups.Single = sym e ∙ f in cc)) in
+        let s = same_Some (b + 1) n.0 (sym (ap (λ m. named_neighbour m b) e) ∙ n.1) in
         let w = n.2 in
         ne_eqb _ _ (omega arith)
     go dups.Previous e has =
-        let n = named (partner_of group b) refl (has (λ f. let g : dups.Previous ≡ dups.Single = sym e ∙ f in cc)) in
-        first b n.0 (sym (ap (λ m. named_by m b) e) ∙ n.1)
+        let n = named (partner_place group b) refl (has (λ f. let g : dups.Previous ≡ dups.Single = sym e ∙ f in cc)) in
+        first b n.0 (sym (ap (λ m. named_neighbour m b) e) ∙ n.1)
 
 -- a partner whose partner is the balise answers
-pub answered-is : (group : List Telegram) (b : ℕ) → ((q : ℕ) → partner_of group b ≡ Some q → partner_of group q ≡ Some b) → is_unanswered group (partner_of group b) b ≡ false
-answered-is group b answers = go (partner_of group b) refl
+pub answered-is : (group : List Telegram) (b : ℕ) → ((q : ℕ) → partner_place group b ≡ Some q → partner_place group q ≡ Some b) → is_unanswered group (partner_place group b) b ≡ false
+answered-is group b answers = go (partner_place group b) refl
   where
-    go : (o : Option ℕ) → partner_of group b ≡ o → is_unanswered group o b ≡ false
+    go : (o : Option ℕ) → partner_place group b ≡ o → is_unanswered group o b ≡ false
     go None e = refl
-    go (Some q) e = other-is_false (partner_of group q) b (answers q e)
+    go (Some q) e = other-is_false (partner_place group q) b (answers q e)
 
 -- the counter of the first telegram with one below 254
 pub first_counter-is : (ts : List Telegram) (j : ℕ) (u : Telegram) → IsFirstCounted ts j u → first_counter ts ≡ Some u.header.counter

@@ -16,14 +16,14 @@ use Rattle.etcs_group.specs.Places.{At}
 use Rattle.etcs_group.proofs.PlaceLemmas.{At-take, at_list_any, list_any-none}
 use Rattle.etcs_check.specs.Duplicates.{same_identity}
 use Rattle.etcs_check.specs.Aspects.{have_one_identity, is_used}
-use Rattle.etcs_check.specs.Line.{group_findings, group_at, group_list}
+use Rattle.etcs_check.specs.Line.{group_findings, line_group_findings, group_list}
 use Rattle.etcs_check.specs.LineChecker.{HasKept}
 use Rattle.etcs_check.specs.declared.finding.Rule.TheVariants as rules
 use Rattle.etcs_check.specs.declared.finding.Site.TheVariants as sites
 use Rattle.etcs_check.proofs.CellLemmas.{group_silent}
 use Rattle.etcs_check.proofs.FindingLemmas.{for_each-says}
-use Rattle.etcs_check.specs.Identities.{number_of_identity, identity_number, HasIdentity, HaveIdentities, has_bit, is_marked, is_among, HasNoRepeat, HasRepeat}
-use Rattle.etcs_check.specs.Soundness.{identity_of, group_identity}
+use Rattle.etcs_check.specs.Identities.{number_of_identity, identity_number, HasIdentity, HaveIdentities, has_bit, is_marked, has_identity_number, HasNoRepeat, HasRepeat}
+use Rattle.etcs_check.specs.Soundness.{aspect_identity, group_identity}
 use Rattle.etcs_check.proofs.NoteLemmas.{each_stands}
 use Rattle.etcs_check.proofs.NumberLemmas.{identity_same, same_identity-says, same_identity-is}
 
@@ -47,7 +47,7 @@ one_number g h a b =
     ]
 
 -- an earlier group has the identity if and only if one has its number
-pub used-among : (earlier : List (List (List Telegram))) (g : List (List Telegram)) → HaveIdentities earlier → HasIdentity g → is_used earlier g ≡ is_among earlier (identity_number g)
+pub used-among : (earlier : List (List (List Telegram))) (g : List (List Telegram)) → HaveIdentities earlier → HasIdentity g → is_used earlier g ≡ has_identity_number earlier (identity_number g)
 used-among [] g all own = refl
 used-among (h ∷ hs) g all own = ap₂ ◌||◌ (one_number h g (all 0 h refl) own) (used-among hs g (λ k x at. all (suc k) x at) own)
 
@@ -91,12 +91,12 @@ unmarked n p lt =
 
 -- Of the n identities from base on, only the identities of these groups are marked.
 abbrev pub HasSeen : ℕ → ℕ → List ℕ → List Aspects → Type 0
-HasSeen base n table groups = (p : ℕ) → p < n → is_marked table p ≡ is_among groups (base + p)
+HasSeen base n table groups = (p : ℕ) → p < n → is_marked table p ≡ has_identity_number groups (base + p)
 
-pub among_more : (groups : List (List (List Telegram))) (i : ℕ) (g : List (List Telegram)) (x : ℕ) → At groups i g → is_among (take (i + 1) groups) x ≡ (is_among (take i groups) x || eqb (identity_number g) x)
+pub among_more : (groups : List (List (List Telegram))) (i : ℕ) (g : List (List Telegram)) (x : ℕ) → At groups i g → has_identity_number (take (i + 1) groups) x ≡ (has_identity_number (take i groups) x || eqb (identity_number g) x)
 among_more groups i g x at =
     list_any_more (λ h. eqb (identity_number h) x) groups i g (slice_get_within groups i g at)
-    ∙ ap (λ h. is_among (take i groups) x || eqb (identity_number h) x) (get_or_from_slice_get groups i g g at)
+    ∙ ap (λ h. has_identity_number (take i groups) x || eqb (identity_number h) x) (get_or_from_slice_get groups i g g at)
 
 pub or_swap : (a b : Bool) → (a || b) ≡ (b || a)
 or_swap true true = refl
@@ -118,8 +118,8 @@ eqb_moved base p q = elim (cases_eq p q) [
 pub seen_marked : (base n : ℕ) (table new : List ℕ) (groups : List (List (List Telegram))) (i : ℕ) (g : List (List Telegram)) (q : ℕ) → At groups i g → identity_number g ≡ base + q
     → ((p : ℕ) → is_marked new p ≡ (eqb p q || is_marked table p)) → HasSeen base n table (take i groups) → HasSeen base n new (take (i + 1) groups)
 seen_marked base n table new groups i g q at is marked seen p lt =
-    marked p ∙ ap (λ b. eqb p q || b) (seen p lt) ∙ or_swap (eqb p q) (is_among (take i groups) (base + p))
-    ∙ ap (λ b. is_among (take i groups) (base + p) || b) (eqb_moved base p q ∙ ap (λ x. eqb x (base + p)) (sym is))
+    marked p ∙ ap (λ b. eqb p q || b) (seen p lt) ∙ or_swap (eqb p q) (has_identity_number (take i groups) (base + p))
+    ∙ ap (λ b. has_identity_number (take i groups) (base + p) || b) (eqb_moved base p q ∙ ap (λ x. eqb x (base + p)) (sym is))
     ∙ sym (among_more groups i g (base + p) at)
 
 -- its identity is of another part
@@ -129,8 +129,8 @@ seen_other base n table groups i g at other seen p lt =
     seen p lt ∙ sym (among_more groups i g (base + p) at ∙ or_false _ _ (ne_eqb _ _ (other p lt)))
 
 -- the bit of its identity shows whether it was used
-pub used_mark : (base n : ℕ) (table : List ℕ) (groups : List (List (List Telegram))) (g : List (List Telegram)) (q : ℕ) → identity_number g ≡ base + q → q < n → HasSeen base n table groups → is_used groups g ≡ is_among groups (identity_number g) → is_used groups g ≡ is_marked table q
-used_mark base n table groups g q is lt seen numbered = numbered ∙ sym (seen q lt ∙ ap (is_among groups) (sym is))
+pub used_mark : (base n : ℕ) (table : List ℕ) (groups : List (List (List Telegram))) (g : List (List Telegram)) (q : ℕ) → identity_number g ≡ base + q → q < n → HasSeen base n table groups → is_used groups g ≡ has_identity_number groups (identity_number g) → is_used groups g ≡ is_marked table q
+used_mark base n table groups g q is lt seen numbered = numbered ∙ sym (seen q lt ∙ ap (has_identity_number groups) (sym is))
 
 pub seen_none : (base n w : ℕ) → n ≤ 64 * w → HasSeen base n (replicate w 0) []
 seen_none base n w le p lt = unmarked w p (omega arith)
@@ -161,13 +161,13 @@ no_repeat_more m n next groups e low high i g at lo hi = elim (cases_lt (identit
 pub kept_more : (groups : List (List (List Telegram))) (i : ℕ) (g : List (List Telegram)) (was is : ℕ → Bool) → At groups i g → ((n : ℕ) → is n ≡ (eqb (identity_number g) n || was n)) → HasKept was (take i groups) → HasKept is (take (i + 1) groups)
 kept_more groups i g was is at now before n =
     let own = eqb (identity_number g) n in
-    now n ∙ ap (λ b. own || b) (before n) ∙ or_swap own (is_among (take i groups) n) ∙ sym (among_more groups i g n at)
+    now n ∙ ap (λ b. own || b) (before n) ∙ or_swap own (has_identity_number (take i groups) n) ∙ sym (among_more groups i g n at)
 
 -- one more group at the end
 pub kept_and : (groups : List (List (List Telegram))) (g : List (List Telegram)) (was is : ℕ → Bool) → ((n : ℕ) → is n ≡ (eqb (identity_number g) n || was n)) → HasKept was groups → HasKept is (groups ++ g ∷ [])
 kept_and groups g was is now before n =
     let own = eqb (identity_number g) n in
-    now n ∙ ap (λ b. own || b) (before n) ∙ or_swap own (is_among groups n) ∙ ap (λ b. is_among groups n || b) (sym (or_false own false refl)) ∙ sym (list_any-append (λ h. eqb (identity_number h) n) groups (g ∷ []))
+    now n ∙ ap (λ b. own || b) (before n) ∙ or_swap own (has_identity_number groups n) ∙ ap (λ b. has_identity_number groups n || b) (sym (or_false own false refl)) ∙ sym (list_any-append (λ h. eqb (identity_number h) n) groups (g ∷ []))
 
 -- whether the identity of one more group was used decides its finding
 pub used_told : (groups : List (List (List Telegram))) (i : ℕ) (g : List (List Telegram)) (again : Bool) (is_kept : ℕ → Bool) → At groups i g → HasIdentity g → HaveIdentities (take i groups)
@@ -182,7 +182,7 @@ used_told groups i g false is_kept at own before none kept =
 -- a repeat is a finding
 pub repeat_stands : (groups : List (List (List Telegram))) → HasRepeat groups → group_list groups ≢ []
 repeat_stands groups r h =
-    let none = group_silent (sites.Group r.0) (is_used (take r.0 groups) r.1) r.1 (for_each-says groups (group_at groups) h r.0 r.1 r.2) in
+    let none = group_silent (sites.Group r.0) (is_used (take r.0 groups) r.1) r.1 (for_each-says groups (line_group_findings groups) h r.0 r.1 r.2) in
     both_ways _ (or_parts _ _ (none rules.IdentityUsed None None None None)).0 r.3
 
 -- if the call allocated, there is a finding: of a repeat, or about this group
@@ -194,7 +194,7 @@ next_stands groups i g false at own repeat none some =
     let country = own.2 in
     let group = own.3 in
     let new : is_used (take i groups) g ≡ false = none refl i g at (omega arith) (omega arith) in
-    each_stands (group_at groups) groups i g at (subst (λ u. group_findings (sites.Group i) u g ≢ []) (sym new) (some refl))
+    each_stands (line_group_findings groups) groups i g at (subst (λ u. group_findings (sites.Group i) u g ≢ []) (sym new) (some refl))
 
 -- ---- identities that were used
 
@@ -211,7 +211,7 @@ identities-are : (i : Identity) (o p : Option Identity) → o ≡ Some i → o �
 unfolding same_identity_of
 identities-are i o p is e = rw (← e, is) (same_identity-is i i refl)
 
-pub identity-at : (group : List Telegram) (t : Telegram) → At group 0 t → identity_of group ≡ Some t.header.identity
+pub identity-at : (group : List Telegram) (t : Telegram) → At group 0 t → aspect_identity group ≡ Some t.header.identity
 identity-at [] t at = absurd (none-some t at)
 identity-at (u ∷ ts) t at = ap (λ (x : Telegram). Some x.header.identity) (same_Some u t at)
 

@@ -18,11 +18,11 @@ use Rattle.etcs_group.proofs.PlaceLemmas.{element_passes-at, some_at, At-take, a
 use Rattle.etcs_group.specs.Group.{is_modelled}
 use Rattle.etcs_group.specs.Controlled.{IsControlled}
 use Rattle.etcs_check.specs.Aspects.{is_used}
-use Rattle.etcs_check.specs.Facts.{aspect_fact, whole_fact, group_fact, message_fact, fact_at}
-use Rattle.etcs_check.specs.Findings.{each_from}
+use Rattle.etcs_check.specs.Facts.{aspect_fact, whole_fact, group_fact, message_fact, site_fact}
+use Rattle.etcs_check.specs.Findings.{numbered_findings}
 use Rattle.etcs_check.specs.Violation.{IsLong, IsNew, GroupPart, PacketsPart, MessagePart, NamesAspect}
 use Rattle.etcs_check.specs.Laws.{AreControlled, NoFindingMeansSoundLine}
-use Rattle.etcs_check.specs.Line.{group_findings, group_at, group_list, message_at, message_list, findings}
+use Rattle.etcs_check.specs.Line.{group_findings, line_group_findings, group_list, line_message_findings, message_list, findings}
 use Rattle.etcs_check.specs.Profiles.{gradient_reach, speed_reach}
 use Rattle.etcs_check.specs.Soundness.{IsSoundControlled, IsSoundMessage, IsSoundLine, first_aspect}
 use Rattle.etcs_check.specs.declared.finding.Finding.{Finding}
@@ -121,7 +121,7 @@ new-says groups g aspects controlled unused i h lt here =
 
 -- no finding that names the site states a fact
 abbrev pub IsSilent : List (List (List Telegram)) → List Message → Site → Type 0
-IsSilent groups messages s = (f : Finding) → f.site ≡ s → fact_at groups messages s f ≡ false
+IsSilent groups messages s = (f : Finding) → f.site ≡ s → site_fact groups messages s f ≡ false
 
 module _ (groups : List (List (List Telegram))) (messages : List Message) where
   pub group_law : (g : ℕ) (aspects : List (List Telegram)) → At groups g aspects → IsControlled aspects → IsSilent groups messages (sites.Group g) ↔ (IsSoundControlled aspects × IsNew groups g aspects)
@@ -148,10 +148,10 @@ module _ (groups : List (List (List Telegram))) (messages : List Message) where
 
   all_silent : findings groups messages ≡ [] → (s : Site) → IsSilent groups messages s
   all_silent none s f e = false_from_ne_true _ (λ h.
-      let l = each_fact_is_listed groups messages f (subst (λ s. fact_at groups messages s f ≡ true) (sym e) h) in
+      let l = each_fact_is_listed groups messages f (subst (λ s. site_fact groups messages s f ≡ true) (sym e) h) in
       none-some f (subst (λ found. At found l.0 f) none l.1))
 
-  sound_line : AreControlled groups → IsSoundLine groups messages → (f : Finding) (s : Site) → f.site ≡ s → fact_at groups messages s f ≡ true → ⊥
+  sound_line : AreControlled groups → IsSoundLine groups messages → (f : Finding) (s : Site) → f.site ≡ s → site_fact groups messages s f ≡ true → ⊥
   sound_line controlled sound f (sites.Group g) e h =
       let r = passed groups g (λ aspects. group_fact (is_used (take g groups) aspects) aspects f.rule f.aspect f.dir f.balise f.packet) h in
       both_ways _ ((group_law g r.0 r.1 (controlled g r.0 r.1)).1 (sound.sound g r.0 r.1, λ i other lt at. sound.distinct i g other r.0 lt at r.1) f e) h
@@ -173,8 +173,8 @@ no_finding_means_sound_line groups messages controlled = (
 )
 
 -- a message has findings at each place of a line, or at none
-pub found_alone : (i : ℕ) (m : Message) → message_at i m ≢ [] → findings [] (m ∷ []) ≢ []
-found_alone i m some none = some (none_at (message_at i m) (λ k f at.
+pub found_alone : (i : ℕ) (m : Message) → line_message_findings i m ≢ [] → findings [] (m ∷ []) ≢ []
+found_alone i m some none = some (none_at (line_message_findings i m) (λ k f at.
     let g : Finding = record { rule = f.rule; site = sites.Message 0; aspect = f.aspect; dir = f.dir; balise = f.balise; packet = f.packet } in
     let l = each_fact_is_listed [] (m ∷ []) g (message_states (sites.Message i) m k f at).1 in
     none-some g (subst (λ found. At found l.0 g) none l.1)))
@@ -193,26 +193,26 @@ all_but_last (y ∷ ys) x = ap (λ l. y ∷ l) (all_but_last ys x)
 
 -- the findings with one more item, if the findings before it are the same
 found_more : {X : Type 0} (f h : ℕ → X → List Finding) (b : ℕ) (xs : List X) (x : X) → ((i : ℕ) (y : X) → i < b + length xs → f i y ≡ h i y)
-    → each_from f b (xs ++ x ∷ []) ≡ each_from h b xs ++ f (b + length xs) x
+    → numbered_findings f b (xs ++ x ∷ []) ≡ numbered_findings h b xs ++ f (b + length xs) x
 found_more f h b [] x same =
     let here : b ≡ b + 0 = omega arith in
     append-nil (f b x) ∙ ap (λ n. f n x) here
 found_more f h b (y ∷ ys) x same =
     let next : b + 1 + length ys ≡ b + length (y ∷ ys) = omega arith in
     ap₂ ◌++◌ (same b y (omega arith)) (found_more f h (b + 1) ys x (λ i z lt. same i z (omega arith)))
-    ∙ sym (append_assoc (h b y) (each_from h (b + 1) ys) (f (b + 1 + length ys) x))
-    ∙ ap (λ n. each_from h b (y ∷ ys) ++ f n x) next
+    ∙ sym (append_assoc (h b y) (numbered_findings h (b + 1) ys) (f (b + 1 + length ys) x))
+    ∙ ap (λ n. numbered_findings h b (y ∷ ys) ++ f n x) next
 
 pub groups_found : (gs : List (List (List Telegram))) (g : List (List Telegram)) → group_list (gs ++ g ∷ []) ≡ group_list gs ++ group_findings (sites.Group (length gs)) (is_used gs g) g
 groups_found gs g =
     let all = gs ++ g ∷ [] in
     let first : 0 + length gs ≡ length gs = omega arith in
-    let more : group_list all ≡ group_list gs ++ group_at all (0 + length gs) g =
-    found_more (group_at all) (group_at gs) 0 gs g (λ i y lt. ap (λ l. group_findings (sites.Group i) (is_used l y) y) (take-append-le i gs (g ∷ []) (omega arith))) in
-    more ∙ ap (λ n. group_list gs ++ group_at all n g) first ∙ ap (λ l. group_list gs ++ group_findings (sites.Group (length gs)) (is_used l g) g) (all_but_last gs g)
+    let more : group_list all ≡ group_list gs ++ line_group_findings all (0 + length gs) g =
+    found_more (line_group_findings all) (line_group_findings gs) 0 gs g (λ i y lt. ap (λ l. group_findings (sites.Group i) (is_used l y) y) (take-append-le i gs (g ∷ []) (omega arith))) in
+    more ∙ ap (λ n. group_list gs ++ line_group_findings all n g) first ∙ ap (λ l. group_list gs ++ group_findings (sites.Group (length gs)) (is_used l g) g) (all_but_last gs g)
 
-pub messages_found : (ms : List Message) (m : Message) → message_list (ms ++ m ∷ []) ≡ message_list ms ++ message_at (length ms) m
+pub messages_found : (ms : List Message) (m : Message) → message_list (ms ++ m ∷ []) ≡ message_list ms ++ line_message_findings (length ms) m
 messages_found ms m =
     let first : 0 + length ms ≡ length ms = omega arith in
-    let more : message_list (ms ++ m ∷ []) ≡ message_list ms ++ message_at (0 + length ms) m = found_more message_at message_at 0 ms m (λ i y lt. refl) in
-    more ∙ ap (λ n. message_list ms ++ message_at n m) first
+    let more : message_list (ms ++ m ∷ []) ≡ message_list ms ++ line_message_findings (0 + length ms) m = found_more line_message_findings line_message_findings 0 ms m (λ i y lt. refl) in
+    more ∙ ap (λ n. message_list ms ++ line_message_findings n m) first

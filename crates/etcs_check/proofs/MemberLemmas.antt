@@ -13,7 +13,7 @@ use Rattle.etcs_profile.specs.declared.run.Run.TheVariants as runs
 use Rattle.etcs_profile.specs.declared.track.TrackPacket.{TrackPacket}
 use Rattle.etcs_telegram.specs.Record.{Telegram}
 use Rattle.etcs_group.proofs.PlaceLemmas.{At-reverse}
-use Rattle.etcs_check.specs.Findings.{all_rules, finding_of, for_each}
+use Rattle.etcs_check.specs.Findings.{all_rules, new_finding, for_each}
 use Rattle.etcs_check.specs.declared.finding.Finding.{Finding}
 use Rattle.etcs_check.specs.declared.finding.Rule.{Rule}
 use Rattle.etcs_check.specs.declared.finding.Spot.{Spot}
@@ -108,9 +108,9 @@ pub rules-listed : (g : Rule → List Finding) (r : Rule) (f : Finding) → IsLi
 rules-listed g r f h = let p = rule_place r in at-flat_map g all_rules p.0 r h.0 f p.1 h.1
 
 -- a finding is made of its parts
-pub made_of : (f : Finding) (spot : Spot) → f.site ≡ spot.site → f.aspect ≡ spot.aspect → finding_of f.rule spot f.dir f.balise f.packet ≡ f
-made_of f spot e g = ap (λ z. finding_of f.rule (record { site = z; aspect = spot.aspect }) f.dir f.balise f.packet) (sym e)
-    ∙ ap (λ z. finding_of f.rule (record { site = f.site; aspect = z }) f.dir f.balise f.packet) (sym g)
+pub made_of : (f : Finding) (spot : Spot) → f.site ≡ spot.site → f.aspect ≡ spot.aspect → new_finding f.rule spot f.dir f.balise f.packet ≡ f
+made_of f spot e g = ap (λ z. new_finding f.rule (record { site = z; aspect = spot.aspect }) f.dir f.balise f.packet) (sym e)
+    ∙ ap (λ z. new_finding f.rule (record { site = f.site; aspect = z }) f.dir f.balise f.packet) (sym g)
 
 -- ---- the message of a group
 

@@ -6,7 +6,7 @@ use Rattle.etcs_telegram.specs.Record.{Telegram}
 use Rattle.etcs_group.specs.Places.{At}
 use Rattle.etcs_group.proofs.PlaceLemmas.{some_at}
 use Rattle.etcs_check.specs.Aspects.{is_used}
-use Rattle.etcs_check.specs.Facts.{fact_at}
+use Rattle.etcs_check.specs.Facts.{site_fact}
 use Rattle.etcs_check.specs.Laws.{IsUnnamed, NoFindingMeansSoundGroup, UnnamedMeansSound}
 use Rattle.etcs_check.specs.Line.{findings}
 use Rattle.etcs_check.specs.Soundness.{first_aspect, group_identity}
@@ -20,11 +20,11 @@ use Rattle.etcs_check.proofs.LineLemmas.{IsSilent, group_law, message_law, silen
 module _ (groups : List (List (List Telegram))) (messages : List Message) (s : Site) where
   unnamed_silent : IsUnnamed (findings groups messages) s → IsSilent groups messages s
   unnamed_silent unnamed f e = false_from_ne_true _ (λ h.
-      let l = each_fact_is_listed groups messages f (subst (λ s. fact_at groups messages s f ≡ true) (sym e) h) in
+      let l = each_fact_is_listed groups messages f (subst (λ s. site_fact groups messages s f ≡ true) (sym e) h) in
       unnamed l.0 f l.1 e)
 
   silent_unnamed : IsSilent groups messages s → IsUnnamed (findings groups messages) s
-  silent_unnamed silent i f at e = both_ways _ (silent f e) (subst (λ s. fact_at groups messages s f ≡ true) e (findings_state groups messages i f at))
+  silent_unnamed silent i f at e = both_ways _ (silent f e) (subst (λ s. site_fact groups messages s f ≡ true) e (findings_state groups messages i f at))
 
 pub no_finding_means_sound_group : NoFindingMeansSoundGroup
 no_finding_means_sound_group earlier aspects controlled =

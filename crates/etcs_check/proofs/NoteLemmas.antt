@@ -6,7 +6,7 @@ use Rattle.std.proofs.lemmas.List.{drop_more, append_assoc}
 use Rattle.std.proofs.lemmas.Bool.{cases_eq}
 use mathlib.Core.Logic.{inl, inr}
 use Rattle.etcs_group.specs.Places.{At}
-use Rattle.etcs_check.specs.Findings.{noted, each_from, for_each}
+use Rattle.etcs_check.specs.Findings.{noted, numbered_findings, for_each}
 use Rattle.etcs_check.specs.declared.finding.Finding.{Finding}
 use Rattle.etcs_check.proofs.FindingLemmas.{for_each-says, flat_map-says, append_parts}
 
@@ -23,10 +23,10 @@ drop_at xs i x at = drop_more xs i x (slice_get_within xs i x at) ∙ ap (λ y. 
 
 -- ---- one step of a loop over items with their places, and one that has a finding
 
-pub each_pushed : {X : Type 0} (f : ℕ → X → List Finding) (xs : List X) (b : ℕ) (x : X) (found more all : List Finding) → At xs b x → more ≡ found ++ f b x → found ++ each_from f b (drop b xs) ≡ all → more ++ each_from f (b + 1) (drop (b + 1) xs) ≡ all
+pub each_pushed : {X : Type 0} (f : ℕ → X → List Finding) (xs : List X) (b : ℕ) (x : X) (found more all : List Finding) → At xs b x → more ≡ found ++ f b x → found ++ numbered_findings f b (drop b xs) ≡ all → more ++ numbered_findings f (b + 1) (drop (b + 1) xs) ≡ all
 each_pushed f xs b x found more all at e h =
-    let rest = each_from f (b + 1) (drop (b + 1) xs) in
-    ap (λ l. l ++ rest) e ∙ append_assoc found (f b x) rest ∙ ap (λ l. found ++ l) (sym (ap (each_from f b) (drop_at xs b x at))) ∙ h
+    let rest = numbered_findings f (b + 1) (drop (b + 1) xs) in
+    ap (λ l. l ++ rest) e ∙ append_assoc found (f b x) rest ∙ ap (λ l. found ++ l) (sym (ap (numbered_findings f b) (drop_at xs b x at))) ∙ h
 
 pub each_stands : {X : Type 0} (f : ℕ → X → List Finding) (xs : List X) (b : ℕ) (x : X) → At xs b x → f b x ≢ [] → for_each xs f ≢ []
 each_stands f xs b x at some h = some (for_each-says xs f h b x at)

@@ -5,10 +5,10 @@ use Rattle.std.proofs.lemmas.List.{append-nil, append_cancel_left, append_cancel
 use Rattle.std.proofs.lemmas.Option.{none-some, same_Some}
 use Rattle.std.proofs.lemmas.Bool.{eqb-true, eq-eqb, ne_eqb}
 use Rattle.etcs_group.specs.Places.{At}
-use Rattle.etcs_group.specs.Group.{partner_of, IsWellFormed}
+use Rattle.etcs_group.specs.Group.{partner_place, IsWellFormed}
 use Rattle.etcs_group.specs.Missed.{IsCovered, none_missed}
 use Rattle.etcs_group.specs.Reading.{reading_of}
-use Rattle.etcs_group.specs.Packets.{held_packets, packets_of}
+use Rattle.etcs_group.specs.Packets.{held_packets, assembled}
 use Rattle.etcs_check.specs.Violation.{only, passed_first}
 use Rattle.etcs_profile.specs.declared.run.Run.{Run}
 use Rattle.etcs_profile.specs.declared.run.Run.TheVariants as runs
@@ -94,7 +94,7 @@ pair_equal runs.Reverse b t u rest e f same =
     append_cancel_left rest _ _ (ap (λ l. l ++ held_packets runs.Reverse t) (sym (append-nil rest)) ∙ plain ∙ append-nil (rest ++ held_packets runs.Reverse u))
 
 pub duplicates-equal : (group : List Telegram) (run : Run) (b : ℕ) (t u : Telegram) → IsWellFormed group → At group b t → At group (suc b) u → t.header.dup ≡ dups.Next → u.header.dup ≡ dups.Previous
-    → packets_of run (reading_of run (only (passed_first run b)) group) ≡ packets_of run (reading_of run none_missed group)
+    → assembled run (reading_of run (only (passed_first run b)) group) ≡ assembled run (reading_of run none_missed group)
     → held_packets run t ≡ held_packets run u
 duplicates-equal group run b t u formed at au e f same =
     let all : passed run (part run (only (passed_first run b))) 0 group ≡ passed run (part run none_missed) 0 group = sym (packets-passed group run (only (passed_first run b)) formed) ∙ same ∙ packets-passed group run none_missed formed in
@@ -108,8 +108,8 @@ pub only-covered : (group : List Telegram) (run : Run) (b : ℕ) (t : Telegram) 
 only-covered group runs.Nominal b t formed at e p is =
     let s : b ≡ p = sym (eqb-true p b is) in
     let n : suc b ≢ b = omega arith in
-    subst (λ p. IsSomeAnd (partner_of group p) (λ q. IsFalse (only b q))) s (rw ((next-at group formed b t at e).0) (ne_eqb (suc b) b n))
+    subst (λ p. IsSomeAnd (partner_place group p) (λ q. IsFalse (only b q))) s (rw ((next-at group formed b t at e).0) (ne_eqb (suc b) b n))
 only-covered group runs.Reverse b t formed at e p is =
     let s : suc b ≡ p = sym (eqb-true p (suc b) is) in
     let n : b ≢ suc b = omega arith in
-    subst (λ p. IsSomeAnd (partner_of group p) (λ q. IsFalse (only (suc b) q))) s (rw (formed.answered b (suc b) (next-at group formed b t at e).0) (ne_eqb b (suc b) n))
+    subst (λ p. IsSomeAnd (partner_place group p) (λ q. IsFalse (only (suc b) q))) s (rw (formed.answered b (suc b) (next-at group formed b t at e).0) (ne_eqb b (suc b) n))

@@ -17,8 +17,8 @@ use Rattle.etcs_check.specs.Profiles.{gradient_reach, speed_reach}
 use Rattle.etcs_check.specs.Soundness.{first_aspect}
 use Rattle.etcs_check.specs.Findings.{header_differs, mark_differs, balise_fact, pair_differs, is_unmodelled}
 use Rattle.etcs_check.specs.Aspects.{is_ambiguous}
-use Rattle.etcs_check.specs.Facts.{packets_at, speech_of, speech_in, is_short_profile, packet_fact, aspect_fact, whole_fact, message_fact}
-use Rattle.etcs_check.specs.Violation.{AspectPart, GroupPart, PacketsPart, MessagePart, IsLongAt}
+use Rattle.etcs_check.specs.Facts.{aspect_packets, aspect_speech, message_speech, is_short_profile, packet_fact, aspect_fact, whole_fact, message_fact}
+use Rattle.etcs_check.specs.Violation.{AspectPart, GroupPart, PacketsPart, MessagePart, IsLongProfile}
 use Rattle.etcs_check.specs.declared.finding.Rule.{Rule}
 use Rattle.etcs_check.specs.declared.finding.Rule.TheVariants as rules
 use Rattle.etcs_group.proofs.PlaceLemmas.{element_passes-at, element_passes-none}
@@ -48,11 +48,11 @@ module _ (aspects : List (List Telegram)) (a : ℕ) (group : List Telegram) wher
   none_at : (rule : Rule) (b : ℕ) → ((t : Telegram) → At group b t → fact rule b t ≡ false) → element_passes group b (fact rule b) ≡ false
   none_at rule b h = element_passes-none group b (fact rule b) h
 
-  long_at : (reach : TrackPacket → Option Reach) (run : Run) (b k : ℕ) → element_passes (packets_at group (Some b)) k (is_short_profile reach (speech_of group) run (Some b)) ≡ false → IsLongAt reach group run b k
+  long_at : (reach : TrackPacket → Option Reach) (run : Run) (b k : ℕ) → element_passes (aspect_packets group (Some b)) k (is_short_profile reach (aspect_speech group) run (Some b)) ≡ false → IsLongProfile reach group run b k
   long_at reach run b k none t p here there =
       at-long reach (group_message run group) run (is_silent run t.header.dup (length group) b) p (sym (profile_as reach group run b k t p here there) ∙ none)
 
-  none_short_at : (reach : TrackPacket → Option Reach) (run : Run) (b k : ℕ) → IsLongAt reach group run b k → element_passes (packets_at group (Some b)) k (is_short_profile reach (speech_of group) run (Some b)) ≡ false
+  none_short_at : (reach : TrackPacket → Option Reach) (run : Run) (b k : ℕ) → IsLongProfile reach group run b k → element_passes (aspect_packets group (Some b)) k (is_short_profile reach (aspect_speech group) run (Some b)) ≡ false
   none_short_at reach run b k part = none_short reach group run b k (λ t p here there.
       long-at reach (group_message run group) run (is_silent run t.header.dup (length group) b) p (part t p here there))
 
@@ -88,7 +88,7 @@ module _ (aspects : List (List Telegram)) (a : ℕ) (group : List Telegram) wher
   aspect_unbroken rules.DuplicatesDiffer (Some run) (Some b) None part = element_passes-none group b (λ t. pair_differs run t (slice_get group (b + 1))) (λ t here. false_from_ne_true _ (λ differs.
       let p = pair-says run t (slice_get group (b + 1)) differs in
       p.4 (part t p.0 here p.1 p.2 p.3)))
-  aspect_unbroken rules.NotModelled None (Some b) (Some k) part = element_passes-none (packets_at group (Some b)) k is_unmodelled (λ p here.
+  aspect_unbroken rules.NotModelled None (Some b) (Some k) part = element_passes-none (aspect_packets group (Some b)) k is_unmodelled (λ p here.
       let s = packet_stands group b k p here in
       not_from_true _ (part s.0 p s.1 s.2))
   aspect_unbroken rules.NoGradient (Some run) None None part = lacks-from_one gradient_reach (group_message run group) part
@@ -122,24 +122,24 @@ module _ (new : Type 0) (used : Bool) (aspects : List (List Telegram)) (controll
 -- ---- messages
 
 module _ (packets : List TrackPacket) where
-  packets_hold : (rule : Rule) (run : Option Run) (b k : Option ℕ) → packet_fact (speech_in packets) rule run b k ≡ false → PacketsPart packets rule run b k
+  packets_hold : (rule : Rule) (run : Option Run) (b k : Option ℕ) → packet_fact (message_speech packets) rule run b k ≡ false → PacketsPart packets rule run b k
   packets_hold rules.NotModelled None None (Some k) none = λ p at. not-false _ (sym (element_passes-at packets k is_unmodelled p at) ∙ none)
   packets_hold rules.NoGradient (Some run) None None none = one-from_lacks gradient_reach (filter (holds run) packets) none
   packets_hold rules.GradientShort (Some run) None (Some k) none = λ p at.
-      at-long gradient_reach (filter (holds run) packets) run false p (sym (element_passes-at packets k (is_short_profile gradient_reach (speech_in packets) run None) p at) ∙ none) refl
+      at-long gradient_reach (filter (holds run) packets) run false p (sym (element_passes-at packets k (is_short_profile gradient_reach (message_speech packets) run None) p at) ∙ none) refl
   packets_hold rules.NoSpeed (Some run) None None none = one-from_lacks speed_reach (filter (holds run) packets) none
   packets_hold rules.SpeedShort (Some run) None (Some k) none = λ p at.
-      at-long speed_reach (filter (holds run) packets) run false p (sym (element_passes-at packets k (is_short_profile speed_reach (speech_in packets) run None) p at) ∙ none) refl
+      at-long speed_reach (filter (holds run) packets) run false p (sym (element_passes-at packets k (is_short_profile speed_reach (message_speech packets) run None) p at) ∙ none) refl
   packets_hold rule run b k none = tt
 
-  packets_unbroken : (rule : Rule) (run : Option Run) (b k : Option ℕ) → PacketsPart packets rule run b k → packet_fact (speech_in packets) rule run b k ≡ false
+  packets_unbroken : (rule : Rule) (run : Option Run) (b k : Option ℕ) → PacketsPart packets rule run b k → packet_fact (message_speech packets) rule run b k ≡ false
   packets_unbroken rules.NotModelled None None (Some k) part = element_passes-none packets k is_unmodelled (λ p at. not_from_true _ (part p at))
   packets_unbroken rules.NoGradient (Some run) None None part = lacks-from_one gradient_reach (filter (holds run) packets) part
   packets_unbroken rules.GradientShort (Some run) None (Some k) part =
-      element_passes-none packets k (is_short_profile gradient_reach (speech_in packets) run None) (λ p at. long-at gradient_reach (filter (holds run) packets) run false p (λ _. part p at))
+      element_passes-none packets k (is_short_profile gradient_reach (message_speech packets) run None) (λ p at. long-at gradient_reach (filter (holds run) packets) run false p (λ _. part p at))
   packets_unbroken rules.NoSpeed (Some run) None None part = lacks-from_one speed_reach (filter (holds run) packets) part
   packets_unbroken rules.SpeedShort (Some run) None (Some k) part =
-      element_passes-none packets k (is_short_profile speed_reach (speech_in packets) run None) (λ p at. long-at speed_reach (filter (holds run) packets) run false p (λ _. part p at))
+      element_passes-none packets k (is_short_profile speed_reach (message_speech packets) run None) (λ p at. long-at speed_reach (filter (holds run) packets) run false p (λ _. part p at))
   packets_unbroken rules.NotModelled None (Some b) (Some k) part = refl
   packets_unbroken rules.GradientShort (Some run) (Some b) (Some k) part = refl
   packets_unbroken rules.SpeedShort (Some run) (Some b) (Some k) part = refl

@@ -14,9 +14,9 @@ use Rattle.etcs_group.specs.Places.{At}
 use Rattle.etcs_group.specs.Packets.{group_message}
 use Rattle.etcs_group.proofs.PlaceLemmas.{at_list_any, list_any-at, list_any-none}
 use Rattle.etcs_profile.specs.declared.track.TrackPacket.TheVariants as packets
-use Rattle.etcs_check.specs.Profiles.{gradient_reach, speed_reach, limit_of, Reaches, HasProfiles}
-use Rattle.etcs_check.specs.Violation.{HasProfile, IsLong, IsLongAt}
-use Rattle.etcs_check.specs.Findings.{lacks, lies_past, goes_past, is_short, is_said_and_short}
+use Rattle.etcs_check.specs.Profiles.{gradient_reach, speed_reach, packet_limit, Reaches, HasProfiles}
+use Rattle.etcs_check.specs.Violation.{HasProfile, IsLong, IsLongProfile}
+use Rattle.etcs_check.specs.Findings.{lacks, falls_short, exceeds, is_short, is_said_and_short}
 use Rattle.etcs_check.proofs.MemberLemmas.{said-site, site-said}
 
 some_is : {X : Type 0} (o : Option X) (x : X) → o ≡ Some x → is_some o ≡ true
@@ -28,45 +28,45 @@ is_some-says (Some x) h = (x, refl)
 
 -- ---- one reach and one supervised location
 
-not_past : (r : Reach) (limit : ℕ) → lies_past r limit ≡ false → Reaches r limit
+not_past : (r : Reach) (limit : ℕ) → falls_short r limit ≡ false → Reaches r limit
 not_past (Ends n) limit h = ltb-false n limit h
 not_past Open limit h = tt
 
-reaches-not_past : (r : Reach) (limit : ℕ) → Reaches r limit → lies_past r limit ≡ false
+reaches-not_past : (r : Reach) (limit : ℕ) → Reaches r limit → falls_short r limit ≡ false
 reaches-not_past (Ends n) limit h = le-ltb n limit h
 reaches-not_past Open limit h = refl
 
 -- ---- a profile that is not short
 
 abbrev pub ReachesAll : List TrackPacket → Reach → Type 0
-ReachesAll packets r = (i : ℕ) (a : TrackPacket) (limit : ℕ) → At packets i a → limit_of a ≡ Some limit → Reaches r limit
+ReachesAll packets r = (i : ℕ) (a : TrackPacket) (limit : ℕ) → At packets i a → packet_limit a ≡ Some limit → Reaches r limit
 
 short-says : (reach : TrackPacket → Option Reach) (packets : List TrackPacket) (p : TrackPacket) → is_short reach packets p ≡ false → (r : Reach) → reach p ≡ Some r → ReachesAll packets r
 short-says reach packets p h r has i a limit at is =
-    let none : list_any (goes_past r) packets ≡ false = rw has at h in
-    not_past r limit (false_from_ne_true _ (λ past. both_ways _ none (at_list_any (goes_past r) packets i a at (rw is past))))
+    let none : list_any (exceeds r) packets ≡ false = rw has at h in
+    not_past r limit (false_from_ne_true _ (λ past. both_ways _ none (at_list_any (exceeds r) packets i a at (rw is past))))
 
 short-from : (reach : TrackPacket → Option Reach) (packets : List TrackPacket) (p : TrackPacket) → ((r : Reach) → reach p ≡ Some r → ReachesAll packets r) → is_short reach packets p ≡ false
 short-from reach packets p h = go (reach p) refl
   where
-    no_limit : (r : Reach) (o : Option ℕ) → ((limit : ℕ) → o ≡ Some limit → Reaches r limit) → option_map_or (lies_past r) o false ≡ false
+    no_limit : (r : Reach) (o : Option ℕ) → ((limit : ℕ) → o ≡ Some limit → Reaches r limit) → option_map_or (falls_short r) o false ≡ false
     no_limit r None g = refl
     no_limit r (Some limit) g = reaches-not_past r limit (g limit refl)
 
-    go : (o : Option Reach) → reach p ≡ o → option_map_or (λ r. list_any (goes_past r) packets) o false ≡ false
+    go : (o : Option Reach) → reach p ≡ o → option_map_or (λ r. list_any (exceeds r) packets) o false ≡ false
     go None e = refl
-    go (Some r) e = list_any-none (goes_past r) packets (λ i a at. no_limit r (limit_of a) (λ limit is. h r e i a limit at is))
+    go (Some r) e = list_any-none (exceeds r) packets (λ i a at. no_limit r (packet_limit a) (λ limit is. h r e i a limit at is))
 
 -- ---- a list of packets
 
 abbrev pub HaveProfiles : (TrackPacket → Option Reach) → List TrackPacket → Type 0
-HaveProfiles reach packets = (i : ℕ) (a : TrackPacket) (limit : ℕ) → At packets i a → limit_of a ≡ Some limit → HasProfiles reach packets limit
+HaveProfiles reach packets = (i : ℕ) (a : TrackPacket) (limit : ℕ) → At packets i a → packet_limit a ≡ Some limit → HasProfiles reach packets limit
 
 -- if none is lacking, there is one
 pub one-from_lacks : (reach : TrackPacket → Option Reach) (packets : List TrackPacket) → lacks reach packets ≡ false → HasProfile reach packets
 one-from_lacks reach packets there i a limit at is =
-    let some = at_list_any (λ p. is_some (limit_of p)) packets i a at (some_is (limit_of a) limit is) in
-    list_any-at (λ p. is_some (reach p)) packets (elim (and_cases (list_any (λ p. is_some (limit_of p)) packets) (not (list_any (λ p. is_some (reach p)) packets)) there) [
+    let some = at_list_any (λ p. is_some (packet_limit p)) packets i a at (some_is (packet_limit a) limit is) in
+    list_any-at (λ p. is_some (reach p)) packets (elim (and_cases (list_any (λ p. is_some (packet_limit p)) packets) (not (list_any (λ p. is_some (reach p)) packets)) there) [
       | inl none ↦ absurd (both_ways _ none some)
       | inr none ↦ not-false _ none
     ])
@@ -76,13 +76,13 @@ pub profiles-from : (reach : TrackPacket → Option Reach) (packets : List Track
 profiles-from reach packets one long i a limit at is = record { one = one i a limit at is; each = λ j p r at' has. long j p at' r has i a limit at is }
 
 pub lacks-from_one : (reach : TrackPacket → Option Reach) (packets : List TrackPacket) → HasProfile reach packets → lacks reach packets ≡ false
-lacks-from_one reach packets h = elim (cases_Bool (list_any (λ p. is_some (limit_of p)) packets)) [
+lacks-from_one reach packets h = elim (cases_Bool (list_any (λ p. is_some (packet_limit p)) packets)) [
   | inr none ↦ and_left _ _ none
   | inl some ↦
-      let r = list_any-at (λ p. is_some (limit_of p)) packets some in
-      let e = is_some-says (limit_of r.1) r.3 in
+      let r = list_any-at (λ p. is_some (packet_limit p)) packets some in
+      let e = is_some-says (packet_limit r.1) r.3 in
       let p = h r.0 r.1 e.0 r.2 e.1 in
-      and_right (list_any (λ p. is_some (limit_of p)) packets) _ (not_from_true _ (at_list_any (λ p. is_some (reach p)) packets p.0 p.1 p.2 p.3))
+      and_right (list_any (λ p. is_some (packet_limit p)) packets) _ (not_from_true _ (at_list_any (λ p. is_some (reach p)) packets p.0 p.1 p.2 p.3))
 ]
 
 -- there is a profile
@@ -113,12 +113,12 @@ long-at reach said run silent p long = elim (cases_Bool silent) [
 ]
 
 -- each profile in the message of a group is long
-pub long-said : (reach : TrackPacket → Option Reach) (group : List Telegram) (run : Run) → HaveProfiles reach (group_message run group) → (b k : ℕ) → IsLongAt reach group run b k
+pub long-said : (reach : TrackPacket → Option Reach) (group : List Telegram) (run : Run) → HaveProfiles reach (group_message run group) → (b k : ℕ) → IsLongProfile reach group run b k
 long-said reach group run h b k t p at at' speaks held =
     let s = site-said run group b t k p at at' speaks held in
     profiles-long reach (group_message run group) h s.0 p s.1
 
-pub said-long : (reach : TrackPacket → Option Reach) (group : List Telegram) (run : Run) → ((b k : ℕ) → IsLongAt reach group run b k) → (j : ℕ) (p : TrackPacket) → At (group_message run group) j p → IsLong reach (group_message run group) p
+pub said-long : (reach : TrackPacket → Option Reach) (group : List Telegram) (run : Run) → ((b k : ℕ) → IsLongProfile reach group run b k) → (j : ℕ) (p : TrackPacket) → At (group_message run group) j p → IsLong reach (group_message run group) p
 said-long reach group run long j p at =
     let s = said-site run group j p at in
     long s.0 s.2 s.1 p s.3 s.4 s.5 s.6

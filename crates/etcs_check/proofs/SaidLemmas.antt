@@ -16,9 +16,9 @@ use Rattle.etcs_profile.specs.declared.track.TrackPacket.{TrackPacket}
 use Rattle.etcs_profile.specs.declared.reach.Reach.{Reach}
 use Rattle.etcs_profile.specs.declared.reach.Reach.TheVariants.{Ends, Open}
 use Rattle.etcs_telegram.specs.Record.{Telegram}
-use Rattle.etcs_check.specs.Findings.{lies_past, goes_past, is_short, lacks}
-use Rattle.etcs_check.specs.Profiles.{limit_of, gradient_reach, speed_reach}
-use Rattle.etcs_check.specs.PacketSummary.{greater, is_before, nothing, both, by_one, summary_of}
+use Rattle.etcs_check.specs.Findings.{falls_short, exceeds, is_short, lacks}
+use Rattle.etcs_check.specs.Profiles.{packet_limit, gradient_reach, speed_reach}
+use Rattle.etcs_check.specs.PacketSummary.{greater, ends_early, nothing, both, by_one, packets_summary}
 use Rattle.etcs_check.specs.declared.packet_summary.PacketSummary.{PacketSummary}
 use Rattle.etcs_check.proofs.NoteLemmas.{drop_at}
 
@@ -67,19 +67,19 @@ both-comm a b = λ i. record {
   has_speed = or_comm a.has_speed b.has_speed i;
 }
 
-said-append : (xs ys : List TrackPacket) → summary_of (xs ++ ys) ≡ both (summary_of xs) (summary_of ys)
+said-append : (xs ys : List TrackPacket) → packets_summary (xs ++ ys) ≡ both (packets_summary xs) (packets_summary ys)
 said-append [] ys = refl
-said-append (x ∷ xs) ys = ap (both (by_one x)) (said-append xs ys) ∙ sym (both-assoc (by_one x) (summary_of xs) (summary_of ys))
+said-append (x ∷ xs) ys = ap (both (by_one x)) (said-append xs ys) ∙ sym (both-assoc (by_one x) (packets_summary xs) (packets_summary ys))
 
-said-passing : {X : Type 0} (f : X → List TrackPacket) (run : Run) (xs : List X) → summary_of (flat_map f (in_passing_order run xs)) ≡ summary_of (flat_map f xs)
+said-passing : {X : Type 0} (f : X → List TrackPacket) (run : Run) (xs : List X) → packets_summary (flat_map f (in_passing_order run xs)) ≡ packets_summary (flat_map f xs)
 said-passing f runs.Nominal xs = refl
 said-passing f runs.Reverse [] = refl
 said-passing f runs.Reverse (x ∷ xs) =
-    ap (λ l. summary_of (flat_map f l)) (reverse-append (x ∷ []) xs)
-    ∙ ap summary_of (flat_map-append f (reverse xs) (x ∷ []))
+    ap (λ l. packets_summary (flat_map f l)) (reverse-append (x ∷ []) xs)
+    ∙ ap packets_summary (flat_map-append f (reverse xs) (x ∷ []))
     ∙ said-append (flat_map f (reverse xs)) (f x ++ [])
-    ∙ ap₂ both (said-passing f runs.Reverse xs) (ap summary_of (append-nil (f x)))
-    ∙ both-comm (summary_of (flat_map f xs)) (summary_of (f x))
+    ∙ ap₂ both (said-passing f runs.Reverse xs) (ap packets_summary (append-nil (f x)))
+    ∙ both-comm (packets_summary (flat_map f xs)) (packets_summary (f x))
     ∙ sym (said-append (f x) (flat_map f xs))
 
 -- ---- steps
@@ -95,24 +95,24 @@ pub said_end : (run : Run) (n : ℕ) (group : List Telegram) (i : ℕ) → lengt
 said_end run n group i le = ap (λ l. flat_map (λ (e : ℕ × Telegram). balise_packets run n e.0 e.1) (enumerate_from i l)) (drop_all i group le)
 
 pub said_here : (held : TrackPacket → Bool) (packets : List TrackPacket) (i : ℕ) (p : TrackPacket) → At packets i p
-    → summary_of (filter held (drop i packets)) ≡ both (if held p then by_one p else nothing) (summary_of (filter held (drop (i + 1) packets)))
-said_here held packets i p at = ap (λ l. summary_of (filter held l)) (drop_at packets i p at) ∙ go (held p)
+    → packets_summary (filter held (drop i packets)) ≡ both (if held p then by_one p else nothing) (packets_summary (filter held (drop (i + 1) packets)))
+said_here held packets i p at = ap (λ l. packets_summary (filter held l)) (drop_at packets i p at) ∙ go (held p)
   where
     rest : List TrackPacket
     rest = filter held (drop (i + 1) packets)
 
-    go : (b : Bool) → summary_of (if b then p ∷ rest else rest) ≡ both (if b then by_one p else nothing) (summary_of rest)
+    go : (b : Bool) → packets_summary (if b then p ∷ rest else rest) ≡ both (if b then by_one p else nothing) (packets_summary rest)
     go true = refl
     go false = refl
 
-pub none_here : (held : TrackPacket → Bool) (packets : List TrackPacket) (i : ℕ) → length packets ≤ i → summary_of (filter held (drop i packets)) ≡ nothing
-none_here held packets i le = ap (λ l. summary_of (filter held l)) (drop_all i packets le)
+pub none_here : (held : TrackPacket → Bool) (packets : List TrackPacket) (i : ℕ) → length packets ≤ i → packets_summary (filter held (drop i packets)) ≡ nothing
+none_here held packets i le = ap (λ l. packets_summary (filter held l)) (drop_all i packets le)
 
 pub said_step : (run : Run) (n : ℕ) (group : List Telegram) (i : ℕ) (t : Telegram) → At group i t
-    → summary_of (said_from run n i group) ≡ both (summary_of (balise_packets run n i t)) (summary_of (said_from run n (i + 1) group))
-said_step run n group i t at = ap summary_of (said_rest run n group i t at) ∙ said-append (balise_packets run n i t) (said_from run n (i + 1) group)
+    → packets_summary (said_from run n i group) ≡ both (packets_summary (balise_packets run n i t)) (packets_summary (said_from run n (i + 1) group))
+said_step run n group i t at = ap packets_summary (said_rest run n group i t at) ∙ said-append (balise_packets run n i t) (said_from run n (i + 1) group)
 
-pub said_whole : (run : Run) (group : List Telegram) → summary_of (said_from run (length group) 0 group) ≡ summary_of (group_message run group)
+pub said_whole : (run : Run) (group : List Telegram) → packets_summary (said_from run (length group) 0 group) ≡ packets_summary (group_message run group)
 said_whole run group = sym (said-passing (λ (e : ℕ × Telegram). balise_packets run (length group) e.0 e.1) run (enumerate_from 0 group))
 
 -- ---- some location lies past a reach if and only if the greatest one does
@@ -126,21 +126,21 @@ max_past n a b = elim (cases_lt n a) [
   ]
 ]
 
-past_greater : (r : Reach) (a b : Option ℕ) → option_map_or (lies_past r) (greater a b) false ≡ (option_map_or (lies_past r) a false || option_map_or (lies_past r) b false)
+past_greater : (r : Reach) (a b : Option ℕ) → option_map_or (falls_short r) (greater a b) false ≡ (option_map_or (falls_short r) a false || option_map_or (falls_short r) b false)
 past_greater r None b = refl
-past_greater r (Some m) None = or_false (lies_past r m)
+past_greater r (Some m) None = or_false (falls_short r m)
 past_greater (Ends n) (Some m) (Some k) = max_past n m k
 past_greater Open (Some m) (Some k) = refl
 
-past_said : (r : Reach) (packets : List TrackPacket) → list_any (goes_past r) packets ≡ option_map_or (lies_past r) (summary_of packets).limit false
+past_said : (r : Reach) (packets : List TrackPacket) → list_any (exceeds r) packets ≡ option_map_or (falls_short r) (packets_summary packets).limit false
 past_said r [] = refl
-past_said r (p ∷ ps) = ap (λ s. goes_past r p || s) (past_said r ps) ∙ sym (past_greater r (limit_of p) (summary_of ps).limit)
+past_said r (p ∷ ps) = ap (λ s. exceeds r p || s) (past_said r ps) ∙ sym (past_greater r (packet_limit p) (packets_summary ps).limit)
 
 -- a profile is short if and only if it ends before the greatest location
-pub short-before : (reach : TrackPacket → Option Reach) (packets : List TrackPacket) (p : TrackPacket) → is_short reach packets p ≡ is_before reach (summary_of packets).limit p
+pub short-before : (reach : TrackPacket → Option Reach) (packets : List TrackPacket) (p : TrackPacket) → is_short reach packets p ≡ ends_early reach (packets_summary packets).limit p
 short-before reach packets p = go (reach p)
   where
-    go : (o : Option Reach) → option_map_or (λ r. list_any (goes_past r) packets) o false ≡ option_map_or (λ r. option_map_or (lies_past r) (summary_of packets).limit false) o false
+    go : (o : Option Reach) → option_map_or (λ r. list_any (exceeds r) packets) o false ≡ option_map_or (λ r. option_map_or (falls_short r) (packets_summary packets).limit false) o false
     go None = refl
     go (Some r) = past_said r packets
 
@@ -151,20 +151,20 @@ some_greater None b = refl
 some_greater (Some m) None = refl
 some_greater (Some m) (Some n) = refl
 
-some_said : (packets : List TrackPacket) → list_any (λ p. is_some (limit_of p)) packets ≡ is_some (summary_of packets).limit
+some_said : (packets : List TrackPacket) → list_any (λ p. is_some (packet_limit p)) packets ≡ is_some (packets_summary packets).limit
 some_said [] = refl
-some_said (p ∷ ps) = ap (λ s. is_some (limit_of p) || s) (some_said ps) ∙ sym (some_greater (limit_of p) (summary_of ps).limit)
+some_said (p ∷ ps) = ap (λ s. is_some (packet_limit p) || s) (some_said ps) ∙ sym (some_greater (packet_limit p) (packets_summary ps).limit)
 
-gradient_said : (packets : List TrackPacket) → (summary_of packets).has_gradient ≡ list_any (λ p. is_some (gradient_reach p)) packets
+gradient_said : (packets : List TrackPacket) → (packets_summary packets).has_gradient ≡ list_any (λ p. is_some (gradient_reach p)) packets
 gradient_said [] = refl
 gradient_said (p ∷ ps) = ap (λ b. is_some (gradient_reach p) || b) (gradient_said ps)
 
-speed_said : (packets : List TrackPacket) → (summary_of packets).has_speed ≡ list_any (λ p. is_some (speed_reach p)) packets
+speed_said : (packets : List TrackPacket) → (packets_summary packets).has_speed ≡ list_any (λ p. is_some (speed_reach p)) packets
 speed_said [] = refl
 speed_said (p ∷ ps) = ap (λ b. is_some (speed_reach p) || b) (speed_said ps)
 
-pub lacks_gradient-is : (packets : List TrackPacket) → (is_some (summary_of packets).limit && not (summary_of packets).has_gradient) ≡ lacks gradient_reach packets
+pub lacks_gradient-is : (packets : List TrackPacket) → (is_some (packets_summary packets).limit && not (packets_summary packets).has_gradient) ≡ lacks gradient_reach packets
 lacks_gradient-is packets = ap₂ (λ a b. a && not b) (sym (some_said packets)) (gradient_said packets)
 
-pub lacks_speed-is : (packets : List TrackPacket) → (is_some (summary_of packets).limit && not (summary_of packets).has_speed) ≡ lacks speed_reach packets
+pub lacks_speed-is : (packets : List TrackPacket) → (is_some (packets_summary packets).limit && not (packets_summary packets).has_speed) ≡ lacks speed_reach packets
 lacks_speed-is packets = ap₂ (λ a b. a && not b) (sym (some_said packets)) (speed_said packets)

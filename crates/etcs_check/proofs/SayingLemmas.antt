@@ -7,7 +7,7 @@ use Rattle.etcs_group.specs.Places.{At}
 use Rattle.etcs_check.specs.Violation.{Violates}
 use Rattle.etcs_check.specs.Laws.{AreControlled, NamesTheUnsound}
 use Rattle.etcs_check.specs.Line.{findings, group_list, message_list}
-use Rattle.etcs_check.specs.Order.{IsListOf}
+use Rattle.etcs_check.specs.Order.{IsFindings}
 use Rattle.etcs_check.specs.Soundness.{IsSoundLine}
 use Rattle.etcs_check.specs.declared.finding.Finding.{Finding}
 use Rattle.etcs_check.proofs.LineLemmas.{no_finding_means_sound_line}
@@ -23,7 +23,7 @@ findings_noted none some all gs groups ms messages empty first then are others =
 
 module _ (groups : List (List (List Telegram))) (messages : List Message) (found : List Finding) (is : found ≡ findings groups messages) where
   -- each fact has its finding, in order
-  pub found_list : IsListOf groups messages found
+  pub found_list : IsFindings groups messages found
   found_list = (findings_are_the_facts_in_order groups messages found).0 is
 
   module _ (controlled : AreControlled groups) where

@@ -9,11 +9,11 @@ use Rattle.etcs_profile.specs.declared.run.Run.TheVariants as runs
 use Rattle.etcs_profile.specs.declared.track.TrackPacket.{TrackPacket}
 use Rattle.etcs_telegram.specs.Record.{Telegram}
 use Rattle.etcs_group.specs.Places.{At}
-use Rattle.etcs_group.specs.Group.{is_modelled, named_by, AreAlike, IsWellFormed, HasOneCounter}
+use Rattle.etcs_group.specs.Group.{is_modelled, named_neighbour, AreAlike, IsWellFormed, HasOneCounter}
 use Rattle.etcs_group.specs.Missed.{IsSetOf, IsCovered, none_missed}
 use Rattle.etcs_group.specs.Reading.{reading_of}
 use Rattle.etcs_group.specs.Assembly.{IsAccepted}
-use Rattle.etcs_group.specs.Packets.{held_packets, packets_of, group_message, HasEqualPairs}
+use Rattle.etcs_group.specs.Packets.{held_packets, assembled, group_message, HasEqualPairs}
 use Rattle.etcs_group.proofs.PlaceLemmas.{one_at, some_at}
 use Rattle.etcs_group.proofs.MarkLemmas.{partner-says, next-at, previous-at}
 use Rattle.etcs_group.proofs.ReadingLemmas.{at-reading}
@@ -69,7 +69,7 @@ module _ (group : List Telegram) (run : Run) (formed : IsWellFormed group) (equa
   pub equal_pairs : HasEqualPairs run group
   equal_pairs b p t u partner at au =
       let says = partner-says group b p partner in
-      by_mark t.header.dup refl (subst (λ (x : Telegram). named_by x.header.dup b ≡ Some p) (one_at group b says.0 t says.1 at) says.2)
+      by_mark t.header.dup refl (subst (λ (x : Telegram). named_neighbour x.header.dup b ≡ Some p) (one_at group b says.0 t says.1 at) says.2)
     where
       by_next : p ≡ suc b → t.header.dup ≡ dups.Next → held_packets run t ≡ held_packets run u
       by_next is e =
@@ -84,12 +84,12 @@ module _ (group : List Telegram) (run : Run) (formed : IsWellFormed group) (equa
           let same = one_at group a v u av au' in
           sym (next_equal a u t au' (subst (λ k. At group k t) is at) (ap (λ (x : Telegram). x.header.dup) (sym same) ∙ f) e)
 
-      by_mark : (m : Dup) → t.header.dup ≡ m → named_by m b ≡ Some p → held_packets run t ≡ held_packets run u
+      by_mark : (m : Dup) → t.header.dup ≡ m → named_neighbour m b ≡ Some p → held_packets run t ≡ held_packets run u
       by_mark dups.Single e n = absurd (none-some p n)
       by_mark dups.Next e n = let q = same_Some (b + 1) p n in by_next (omega arith) e
       by_mark dups.Previous e n =
           let r = previous-at group formed b t at e in
-          let n' : named_by dups.Previous (suc r.0) ≡ Some p = ap (named_by dups.Previous) (sym r.1) ∙ n in
+          let n' : named_neighbour dups.Previous (suc r.0) ≡ Some p = ap (named_neighbour dups.Previous) (sym r.1) ∙ n in
           by_previous r.0 r.2 r.1 (sym (same_Some r.0 p n')) r.3 r.4 e
 
 -- ---- sound if all parts hold
@@ -137,7 +137,7 @@ module _ (aspects : List (List Telegram)) (a : ℕ) (group : List Telegram) (lon
     profiles-from speed_reach (group_message run group) (parts rules.NoSpeed (Some run) None None) (said-long speed_reach group run (λ b k. parts rules.SpeedShort (Some run) (Some b) (Some k))) i p limit at is,
   )
 
-  says_said : (run : Run) (missed : ℕ → Bool) → IsCovered group missed → packets_of run (reading_of run missed group) ≡ group_message run group
+  says_said : (run : Run) (missed : ℕ → Bool) → IsCovered group missed → assembled run (reading_of run missed group) ≡ group_message run group
   says_said run missed covered =
       (readings_say_the_same run group formed).covered (equal_pairs group run formed (λ b. parts rules.DuplicatesDiffer (Some run) (Some b) None)) missed covered
 

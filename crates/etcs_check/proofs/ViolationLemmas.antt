@@ -15,9 +15,9 @@ use Rattle.etcs_group.specs.Group.{IsWellFormed}
 use Rattle.etcs_group.specs.Packets.{group_message}
 use Rattle.etcs_group.proofs.SaidLemmas.{said-packets}
 use Rattle.etcs_check.specs.Aspects.{is_used}
-use Rattle.etcs_check.specs.Facts.{aspect_fact, whole_fact, group_fact, message_fact, fact_at}
+use Rattle.etcs_check.specs.Facts.{aspect_fact, whole_fact, group_fact, message_fact, site_fact}
 use Rattle.etcs_check.specs.Findings.{pair_differs}
-use Rattle.etcs_check.specs.Violation.{full_packets, AffectsReadings, DependsOnMissed, ViolatesGroup, IsNew, ViolatesSite, HasPartsAt}
+use Rattle.etcs_check.specs.Violation.{full_packets, AffectsReadings, DependsOnMissed, ViolatesGroup, IsNew, ViolatesSite, HasSiteParts}
 use Rattle.etcs_check.specs.Laws.{AreControlled, FindingsAreFacts, PartsHoldUnlessFound, ASoundLineHasNoViolation}
 use Rattle.etcs_check.specs.Line.{findings}
 use Rattle.etcs_check.specs.Profiles.{gradient_reach, speed_reach}
@@ -83,7 +83,7 @@ group_violates new used aspects controlled unused rule aspect run b k fact = eli
 -- ---- findings
 
 module _ (groups : List (List (List Telegram))) (messages : List Message) (f : Finding) (controlled : AreControlled groups) where
-  facts_violate : (s : Site) → fact_at groups messages s f ≡ true → ViolatesSite groups messages f s
+  facts_violate : (s : Site) → site_fact groups messages s f ≡ true → ViolatesSite groups messages f s
   facts_violate (sites.Group g) h =
       let r = passed groups g (λ aspects. group_fact (is_used (take g groups) aspects) aspects f.rule f.aspect f.dir f.balise f.packet) h in
       (r.0, r.1, group_violates (IsNew groups g r.0) (is_used (take g groups) r.0) r.0 (controlled g r.0 r.1) (new-is groups g r.0) f.rule f.aspect f.dir f.balise f.packet r.2)
@@ -92,7 +92,7 @@ module _ (groups : List (List (List Telegram))) (messages : List Message) (f : F
       let whole = message_whole r.0 f.rule f.aspect f.dir f.balise f.packet r.2 in
       (r.0, r.1, whole, λ part. both_ways _ (message_unbroken r.0 f.rule f.dir f.balise f.packet part) (subst (λ o. message_fact r.0 f.rule o f.dir f.balise f.packet ≡ true) whole r.2))
 
-  parts_hold : (s : Site) → fact_at groups messages s f ≡ false → HasPartsAt groups messages f s
+  parts_hold : (s : Site) → site_fact groups messages s f ≡ false → HasSiteParts groups messages f s
   parts_hold (sites.Group g) none = λ aspects at.
       let used = is_used (take g groups) aspects in
       let silent : group_fact used aspects f.rule f.aspect f.dir f.balise f.packet ≡ false =
@@ -116,7 +116,7 @@ parts_hold_unless_found groups messages f controlled none = parts_hold groups me
     none l.0 l.1))
 
 -- a violation has a part that does not hold
-violation_parts : (groups : List (List (List Telegram))) (messages : List Message) (f : Finding) (s : Site) → HasPartsAt groups messages f s → ViolatesSite groups messages f s → ⊥
+violation_parts : (groups : List (List (List Telegram))) (messages : List Message) (f : Finding) (s : Site) → HasSiteParts groups messages f s → ViolatesSite groups messages f s → ⊥
 violation_parts groups messages f (sites.Group g) parts h =
     let p = parts h.0 h.1 in
     elim h.2 [

@@ -24,8 +24,8 @@ abbrev pub is_used : List Aspects → Aspects → Bool
 is_used earlier aspects = list_any (λ h. have_one_identity h aspects) earlier
 
 -- each aspect has a telegram at place b that passes the test
-abbrev pub all_at : (Telegram → Bool) → ℕ → Aspects → Bool
-all_at test b aspects = list_all (λ group. element_passes group b test) aspects
+abbrev pub all_pass : (Telegram → Bool) → ℕ → Aspects → Bool
+all_pass test b aspects = list_all (λ group. element_passes group b test) aspects
 
 -- telegram u has the counter 255, and t is the same telegram
 abbrev pub is_steady : Telegram → Telegram → Bool
@@ -39,7 +39,7 @@ has_aspect_counter t = nat_lt t.header.counter 254
 -- neither fixed (t, with counter 255, in every aspect) nor switched (a counter below 254 in every aspect)
 abbrev pub is_ambiguous : Aspects → ℕ → Telegram → Bool
 is_ambiguous aspects b t =
-    nat_lt 1 (length aspects) && not (all_at (is_steady t) b aspects || all_at has_aspect_counter b aspects)
+    nat_lt 1 (length aspects) && not (all_pass (is_steady t) b aspects || all_pass has_aspect_counter b aspects)
 
 -- the location of a finding about a message or a whole group
 abbrev pub site_spot : Site → Spot

@@ -31,18 +31,18 @@ pub record Speech : Type 0 where
   pub silent : Run → Option ℕ → Bool
   pub said : Run → List TrackPacket
 
-abbrev pub packets_at : Telegrams → Option ℕ → List TrackPacket
-packets_at group (Some b) = option_map_or (λ t. t.packets) (slice_get group b) []
-packets_at group None = []
+abbrev pub aspect_packets : Telegrams → Option ℕ → List TrackPacket
+aspect_packets group (Some b) = option_map_or (λ t. t.packets) (slice_get group b) []
+aspect_packets group None = []
 
-abbrev pub is_silent_at : Telegrams → Run → Option ℕ → Bool
-is_silent_at group run (Some b) = element_passes group b (λ t. is_silent run t.header.dup (length group) b)
-is_silent_at group run None = false
+abbrev pub is_silent_balise : Telegrams → Run → Option ℕ → Bool
+is_silent_balise group run (Some b) = element_passes group b (λ t. is_silent run t.header.dup (length group) b)
+is_silent_balise group run None = false
 
-abbrev pub speech_of : Telegrams → Speech
-speech_of group = record {
-  packets = packets_at group;
-  silent = is_silent_at group;
+abbrev pub aspect_speech : Telegrams → Speech
+aspect_speech group = record {
+  packets = aspect_packets group;
+  silent = is_silent_balise group;
   said = λ run. group_message run group;
 }
 
@@ -50,8 +50,8 @@ abbrev pub packets_alone : List TrackPacket → Option ℕ → List TrackPacket
 packets_alone packets (Some b) = []
 packets_alone packets None = packets
 
-abbrev pub speech_in : List TrackPacket → Speech
-speech_in packets = record {
+abbrev pub message_speech : List TrackPacket → Speech
+message_speech packets = record {
   packets = packets_alone packets;
   silent = λ run b. false;
   said = λ run. filter (holds run) packets;
@@ -79,7 +79,7 @@ aspect_fact first before group rules.DuplicatesDiffer (Some run) (Some b) None =
     element_passes group b (λ t. pair_differs run t (slice_get group (b + 1)))
 aspect_fact first before group rule None (Some b) None =
     element_passes group b (balise_fact first before group rule b)
-aspect_fact first before group rule run b k = packet_fact (speech_of group) rule run b k
+aspect_fact first before group rule run b k = packet_fact (aspect_speech group) rule run b k
 
 -- a fact about a group as a whole; `used` says whether an earlier group has its identity
 abbrev pub whole_fact : Bool → Aspects → Rule → Option Run → Option ℕ → Option ℕ → Bool
@@ -103,18 +103,18 @@ group_fact used aspects rule (Some a) run b k =
 
 -- a fact about a message 3 is a fact about its packets; there are no facts about a message 136
 abbrev pub message_fact : Message → Rule → Option ℕ → Option Run → Option ℕ → Option ℕ → Bool
-message_fact (messages.Movement m) rule None run b k = packet_fact (speech_in m.packets) rule run b k
+message_fact (messages.Movement m) rule None run b k = packet_fact (message_speech m.packets) rule run b k
 message_fact m rule aspect run b k = false
 
-abbrev pub fact_at : List Aspects → List Message → Site → Finding → Bool
-fact_at groups messages (sites.Group g) f = element_passes groups g
+abbrev pub site_fact : List Aspects → List Message → Site → Finding → Bool
+site_fact groups messages (sites.Group g) f = element_passes groups g
     (λ aspects. group_fact (is_used (take g groups) aspects) aspects f.rule f.aspect f.dir f.balise f.packet)
-fact_at groups messages (sites.Message i) f =
+site_fact groups messages (sites.Message i) f =
     element_passes messages i (λ m. message_fact m f.rule f.aspect f.dir f.balise f.packet)
 
 -- the finding states a fact against the line, as a test
 abbrev pub is_fact : List Aspects → List Message → Finding → Bool
-is_fact groups messages f = fact_at groups messages f.site f
+is_fact groups messages f = site_fact groups messages f.site f
 
 -- the finding states a fact against the line
 abbrev pub StatesFact : List Aspects → List Message → Finding → Type 0

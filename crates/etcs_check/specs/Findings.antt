@@ -16,9 +16,9 @@ use Rattle.etcs_profile.specs.declared.track.TrackPacket.{TrackPacket}
 use Rattle.etcs_profile.specs.declared.reach.Reach.{Reach}
 use Rattle.etcs_profile.specs.declared.reach.Reach.TheVariants.{Ends, Open}
 use Rattle.etcs_telegram.specs.Record.{Telegram}
-use Rattle.etcs_group.specs.Group.{is_modelled, partner_of, Telegrams, Aspects}
+use Rattle.etcs_group.specs.Group.{is_modelled, partner_place, Telegrams, Aspects}
 use Rattle.etcs_check.specs.Duplicates.{same_identity, same_mark, same_held}
-use Rattle.etcs_check.specs.Profiles.{limit_of}
+use Rattle.etcs_check.specs.Profiles.{packet_limit}
 use Rattle.etcs_check.specs.declared.finding.Finding.{Finding}
 use Rattle.etcs_check.specs.declared.finding.Rule.{Rule}
 use Rattle.etcs_check.specs.declared.finding.Rule.TheVariants as rules
@@ -49,12 +49,12 @@ is_outside n dups.Next b = (b + 1) == n
 is_outside n dups.Previous b = b == 0
 
 -- the number is absent or another one
-abbrev pub differs_from : Option ℕ → ℕ → Bool
-differs_from o n = not (option_map_or (λ m. m == n) o false)
+abbrev pub is_other : Option ℕ → ℕ → Bool
+is_other o n = not (option_map_or (λ m. m == n) o false)
 
 -- F5: the balise has a partner, whose partner is another balise or none
 abbrev pub is_unanswered : Telegrams → Option ℕ → ℕ → Bool
-is_unanswered group partner b = option_map_or (λ p. differs_from (partner_of group p) b) partner false
+is_unanswered group partner b = option_map_or (λ p. is_other (partner_place group p) b) partner false
 
 -- F6: its counter is 254
 abbrev pub is_unfit : Telegram → Bool
@@ -68,7 +68,7 @@ first_counter (t ∷ ts) = if nat_lt t.header.counter 254 then Some t.header.cou
 -- F7: its counter is below 254, and is not the first one below 254
 abbrev pub counter_differs : Telegrams → Telegram → Bool
 counter_differs group t =
-    nat_lt t.header.counter 254 && differs_from (first_counter group) t.header.counter
+    nat_lt t.header.counter 254 && is_other (first_counter group) t.header.counter
 
 -- F15: the telegram's mark is not that of the other one. It is no fact where there is no other one.
 abbrev pub mark_differs : Option Telegram → Telegram → Bool
@@ -91,7 +91,7 @@ balise_fact first before group rules.PositionWrong b t = is_misplaced b t
 balise_fact first before group rules.TotalWrong b t = is_miscounted group t
 balise_fact first before group rules.HeaderDiffers b t = header_differs (slice_get first 0) t
 balise_fact first before group rules.MarkOutside b t = is_outside (length group) t.header.dup b
-balise_fact first before group rules.MarkUnanswered b t = is_unanswered group (partner_of group b) b
+balise_fact first before group rules.MarkUnanswered b t = is_unanswered group (partner_place group b) b
 balise_fact first before group rules.CounterUnfit b t = is_unfit t
 balise_fact first before group rules.CountersDiffer b t = counter_differs group t
 balise_fact first before group rules.MarksDiffer b t = mark_differs (slice_get first b) t
@@ -117,21 +117,21 @@ is_unmodelled p = not (is_modelled p)
 -- F10 and F12: there is an authority among the packets, and no profile of the kind
 abbrev pub lacks : (TrackPacket → Option Reach) → List TrackPacket → Bool
 lacks reach packets =
-    list_any (λ p. is_some (limit_of p)) packets && not (list_any (λ p. is_some (reach p)) packets)
+    list_any (λ p. is_some (packet_limit p)) packets && not (list_any (λ p. is_some (reach p)) packets)
 
 -- a supervised location lies past a reach
-abbrev pub lies_past : Reach → ℕ → Bool
-lies_past (Ends n) limit = nat_lt n limit
-lies_past Open limit = false
+abbrev pub falls_short : Reach → ℕ → Bool
+falls_short (Ends n) limit = nat_lt n limit
+falls_short Open limit = false
 
 -- a packet is an authority whose supervised location lies past a reach
-abbrev pub goes_past : Reach → TrackPacket → Bool
-goes_past r a = option_map_or (lies_past r) (limit_of a) false
+abbrev pub exceeds : Reach → TrackPacket → Bool
+exceeds r a = option_map_or (falls_short r) (packet_limit a) false
 
 -- F11 and F13: the packet is a profile of the kind, and the supervised location of some authority
 -- among the packets lies past its reach
 abbrev pub is_short : (TrackPacket → Option Reach) → List TrackPacket → TrackPacket → Bool
-is_short reach packets p = option_map_or (λ r. list_any (goes_past r) packets) (reach p) false
+is_short reach packets p = option_map_or (λ r. list_any (exceeds r) packets) (reach p) false
 
 -- F11 and F13: the speaker is not silent, the packet holds, and it is a profile that ends before a supervised
 -- location that is said
@@ -142,8 +142,8 @@ is_said_and_short reach said run silent p = not silent && (holds run p && is_sho
 -- ---- lists of findings
 
 -- a finding of these parts
-abbrev pub finding_of : Rule → Spot → Option Run → Option ℕ → Option ℕ → Finding
-finding_of rule spot run b k =
+abbrev pub new_finding : Rule → Spot → Option Run → Option ℕ → Option ℕ → Finding
+new_finding rule spot run b k =
     record { rule = rule; site = spot.site; aspect = spot.aspect; dir = run; balise = b; packet = k }
 
 -- a list of the finding if the fact holds, otherwise empty
@@ -151,12 +151,12 @@ abbrev pub noted : Bool → Finding → List Finding
 noted fact finding = if fact then finding ∷ [] else []
 
 -- the findings of each item with its place, in order; the first item is at place b
-abbrev pub each_from : {X : Type 0} → (ℕ → X → List Finding) → ℕ → List X → List Finding
-each_from f b xs = flat_map (λ e. f e.0 e.1) (enumerate_from b xs)
+abbrev pub numbered_findings : {X : Type 0} → (ℕ → X → List Finding) → ℕ → List X → List Finding
+numbered_findings f b xs = flat_map (λ e. f e.0 e.1) (enumerate_from b xs)
 
 -- the findings of each item with its place, in order, from place 0 on
 abbrev pub for_each : {X : Type 0} → List X → (ℕ → X → List Finding) → List Finding
-for_each xs f = each_from f 0 xs
+for_each xs f = numbered_findings f 0 xs
 
 -- the findings of each running direction, nominal first
 abbrev pub for_directions : (Run → List Finding) → List Finding

@@ -34,8 +34,8 @@ abbrev pub is_marked : List ℕ → ℕ → Bool
 is_marked table p = has_bit (slice_index table (p / 64)) (p % 64)
 
 -- whether some group has the identity of this number
-abbrev pub is_among : List Aspects → ℕ → Bool
-is_among groups n = list_any (λ h. identity_number h == n) groups
+abbrev pub has_identity_number : List Aspects → ℕ → Bool
+has_identity_number groups n = list_any (λ h. identity_number h == n) groups
 
 -- No group whose identity is one of the n from base on has the identity of an earlier group.
 abbrev pub HasNoRepeat : ℕ → ℕ → List Aspects → Type 0

@@ -18,7 +18,7 @@ use Rattle.etcs_check.specs.Soundness.{IsSoundGroup, IsSoundControlled, IsSoundM
 use Rattle.etcs_check.specs.Aspects.{is_used}
 use Rattle.etcs_check.specs.Line.{findings}
 use Rattle.etcs_check.specs.Facts.{group_fact, StatesFact}
-use Rattle.etcs_check.specs.Order.{IsListOf}
+use Rattle.etcs_check.specs.Order.{IsFindings}
 use Rattle.etcs_check.specs.Violation.{HasParts, Violates, IsNew}
 use Rattle.etcs_check.specs.declared.finding.Finding.{Finding}
 use Rattle.etcs_check.specs.declared.finding.Rule.{Rule}
@@ -101,7 +101,7 @@ FactsAreFindings = (groups : List Aspects) (messages : List Message) (f : Findin
 -- The list of a line's findings is the only list that has each fact once, and only facts, in order.
 abbrev pub FindingsAreTheFactsInOrder : Type 0
 FindingsAreTheFactsInOrder = (groups : List Aspects) (messages : List Message) (found : List Finding)
-    → (found ≡ findings groups messages) ↔ IsListOf groups messages found
+    → (found ≡ findings groups messages) ↔ IsFindings groups messages found
 
 -- The covered readings of a sound group are accepted. Every other reading is refused: as Nothing if all
 -- places are missed, otherwise as Absent at the least lost place.

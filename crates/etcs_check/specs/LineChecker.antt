@@ -5,7 +5,7 @@ use Rattle.std.specs.BTreeSet.{BTreeSet, contains}
 use Rattle.std.specs.Ordering.{nat_cmp}
 use Rattle.etcs_radio.specs.declared.message.Message.{Message}
 use Rattle.etcs_group.specs.Group.{Aspects}
-use Rattle.etcs_check.specs.Identities.{HaveIdentities, is_among}
+use Rattle.etcs_check.specs.Identities.{HaveIdentities, has_identity_number}
 use Rattle.etcs_check.specs.Laws.{AreControlled}
 use Rattle.etcs_check.specs.Line.{findings}
 use Rattle.etcs_check.specs.declared.finding.Finding.{Finding}
@@ -20,7 +20,7 @@ pub record CheckerState : Type 0 where
 
 -- only the numbers of these groups' identities are kept
 abbrev pub HasKept : (ℕ → Bool) → List Aspects → Type 0
-HasKept is_kept groups = (n : ℕ) → is_kept n ≡ is_among groups n
+HasKept is_kept groups = (n : ℕ) → is_kept n ≡ has_identity_number groups n
 
 -- The state of a checker that has taken these groups and messages, each kind in this order. Not injective: as
 -- many groups and messages with equal findings and identities lead to the same state.

@@ -60,27 +60,27 @@ none_first None = 0
 none_first (Some n) = suc n
 
 -- The numbers by which findings are ordered: the first that differs decides.
-abbrev pub order_of : Finding → List ℕ
-order_of f =
+abbrev pub sort_key : Finding → List ℕ
+sort_key f =
     site_order f.site ∷ site_place f.site ∷ rule_number f.rule ∷ none_first f.aspect ∷ direction_order f.dir
     ∷ none_first f.balise ∷ none_first f.packet ∷ []
 
 -- ---- sorted by rule
 
 -- the finding is of this rule
-abbrev pub is_of : Rule → Finding → Bool
-is_of rule f = rule_number f.rule == rule_number rule
+abbrev pub has_rule : Rule → Finding → Bool
+has_rule rule f = rule_number f.rule == rule_number rule
 
 -- the findings rule by rule; findings of the same rule keep their order
 abbrev pub by_rule : List Finding → List Finding
-by_rule facts = flat_map (λ rule. filter (is_of rule) facts) all_rules
+by_rule facts = flat_map (λ rule. filter (has_rule rule) facts) all_rules
 
 -- ---- the list
 
 -- The list of a line's findings: each states a fact, each fact has its finding, and the order is strict, so
 -- each occurs once.
-pub record IsListOf (groups : List Aspects) (messages : List Message) (found : List Finding) : Type 0 where
+pub record IsFindings (groups : List Aspects) (messages : List Message) (found : List Finding) : Type 0 where
   pub facts : (i : ℕ) (f : Finding) → At found i f → StatesFact groups messages f
   pub all : (f : Finding) → StatesFact groups messages f → (i : ℕ) × At found i f
   pub ordered : (i j : ℕ) (f g : Finding) → i < j → At found i f → At found j g
-      → slice_cmp nat_cmp (order_of f) (order_of g) ≡ Less
+      → slice_cmp nat_cmp (sort_key f) (sort_key g) ≡ Less

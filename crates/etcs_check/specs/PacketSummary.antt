@@ -3,13 +3,13 @@ use Rattle.std.specs.Prelude.{ℕ, Bool, ◌||◌, false, max, List, [], ◌∷�
 use Rattle.std.specs.Option.{option_map_or}
 use Rattle.etcs_profile.specs.declared.track.TrackPacket.{TrackPacket}
 use Rattle.etcs_profile.specs.declared.reach.Reach.{Reach}
-use Rattle.etcs_check.specs.Findings.{lies_past}
-use Rattle.etcs_check.specs.Profiles.{limit_of, gradient_reach, speed_reach}
+use Rattle.etcs_check.specs.Findings.{falls_short}
+use Rattle.etcs_check.specs.Profiles.{packet_limit, gradient_reach, speed_reach}
 use Rattle.etcs_check.specs.declared.packet_summary.PacketSummary.{PacketSummary}
 
 -- a profile of the kind, gradient or speed, ends before the location
-abbrev pub is_before : (TrackPacket → Option Reach) → Option ℕ → TrackPacket → Bool
-is_before reach limit p = option_map_or (λ r. option_map_or (lies_past r) limit false) (reach p) false
+abbrev pub ends_early : (TrackPacket → Option Reach) → Option ℕ → TrackPacket → Bool
+ends_early reach limit p = option_map_or (λ r. option_map_or (falls_short r) limit false) (reach p) false
 
 -- the greater of two locations; None is below every location
 abbrev pub greater : Option ℕ → Option ℕ → Option ℕ
@@ -30,11 +30,11 @@ both s t = record {
 
 abbrev pub by_one : TrackPacket → PacketSummary
 by_one p = record {
-  limit = limit_of p;
+  limit = packet_limit p;
   has_gradient = is_some (gradient_reach p);
   has_speed = is_some (speed_reach p);
 }
 
-abbrev pub summary_of : List TrackPacket → PacketSummary
-summary_of [] = nothing
-summary_of (p ∷ ps) = both (by_one p) (summary_of ps)
+abbrev pub packets_summary : List TrackPacket → PacketSummary
+packets_summary [] = nothing
+packets_summary (p ∷ ps) = both (by_one p) (packets_summary ps)

@@ -12,9 +12,9 @@ use Rattle.etcs_profile.specs.declared.track.speed.SpeedElement.{SpeedElement}
 use Rattle.etcs_group.specs.Places.{At}
 
 -- the supervised location of a movement authority, in decimetres; no other packet has one
-abbrev pub limit_of : TrackPacket → Option ℕ
-limit_of (packets.Authority a) = Some (authority_limit a)
-limit_of p = None
+abbrev pub packet_limit : TrackPacket → Option ℕ
+packet_limit (packets.Authority a) = Some (authority_limit a)
+packet_limit p = None
 
 -- how far a gradient profile describes the track, and None for any other packet; the gradient 255 marks
 -- its end
@@ -44,5 +44,5 @@ pub record HasProfiles (reach : TrackPacket → Option Reach) (packets : List Tr
 -- profiles, and all profiles reach its supervised location.
 abbrev pub AreReached : List TrackPacket → Type 0
 AreReached packets =
-    (i : ℕ) (a : TrackPacket) (limit : ℕ) → At packets i a → limit_of a ≡ Some limit
+    (i : ℕ) (a : TrackPacket) (limit : ℕ) → At packets i a → packet_limit a ≡ Some limit
     → HasProfiles gradient_reach packets limit × HasProfiles speed_reach packets limit

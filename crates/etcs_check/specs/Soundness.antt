@@ -11,7 +11,7 @@ use Rattle.etcs_group.specs.Group.{IsWellFormed, is_modelled, Telegrams, Aspects
 use Rattle.etcs_group.specs.Missed.{IsSetOf, IsCovered, none_missed}
 use Rattle.etcs_group.specs.Reading.{reading_of}
 use Rattle.etcs_group.specs.Assembly.{IsAccepted}
-use Rattle.etcs_group.specs.Packets.{packets_of}
+use Rattle.etcs_group.specs.Packets.{assembled}
 use Rattle.etcs_group.specs.Controlled.{AreOneGroup}
 use Rattle.etcs_radio.specs.declared.message.Message.{Message}
 use Rattle.etcs_radio.specs.declared.message.Message.TheVariants as messages
@@ -20,8 +20,8 @@ use Rattle.etcs_check.specs.Profiles.{AreReached}
 -- A reading is sound: it makes the message of the reading with nothing missed, whose packets are reached.
 pub record IsSoundReading (group : Telegrams) (run : Run) (missed : ℕ → Bool) : Type 0 where
   pub accepted : IsAccepted run (reading_of run missed group)
-  pub same : packets_of run (reading_of run missed group) ≡ packets_of run (reading_of run none_missed group)
-  pub reached : AreReached (packets_of run (reading_of run missed group))
+  pub same : assembled run (reading_of run missed group) ≡ assembled run (reading_of run none_missed group)
+  pub reached : AreReached (assembled run (reading_of run missed group))
 
 -- A sound group is well formed, and in each running direction each covered reading of it is sound.
 pub record IsSoundGroup (group : Telegrams) : Type 0 where
@@ -36,9 +36,9 @@ pub record IsSoundControlled (aspects : Aspects) : Type 0 where
   pub one : 1 < length aspects → AreOneGroup aspects
 
 -- the identity of an aspect is the identity of its balise 0
-abbrev pub identity_of : Telegrams → Option Identity
-identity_of [] = None
-identity_of (t ∷ _) = Some t.header.identity
+abbrev pub aspect_identity : Telegrams → Option Identity
+aspect_identity [] = None
+aspect_identity (t ∷ _) = Some t.header.identity
 
 -- the first aspect of a controlled group
 abbrev pub first_aspect : Aspects → Telegrams
@@ -47,7 +47,7 @@ first_aspect (first ∷ _) = first
 
 -- the identity of a controlled group is the identity of its first aspect
 abbrev pub group_identity : Aspects → Option Identity
-group_identity aspects = identity_of (first_aspect aspects)
+group_identity aspects = aspect_identity (first_aspect aspects)
 
 -- A sound message 3 has only modelled packets, and in each running direction the packets that hold are
 -- reached. A message 136 is always sound.

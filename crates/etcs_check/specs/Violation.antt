@@ -13,13 +13,13 @@ use Rattle.etcs_radio.specs.declared.message.Message.{Message}
 use Rattle.etcs_radio.specs.declared.message.Message.TheVariants as messages
 use Rattle.etcs_telegram.specs.Record.{Telegram}
 use Rattle.etcs_group.specs.Places.{At}
-use Rattle.etcs_group.specs.Group.{AreAlike, IsWellFormed, is_modelled, partner_of, Telegrams, Aspects}
+use Rattle.etcs_group.specs.Group.{AreAlike, IsWellFormed, is_modelled, partner_place, Telegrams, Aspects}
 use Rattle.etcs_group.specs.Missed.{IsCovered, none_missed}
 use Rattle.etcs_group.specs.Reading.{reading_of}
 use Rattle.etcs_group.specs.Assembly.{IsAccepted}
-use Rattle.etcs_group.specs.Packets.{held_packets, is_silent, packets_of, group_message}
-use Rattle.etcs_group.specs.Controlled.{HasAt, IsFixed, IsSwitched}
-use Rattle.etcs_check.specs.Profiles.{limit_of, gradient_reach, speed_reach, AreReached, Reaches}
+use Rattle.etcs_group.specs.Packets.{held_packets, is_silent, assembled, group_message}
+use Rattle.etcs_group.specs.Controlled.{Shows, IsFixed, IsSwitched}
+use Rattle.etcs_check.specs.Profiles.{packet_limit, gradient_reach, speed_reach, AreReached, Reaches}
 use Rattle.etcs_check.specs.Soundness.{first_aspect, group_identity}
 use Rattle.etcs_check.specs.declared.finding.Finding.{Finding}
 use Rattle.etcs_check.specs.declared.finding.Rule.{Rule}
@@ -44,14 +44,14 @@ IsNeverAccepted group = (run : Run) → IsAccepted run (reading_of run none_miss
 
 -- the packets of the reading with nothing missed
 abbrev pub full_packets : Telegrams → Run → List TrackPacket
-full_packets group run = packets_of run (reading_of run none_missed group)
+full_packets group run = assembled run (reading_of run none_missed group)
 
 -- the balise of a pair that is passed first may be missed, and the packets are then different from the
 -- packets of the reading with nothing missed
 abbrev pub DependsOnMissed : Telegrams → Run → ℕ → Type 0
 DependsOnMissed group run b =
     IsCovered group (only (passed_first run b))
-    × (packets_of run (reading_of run (only (passed_first run b)) group) ≢ full_packets group run)
+    × (assembled run (reading_of run (only (passed_first run b)) group) ≢ full_packets group run)
 
 -- the packets of the reading with nothing missed are not reached
 abbrev pub IsNotReached : Telegrams → Run → Type 0
@@ -75,18 +75,18 @@ AffectsReadings group rule run b = ⊤
 
 -- if there is an authority among the packets, there is a profile of the kind
 abbrev pub HasProfile : (TrackPacket → Option Reach) → List TrackPacket → Type 0
-HasProfile reach packets = (i : ℕ) (a : TrackPacket) (limit : ℕ) → At packets i a → limit_of a ≡ Some limit
+HasProfile reach packets = (i : ℕ) (a : TrackPacket) (limit : ℕ) → At packets i a → packet_limit a ≡ Some limit
     → (j : ℕ) × (p : TrackPacket) × At packets j p × IsTrue (is_some (reach p))
 
 -- if p is a profile of the kind, it reaches the supervised location of each authority among the packets
 abbrev pub IsLong : (TrackPacket → Option Reach) → List TrackPacket → TrackPacket → Type 0
 IsLong reach packets p = (r : Reach) → reach p ≡ Some r
-    → (i : ℕ) (a : TrackPacket) (limit : ℕ) → At packets i a → limit_of a ≡ Some limit → Reaches r limit
+    → (i : ℕ) (a : TrackPacket) (limit : ℕ) → At packets i a → packet_limit a ≡ Some limit → Reaches r limit
 
 -- If packet k of the balise at place b is a profile of the kind, the balise is not silent and the packet
 -- holds, then the packet reaches the supervised location of each authority in the message of the group.
-abbrev pub IsLongAt : (TrackPacket → Option Reach) → Telegrams → Run → ℕ → ℕ → Type 0
-IsLongAt reach group run b k = (t : Telegram) (p : TrackPacket) → At group b t → At t.packets k p
+abbrev pub IsLongProfile : (TrackPacket → Option Reach) → Telegrams → Run → ℕ → ℕ → Type 0
+IsLongProfile reach group run b k = (t : Telegram) (p : TrackPacket) → At group b t → At t.packets k p
     → IsFalse (is_silent run t.header.dup (length group) b) → IsTrue (holds run p)
     → IsLong reach (group_message run group) p
 
@@ -108,10 +108,10 @@ AspectPart aspects a group rules.HeaderDiffers None (Some b) None =
     (t first : Telegram) → At group b t → At (first_aspect aspects) 0 first → AreAlike t first
 -- inside
 AspectPart aspects a group rules.MarkOutside None (Some b) None =
-    (t : Telegram) → At group b t → t.header.dup ≢ dups.Single → IsSome (partner_of group b)
+    (t : Telegram) → At group b t → t.header.dup ≢ dups.Single → IsSome (partner_place group b)
 -- answered
 AspectPart aspects a group rules.MarkUnanswered None (Some b) None =
-    (p : ℕ) → partner_of group b ≡ Some p → partner_of group p ≡ Some b
+    (p : ℕ) → partner_place group b ≡ Some p → partner_place group p ≡ Some b
 -- agrees
 AspectPart aspects a group rules.CounterUnfit None (Some b) None =
     (t : Telegram) → At group b t → t.header.counter ≢ 254
@@ -130,16 +130,16 @@ AspectPart aspects a group rules.NotModelled None (Some b) (Some k) =
 AspectPart aspects a group rules.NoGradient (Some run) None None =
     HasProfile gradient_reach (group_message run group)
 AspectPart aspects a group rules.GradientShort (Some run) (Some b) (Some k) =
-    IsLongAt gradient_reach group run b k
+    IsLongProfile gradient_reach group run b k
 AspectPart aspects a group rules.NoSpeed (Some run) None None =
     HasProfile speed_reach (group_message run group)
-AspectPart aspects a group rules.SpeedShort (Some run) (Some b) (Some k) = IsLongAt speed_reach group run b k
+AspectPart aspects a group rules.SpeedShort (Some run) (Some b) (Some k) = IsLongProfile speed_reach group run b k
 -- marks
 AspectPart aspects a group rules.MarksDiffer None (Some b) None =
     (t first : Telegram) → At group b t → At (first_aspect aspects) b first → t.header.dup ≡ first.header.dup
 -- distinct, of this aspect and the aspects before it
 AspectPart aspects a group rules.NotToldApart None (Some b) None =
-    (c q : ℕ) (t u : Telegram) → c < a → At group b t → HasAt aspects c q u
+    (c q : ℕ) (t u : Telegram) → c < a → At group b t → Shows aspects c q u
     → t.header.counter < 254 → t.header.counter ≢ u.header.counter
 AspectPart aspects a group rule run b k = ⊤
 
@@ -207,14 +207,14 @@ Violates groups messages f = ViolatesSite groups messages f f.site
 
 -- ---- what no finding means
 
-abbrev pub HasPartsAt : List Aspects → List Message → Finding → Site → Type 0
-HasPartsAt groups messages f (sites.Group g) = (aspects : Aspects) → At groups g aspects
+abbrev pub HasSiteParts : List Aspects → List Message → Finding → Site → Type 0
+HasSiteParts groups messages f (sites.Group g) = (aspects : Aspects) → At groups g aspects
     → (f.aspect ≡ None → GroupPart (IsNew groups g aspects) aspects f.rule f.dir f.balise f.packet)
     × ((a : ℕ) (group : Telegrams) → At aspects a group → NamesAspect aspects a f.aspect
     → AspectPart aspects a group f.rule f.dir f.balise f.packet)
-HasPartsAt groups messages f (sites.Message i) = (m : Message) → At messages i m → f.aspect ≡ None
+HasSiteParts groups messages f (sites.Message i) = (m : Message) → At messages i m → f.aspect ≡ None
     → MessagePart m f.rule f.dir f.balise f.packet
 
 -- the parts that the rule of f requires hold at its site, aspect, running direction, balise and packet
 abbrev pub HasParts : List Aspects → List Message → Finding → Type 0
-HasParts groups messages f = HasPartsAt groups messages f f.site
+HasParts groups messages f = HasSiteParts groups messages f f.site

@@ -3,11 +3,11 @@
 ghost use Rattle.std.specs.Prelude.{◌≡◌, ◌≢◌, ◌<◌, ◌≤◌, ◌++◌, ◌||◌, [], ℕ, length, Some, OnOk, OnErr};
 ghost use Rattle.etcs_group.specs.Places.{element_passes};
 ghost use Rattle.etcs_telegram.specs.Record.{Telegram};
-ghost use Rattle.etcs_check.specs.Aspects.{all_at, has_aspect_counter, is_steady, is_ambiguous, site_spot};
+ghost use Rattle.etcs_check.specs.Aspects.{all_pass, has_aspect_counter, is_steady, is_ambiguous, site_spot};
 ghost use Rattle.etcs_check.specs.Findings.{for_each, has_counter};
 ghost use Rattle.etcs_check.specs.Identities.{is_marked};
 ghost use Rattle.etcs_check.specs.Soundness.{first_aspect};
-ghost use Rattle.etcs_check.specs.Walk.{ambiguous_at, is_taken};
+ghost use Rattle.etcs_check.specs.Walk.{ambiguous_finding, is_taken};
 
 use crate::duplicates::same_telegram;
 use crate::finding::{Finding, Rule, Site, Spot, push_if};
@@ -47,7 +47,7 @@ fn is_steady_in(wanted: &Telegram, group: &[Telegram], place: usize) -> bool
 
 // Whether every aspect has this telegram at the place, with counter 255.
 fn is_steady(wanted: &Telegram, aspects: &[Group], place: usize) -> bool
-    ensures { result ≡ all_at (is_steady wanted.now) place aspects.now }
+    ensures { result ≡ all_pass (is_steady wanted.now) place aspects.now }
 {
     'aspects: for aspect in aspects {
         if !is_steady_in(wanted, aspect.telegrams(), place) {
@@ -69,7 +69,7 @@ fn has_aspect_counter_in(group: &[Telegram], place: usize) -> bool
 
 // Whether every aspect has a counter below 254 at the place.
 fn has_aspect_counter(aspects: &[Group], place: usize) -> bool
-    ensures { result ≡ all_at has_aspect_counter place aspects.now }
+    ensures { result ≡ all_pass has_aspect_counter place aspects.now }
 {
     'aspects: for aspect in aspects {
         if !has_aspect_counter_in(aspect.telegrams(), place) {
@@ -96,9 +96,9 @@ pub(crate) fn push_ambiguous(
 ) -> Result<(), Memory>
     requires some { 0 < length aspects.now }
     ensures ok { OnOk result (found.new.items ≡ found.old.items
-        ++ for_each (first_aspect aspects.now) (ambiguous_at (site_spot site) aspects.now)) }
+        ++ for_each (first_aspect aspects.now) (ambiguous_finding (site_spot site) aspects.now)) }
     ensures memory { OnErr result
-        (for_each (first_aspect aspects.now) (ambiguous_at (site_spot site) aspects.now) ≢ []) }
+        (for_each (first_aspect aspects.now) (ambiguous_finding (site_spot site) aspects.now) ≢ []) }
 {
     let first = first_aspect(aspects);
     let spot = site_spot(site);

@@ -1,10 +1,10 @@
 //! The rules about single balises, and about packets that are not modelled.
 
 ghost use Rattle.std.specs.Prelude.{◌≡◌, ◌≢◌, ◌<◌, ◌≤◌, ◌++◌, [], length, slice_get, Some, IsFalse, OnOk, OnErr};
-ghost use Rattle.etcs_group.specs.Group.{partner_of};
+ghost use Rattle.etcs_group.specs.Group.{partner_place};
 ghost use Rattle.etcs_check.specs.Duplicates.{same_mark};
-ghost use Rattle.etcs_check.specs.Findings.{balise_fact, counter_differs, first_counter, differs_from, is_outside, is_unanswered, header_differs, is_unmodelled, mark_differs};
-ghost use Rattle.etcs_check.specs.Walk.{alone_found, balise_test, unmodelled_in};
+ghost use Rattle.etcs_check.specs.Findings.{balise_fact, counter_differs, first_counter, is_other, is_outside, is_unanswered, header_differs, is_unmodelled, mark_differs};
+ghost use Rattle.etcs_check.specs.Walk.{alone_found, balise_test, unmodelled_found};
 ghost use Rattle.etcs_check.specs.declared.finding.Spot.{Spot as SomeSpot};
 
 use crate::aspects::is_taken;
@@ -15,8 +15,8 @@ use etcs_packet::TrackPacket;
 use etcs_telegram::Telegram;
 
 // Whether the number is absent or differs from `wanted`.
-fn differs_from(number: Option<usize>, wanted: usize) -> bool
-    ensures { result ≡ differs_from number wanted }
+fn is_other(number: Option<usize>, wanted: usize) -> bool
+    ensures { result ≡ is_other number wanted }
 {
     match number {
         Some(number) => number != wanted,
@@ -27,10 +27,10 @@ fn differs_from(number: Option<usize>, wanted: usize) -> bool
 // Whether the partner of the balise at this place has another partner, or none.
 fn is_unanswered(group: &[Telegram], place: usize) -> bool
     requires { length group.now ≤ 8 }
-    ensures { result ≡ is_unanswered group.now (partner_of group.now place) place }
+    ensures { result ≡ is_unanswered group.now (partner_place group.now place) place }
 {
     match partner(group, place) {
-        Some(named) => differs_from(partner(group, named), place),
+        Some(named) => is_other(partner(group, named), place),
         None => false,
     }
 }
@@ -248,8 +248,8 @@ pub(crate) fn push_unmodelled(
     balise: Option<usize>,
     packets: &[TrackPacket],
 ) -> Result<(), Memory>
-    ensures ok { OnOk result (found.new.items ≡ found.old.items ++ unmodelled_in spot balise packets.now) }
-    ensures memory { OnErr result (unmodelled_in spot balise packets.now ≢ []) }
+    ensures ok { OnOk result (found.new.items ≡ found.old.items ++ unmodelled_found spot balise packets.now) }
+    ensures memory { OnErr result (unmodelled_found spot balise packets.now ≢ []) }
 {
     'places: for place in 0..packets.len() {
         let fact = is_unmodelled(&packets[place]);

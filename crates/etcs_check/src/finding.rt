@@ -1,7 +1,7 @@
 //! Findings: facts against a line, each with its rule and location.
 
 ghost use Rattle.std.specs.Prelude.{◌≡◌, ◌≢◌, ◌++◌, [], OnOk, OnErr};
-ghost use Rattle.etcs_check.specs.Findings.{finding_of, noted};
+ghost use Rattle.etcs_check.specs.Findings.{new_finding, noted};
 
 use etcs_bits::Memory;
 use etcs_packet::Run;
@@ -95,8 +95,8 @@ pub(crate) fn push_if(
     balise: Option<usize>,
     packet: Option<usize>,
 ) -> Result<(), Memory>
-    ensures ok { OnOk result (found.new.items ≡ found.old.items ++ noted fact (finding_of rule spot dir balise packet)) }
-    ensures memory { OnErr result (noted fact (finding_of rule spot dir balise packet) ≢ []) }
+    ensures ok { OnOk result (found.new.items ≡ found.old.items ++ noted fact (new_finding rule spot dir balise packet)) }
+    ensures memory { OnErr result (noted fact (new_finding rule spot dir balise packet) ≢ []) }
 {
     if fact {
         let finding = Finding {

@@ -14,7 +14,7 @@ ghost use Rattle.etcs_check.specs.Violation.{Violates};
 ghost use Rattle.etcs_check.specs.Identities.{HasIdentity, identity_number};
 ghost use Rattle.etcs_check.specs.Laws.{AreControlled, NamesTheUnsound};
 ghost use Rattle.etcs_check.specs.Line.{findings, group_findings, group_list, message_list};
-ghost use Rattle.etcs_check.specs.Order.{IsListOf};
+ghost use Rattle.etcs_check.specs.Order.{IsFindings};
 ghost use Rattle.etcs_check.specs.Soundness.{IsSoundControlled, IsSoundGroup, IsSoundLine};
 ghost use Rattle.etcs_check.specs.declared.finding.Finding.{Finding};
 ghost use Rattle.etcs_check.specs.declared.finding.Site.TheVariants as sites;
@@ -133,7 +133,7 @@ pub fn check(alloc: Global, line: &Line) -> Result<Vec<Finding>, Memory>
 
     // Each fact has one finding, each finding states a fact, and the order is strict. So none hides another.
     ensures list { IfOk result
-        (λ found. IsListOf line.now.groups.items line.now.messages.items found.items) }
+        (λ found. IsFindings line.now.groups.items line.now.messages.items found.items) }
 
     // The part of soundness that the rule of a finding requires does not hold at its location.
     ensures violates { IfOk result (λ found. (i : ℕ) (f : Finding) → At found.items i f

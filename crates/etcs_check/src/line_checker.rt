@@ -8,7 +8,7 @@ ghost use Rattle.etcs_check.specs.Violation.{Violates};
 ghost use Rattle.etcs_check.specs.Laws.{NamesTheUnsound};
 ghost use Rattle.etcs_check.specs.Line.{findings};
 ghost use Rattle.etcs_check.specs.LineChecker.{HasChecked, HasStill, TakesGroups, TakesMessages};
-ghost use Rattle.etcs_check.specs.Order.{IsListOf};
+ghost use Rattle.etcs_check.specs.Order.{IsFindings};
 ghost use Rattle.etcs_check.specs.Soundness.{IsSoundLine};
 ghost use Rattle.etcs_check.specs.declared.finding.Finding.{Finding as SomeFinding};
 
@@ -166,7 +166,7 @@ impl LineChecker {
         // Each fact has one finding, each finding states a fact, and the order is strict. So none hides
         // another.
         ensures list { IfOk result (λ found. (gs : List Aspects) (ms : List SomeMessage)
-            → HasChecked self gs ms → IsListOf gs ms found.items) }
+            → HasChecked self gs ms → IsFindings gs ms found.items) }
 
         // The part of soundness that the rule of a finding requires does not hold at its location.
         ensures violates { IfOk result (λ found. (gs : List Aspects) (ms : List SomeMessage)

@@ -5,7 +5,7 @@ ghost use Rattle.std.specs.Prelude.{◌≡◌, ◌<◌, if◌then◌else◌, len
 ghost use Rattle.etcs_profile.specs.Track.{holds};
 ghost use Rattle.etcs_telegram.specs.Record.{Telegram as SomeTelegram};
 ghost use Rattle.etcs_group.specs.Packets.{is_silent, balise_packets, group_message};
-ghost use Rattle.etcs_check.specs.PacketSummary.{both, by_one, greater, nothing, summary_of};
+ghost use Rattle.etcs_check.specs.PacketSummary.{both, by_one, greater, nothing, packets_summary};
 
 use etcs_bits::Dup;
 use etcs_packet::{Run, TrackPacket};
@@ -82,7 +82,7 @@ fn add_packet(so_far: PacketSummary, packet: &TrackPacket, run: Run) -> PacketSu
 // The summary with more packets, of which those that hold count.
 #[inline(always)]
 pub(crate) fn add_packets(so_far: PacketSummary, packets: &[TrackPacket], run: Run) -> PacketSummary
-    ensures { result ≡ both so_far (summary_of (filter (holds run) packets.now)) }
+    ensures { result ≡ both so_far (packets_summary (filter (holds run) packets.now)) }
 {
     let mut said = so_far;
     'packets: for packet in packets {
@@ -96,7 +96,7 @@ pub(crate) fn add_packets(so_far: PacketSummary, packets: &[TrackPacket], run: R
 fn add_balise(so_far: PacketSummary, group: &[Telegram], run: Run, place: usize) -> PacketSummary
     requires { place < length group.now }
     ensures { (t : SomeTelegram) → slice_get group.now place ≡ Some t
-        → result ≡ both so_far (summary_of (balise_packets run (length group.now) place t)) }
+        → result ≡ both so_far (packets_summary (balise_packets run (length group.now) place t)) }
 {
     let telegram = &group[place];
     if is_silent(run, telegram, group.len(), place) {
@@ -108,7 +108,7 @@ fn add_balise(so_far: PacketSummary, group: &[Telegram], run: Run, place: usize)
 
 // The summary of a group's message in a running direction.
 pub(crate) fn group_summary(group: &[Telegram], run: Run) -> PacketSummary
-    ensures { result ≡ summary_of (group_message run group.now) }
+    ensures { result ≡ packets_summary (group_message run group.now) }
 {
     let mut said = NOTHING;
     'places: for place in 0..group.len() {

@@ -4,7 +4,7 @@ ghost use Rattle.std.specs.Prelude.{◌≡◌, ◌≢◌, ◌<◌, ◌++◌, [],
 ghost use Rattle.std.specs.Option.{option_map_or};
 ghost use Rattle.etcs_profile.specs.Track.{holds};
 ghost use Rattle.etcs_profile.specs.declared.run.Run.{Run as SomeRun};
-ghost use Rattle.etcs_check.specs.Findings.{finding_of, lies_past, noted};
+ghost use Rattle.etcs_check.specs.Findings.{new_finding, falls_short, noted};
 ghost use Rattle.etcs_check.specs.Walk.{lacks_found, short_at_packet, short_by_balise, short_found};
 ghost use Rattle.etcs_check.specs.declared.finding.Spot.{Spot as SomeSpot};
 
@@ -41,7 +41,7 @@ pub(crate) fn push_lacks(
 
 // Whether a profile of this reach ends before the location.
 fn ends_before(reach: Reach, limit: u64) -> bool
-    ensures { result ≡ lies_past reach limit }
+    ensures { result ≡ falls_short reach limit }
 {
     match reach {
         Reach::Ends(end) => end < limit,
@@ -53,7 +53,7 @@ fn ends_before(reach: Reach, limit: u64) -> bool
 fn early_rule(packet: &TrackPacket, limit: u64) -> Option<Rule>
     ensures { (spot : SomeSpot) (run : SomeRun) (b : Option ℕ) (k : ℕ)
         → short_at_packet spot run (Some limit) b k packet.now ≡ option_map_or
-        (λ rule. noted (holds run packet.now) (finding_of rule spot (Some run) b (Some k))) result [] }
+        (λ rule. noted (holds run packet.now) (new_finding rule spot (Some run) b (Some k))) result [] }
 {
     match packet {
         TrackPacket::Gradient(it) if ends_before(it.reach(), limit) => Some(Rule::GradientShort),

@@ -17,7 +17,7 @@ use Rattle.etcs_group.specs.declared.refused.Refused.{Refused}
 use Rattle.etcs_group.specs.declared.refused.Refused.TheVariants as reasons
 use Rattle.etcs_group.specs.Places.{At, element_passes, least}
 use Rattle.etcs_group.specs.Group.{AreAlike, HasOneCounter}
-use Rattle.etcs_group.specs.Assembly.{IsAccepted, comes_after, agree, disagrees_at, is_misplaced_at, is_absent, positions_of, is_miscounted_at, refusal_of}
+use Rattle.etcs_group.specs.Assembly.{IsAccepted, are_in_order, agree, header_disagrees, is_misplaced, is_absent, position_count, is_miscounted, first_refusal}
 use Rattle.etcs_group.specs.Laws.{AcceptedOrRefused}
 use Rattle.etcs_group.proofs.PlaceLemmas.{element_passes-at, element_passes-none, some_at, one_at, at_list_any, list_any-none, At-take, at_take, least-none, least-none_says}
 
@@ -75,23 +75,23 @@ alike-trans t u v h k = record {
 pub alike-both : (t u v : Telegram) → AreAlike t v → AreAlike u v → AreAlike t u
 alike-both t u v h k = alike-trans t v u h (alike-sym u v k)
 
-after-trans : (run : Run) (t u v : Telegram) → comes_after run t u ≡ true → comes_after run u v ≡ true → comes_after run t v ≡ true
+after-trans : (run : Run) (t u v : Telegram) → are_in_order run t u ≡ true → are_in_order run u v ≡ true → are_in_order run t v ≡ true
 after-trans runs.Nominal t u v h k = let a = ltb-true _ _ h in let b = ltb-true _ _ k in lt-ltb _ _ (omega arith)
 after-trans runs.Reverse t u v h k = let a = ltb-true _ _ h in let b = ltb-true _ _ k in lt-ltb _ _ (omega arith)
 
 -- ---- if each place is as required, there is no refusal
 
-pub disagrees-none : (s : List Telegram) → ((i j : ℕ) (t u : Telegram) → At s i t → At s j u → AreAlike t u) → ((i j : ℕ) (t u : Telegram) → At s i t → At s j u → t.header.total ≡ u.header.total) → (i : ℕ) → disagrees_at s i ≡ false
+pub disagrees-none : (s : List Telegram) → ((i j : ℕ) (t u : Telegram) → At s i t → At s j u → AreAlike t u) → ((i j : ℕ) (t u : Telegram) → At s i t → At s j u → t.header.total ≡ u.header.total) → (i : ℕ) → header_disagrees s i ≡ false
 disagrees-none s h k i = pair-none s 0 i (λ first t. not (agree first.header t.header)) (λ t u a b. not_from_true _ (agree-true t u (h 0 i t u a b) (k 0 i t u a b)))
 
 -- whether a telegram at place i is misplaced
 abbrev pub misplaces : Run → List Telegram → ℕ → Telegram → Bool
 misplaces run s i u =
-    ltb u.header.total u.header.position || (ltb 0 i && element_passes s (i - 1) (λ t. not (comes_after run t u)))
+    ltb u.header.total u.header.position || (ltb 0 i && element_passes s (i - 1) (λ t. not (are_in_order run t u)))
 
-pub misplaced-none : (run : Run) (s : List Telegram) → ((i : ℕ) (t : Telegram) → At s i t → t.header.position ≤ t.header.total) → ((i j : ℕ) (t u : Telegram) → i < j → At s i t → At s j u → comes_after run t u ≡ true) → (i : ℕ) → is_misplaced_at run s i ≡ false
+pub misplaced-none : (run : Run) (s : List Telegram) → ((i : ℕ) (t : Telegram) → At s i t → t.header.position ≤ t.header.total) → ((i j : ℕ) (t u : Telegram) → i < j → At s i t → At s j u → are_in_order run t u ≡ true) → (i : ℕ) → is_misplaced run s i ≡ false
 misplaced-none run s h k i = element_passes-none s i (misplaces run s i) (λ u at. or_from _ _ (le-ltb _ _ (h i u at)) (elim (cases_lt 0 i) [
-  | inl lt ↦ and_right (ltb 0 i) _ (element_passes-none s (i - 1) (λ t. not (comes_after run t u)) (λ t e. not_from_true _ (k (i - 1) i t u (omega arith) e at)))
+  | inl lt ↦ and_right (ltb 0 i) _ (element_passes-none s (i - 1) (λ t. not (are_in_order run t u)) (λ t e. not_from_true _ (k (i - 1) i t u (omega arith) e at)))
   | inr ge ↦ and_left _ _ (le-ltb _ _ ge)
 ]))
 
@@ -110,49 +110,49 @@ miscounts-none earlier t h k = or_from _ _ (ne_eqb _ _ h) (elim (cases_lt t.head
   | inr ge ↦ and_left _ _ (le-ltb _ _ ge)
 ])
 
-pub miscounted-none : (s : List Telegram) → HasOneCounter s → (i : ℕ) → is_miscounted_at s i ≡ false
+pub miscounted-none : (s : List Telegram) → HasOneCounter s → (i : ℕ) → is_miscounted s i ≡ false
 miscounted-none s one i = element_passes-none s i (miscounts (take i s)) (λ t e. miscounts-none (take i s) t (one.agrees i t e) (λ j u f a b. one.equal j i u t (At-take i s j u f).1 e a b))
 
 -- the first of the reasons other than Nothing
 abbrev pub reason_in : Run → List Telegram → Option Refused
 reason_in run s =
-    option_or (option_map reasons.Disagree (least (length s) (disagrees_at s)))
-    (option_or (option_map reasons.Order (least (length s) (is_misplaced_at run s)))
-    (option_or (option_map reasons.Absent (least (positions_of s) (is_absent s)))
-    (option_map reasons.Counter (least (length s) (is_miscounted_at s)))))
+    option_or (option_map reasons.Disagree (least (length s) (header_disagrees s)))
+    (option_or (option_map reasons.Order (least (length s) (is_misplaced run s)))
+    (option_or (option_map reasons.Absent (least (position_count s) (is_absent s)))
+    (option_map reasons.Counter (least (length s) (is_miscounted s)))))
 
 -- the refusal of a list that is not empty
-pub refusal-some : (run : Run) (s : List Telegram) → 0 < length s → refusal_of run s ≡ reason_in run s
+pub refusal-some : (run : Run) (s : List Telegram) → 0 < length s → first_refusal run s ≡ reason_in run s
 refusal-some run s h =
     let some : length s ≢ 0 = omega arith in
     ap (λ b. cond b (Some reasons.Nothing) (reason_in run s)) (ne_eqb (length s) 0 some)
 
-pub refusal-nothing : (run : Run) (s : List Telegram) → s ≡ [] → refusal_of run s ≡ Some reasons.Nothing
-refusal-nothing run s h = ap (refusal_of run) h
+pub refusal-nothing : (run : Run) (s : List Telegram) → s ≡ [] → first_refusal run s ≡ Some reasons.Nothing
+refusal-nothing run s h = ap (first_refusal run) h
 
 option_or-last : (o : Option Refused) → option_or o None ≡ o
 option_or-last None = refl
 option_or-last (Some r) = refl
 
 -- only a position can be absent
-pub refusal-absent : (run : Run) (s : List Telegram) → 0 < length s → ((i : ℕ) → disagrees_at s i ≡ false) → ((i : ℕ) → is_misplaced_at run s i ≡ false) → ((i : ℕ) → is_miscounted_at s i ≡ false) → refusal_of run s ≡ option_map reasons.Absent (least (positions_of s) (is_absent s))
+pub refusal-absent : (run : Run) (s : List Telegram) → 0 < length s → ((i : ℕ) → header_disagrees s i ≡ false) → ((i : ℕ) → is_misplaced run s i ≡ false) → ((i : ℕ) → is_miscounted s i ≡ false) → first_refusal run s ≡ option_map reasons.Absent (least (position_count s) (is_absent s))
 refusal-absent run s long a b c =
-    let e = least-none (length s) (disagrees_at s) (λ k _. a k) in
-    let f = least-none (length s) (is_misplaced_at run s) (λ k _. b k) in
-    let g = least-none (length s) (is_miscounted_at s) (λ k _. c k) in
-    refusal-some run s long ∙ rw (e, f, g) (option_or-last (option_map reasons.Absent (least (positions_of s) (is_absent s))))
+    let e = least-none (length s) (header_disagrees s) (λ k _. a k) in
+    let f = least-none (length s) (is_misplaced run s) (λ k _. b k) in
+    let g = least-none (length s) (is_miscounted s) (λ k _. c k) in
+    refusal-some run s long ∙ rw (e, f, g) (option_or-last (option_map reasons.Absent (least (position_count s) (is_absent s))))
 
-pub positions-at : (s : List Telegram) (t : Telegram) → At s 0 t → positions_of s ≡ t.header.total + 1
+pub positions-at : (s : List Telegram) (t : Telegram) → At s 0 t → position_count s ≡ t.header.total + 1
 positions-at s t at = ap (λ o. option_map_or (λ (t : Telegram). t.header.total + 1) o 0) at
 
 -- ---- accepted is not refused
 
-pub refusal-from_accepted : (run : Run) (s : List Telegram) → IsAccepted run s → refusal_of run s ≡ None
+pub refusal-from_accepted : (run : Run) (s : List Telegram) → IsAccepted run s → first_refusal run s ≡ None
 refusal-from_accepted run s h =
     let long = h.some in
     let first = some_at s 0 long in
     let e = refusal-absent run s long (disagrees-none s h.alike h.one_total) (misplaced-none run s h.in_total h.in_order) (miscounted-none s h.one_counter) in
-    let f : least (positions_of s) (is_absent s) ≡ None = least-none (positions_of s) (is_absent s) (λ p lt.
+    let f : least (position_count s) (is_absent s) ≡ None = least-none (position_count s) (is_absent s) (λ p lt.
     let n = positions-at s first.0 first.1 in
     h.whole 0 p first.0 first.1 (omega arith)) in
     e ∙ ap (option_map reasons.Absent) f
@@ -166,7 +166,7 @@ map-none f None h = refl
 map-none f (Some x) h = absurd (none-some (f x) (sym h))
 
 -- each place comes after the one before it, and so after all before it
-in_order-from_steps : (run : Run) (s : List Telegram) → ((i : ℕ) (t u : Telegram) → At s i t → At s (suc i) u → comes_after run t u ≡ true) → (i j : ℕ) (t u : Telegram) → i < j → At s i t → At s j u → comes_after run t u ≡ true
+in_order-from_steps : (run : Run) (s : List Telegram) → ((i : ℕ) (t u : Telegram) → At s i t → At s (suc i) u → are_in_order run t u ≡ true) → (i j : ℕ) (t u : Telegram) → i < j → At s i t → At s j u → are_in_order run t u ≡ true
 in_order-from_steps run s h i zero t u lt e f = absurd (omega arith)
 in_order-from_steps run s h i (suc j) t u lt e f = elim (cases_order i j) [
   | inl same ↦ h i t u e (subst (λ (n : ℕ). At s (suc n) u) (sym same) f)
@@ -188,27 +188,27 @@ miscounts-says earlier t h =
       ],
     )
 
-misplaces-says : (run : Run) (s : List Telegram) (i : ℕ) (t u : Telegram) → At s i t → misplaces run s (suc i) u ≡ false → comes_after run t u ≡ true
+misplaces-says : (run : Run) (s : List Telegram) (i : ℕ) (t u : Telegram) → At s i t → misplaces run s (suc i) u ≡ false → are_in_order run t u ≡ true
 misplaces-says run s i t u at h =
     let before : suc i - 1 ≡ i = omega arith in
     let there : ltb 0 (suc i) ≡ true = lt-ltb 0 (suc i) (omega arith) in
     let at' : At s (suc i - 1) t = subst (λ n. At s n t) (sym before) at in
     let two = (or_parts (ltb u.header.total u.header.position) _ h).1 in
-    not-false _ (sym (element_passes-at s (suc i - 1) (λ t. not (comes_after run t u)) t at')
-    ∙ sym (ap (λ b. b && element_passes s (suc i - 1) (λ t. not (comes_after run t u))) there) ∙ two)
+    not-false _ (sym (element_passes-at s (suc i - 1) (λ t. not (are_in_order run t u)) t at')
+    ∙ sym (ap (λ b. b && element_passes s (suc i - 1) (λ t. not (are_in_order run t u))) there) ∙ two)
 
-pub accepted_from-refusal : (run : Run) (s : List Telegram) → refusal_of run s ≡ None → IsAccepted run s
+pub accepted_from-refusal : (run : Run) (s : List Telegram) → first_refusal run s ≡ None → IsAccepted run s
 accepted_from-refusal run [] h = absurd (none-some _ (sym h))
 accepted_from-refusal run (x ∷ xs) h =
     let s : List Telegram = x ∷ xs in
     let long : 0 < length s = omega arith in
-    let a = option_or-none (option_map reasons.Disagree (least (length s) (disagrees_at s))) _ (sym (refusal-some run s long) ∙ h) in
-    let b = option_or-none (option_map reasons.Order (least (length s) (is_misplaced_at run s))) _ a.1 in
-    let c = option_or-none (option_map reasons.Absent (least (positions_of s) (is_absent s))) (option_map reasons.Counter (least (length s) (is_miscounted_at s))) b.1 in
-    let same = least-none_says (length s) (disagrees_at s) (map-none reasons.Disagree _ a.0) in
-    let placed = least-none_says (length s) (is_misplaced_at run s) (map-none reasons.Order _ b.0) in
-    let there = least-none_says (positions_of s) (is_absent s) (map-none reasons.Absent _ c.0) in
-    let counted = least-none_says (length s) (is_miscounted_at s) (map-none reasons.Counter _ c.1) in
+    let a = option_or-none (option_map reasons.Disagree (least (length s) (header_disagrees s))) _ (sym (refusal-some run s long) ∙ h) in
+    let b = option_or-none (option_map reasons.Order (least (length s) (is_misplaced run s))) _ a.1 in
+    let c = option_or-none (option_map reasons.Absent (least (position_count s) (is_absent s))) (option_map reasons.Counter (least (length s) (is_miscounted s))) b.1 in
+    let same = least-none_says (length s) (header_disagrees s) (map-none reasons.Disagree _ a.0) in
+    let placed = least-none_says (length s) (is_misplaced run s) (map-none reasons.Order _ b.0) in
+    let there = least-none_says (position_count s) (is_absent s) (map-none reasons.Absent _ c.0) in
+    let counted = least-none_says (length s) (is_miscounted s) (map-none reasons.Counter _ c.1) in
     let like : (i : ℕ) (t : Telegram) → At s i t → AreAlike x t × (x.header.total ≡ t.header.total) =
     λ i t e. agree-says x t (not-false _ (sym (pair-at s 0 i (λ first t. not (agree first.header t.header)) x t refl e) ∙ same i (slice_get_within s i t e))) in
     let ordered : (i : ℕ) (t : Telegram) → At s i t → misplaces run s i t ≡ false =

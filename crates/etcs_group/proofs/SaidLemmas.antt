@@ -11,11 +11,11 @@ use Rattle.etcs_profile.specs.declared.run.Run.TheVariants as runs
 use Rattle.etcs_profile.specs.declared.track.TrackPacket.{TrackPacket}
 use Rattle.etcs_telegram.specs.Record.{Telegram}
 use Rattle.etcs_group.specs.Places.{At}
-use Rattle.etcs_group.specs.Group.{named_by, IsWellFormed}
+use Rattle.etcs_group.specs.Group.{named_neighbour, IsWellFormed}
 use Rattle.etcs_group.specs.Missed.{none_missed}
 use Rattle.etcs_group.specs.Reading.{reading_of}
 use Rattle.etcs_group.specs.Assembly.{names}
-use Rattle.etcs_group.specs.Packets.{held_packets, given_at, packets_of, is_silent, balise_packets, group_message}
+use Rattle.etcs_group.specs.Packets.{held_packets, given_packets, assembled, is_silent, balise_packets, group_message}
 use Rattle.etcs_group.proofs.PlaceLemmas.{some_at, one_at, at_list_any, list_any-at, At-take, at_take}
 use Rattle.etcs_group.proofs.MarkLemmas.{named-from_test, test_from-named, named_within, next-at}
 use Rattle.etcs_group.proofs.ReadingLemmas.{kept, kept-is, reading-at, at-reading, reading-order, IsPassedBefore}
@@ -37,7 +37,7 @@ same_bool false true f g = g refl
 same_bool false false f g = refl
 
 -- a duplicate flag at c that names b, if b is passed before c
-quiet-named : (run : Run) (missed : ℕ → Bool) (m : Dup) (b c : ℕ) → IsPassedBefore run b c → named_by m c ≡ Some b → missed b ≡ false → is_quiet run missed m c ≡ true
+quiet-named : (run : Run) (missed : ℕ → Bool) (m : Dup) (b c : ℕ) → IsPassedBefore run b c → named_neighbour m c ≡ Some b → missed b ≡ false → is_quiet run missed m c ≡ true
 quiet-named runs.Nominal missed dups.Single b c lt n k = absurd (none-some b n)
 quiet-named runs.Nominal missed dups.Next b c lt n k = let e = same_Some _ _ n in absurd (omega arith)
 quiet-named runs.Nominal missed dups.Previous b zero lt n k = absurd (omega arith)
@@ -48,7 +48,7 @@ quiet-named runs.Reverse missed dups.Previous b zero lt n k = absurd (none-some 
 quiet-named runs.Reverse missed dups.Previous b (suc c) lt n k = let e = same_Some _ _ n in absurd (omega arith)
 
 -- a duplicate flag at c by which the balise is quiet names a balise that is passed before c
-named-quiet : (run : Run) (missed : ℕ → Bool) (m : Dup) (c : ℕ) → is_quiet run missed m c ≡ true → (b : ℕ) × IsPassedBefore run b c × (named_by m c ≡ Some b) × (missed b ≡ false)
+named-quiet : (run : Run) (missed : ℕ → Bool) (m : Dup) (c : ℕ) → is_quiet run missed m c ≡ true → (b : ℕ) × IsPassedBefore run b c × (named_neighbour m c ≡ Some b) × (missed b ≡ false)
 named-quiet runs.Nominal missed dups.Single c q = absurd (both_ways false refl q)
 named-quiet runs.Nominal missed dups.Next c q = absurd (both_ways false refl q)
 named-quiet runs.Nominal missed dups.Previous zero q = absurd (both_ways false refl q)
@@ -84,7 +84,7 @@ module _ (group : List Telegram) (run : Run) (missed : ℕ → Bool) (formed : I
           let pu : r.1.header.position ≡ o.0 = formed.placed o.0 r.1 o.3 in
           let pt : t.header.position ≡ o.1 = formed.placed o.1 t o.4 in
           let here : missed o.0 ≡ false = ap missed (sym pu ∙ formed.placed read.0 r.1 read.1) ∙ read.2 in
-          let n : named_by t.header.dup o.1 ≡ Some o.0 = ap (named_by t.header.dup) (sym pt) ∙ named-from_test t.header.dup t.header.position r.1.header.position r.3 ∙ ap Some pu in
+          let n : named_neighbour t.header.dup o.1 ≡ Some o.0 = ap (named_neighbour t.header.dup) (sym pt) ∙ named-from_test t.header.dup t.header.position r.1.header.position r.3 ∙ ap Some pu in
           subst (λ c. is_quiet run missed t.header.dup c ≡ true) (sym pt) (quiet-named run missed t.header.dup o.0 o.1 o.2 n here)
 
       back : is_quiet run missed t.header.dup t.header.position ≡ true → list_any (λ u. names t u.header.position) (take i s) ≡ true
@@ -97,7 +97,7 @@ module _ (group : List Telegram) (run : Run) (missed : ℕ → Bool) (formed : I
           let j = at-reading group missed run n.0 u.0 u.1 n.3 in
           let pu : u.0.header.position ≡ n.0 = formed.placed n.0 u.0 u.1 in
           at_list_any (λ v. names t v.header.position) (take i s) j.0 u.0 (at_take i s j.0 u.0 (earlier j.0 u.0 j.1 own.0 n.0 pt pu n.1) j.1)
-          (test_from-named t.header.dup t.header.position u.0.header.position (ap (named_by t.header.dup) pt ∙ n.2 ∙ ap Some (sym pu)))
+          (test_from-named t.header.dup t.header.position u.0.header.position (ap (named_neighbour t.header.dup) pt ∙ n.2 ∙ ap Some (sym pu)))
         where
           earlier : (j : ℕ) (u : Telegram) → At s j u → (own b : ℕ) → t.header.position ≡ own → u.header.position ≡ b → IsPassedBefore run b own → j < i
           earlier j u f own b pt pu before = elim (cases_order j i) [
@@ -116,9 +116,9 @@ module _ (group : List Telegram) (run : Run) (missed : ℕ → Bool) (formed : I
           ]
 
   -- the packets of a reading, by the places of the group
-  pub packets-passed : packets_of run (reading_of run missed group) ≡ passed run (part run missed) 0 group
+  pub packets-passed : assembled run (reading_of run missed group) ≡ passed run (part run missed) 0 group
   packets-passed =
-      flat_enumerated (given_at run (reading_of run missed group)) f 0 (reading_of run missed group) given
+      flat_enumerated (given_packets run (reading_of run missed group)) f 0 (reading_of run missed group) given
       ∙ joined_by-is run f (kept missed group)
       ∙ ap (joined_by run f) (kept-is missed group)
       ∙ passed_kept run f missed 0 group
@@ -129,10 +129,10 @@ module _ (group : List Telegram) (run : Run) (missed : ℕ → Bool) (formed : I
       f : Telegram → List TrackPacket
       f t = cond (is_quiet run missed t.header.dup t.header.position) [] (held_packets run t)
 
-      given : (k : ℕ) (t : Telegram) → At (reading_of run missed group) k t → given_at run (reading_of run missed group) (0 + k) t ≡ f t
+      given : (k : ℕ) (t : Telegram) → At (reading_of run missed group) k t → given_packets run (reading_of run missed group) (0 + k) t ≡ f t
       given k t e =
           let z : 0 + k ≡ k = omega arith in
-          ap (λ n. given_at run (reading_of run missed group) n t) z ∙ ap (λ b. cond b [] (held_packets run t)) (quiet-read k t e)
+          ap (λ n. given_packets run (reading_of run missed group) n t) z ∙ ap (λ b. cond b [] (held_packets run t)) (quiet-read k t e)
 
 -- ---- the message of a group, by its places
 
@@ -163,5 +163,5 @@ module _ (group : List Telegram) (formed : IsWellFormed group) where
       ap (λ s. cond s [] (held_packets run t)) (silent-quiet run (0 + k) t (subst (λ n. At group n t) (sym z) e)))
 
   -- with nothing missed the packets are the message of the group
-  pub said-packets : (run : Run) → group_message run group ≡ packets_of run (reading_of run none_missed group)
+  pub said-packets : (run : Run) → group_message run group ≡ assembled run (reading_of run none_missed group)
   said-packets run = said-passed run ∙ sym (packets-passed group run none_missed formed)

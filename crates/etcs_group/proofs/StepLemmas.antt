@@ -9,8 +9,8 @@ use Rattle.etcs_profile.specs.declared.track.TrackPacket.{TrackPacket}
 use Rattle.etcs_telegram.specs.Record.{Telegram}
 use Rattle.etcs_group.specs.declared.refused.Refused.TheVariants as reasons
 use Rattle.etcs_group.specs.Places.{At, element_passes, least}
-use Rattle.etcs_group.specs.Assembly.{comes_after, names, disagrees_at, is_misplaced_at, is_absent, is_miscounted_at, positions_of, refusal_of}
-use Rattle.etcs_group.specs.Packets.{held_packets, given_at}
+use Rattle.etcs_group.specs.Assembly.{are_in_order, names, header_disagrees, is_misplaced, is_absent, is_miscounted, position_count, first_refusal}
+use Rattle.etcs_group.specs.Packets.{held_packets, given_packets}
 use Rattle.etcs_group.proofs.PlaceLemmas.{element_passes-at}
 use Rattle.etcs_group.proofs.RefusalLemmas.{refusal-some, misplaces, miscounts}
 
@@ -21,30 +21,30 @@ on_err (Err e) P p = p
 
 -- ---- refusals
 
-module _ (run : Run) (s : List Telegram) (long : 0 < length s) (same : None ≡ least (length s) (disagrees_at s)) where
-  pub refusal-order : (i : ℕ) → Some i ≡ least (length s) (is_misplaced_at run s) → Some (reasons.Order i) ≡ refusal_of run s
+module _ (run : Run) (s : List Telegram) (long : 0 < length s) (same : None ≡ least (length s) (header_disagrees s)) where
+  pub refusal-order : (i : ℕ) → Some i ≡ least (length s) (is_misplaced run s) → Some (reasons.Order i) ≡ first_refusal run s
   refusal-order i b = sym (refusal-some run s long ∙ rw (← same, ← b) refl)
 
-  pub refusal-missing : (p : ℕ) → None ≡ least (length s) (is_misplaced_at run s) → Some p ≡ least (positions_of s) (is_absent s) → Some (reasons.Absent p) ≡ refusal_of run s
+  pub refusal-missing : (p : ℕ) → None ≡ least (length s) (is_misplaced run s) → Some p ≡ least (position_count s) (is_absent s) → Some (reasons.Absent p) ≡ first_refusal run s
   refusal-missing p b c = sym (refusal-some run s long ∙ rw (← same, ← b, ← c) refl)
 
-  pub refusal-counter : (i : ℕ) → None ≡ least (length s) (is_misplaced_at run s) → None ≡ least (positions_of s) (is_absent s) → Some i ≡ least (length s) (is_miscounted_at s) → Some (reasons.Counter i) ≡ refusal_of run s
+  pub refusal-counter : (i : ℕ) → None ≡ least (length s) (is_misplaced run s) → None ≡ least (position_count s) (is_absent s) → Some i ≡ least (length s) (is_miscounted s) → Some (reasons.Counter i) ≡ first_refusal run s
   refusal-counter i b c e = sym (refusal-some run s long ∙ rw (← same, ← b, ← c, ← e) refl)
 
-  pub refusal-not : None ≡ least (length s) (is_misplaced_at run s) → None ≡ least (positions_of s) (is_absent s) → None ≡ least (length s) (is_miscounted_at s) → None ≡ refusal_of run s
+  pub refusal-not : None ≡ least (length s) (is_misplaced run s) → None ≡ least (position_count s) (is_absent s) → None ≡ least (length s) (is_miscounted s) → None ≡ first_refusal run s
   refusal-not b c e = sym (refusal-some run s long ∙ rw (← same, ← b, ← c, ← e) refl)
 
 -- a telegram whose position is not above its total is misplaced if and only if it does not come after
 -- the one before
-pub misplaced-is : (run : Run) (s : List Telegram) (i : ℕ) (t u : Telegram) → 0 < i → At s (i - 1) t → At s i u → ltb u.header.total u.header.position ≡ false → not (comes_after run t u) ≡ is_misplaced_at run s i
+pub misplaced-is : (run : Run) (s : List Telegram) (i : ℕ) (t u : Telegram) → 0 < i → At s (i - 1) t → At s i u → ltb u.header.total u.header.position ≡ false → not (are_in_order run t u) ≡ is_misplaced run s i
 misplaced-is run s i t u there a b inside = sym (
     element_passes-at s i (misplaces run s i) u b
-    ∙ ap (λ x. x || (ltb 0 i && element_passes s (i - 1) (λ t. not (comes_after run t u)))) inside
-    ∙ ap (λ x. x && element_passes s (i - 1) (λ t. not (comes_after run t u))) (lt-ltb 0 i there)
-    ∙ element_passes-at s (i - 1) (λ t. not (comes_after run t u)) t a
+    ∙ ap (λ x. x || (ltb 0 i && element_passes s (i - 1) (λ t. not (are_in_order run t u)))) inside
+    ∙ ap (λ x. x && element_passes s (i - 1) (λ t. not (are_in_order run t u))) (lt-ltb 0 i there)
+    ∙ element_passes-at s (i - 1) (λ t. not (are_in_order run t u)) t a
     )
 
-pub miscounted-is : (s : List Telegram) (i : ℕ) (t : Telegram) (counter : ℕ) (answer : Bool) → At s i t → t.header.counter ≡ counter → counter < 254 → list_any (λ u. ltb u.header.counter 254 && not (eqb u.header.counter counter)) (take i s) ≡ answer → is_miscounted_at s i ≡ answer
+pub miscounted-is : (s : List Telegram) (i : ℕ) (t : Telegram) (counter : ℕ) (answer : Bool) → At s i t → t.header.counter ≡ counter → counter < 254 → list_any (λ u. ltb u.header.counter 254 && not (eqb u.header.counter counter)) (take i s) ≡ answer → is_miscounted s i ≡ answer
 miscounted-is s i t counter answer at same small h =
     let other : counter ≢ 254 = omega arith in
     let e : eqb counter 254 ≡ false = ne_eqb counter 254 other in
@@ -55,9 +55,9 @@ miscounted-is s i t counter answer at same small h =
 
 -- the packets of ts, which are the part of s from place i on
 abbrev pub packets_from : Run → List Telegram → ℕ → List Telegram → List TrackPacket
-packets_from run s i ts = flat_map (λ (e : ℕ × Telegram). given_at run s e.0 e.1) (enumerate_from i ts)
+packets_from run s i ts = flat_map (λ (e : ℕ × Telegram). given_packets run s e.0 e.1) (enumerate_from i ts)
 
-packets_step : (run : Run) (s : List Telegram) (i : ℕ) (t : Telegram) → At s i t → packets_from run s i (drop i s) ≡ given_at run s i t ++ packets_from run s (i + 1) (drop (i + 1) s)
+packets_step : (run : Run) (s : List Telegram) (i : ℕ) (t : Telegram) → At s i t → packets_from run s i (drop i s) ≡ given_packets run s i t ++ packets_from run s (i + 1) (drop (i + 1) s)
 packets_step run s i t at =
     let lt = slice_get_within s i t at in
     let e = get_or_from_slice_get s i t t at in

@@ -20,17 +20,17 @@ abbrev pub Aspects : Type 0
 Aspects = List Telegrams
 
 -- what a duplicate flag at number p names: the number after it, the one before it, or none
-abbrev pub named_by : Dup → ℕ → Option ℕ
-named_by dups.Single p = None
-named_by dups.Next p = Some (p + 1)
-named_by dups.Previous zero = None
-named_by dups.Previous (suc p) = Some p
+abbrev pub named_neighbour : Dup → ℕ → Option ℕ
+named_neighbour dups.Single p = None
+named_neighbour dups.Next p = Some (p + 1)
+named_neighbour dups.Previous zero = None
+named_neighbour dups.Previous (suc p) = Some p
 
 -- the partner of place p: the place that the mark there names, if it lies in the group
-abbrev pub partner_of : Telegrams → ℕ → Option ℕ
-partner_of group p =
+abbrev pub partner_place : Telegrams → ℕ → Option ℕ
+partner_place group p =
     option_and_then (λ q. if nat_lt q (length group) then Some q else None)
-    (option_and_then (λ t. named_by t.header.dup p) (slice_get group p))
+    (option_and_then (λ t. named_neighbour t.header.dup p) (slice_get group p))
 
 -- the two telegrams have the same version, identity and link flag
 pub record AreAlike (t u : Telegram) : Type 0 where
@@ -51,8 +51,8 @@ pub record IsWellFormed (group : Telegrams) : Type 0 where
   pub counted : (b : ℕ) (t : Telegram) → At group b t → t.header.total + 1 ≡ length group
   pub alike : (b : ℕ) (t first : Telegram) → At group b t → At group 0 first → AreAlike t first
   pub inside : (b : ℕ) (t : Telegram) → At group b t → t.header.dup ≢ dups.Single
-      → IsSome (partner_of group b)
-  pub answered : (b p : ℕ) → partner_of group b ≡ Some p → partner_of group p ≡ Some b
+      → IsSome (partner_place group b)
+  pub answered : (b p : ℕ) → partner_place group b ≡ Some p → partner_place group p ≡ Some b
   pub modelled : (b : ℕ) (t : Telegram) → At group b t → AllPass is_modelled t.packets
 
 -- The counters (M_MCOUNT) agree: none is 254, which by this project's rule fits no message, and any two

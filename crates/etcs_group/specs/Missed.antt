@@ -2,7 +2,7 @@
 -- duplicate covers only its partner.
 use Rattle.std.specs.Prelude.{ℕ, ◌<◌, ◌==◌, Bool, false, length, IsTrue, IsFalse, IsSomeAnd, MatchOption, ⊤}
 use Rattle.std.specs.Int.{bit_at}
-use Rattle.etcs_group.specs.Group.{partner_of, Telegrams}
+use Rattle.etcs_group.specs.Group.{partner_place, Telegrams}
 
 -- the set that a number represents: bit b is set if the balise at place b is missed
 abbrev pub is_missed : ℕ → ℕ → Bool
@@ -19,8 +19,8 @@ IsSetOf group missed = (b : ℕ) → IsTrue (missed b) → b < length group
 -- each missed place has a partner, and that one is not missed
 abbrev pub IsCovered : Telegrams → (ℕ → Bool) → Type 0
 IsCovered group missed =
-    (b : ℕ) → IsTrue (missed b) → IsSomeAnd (partner_of group b) (λ p. IsFalse (missed p))
+    (b : ℕ) → IsTrue (missed b) → IsSomeAnd (partner_place group b) (λ p. IsFalse (missed p))
 
 -- the place is missed, and has no partner or a partner that is missed too
 abbrev pub IsLost : Telegrams → (ℕ → Bool) → ℕ → Type 0
-IsLost group missed b = IsTrue (missed b) × MatchOption (partner_of group b) ⊤ (λ p. IsTrue (missed p))
+IsLost group missed b = IsTrue (missed b) × MatchOption (partner_place group b) ⊤ (λ p. IsTrue (missed p))

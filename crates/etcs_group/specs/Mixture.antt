@@ -8,36 +8,36 @@ use Rattle.etcs_telegram.specs.Record.{Telegram}
 use Rattle.etcs_group.specs.Places.{At}
 use Rattle.etcs_group.specs.Missed.{IsCovered}
 use Rattle.etcs_group.specs.Reading.{in_passing_order}
-use Rattle.etcs_group.specs.Controlled.{count_of}
+use Rattle.etcs_group.specs.Controlled.{balise_count}
 use Rattle.etcs_group.specs.Group.{Telegrams, Aspects}
 
 -- the function that a list of aspects by place represents; a place past its end shows nothing
-abbrev pub shown_in : List (Option ℕ) → ℕ → Option ℕ
-shown_in shown p = option_and_then (λ aspect. aspect) (slice_get shown p)
+abbrev pub shown_aspect : List (Option ℕ) → ℕ → Option ℕ
+shown_aspect shown p = option_and_then (λ aspect. aspect) (slice_get shown p)
 
 -- each place that shows an aspect is a place of the group, and the aspect exists
 abbrev pub Fits : Aspects → (ℕ → Option ℕ) → Type 0
-Fits aspects shown = (p a : ℕ) → shown p ≡ Some a → (p < count_of aspects) × (a < length aspects)
+Fits aspects shown = (p a : ℕ) → shown p ≡ Some a → (p < balise_count aspects) × (a < length aspects)
 
 -- the places of the group that show nothing are missed
-abbrev pub missed_in : Aspects → (ℕ → Option ℕ) → ℕ → Bool
-missed_in aspects shown p = nat_lt p (count_of aspects) && is_none (shown p)
+abbrev pub shows_nothing : Aspects → (ℕ → Option ℕ) → ℕ → Bool
+shows_nothing aspects shown p = nat_lt p (balise_count aspects) && is_none (shown p)
 
 -- the missed places are covered in aspect 0
 abbrev pub Covers : Aspects → (ℕ → Option ℕ) → Type 0
 Covers aspects shown = (first : Telegrams) → At aspects 0 first
-    → IsCovered first (missed_in aspects shown)
+    → IsCovered first (shows_nothing aspects shown)
 
 -- the telegram that a place shows
-abbrev pub shown_at : Aspects → (ℕ → Option ℕ) → ℕ → Option Telegram
-shown_at aspects shown p =
+abbrev pub shown_telegram : Aspects → (ℕ → Option ℕ) → ℕ → Option Telegram
+shown_telegram aspects shown p =
     option_and_then (λ a. option_and_then (λ group. slice_get group p) (slice_get aspects a)) (shown p)
 
 -- what is read of a mixture: the telegrams that are shown, in passing order
-abbrev pub mixed_of : Run → Aspects → (ℕ → Option ℕ) → Telegrams
-mixed_of run aspects shown =
-    in_passing_order run (filter_map (shown_at aspects shown) (range_with_len 0 (count_of aspects)))
+abbrev pub mixture_reading : Run → Aspects → (ℕ → Option ℕ) → Telegrams
+mixture_reading run aspects shown =
+    in_passing_order run (filter_map (shown_telegram aspects shown) (range_with_len 0 (balise_count aspects)))
 
 -- an aspect has, at their places, all the telegrams that are shown
 abbrev pub HasAllShown : Aspects → (ℕ → Option ℕ) → Telegrams → Type 0
-HasAllShown aspects shown group = (p : ℕ) (t : Telegram) → shown_at aspects shown p ≡ Some t → At group p t
+HasAllShown aspects shown group = (p : ℕ) (t : Telegram) → shown_telegram aspects shown p ≡ Some t → At group p t

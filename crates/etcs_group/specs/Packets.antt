@@ -11,7 +11,7 @@ use Rattle.etcs_profile.specs.declared.track.TrackPacket.{TrackPacket}
 use Rattle.etcs_profile.specs.Track.{holds}
 use Rattle.etcs_telegram.specs.Record.{Telegram}
 use Rattle.etcs_group.specs.Places.{At}
-use Rattle.etcs_group.specs.Group.{partner_of, Telegrams}
+use Rattle.etcs_group.specs.Group.{partner_place, Telegrams}
 use Rattle.etcs_group.specs.Reading.{in_passing_order}
 use Rattle.etcs_group.specs.Assembly.{names}
 
@@ -21,13 +21,13 @@ held_packets run t = filter (holds run) t.packets
 
 -- The packets that a train takes from the telegram at place i: none if it has already read the telegram
 -- that the mark of this one names.
-abbrev pub given_at : Run → Telegrams → ℕ → Telegram → List TrackPacket
-given_at run read i t =
+abbrev pub given_packets : Run → Telegrams → ℕ → Telegram → List TrackPacket
+given_packets run read i t =
     if list_any (λ u. names t u.header.position) (take i read) then [] else held_packets run t
 
 -- the packets of a list of telegrams, in passing order
-abbrev pub packets_of : Run → Telegrams → List TrackPacket
-packets_of run read = flat_map (λ e. given_at run read e.0 e.1) (enumerate_from 0 read)
+abbrev pub assembled : Run → Telegrams → List TrackPacket
+assembled run read = flat_map (λ e. given_packets run read e.0 e.1) (enumerate_from 0 read)
 
 -- ---- the message of a well-formed group with nothing missed, by its places only
 
@@ -48,5 +48,5 @@ group_message run group =
 
 -- each balise and its partner have equal lists of packets that hold in the running direction
 abbrev pub HasEqualPairs : Run → Telegrams → Type 0
-HasEqualPairs run group = (b p : ℕ) (t u : Telegram) → partner_of group b ≡ Some p
+HasEqualPairs run group = (b p : ℕ) (t u : Telegram) → partner_place group b ≡ Some p
     → At group b t → At group p u → held_packets run t ≡ held_packets run u

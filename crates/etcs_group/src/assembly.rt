@@ -4,8 +4,8 @@ ghost use Rattle.std.specs.Prelude.{◌≡◌, ◌≢◌, ◌++◌, [], Err, Som
 ghost use Rattle.std.specs.List.{list_any};
 ghost use Rattle.etcs_group.specs.declared.refused.Refused.{Refused};
 ghost use Rattle.etcs_group.specs.Places.{pointed};
-ghost use Rattle.etcs_group.specs.Assembly.{IsAccepted, names, refusal_of};
-ghost use Rattle.etcs_group.specs.Packets.{held_packets, packets_of};
+ghost use Rattle.etcs_group.specs.Assembly.{IsAccepted, names, first_refusal};
+ghost use Rattle.etcs_group.specs.Packets.{held_packets, assembled};
 
 use crate::header::{names, position};
 use crate::refusal::first_refusal;
@@ -50,8 +50,8 @@ fn packets<'a>(
     run: Run,
     read: &[&'a Telegram],
 ) -> Result<Vec<&'a TrackPacket>, Memory>
-    ensures ok { IfOk result (λ packets. pointed packets.items ≡ packets_of run (pointed read.now)) }
-    ensures memory { OnErr result (packets_of run (pointed read.now) ≢ []) }
+    ensures ok { IfOk result (λ packets. pointed packets.items ≡ assembled run (pointed read.now)) }
+    ensures memory { OnErr result (assembled run (pointed read.now) ≢ []) }
 {
     let mut packets = Vec::new(alloc);
     'telegrams: for (place, telegram) in read.iter().enumerate() {
@@ -74,15 +74,15 @@ pub fn assemble<'a>(
     run: Run,
     read: &[&'a Telegram],
 ) -> Result<Vec<&'a TrackPacket>, Refused>
-    ensures ok { IfOk result (λ packets. pointed packets.items ≡ packets_of run (pointed read.now)) }
+    ensures ok { IfOk result (λ packets. pointed packets.items ≡ assembled run (pointed read.now)) }
     ensures accepted { IfOk result (λ _. IsAccepted run (pointed read.now)) }
 
     // Found before allocating.
-    ensures refused { (why : Refused) → refusal_of run (pointed read.now) ≡ Some why → result ≡ Err why }
+    ensures refused { (why : Refused) → first_refusal run (pointed read.now) ≡ Some why → result ≡ Err why }
 
     // The only error of an accepted list is lack of memory, and only if the list has packets.
     ensures memory { IsAccepted run (pointed read.now)
-        → IfErr result (λ why. (why ≡ Refused.Memory) × (packets_of run (pointed read.now) ≢ [])) }
+        → IfErr result (λ why. (why ≡ Refused.Memory) × (assembled run (pointed read.now) ≢ [])) }
 {
     match first_refusal(run, read) {
         Some(why) => Err(why),

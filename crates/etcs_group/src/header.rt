@@ -1,7 +1,7 @@
 //! The header fields that place a telegram in a message.
 
 ghost use Rattle.std.specs.Prelude.{◌≡◌, ◌<◌, ◌==◌, ◌||◌};
-ghost use Rattle.etcs_group.specs.Assembly.{comes_after, names};
+ghost use Rattle.etcs_group.specs.Assembly.{are_in_order, names};
 
 use etcs_bits::Dup;
 use etcs_packet::Run;
@@ -38,8 +38,8 @@ pub(crate) fn counter(telegram: &Telegram) -> u32
 }
 
 // Whether a telegram may be passed after another one.
-pub(crate) fn comes_after(run: Run, before: &Telegram, telegram: &Telegram) -> bool
-    ensures { result ≡ comes_after run before.now telegram.now }
+pub(crate) fn are_in_order(run: Run, before: &Telegram, telegram: &Telegram) -> bool
+    ensures { result ≡ are_in_order run before.now telegram.now }
 {
     match run {
         Run::Nominal => position(before) < position(telegram),

@@ -1,7 +1,7 @@
 //! Balises that a train misses, and whether it reads a duplicate of each.
 
 ghost use Rattle.std.specs.Prelude.{◌≡◌, ◌↔◌, ◌≤◌, length, IsFalse, IsSomeAnd, IsTrue};
-ghost use Rattle.etcs_group.specs.Group.{partner_of};
+ghost use Rattle.etcs_group.specs.Group.{partner_place};
 ghost use Rattle.etcs_group.specs.Missed.{IsCovered, is_missed};
 
 use crate::group::Group;
@@ -25,7 +25,7 @@ impl Missed {
 /// in the group (this project's rule, after SUBSET-026, 3.16.2).
 pub fn partner(telegrams: &[Telegram], place: usize) -> Option<usize>
     requires { length telegrams.now ≤ 8 }
-    ensures { result ≡ partner_of telegrams.now place }
+    ensures { result ≡ partner_place telegrams.now place }
 {
     if place >= telegrams.len() {
         return None;
@@ -42,7 +42,7 @@ pub fn partner(telegrams: &[Telegram], place: usize) -> Option<usize>
 fn is_served(telegrams: &[Telegram], missed: Missed, place: usize) -> bool
     requires { length telegrams.now ≤ 8 }
     ensures { IsTrue result ↔ (IsTrue (is_missed missed.0 place)
-        → IsSomeAnd (partner_of telegrams.now place) (λ p. IsFalse (is_missed missed.0 p))) }
+        → IsSomeAnd (partner_place telegrams.now place) (λ p. IsFalse (is_missed missed.0 p))) }
 {
     if !missed.has(place) {
         return true;

@@ -1,9 +1,9 @@
 //! What a train reads of a group that is switched while it passes.
 
 ghost use Rattle.std.specs.Prelude.{◌≡◌, ◌≢◌, ◌↔◌, ℕ, ◌<◌, ◌≤◌, [], length, Some, None, IfOk, IsTrue, MatchOption, OnErr};
-ghost use Rattle.etcs_group.specs.Controlled.{IsControlled, count_of};
+ghost use Rattle.etcs_group.specs.Controlled.{IsControlled, balise_count};
 ghost use Rattle.etcs_group.specs.Missed.{is_missed};
-ghost use Rattle.etcs_group.specs.Mixture.{Covers, Fits, missed_in, mixed_of, shown_at, shown_in};
+ghost use Rattle.etcs_group.specs.Mixture.{Covers, Fits, shows_nothing, mixture_reading, shown_telegram, shown_aspect};
 ghost use Rattle.etcs_group.specs.Places.{pointed};
 
 use crate::controlled::Controlled;
@@ -26,7 +26,7 @@ pub struct Mixture {
 impl Controlled {
     // The number of balises of each aspect.
     fn count(&self) -> usize
-        ensures value { result ≡ count_of self.now }
+        ensures value { result ≡ balise_count self.now }
         ensures few { result ≤ 8 }
         ensures controlled { IsControlled self.now }
     {
@@ -35,7 +35,7 @@ impl Controlled {
 
     // Whether the index may show this: nothing, or an existing aspect if the index is in the group.
     fn may_show(&self, place: usize, shown: Option<usize>) -> bool
-        ensures { IsTrue result ↔ ((a : ℕ) → shown ≡ Some a → (place < count_of self.now) × (a < length self.now)) }
+        ensures { IsTrue result ↔ ((a : ℕ) → shown ≡ Some a → (place < balise_count self.now) × (a < length self.now)) }
     {
         match shown {
             Some(aspect) => place < self.count() && aspect < self.aspects().len(),
@@ -46,7 +46,7 @@ impl Controlled {
     /// Whether the mixture fits this group: each index shows nothing or an existing aspect, and indexes past
     /// the number of balises show nothing.
     pub fn fits(&self, mixture: &Mixture) -> bool
-        ensures { IsTrue result ↔ Fits self.now (shown_in mixture.now.shown) }
+        ensures { IsTrue result ↔ Fits self.now (shown_aspect mixture.now.shown) }
     {
         'places: for place in 0..8 {
             if !self.may_show(place, mixture.shown[place]) {
@@ -58,7 +58,7 @@ impl Controlled {
 
     // The indexes of the group that show nothing.
     fn missed(&self, mixture: &Mixture) -> Missed
-        ensures { (p : ℕ) → is_missed result.0 p ≡ missed_in self.now (shown_in mixture.now.shown) p }
+        ensures { (p : ℕ) → is_missed result.0 p ≡ shows_nothing self.now (shown_aspect mixture.now.shown) p }
     {
         let mut bits = 0u8;
         'places: for place in 0..self.count() {
@@ -72,17 +72,17 @@ impl Controlled {
     /// Whether each missed balise has a partner that is read, in any aspect. The duplicate flags of the first
     /// aspect decide the partners. The mixture must fit.
     pub fn covers(&self, mixture: &Mixture) -> bool
-        requires { Fits self.now (shown_in mixture.now.shown) }
-        ensures { IsTrue result ↔ Covers self.now (shown_in mixture.now.shown) }
+        requires { Fits self.now (shown_aspect mixture.now.shown) }
+        ensures { IsTrue result ↔ Covers self.now (shown_aspect mixture.now.shown) }
     {
         is_covered(&self.aspects()[0], self.missed(mixture))
     }
 
     // The telegram that an index shows.
-    fn shown_at(&self, mixture: &Mixture, place: usize) -> Option<&Telegram>
+    fn shown_telegram(&self, mixture: &Mixture, place: usize) -> Option<&Telegram>
         requires { place < 8 }
-        ensures { MatchOption result (shown_at self.now (shown_in mixture.now.shown) place ≡ None)
-            (λ t. shown_at self.now (shown_in mixture.now.shown) place ≡ Some t.now) }
+        ensures { MatchOption result (shown_telegram self.now (shown_aspect mixture.now.shown) place ≡ None)
+            (λ t. shown_telegram self.now (shown_aspect mixture.now.shown) place ≡ Some t.now) }
     {
         let aspect = mixture.shown[place]?;
         let group = self.aspects().get(aspect)?;
@@ -96,14 +96,14 @@ impl Controlled {
     /// Allocates only if something is shown. The only error is that memory runs out; then no list is
     /// returned.
     pub fn mixed(&self, alloc: Global, mixture: &Mixture) -> Result<Vec<&Telegram>, Memory>
-        requires { Fits self.now (shown_in mixture.now.shown) }
+        requires { Fits self.now (shown_aspect mixture.now.shown) }
         ensures ok { IfOk result (λ read. pointed read.items
-            ≡ mixed_of mixture.now.run self.now (shown_in mixture.now.shown)) }
-        ensures memory { OnErr result (mixed_of mixture.now.run self.now (shown_in mixture.now.shown) ≢ []) }
+            ≡ mixture_reading mixture.now.run self.now (shown_aspect mixture.now.shown)) }
+        ensures memory { OnErr result (mixture_reading mixture.now.run self.now (shown_aspect mixture.now.shown) ≢ []) }
     {
         let mut read = Vec::new(alloc);
         'places: for place in 0..self.count() {
-            if let Some(telegram) = self.shown_at(mixture, place) {
+            if let Some(telegram) = self.shown_telegram(mixture, place) {
                 read.push(telegram)?;
             }
         }

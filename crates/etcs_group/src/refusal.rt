@@ -2,9 +2,9 @@
 
 ghost use Rattle.std.specs.Prelude.{◌≡◌, ◌<◌, length};
 ghost use Rattle.etcs_group.specs.Places.{least, pointed};
-ghost use Rattle.etcs_group.specs.Assembly.{agree, disagrees_at, is_absent, is_miscounted_at, is_misplaced_at, positions_of, refusal_of};
+ghost use Rattle.etcs_group.specs.Assembly.{agree, header_disagrees, is_absent, is_miscounted, is_misplaced, position_count, first_refusal};
 
-use crate::header::{comes_after, counter, header, position, stands_for, total};
+use crate::header::{are_in_order, counter, header, position, stands_for, total};
 use crate::refused::Refused;
 use etcs_packet::Run;
 use etcs_telegram::{Header, Telegram};
@@ -19,42 +19,42 @@ fn agree(this: &Header, that: &Header) -> bool
         && this.linked == that.linked
 }
 
-fn disagrees_at(read: &[&Telegram], place: usize) -> bool
+fn header_disagrees(read: &[&Telegram], place: usize) -> bool
     requires { place < length read.now }
-    ensures { result ≡ disagrees_at (pointed read.now) place }
+    ensures { result ≡ header_disagrees (pointed read.now) place }
 {
     !agree(header(read[0]), header(read[place]))
 }
 
 // The least index whose header disagrees with the header at index 0.
 fn first_disagreement(read: &[&Telegram]) -> Option<usize>
-    ensures { result ≡ least (length (pointed read.now)) (disagrees_at (pointed read.now)) }
+    ensures { result ≡ least (length (pointed read.now)) (header_disagrees (pointed read.now)) }
 {
     'places: for place in 0..read.len() {
-        if disagrees_at(read, place) {
+        if header_disagrees(read, place) {
             return Some(place);
         }
     }
     None
 }
 
-fn is_misplaced_at(run: Run, read: &[&Telegram], place: usize) -> bool
+fn is_misplaced(run: Run, read: &[&Telegram], place: usize) -> bool
     requires { place < length read.now }
-    ensures { result ≡ is_misplaced_at run (pointed read.now) place }
+    ensures { result ≡ is_misplaced run (pointed read.now) place }
 {
     let telegram: &Telegram = read[place];
     if total(telegram) < position(telegram) {
         return true;
     }
-    place > 0 && !comes_after(run, read[place - 1], telegram)
+    place > 0 && !are_in_order(run, read[place - 1], telegram)
 }
 
 // The least index that is out of order.
 fn first_misplaced(run: Run, read: &[&Telegram]) -> Option<usize>
-    ensures { result ≡ least (length (pointed read.now)) (is_misplaced_at run (pointed read.now)) }
+    ensures { result ≡ least (length (pointed read.now)) (is_misplaced run (pointed read.now)) }
 {
     'places: for place in 0..read.len() {
-        if is_misplaced_at(run, read, place) {
+        if is_misplaced(run, read, place) {
             return Some(place);
         }
     }
@@ -76,7 +76,7 @@ fn is_absent(read: &[&Telegram], wanted: u32) -> bool
 // The least position, up to the total at index 0, that no telegram has or names.
 fn first_absent(read: &[&Telegram]) -> Option<usize>
     requires { 0 < length read.now }
-    ensures { result ≡ least (positions_of (pointed read.now)) (is_absent (pointed read.now)) }
+    ensures { result ≡ least (position_count (pointed read.now)) (is_absent (pointed read.now)) }
 {
     let count = total(read[0]) + 1;
     'positions: for wanted in 0..count {
@@ -87,9 +87,9 @@ fn first_absent(read: &[&Telegram]) -> Option<usize>
     None
 }
 
-fn is_miscounted_at(read: &[&Telegram], place: usize) -> bool
+fn is_miscounted(read: &[&Telegram], place: usize) -> bool
     requires { place < length read.now }
-    ensures { result ≡ is_miscounted_at (pointed read.now) place }
+    ensures { result ≡ is_miscounted (pointed read.now) place }
 {
     let own = counter(read[place]);
     if own >= 254 {
@@ -106,10 +106,10 @@ fn is_miscounted_at(read: &[&Telegram], place: usize) -> bool
 
 // The least index whose counter does not fit.
 fn first_miscounted(read: &[&Telegram]) -> Option<usize>
-    ensures { result ≡ least (length (pointed read.now)) (is_miscounted_at (pointed read.now)) }
+    ensures { result ≡ least (length (pointed read.now)) (is_miscounted (pointed read.now)) }
 {
     'places: for place in 0..read.len() {
-        if is_miscounted_at(read, place) {
+        if is_miscounted(read, place) {
             return Some(place);
         }
     }
@@ -119,7 +119,7 @@ fn first_miscounted(read: &[&Telegram]) -> Option<usize>
 // The first reason to refuse the telegrams, if there is one. The order of the reasons keeps this linear:
 // if none disagrees and none is out of order, there are at most eight telegrams.
 pub(crate) fn first_refusal(run: Run, read: &[&Telegram]) -> Option<Refused>
-    ensures { result ≡ refusal_of run (pointed read.now) }
+    ensures { result ≡ first_refusal run (pointed read.now) }
 {
     if read.is_empty() {
         return Some(Refused::Nothing);

@@ -5,7 +5,7 @@ use Rattle.std.specs.Ordering.{is_eq, nat_cmp}
 use Rattle.std.proofs.lemmas.Option.{slice_get_within}
 use Rattle.etcs_group.specs.Controlled.{IsControlled}
 use Rattle.etcs_check.specs.Identities.{HasIdentity}
-use Rattle.etcs_check.specs.Line.{group_at, group_findings}
+use Rattle.etcs_check.specs.Line.{line_group_findings, group_findings}
 use Rattle.etcs_check.specs.declared.finding.Site.TheVariants as sites
 use Rattle.etcs_check.proofs.IdentityLemmas.{kept_more, next_stands, numbered_before, used_told}
 use Rattle.etcs_check.proofs.NoteLemmas.{each_more, each_pushed, index_at, on_err}
@@ -32,7 +32,7 @@ places-preserved c =
     let at = index_at c.args.groups.now c.places.place _ c.aspects.result.now c.places-test.true (c.aspects.ensures.value ∙ c.index-groups-place.is) in
     let used = used_told c.args.groups.now c.places.place c.aspects.result.now c.has_repeat-again.result (contains nat_cmp c.places.kept) at c.in_ok-push_next.ensures.numbered (numbered_before c.args.groups.now c.places.place c.places.invariant.numbered) c.has_repeat-again.ensures.none c.places.invariant.kept in
     record {
-      all = each_pushed (group_at c.args.groups.now) c.args.groups.now c.places.place c.aspects.result.now c.places.found.items _ _ at
+      all = each_pushed (line_group_findings c.args.groups.now) c.args.groups.now c.places.place c.aspects.result.now c.places.found.items _ _ at
           (c.in_ok-push_next.ensures.ok ∙ ap (λ u. c.places.found.items ++ group_findings (sites.Group c.places.place) u c.aspects.result.now) used)
           c.places.invariant.all;
       controlled = each_more (λ _. IsControlled) c.args.groups.now c.places.place c.aspects.result.now at c.places.invariant.controlled c.aspects.ensures.controlled;

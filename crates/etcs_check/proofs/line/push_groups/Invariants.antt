@@ -4,9 +4,9 @@ use Rattle.std.specs.Ordering.{nat_cmp}
 use Rattle.etcs_telegram.specs.Record.{Telegram}
 use Rattle.etcs_group.specs.Places.{At}
 use Rattle.etcs_group.specs.Controlled.{IsControlled}
-use Rattle.etcs_check.specs.Findings.{each_from}
+use Rattle.etcs_check.specs.Findings.{numbered_findings}
 use Rattle.etcs_check.specs.Identities.{HasIdentity}
-use Rattle.etcs_check.specs.Line.{group_at, group_list}
+use Rattle.etcs_check.specs.Line.{line_group_findings, group_list}
 use Rattle.etcs_check.specs.LineChecker.{HasKept}
 use Rattle.etcs_check.proofs.line.push_groups.Given as goal
 
@@ -14,7 +14,7 @@ use Rattle.etcs_check.proofs.line.push_groups.Given as goal
 -- number of balises and an identity in range, which is kept if one is used again.
 abbrev pub invariant-places : goal.invariant-places
 invariant-places l = record {
-  all : l.found.items ++ each_from (group_at l.groups) l.place (drop l.place l.groups) ≡ l.initial.found.items ++ group_list l.groups;
+  all : l.found.items ++ numbered_findings (line_group_findings l.groups) l.place (drop l.place l.groups) ≡ l.initial.found.items ++ group_list l.groups;
   controlled : (k : ℕ) (g : List (List Telegram)) → k < l.place → At l.groups k g → IsControlled g;
   numbered : (k : ℕ) (g : List (List Telegram)) → k < l.place → At l.groups k g → HasIdentity g;
   kept : l.again ≡ true → HasKept (contains nat_cmp l.kept) (take l.place l.groups);

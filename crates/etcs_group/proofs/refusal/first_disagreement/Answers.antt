@@ -1,18 +1,18 @@
 use Rattle.std.proofs.Common.{length, sym, arith}
-use Rattle.etcs_group.specs.Assembly.{disagrees_at}
+use Rattle.etcs_group.specs.Assembly.{header_disagrees}
 use Rattle.etcs_group.specs.Places.{pointed}
 use Rattle.etcs_group.proofs.PlaceLemmas.{least-at, least-none}
 use Rattle.etcs_group.proofs.PointedLemmas.{length-pointed}
 use Rattle.etcs_group.proofs.refusal.first_disagreement.Goals as goal
 
 -- The places before this one have been looked at.
-pub returns-then-disagrees_at : goal.returns-then-disagrees_at
-returns-then-disagrees_at c =
+pub returns-then-header_disagrees : goal.returns-then-header_disagrees
+returns-then-header_disagrees c =
     let long = length-pointed c.args.read.now in
-    sym (least-at (length (pointed c.args.read.now)) c.places.place (disagrees_at (pointed c.args.read.now)) (omega arith) (sym c.if-disagrees_at.ensures) c.places.invariant)
+    sym (least-at (length (pointed c.args.read.now)) c.places.place (header_disagrees (pointed c.args.read.now)) (omega arith) (sym c.if-header_disagrees.ensures) c.places.invariant)
 
 -- All places have been looked at.
 pub returns : goal.returns
 returns c =
     let long = length-pointed c.args.read.now in
-    sym (least-none (length (pointed c.args.read.now)) (disagrees_at (pointed c.args.read.now)) (λ k lt. c.places.invariant k (omega arith)))
+    sym (least-none (length (pointed c.args.read.now)) (header_disagrees (pointed c.args.read.now)) (λ k lt. c.places.invariant k (omega arith)))

@@ -2,8 +2,8 @@ use Rattle.std.proofs.Common.{◌≤◌, false, length, refl, sym, ◌∙◌, ar
 use Rattle.std.proofs.lemmas.Bool.{both_ways, cases_lt}
 use Rattle.std.proofs.lemmas.Option.{none-some}
 use mathlib.Core.Logic.{inl, inr}
-use Rattle.etcs_group.specs.Controlled.{count_of}
-use Rattle.etcs_group.specs.Mixture.{shown_in}
+use Rattle.etcs_group.specs.Controlled.{balise_count}
+use Rattle.etcs_group.specs.Mixture.{shown_aspect}
 use Rattle.etcs_group.proofs.MixtureLemmas.{shown-is, shown-past, fit_more}
 use Rattle.etcs_group.proofs.controlled.Controlled.fits.Goals as goal
 
@@ -19,7 +19,7 @@ returns-then-not-may_show c = (
 pub places-preserved : goal.places-preserved
 places-preserved c = record {
   eight = c.places.invariant.eight;
-  fit = fit_more (count_of c.args.self.now) (length c.args.self.now) c.places.place (shown_in c.args.mixture.now.shown) c.places.invariant.fit
+  fit = fit_more (balise_count c.args.self.now) (length c.args.self.now) c.places.place (shown_aspect c.args.mixture.now.shown) c.places.invariant.fit
       (λ a e. c.if-not-may_show.ensures.0 refl a (sym (shown-is c.args.mixture.now.shown c.places.place) ∙ e));
 }
 

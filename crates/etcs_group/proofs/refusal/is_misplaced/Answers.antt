@@ -3,7 +3,7 @@ use Rattle.std.proofs.lemmas.Bool.{le-ltb}
 use Rattle.etcs_group.specs.Places.{pointed}
 use Rattle.etcs_group.proofs.PointedLemmas.{at-pointed}
 use Rattle.etcs_group.proofs.StepLemmas.{misplaced-is}
-use Rattle.etcs_group.proofs.refusal.is_misplaced_at.Goals as goal
+use Rattle.etcs_group.proofs.refusal.is_misplaced.Goals as goal
 
 -- The telegram is not outside, so the one before it decides.
 pub returns-then-place-gt0 : goal.returns-then-place-gt0
@@ -14,7 +14,7 @@ returns-then-place-gt0 c =
     let before : c.args.place - 1 < length s = omega arith in
     let m = c.total.ensures.value in
     let n = c.position.ensures.value in
-    ap not c.comes_after.ensures
+    ap not c.are_in_order.ensures
     ∙ misplaced-is c.args.run (pointed s) c.args.place t.now u.now c.if-place-gt0.true
     (at-pointed s (c.args.place - 1) t before c.index-read-place-then-place-gt0.is)
     (at-pointed s c.args.place u c.requires c.index-read-place.is)

@@ -4,7 +4,7 @@ use Rattle.std.proofs.lemmas.Bool.{and_from, lt-ltb, ne_eqb, not_from_false}
 use Rattle.etcs_group.specs.Places.{pointed}
 use Rattle.etcs_group.proofs.PointedLemmas.{at-pointed, take-pointed, list_any-found, list_any-not_found}
 use Rattle.etcs_group.proofs.StepLemmas.{miscounted-is}
-use Rattle.etcs_group.proofs.refusal.is_miscounted_at.Goals as goal
+use Rattle.etcs_group.proofs.refusal.is_miscounted.Goals as goal
 
 -- One earlier counter that differs settles it.
 pub returns-then-other-own : goal.returns-then-other-own

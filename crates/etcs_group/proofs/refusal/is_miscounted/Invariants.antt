@@ -1,6 +1,6 @@
 use Rattle.std.proofs.Common.{◌≡◌, ◌&&◌, not, ltb, eqb, false, take}
 use Rattle.std.specs.List.{list_any}
-use Rattle.etcs_group.proofs.refusal.is_miscounted_at.Given as goal
+use Rattle.etcs_group.proofs.refusal.is_miscounted.Given as goal
 
 -- none so far
 abbrev pub invariant-earlier : goal.invariant-earlier
