@@ -2,7 +2,7 @@
 //! room for, and what is refused beyond them.
 
 use crate::spelled::{comes_back, ones, read_one, times};
-use etcs_bits::{Bits, Body, Dir, Distance, Items, Layout, Same, Scale, Speed};
+use etcs_bits::{Bits, Body, Dir, Distance, Items, Layout, Scale, Speed};
 use etcs_packet::RawPacket;
 use etcs_profile::{
     Authority, BuildError, Difference, Gradient, GradientElement, LevelOrder, Link, Linking,
@@ -70,6 +70,15 @@ fn gradient(alloc: Global, count: usize) -> Result<Result<Gradient, BuildError>,
     Ok(Gradient::new(Dir::Nominal, Scale::Metre, slope, further))
 }
 
+#[test]
+fn a_gradient_profile_has_31_further_elements_at_most(rt: HostRuntime) -> Result<(), Fail> {
+    let longest = gradient(rt.alloc(), 31)??;
+    assert!(rt; comes_back(rt.alloc(), &longest, 54 + 31 * 24)?);
+    let many = gradient(rt.alloc(), 32)?.err();
+    assert!(rt; many == Some(BuildError::TooMany));
+    Ok(())
+}
+
 // A group in another country, and `count` further ones.
 fn linking(alloc: Global, count: usize) -> Result<Result<Linking, BuildError>, Fail> {
     let far: Link = read_one(
@@ -80,6 +89,15 @@ fn linking(alloc: Global, count: usize) -> Result<Result<Linking, BuildError>, F
     Ok(Linking::new(Dir::Nominal, Scale::Metre, far, further))
 }
 
+#[test]
+fn a_linking_has_31_further_groups_at_most(rt: HostRuntime) -> Result<(), Fail> {
+    let longest = linking(rt.alloc(), 31)??;
+    assert!(rt; comes_back(rt.alloc(), &longest, 79 + 31 * 49)?);
+    let many = linking(rt.alloc(), 32)?.err();
+    assert!(rt; many == Some(BuildError::TooMany));
+    Ok(())
+}
+
 // An order of level NTC, and `count` further ones.
 fn transition(alloc: Global, count: usize) -> Result<Result<Transition, BuildError>, Fail> {
     let ntc: LevelOrder = read_one(alloc, "001 00010110 000000000110010")?;
@@ -88,43 +106,12 @@ fn transition(alloc: Global, count: usize) -> Result<Result<Transition, BuildErr
     Ok(Transition::new(Dir::Both, Scale::TenMetres, place, ntc, further))
 }
 
-// Whether the longest packet has this width and comes back, and a longer one has too many items.
-fn ends_there<T: Layout + Same>(
-    alloc: Global,
-    longest: Result<T, BuildError>,
-    width: usize,
-    longer: Result<T, BuildError>,
-) -> Result<bool, Fail> {
-    Ok(comes_back(alloc, &longest?, width)? && longer.err() == Some(BuildError::TooMany))
-}
-
 #[test]
-fn a_packet_has_31_further_items_at_most(rt: HostRuntime) -> Result<(), Fail> {
-    let alloc = rt.alloc();
-    assert!(rt;
-        ends_there(
-            alloc,
-            gradient(alloc, 31)?,
-            54 + 31 * 24,
-            gradient(alloc, 32)?
-        )?
-    );
-    assert!(rt;
-        ends_there(
-            alloc,
-            linking(alloc, 31)?,
-            79 + 31 * 49,
-            linking(alloc, 32)?
-        )?
-    );
-    assert!(rt;
-        ends_there(
-            alloc,
-            transition(alloc, 31)?,
-            71 + 31 * 26,
-            transition(alloc, 32)?
-        )?
-    );
+fn a_level_transition_has_31_further_levels_at_most(rt: HostRuntime) -> Result<(), Fail> {
+    let longest = transition(rt.alloc(), 31)??;
+    assert!(rt; comes_back(rt.alloc(), &longest, 71 + 31 * 26)?);
+    let many = transition(rt.alloc(), 32)?.err();
+    assert!(rt; many == Some(BuildError::TooMany));
     Ok(())
 }
 
