@@ -375,3 +375,18 @@ def test_json(run: Run, table: Write, tmp_path: Path) -> None:
     assert answer["accepted"]["counts"] == "findings 1: accepted 1, open 0; entries at fault 1"
     assert answer["accepted"]["findings"][0]["who"] == "J. Doe" and len(answer["accepted"]["sha256"]) == 64
     assert answer["accepted"]["at_fault"][0]["row"] == 3
+
+
+def test_an_entry_is_of_the_kilometres_that_a_rule_compares(run: Run, table: Write, tmp_path: Path) -> None:
+    """L9 is accepted until the group that is passed over stands elsewhere."""
+    text = (TOP / "examples" / "links" / "group-passed-over.csv").read_text("utf-8")
+    moved = text.replace("B1,11.000", "B1,10.500").replace("B2,10.997", "B2,10.497")
+    file = tmp_path / "accepted.csv"
+    run("check", table(*text.splitlines()), "--only", "L", "--propose", file)
+    rows = list(csv.reader(io.StringIO(file.read_text("utf-8"))))
+    signed = [[*row[:8], "looked at", "J. Doe", "2026-05-28", *row[11:]] for row in rows[1:] if row[0] == "L9"]
+    file.write_text(csv_writing.text(rows[0], signed), "utf-8")
+    assert moved != text and len(signed) == 1
+    for lines, fault in ((text, False), (moved, True)):
+        _, out, _ = run("check", table(*lines.splitlines()), "--only", "L", "--accepted", file)
+        assert any("the telegrams or values have changed since 2026-05-28" in line for line in out) == fault

@@ -559,6 +559,20 @@ def test_e16_of_repositioning(found: Found) -> None:
     assert len(found("E16", SHORT, repositioned(-300, with_packet_16=False))) == 1
 
 
+@pytest.mark.parametrize("with_packet_16", (True, False))
+def test_e16_of_repositioning_on_another_track(found: Found, with_packet_16: bool) -> None:
+    """Signal 3 leads to the balise of a route to track 2, where signal 4 leads past it."""
+
+    def to_track_2(rows: List[Row]) -> None:
+        for row in rows:
+            row.track = "2" if row.group in ("Single", "Signal 4", "Signal 5") else "1"
+        links = change(rows, "Signal 4", FIXED, 5)["links"]
+        links[:] = [{**links[0], "nid_bg": 5, "d_link": 1500}]
+
+    made = found("E16", SHORT, all_of(repositioned(-400, with_packet_16), to_track_2))
+    assert len(made) == (not with_packet_16)
+
+
 def test_e17(found: Found) -> None:
     made = found("E17", SHORT, meaning_mistakes.links_shortened)
     assert [each.location.row.group for each in made if each.location.row] == [
@@ -734,6 +748,7 @@ def test_e18_of_a_route_to_another_track(found: Found) -> None:
 def test_e18_levels(found: Found) -> None:
     (one,) = found("E18", BORDER, set_in("Signal 4", FIXED, 41, transitions=[{"m_leveltr": 2, "l_ackleveltr": 0}]))
     assert one.sentence == "the levels are level 1, and Border (km 16.700), row 22, has level 0 at km 16.700"
+    assert {"m_leveltr_1": 2, "other_m_leveltr_1": 0}.items() <= one.values.items()
     without = found("E18", BORDER, only(lambda row: row.group != "Border"))
     assert len(without) == 1 and "no group within 500 m of that place has a packet 41" in without[0].sentence
     cut = found("E18", BORDER, only(lambda row: row.place < 16_100))
@@ -860,6 +875,8 @@ def test_e22(found: Found, number: int, distance: int, length: int, speed: int, 
     changes = all_of(RESTRICTED, with_packet("Signal 4", FIXED, restriction(number, distance, length, speed)))
     made = found("E22", SHORT, changes)
     assert len(made) == count and all(rows_named(each) == (14, 6) for each in made)
+    names = [f"{other}{name}" for other in ("", "other_") for name in ("d_tsr_m", "l_tsr_m", "v_tsr_kmh")]
+    assert all(list(each.values) == names for each in made)
 
 
 @pytest.mark.parametrize("distance, length, speed, count", [(0, 1000, 40, 0), (0, 900, 40, 1), (0, 1000, 50, 1)])

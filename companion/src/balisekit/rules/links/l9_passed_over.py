@@ -101,7 +101,13 @@ def _remark(chain: Chain, before: BaliseGroup, after: BaliseGroup, groups: Seque
         f"{listed(list(map(str, groups)), len(groups), count)} {words[0]} Q_LINK 1 and {words[1]} between {before} and "
         f"{after}, and this packet 5 does not name {words[2]}: a train that uses linking passes {words[2]} over"
     )
-    return Remark("L9", chain.location, sentence, groups[0], {"groups_passed_over": Decimal(count)}, groups)
+    places = {
+        "from_km": before.km,
+        "to_km": after.km,
+        **{f"km_{place}": each.km for place, each in enumerate(groups, 1)},
+    }
+    values = {"groups_passed_over": Decimal(count), **{name: km for name, km in places.items() if km is not None}}
+    return Remark("L9", chain.location, sentence, groups[0], values, groups)
 
 
 RULE = Rule("L9", "pairs", __doc__ or "", find, Urgency.RULE_ONLY, needs_kilometres=True)

@@ -20,7 +20,8 @@ Correct data that gets it. Any that break one of these assumptions; usual cases 
 not in level 2, also as an overlay of level 1, if radio sends them. Packets 5 that lead past a balise are for trains
 that pass it: not if it is on another route. Trains of one way of a track come to it from one side: not on a balloon
 loop or triangle. Kilometres and distances show the place on the track: not if they are missing, repeat, jump unstated,
-follow another axis, are rounded coarsely, or belong to signals or to tracks without names.
+follow another axis, are rounded coarsely, or belong to signals or to tracks without names. Packets with Q_DIR 2 are for
+both directions: not on a track for one.
 
 Example. Infill balise 5 has a packet 12 for the nominal direction. Signals 3 and 4 lead past it and do not name it.
 
@@ -111,7 +112,7 @@ def _unnamed(line: Line, passed: Passed, data: GroupData) -> Iterator[Remark]:
     if not ways or any(line.may_be_refused(track, *rear(place, each, FAR)) for each in ways):
         return
     is_repositioning = any(each.number == REPOSITIONING for each in _packets(data))
-    if is_repositioning and passed.leads_to_repositioning(track, place):
+    if is_repositioning and passed.leads_to_repositioning(place):
         return
     sentence = (
         f"it is for the {direction} direction, the balise is single and has Q_LINK 1, and no packet 5 names it: those "

@@ -33,7 +33,6 @@ How sure. 88 %.
 from __future__ import annotations
 
 from collections import Counter
-from decimal import Decimal
 from typing import Iterator, List, Optional, Sequence, Tuple
 
 from balisekit.etcs.variables import metres
@@ -102,7 +101,7 @@ def _compare(
             continue
         apart, where = abs(order.place - usual.place), order.passage.at(order.packet)
         others = (usual.packet.row.number,) if usual.packet.row else ()
-        values = {"place_m": Decimal(order.place) / 10, "other_place_m": Decimal(usual.place) / 10}
+        values = {**order.values(), **usual.values("other_")}
         if order.is_now and usual.is_now and order.along > usual.along and order.levels == usual.levels:
             continue  # repeated for trains that have missed the first one
         if apart > tolerance:
@@ -132,7 +131,7 @@ def _unordered(decoded: Decoded, usual: Order, unknown: Unknown) -> Iterator[Rem
             f"it announces {usual.words} at {decoded.km(track, usual.place)}, and no group within {NEAR // 10} m of "
             "that place has a packet 41 with D_LEVELTR 0 or 32,767 in this direction"
         )
-        yield Remark("E18", usual.passage.at(usual.packet), sentence, None, {"place_m": Decimal(usual.place) / 10})
+        yield Remark("E18", usual.passage.at(usual.packet), sentence, None, usual.values())
 
 
 RULE = Rule("E18", "level transitions", __doc__ or "", find, Urgency.WRONG_INFORMATION, needs_kilometres=True)

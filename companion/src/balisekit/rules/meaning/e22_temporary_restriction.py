@@ -62,6 +62,11 @@ class Restriction(NamedTuple):
         """What is compared."""
         return self[:3]
 
+    def values(self, before: str = "") -> Dict[str, Decimal]:
+        """What is compared, by its names, which begin so."""
+        metres_of = {"d_tsr_m": Decimal(self.place) / 10, "l_tsr_m": Decimal(self.length) / 10}
+        return {f"{before}{name}": value for name, value in {**metres_of, "v_tsr_kmh": Decimal(self.speed)}.items()}
+
     def words(self, decoded: Decoded, passage: Passage) -> str:
         """It in words, with its distance from the group of a passage."""
         return f"{at_place(decoded, passage, self.place)}, {metres(self.length)} with {self.speed} km/h"
@@ -125,9 +130,8 @@ def _compare(decoded: Decoded, options: Options, some: Sequence[Restriction]) ->
                 f"the restriction with NID_TSR {each.number} is at {each.words(decoded, each.passage)}, and by "
                 f"{source(usual.passage, usual.packet)} at {usual.words(decoded, each.passage)}"
             )
-            values = {"d_tsr_m": Decimal(each.place) / 10, "l_tsr_m": Decimal(each.length) / 10}
             others = (usual.packet.row.number,) if usual.packet.row else ()
-            values["v_tsr_kmh"] = Decimal(each.speed)
+            values = {**each.values(), **usual.values("other_")}
             yield Remark("E22", each.passage.at(each.packet), sentence, None, values, others=others)
 
 

@@ -3,9 +3,9 @@
 What it says. A packet that has distances along the track holds in both directions (Q_DIR 2). These are the packets 5,
 12, 15, 16, 21, 27, 39, 40, 41, 51, 52, 65, 67 to 71, 80, 88, 131 and 138. Passed over is a packet 41 with D_LEVELTR 0
 or 32,767 (now). So is a packet 39, 40, 51, 52, 68 to 70 or 131 that gives only the place of its group, by D_TRACTION,
-D_CURRENT, D_TRACKINIT, D_SUITABILITY or D_RBCTR 0. An authority without any length is named if no other such packet is
-there: it stops the trains of both directions. All such packets of a balise or message are named together (SUBSET-026,
-3.6.1 and 7.4).
+D_CURRENT, D_TRACKINIT, D_SUITABILITY or D_RBCTR 0, or D_RBCTR 32,767 (now). An authority without any length is named if
+no other such packet is there: it stops the trains of both directions. All such packets of a balise or message are named
+together (SUBSET-026, 3.6.1 and 7.4).
 
 How urgent. At worst wrong information for trains in one of the directions.
 
@@ -42,7 +42,7 @@ from balisekit.rules.rule import Options, Remark, Result, Rule, Urgency
 
 WITH_DISTANCES = (5, 12, 15, 16, 21, 27, 39, 40, 51, 52, 65, 67, 68, 69, 70, 71, 80, 88, 131, 138)
 HERE = (0, 32_767)
-"""The D_LEVELTR that mean the place of the group."""
+"""The D_LEVELTR and D_RBCTR that mean the place of the group."""
 ONLY = ("d_current", "d_rbctr", "d_suitability", "d_trackinit", "d_traction")
 """Distances that are the only one of what has them."""
 BOTH = 2
@@ -66,8 +66,8 @@ def _is_here(packet: Packet) -> bool:
         return packet.form["d_leveltr"] in HERE
     content = content_of(packet.form)
     values: Mapping[str, Any] = content.values if content and content.is_complete else {}
-    distances = [own[key] for own in (values, *values.get("elements", ())) for key in ONLY if key in own]
-    return bool(distances) and not any(distances)
+    distances = [(key, own[key]) for own in (values, *values.get("elements", ())) for key in ONLY if key in own]
+    return bool(distances) and all(value in (HERE if key == "d_rbctr" else (0,)) for key, value in distances)
 
 
 def _only_stops(packet: Packet) -> bool:

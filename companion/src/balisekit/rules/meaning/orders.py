@@ -1,6 +1,7 @@
 """The orders of level transitions, packets 41, at their places."""
 from __future__ import annotations
 
+from decimal import Decimal
 from typing import Dict, Iterator, List, NamedTuple, Optional, Sequence, Tuple
 
 from balisekit.etcs.geometry import NOMINAL
@@ -34,6 +35,12 @@ class Order(NamedTuple):
     def levels(self) -> Sequence[Tuple[int, int]]:
         """M_LEVELTR and NID_NTC in their order."""
         return [(each["m_leveltr"], each.get("nid_ntc", -1)) for each in self.packet.form["transitions"]]
+
+    def values(self, before: str = "") -> Dict[str, Decimal]:
+        """Its place and levels, by names that begin so."""
+        numbers = {f"m_leveltr_{place}": Decimal(level) for place, (level, _) in enumerate(self.levels, 1)}
+        numbers.update({f"nid_ntc_{place}": Decimal(ntc) for place, (_, ntc) in enumerate(self.levels, 1) if ntc >= 0})
+        return {f"{before}{name}": each for name, each in {"place_m": Decimal(self.place) / 10, **numbers}.items()}
 
     @property
     def words(self) -> str:
