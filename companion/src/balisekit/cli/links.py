@@ -5,7 +5,7 @@ import argparse
 
 from balisekit.cli import options as shared, settings
 from balisekit.io.outputs import write_json
-from balisekit.present.entries_json import entries_json
+from balisekit.present.check_json import entries_json
 from balisekit.present.links_text import as_json, lines, status_of
 from balisekit.rules import checking
 from balisekit.rules.families import apply

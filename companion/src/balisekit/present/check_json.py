@@ -6,14 +6,14 @@ from typing import Any, Dict, Iterator, Tuple
 from balisekit.engine.program import Record
 from balisekit.io.outputs import Json, encode
 from balisekit.present import accepted_text
-from balisekit.present.entries_json import entries_json
+from balisekit.present.check_text import groups_by_aspects
 from balisekit.present.headings import finding_words, not_decoded
 from balisekit.present.links_text import FORMAT, rules_json
 from balisekit.present.outcome_text import not_applied, verdict
 from balisekit.present.refusals import message_refused, telegram_refused
-from balisekit.rules.aspect_counts import groups_by_aspects
 from balisekit.rules.checking import Checked, LeftOut, Place, Refused, RefusedMessage
-from balisekit.rules.families import Outcome
+from balisekit.rules.entries import Entry
+from balisekit.rules.families import PROVED, Outcome
 from balisekit.rules.remarks import remarks
 from balisekit.tables.model import Message, Row
 
@@ -42,6 +42,42 @@ def as_json(outcome: Outcome) -> Dict[str, Any]:
         "notes": [note for part in outcome.parts if part.applied for note in part.applied.notes],
         "entries": entries_json(outcome),
         "not_decoded": not_decoded(checked),
+    }
+
+
+def entries_json(outcome: Outcome) -> Iterator[Dict[str, Any]]:
+    """An object for each entry, in the order of the answer."""
+    for entry in outcome.entries:
+        identity, accepted = outcome.identity(entry), outcome.acceptances(entry)
+        yield {
+            "rule": entry.rule,
+            "rules": list(entry.rules),
+            "proved": entry.rule[0] == PROVED,
+            "urgency": entry.urgency.name.lower(),
+            "sentence": entry.sentence,
+            "rows": list(entry.rows),
+            "other_rows": list(entry.other_rows),
+            "group": entry.group.name if entry.group else None,
+            "nid_c": identity[0] if identity else None,
+            "nid_bg": identity[1] if identity else None,
+            **_place_of(entry),
+            "values": dict(entry.values),
+            "program": list(entry.quoted),
+            "expected": entry.expected or None,
+            "state": "accepted" if accepted else "open",
+            "accepted": [accepted_text.entry_json(each) for each in accepted],
+        }
+
+
+def _place_of(entry: Entry) -> Dict[str, Any]:
+    """The part of its group or message that an entry is about."""
+    return {
+        "aspects": list(entry.aspects),
+        "balises": [{"name": balise.name, "n_pig": balise.n_pig} for balise in entry.balises],
+        "packet": entry.packet,
+        "direction": entry.direction or None,
+        "km": None if entry.km is None else str(entry.km),
+        "message": entry.message.number if entry.message else None,
     }
 
 

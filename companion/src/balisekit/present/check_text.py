@@ -1,14 +1,16 @@
 """The first and last lines of an answer in words: what was refused, and the program's verdict."""
 from __future__ import annotations
 
-from typing import Iterator
+from typing import Dict, Iterator, List, Tuple
 
 from balisekit.present.refusals import not_looked_at, refused_counts, refused_lines
-from balisekit.rules.aspect_counts import aspects_found
 from balisekit.rules.checking import Checked
 from balisekit.rules.remarks import remarks
-from balisekit.tables.model import Table
+from balisekit.tables.model import Group, Table
 from balisekit.tables.names import clean, counted, describe_group, passed_over
+
+NAMED = 3
+"""How many groups with one number of aspects are named."""
 
 
 def opening_lines(checked: Checked) -> Iterator[str]:
@@ -41,3 +43,22 @@ def last_line(checked: Checked) -> str:
     parts = [*refused_counts(checked), groups, *not_looked_at(checked)]
     found = f"; findings in the rest: {len(checked.findings)}" if checked.findings else ""
     return f"INCOMPLETE: {', '.join(parts)}{found}"
+
+
+def aspects_found(table: Table) -> str:
+    """How many aspects the groups of the table have. Nothing else shows that the table lacks a whole aspect."""
+    parts: List[str] = []
+    for count, groups in groups_by_aspects(table):
+        word = "" if parts else " group" if len(groups) == 1 else " groups"
+        few = len(groups) <= NAMED and len(groups) < len(table.groups)
+        names = f" ({', '.join(clean(group.name) for group in groups)})" if few else ""
+        parts.append(f"{count} in {len(groups)}{word}{names}")
+    return f"aspects found: {', '.join(parts)}"
+
+
+def groups_by_aspects(table: Table) -> List[Tuple[int, List[Group]]]:
+    """Each number of aspects, the greatest first, and the groups that have it."""
+    found: Dict[int, List[Group]] = {}
+    for group in table.groups:
+        found.setdefault(len(group.aspects), []).append(group)
+    return sorted(found.items(), reverse=True)

@@ -10,11 +10,11 @@ from balisekit.etcs.raw_layouts import layout_of
 from balisekit.io import clock
 from balisekit.present import NOT_PROVED, headings
 from balisekit.present.accepted_text import fault_lines
+from balisekit.present.check_text import aspects_found
 from balisekit.present.links_text import empty_rules, lacking
 from balisekit.present.outcome_text import closing_lines, not_looked_at, unnamed_lines
 from balisekit.present.refusals import RefusedInput, not_looked_at as not_tried, refused
 from balisekit.rules.accepted import Judged
-from balisekit.rules.aspect_counts import aspects_found
 from balisekit.rules.checking import Checked, Place, document
 from balisekit.rules.families import FAMILIES, PLAN, PROVED, Outcome
 from balisekit.rules.remarks import remarks
