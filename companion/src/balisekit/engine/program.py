@@ -16,9 +16,8 @@ from typing import IO, Any, Dict, List, NamedTuple, Optional, Tuple, TypeVar, Un
 
 from balisekit.engine import find_program, grammar, records
 from balisekit.engine.grammar import Finding, Refusal, Verdict
-from balisekit.engine.records import Form
+from balisekit.engine.records import Form, shared
 from balisekit.engine.run import HANDSHAKE_LIMIT, Limit, Run
-from balisekit.engine.shared import shared
 from balisekit.errors import NoAnswer
 
 FEW = 16
