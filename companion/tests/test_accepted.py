@@ -15,8 +15,11 @@ from telegrams import ALONE, MESSAGE, OTHER, SPARE, digest
 
 from balisekit.engine.program import Program, Text
 from balisekit.io import csv_writing
+from balisekit.rules import accepted
 from balisekit.rules.accepted import COLUMNS, FIELDS, VALUES
 from balisekit.rules.families import FAMILIES
+from balisekit.rules.location import Location
+from balisekit.rules.rule import Remark
 
 Write = Callable[..., Path]
 LINE = TOP / "examples" / "table" / "line.csv"
@@ -390,3 +393,26 @@ def test_an_entry_is_of_the_kilometres_that_a_rule_compares(run: Run, table: Wri
     for lines, fault in ((text, False), (moved, True)):
         _, out, _ = run("check", table(*lines.splitlines()), "--only", "L", "--accepted", file)
         assert any("the telegrams or values have changed since 2026-05-28" in line for line in out) == fault
+
+
+SENTENCE = "G_A is +8 per mille from km 10.300 to km 10.600 (300 m), and by Signal R, rows 2, 5 and 7, +9 per mille"
+
+
+@pytest.mark.parametrize(
+    "old, new, is_same",
+    [
+        ("10.600", "11.900", False),
+        ("+9", "-9", False),
+        ("(300 m)", "(1900 m)", False),
+        ("rows 2, 5 and 7", "row 4", True),
+        ("rows 2, 5 and 7", "rows 3 to 9", True),
+        ("and by", "but by", True),
+    ],
+)
+def test_an_entry_is_of_the_numbers_of_the_sentence(
+    monkeypatch: pytest.MonkeyPatch, old: str, new: str, is_same: bool
+) -> None:
+    """A row that is added elsewhere, and other words, change nothing."""
+    monkeypatch.setattr(accepted, "_texts", lambda item: [ALONE])
+    remarks = [Remark("E19", Location(), each) for each in (SENTENCE, SENTENCE.replace(old, new))]
+    assert old in SENTENCE and (len({accepted.checksum([each]) for each in remarks}) == 1) == is_same

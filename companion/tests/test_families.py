@@ -331,11 +331,12 @@ def test_a_family_can_be_added(run: Run, program: Program, tmp_path: Path, monke
 
 
 def test_checksums_of_remarks(run: Run, program: Program, tmp_path: Path) -> None:
-    """The telegram of the packet, then the values that the rule compared."""
+    """The telegram of the packet, then the values that the rule compared, and the numbers of the sentence."""
     path = line(program, tmp_path / "t.csv", fault("distance-differs"))
     (row,) = proposed(run, path, tmp_path / "p.csv")
     (digits,) = [one.split(",")[-1] for one in path.read_text("utf-8").splitlines() if one.startswith("A,A1")]
-    assert row["sha256"] == digest([digits, "metres_by_d_link 1010", "metres_by_kilometres 1000"])
+    numbers = ["11.000", "1010", "10.000", "1000", "10", "5"]
+    assert row["sha256"] == digest([digits, "metres_by_d_link 1010", "metres_by_kilometres 1000", *numbers])
 
 
 def test_findings_of_correct_data_come_last(run: Run, tmp_path: Path) -> None:

@@ -56,6 +56,9 @@ RULES: Mapping[str, Rule] = {rule.name: rule for rule in (*links.RULES, *meaning
 OWN_ON_CORRECT_DATA = (name for name, rule in RULES.items() if rule.has_correct_data)
 ON_CORRECT_DATA = ("F6", "F9", "F10", "F11", "F12", "F13", "F14", "F16", *OWN_ON_CORRECT_DATA)
 """The rules of the table of findings on correct data in docs/findings.md, and those whose pages name correct data."""
+ROW_NUMBERS = re.compile(r"\brow \d+|\brows \d+(?:(?: to |, | and )\d+)*")
+"""Numbers of rows in a sentence: a row that is added elsewhere changes them."""
+ANY_NUMBER = re.compile(r"[+-]?\d(?:[\d.,]*\d)?")
 Key = Tuple[str, ...]
 Item = Union[Place, Remark]
 """What one entry accepts: a finding of the program, or a remark of a rule of balisekit."""
@@ -304,18 +307,19 @@ def _message(item: Item) -> Optional[Message]:
 def checksum(items: Sequence[Item]) -> str:
     """The SHA-256 of the telegrams or messages that items are about: their digits in small letters, a line each.
 
-    For a remark the values that its rule has compared follow, a line each.
+    For a remark the values that its rule has compared and the numbers of its sentence follow, a line each.
     """
     blocks = {"".join(f"{text.lower()}\n" for text in (*_texts(item), *_values(item))) for item in items}
     return hashlib.sha256("".join(sorted(blocks)).encode("utf-8", "surrogatepass")).hexdigest()
 
 
 def _values(item: Item) -> List[str]:
-    """The values of a remark, which may be of the table alone, as kilometres are, and the groups that it names."""
+    """The values of a remark, the groups that it names, and the numbers of its sentence, such as other kilometres."""
     if not isinstance(item, Remark):
         return []
     named = [f"group {identity[0]} {identity[1]}" for identity in (each.identity for each in item.named) if identity]
-    return [f"{name} {value.normalize():f}" for name, value in item.values.items()] + named
+    numbers = ANY_NUMBER.findall(ROW_NUMBERS.sub("", item.sentence))
+    return [*(f"{name} {value.normalize():f}" for name, value in item.values.items()), *named, *numbers]
 
 
 def _texts(item: Item) -> List[str]:
