@@ -559,9 +559,9 @@ def test_e16_of_repositioning(found: Found) -> None:
     assert len(found("E16", SHORT, repositioned(-300, with_packet_16=False))) == 1
 
 
-@pytest.mark.parametrize("with_packet_16", (True, False))
-def test_e16_of_repositioning_on_another_track(found: Found, with_packet_16: bool) -> None:
-    """Signal 3 leads to the balise of a route to track 2, where signal 4 leads past it."""
+@pytest.mark.parametrize("metres, with_packet_16", [(-400, True), (200, True), (-400, False)])
+def test_e16_of_repositioning_on_another_track(found: Found, metres: int, with_packet_16: bool) -> None:
+    """Signal 3 leads to the balise of a route to track 2, with its own kilometres, where signal 4 leads past it."""
 
     def to_track_2(rows: List[Row]) -> None:
         for row in rows:
@@ -569,7 +569,7 @@ def test_e16_of_repositioning_on_another_track(found: Found, with_packet_16: boo
         links = change(rows, "Signal 4", FIXED, 5)["links"]
         links[:] = [{**links[0], "nid_bg": 5, "d_link": 1500}]
 
-    made = found("E16", SHORT, all_of(repositioned(-400, with_packet_16), to_track_2))
+    made = found("E16", SHORT, all_of(repositioned(metres, with_packet_16), to_track_2))
     assert len(made) == (not with_packet_16)
 
 

@@ -447,6 +447,18 @@ def test_points(program: Program, tmp_path: Path) -> None:
     assert 0 < len(remarks(unlinked, [*wrong, point], tmp_path)) <= count
 
 
+def test_points_before_a_group_of_another_track(program: Program, tmp_path: Path) -> None:
+    """Packets 5 that name signal 5 of track 2 do not show that the train is on track 1 after the point."""
+
+    def to_track_2(rows: List[Row]) -> None:
+        for row in rows:
+            row.track = "2" if row.group == "Signal 5" else "1"
+
+    point = {"kind": "point", "km": "15.800", "km_to": "", "track": "1", "way": "rising", "value": "", "name": "W1"}
+    line = read(program, written(program, tmp_path / "t.csv", Line(), to_track_2))
+    assert results(line, [*implied_rows(line), point], tmp_path)["X1"].skipped > 0
+
+
 def jumped(path: Path) -> None:
     """From km 20 on the kilometres of a table are 5 km greater."""
     head, *rows = csv.reader(io.StringIO(path.read_text("utf-8")))

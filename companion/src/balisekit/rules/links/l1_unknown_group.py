@@ -20,9 +20,9 @@ How to correct it. Correct the link, or add the group to the table.
 
 Correct data that gets it. Any that break one of these assumptions; usual cases follow "not". The table lacks only
 groups beyond its ends: not those of a branch line that is linked from its middle. D_LINK shows that: not if the
-kilometres repeat or jump unstated, or no group before has a kilometre and direction. Nor if the group is within
-Q_LOCACC and `--tolerance` of the end, or has the NID_BG of another one. Packets with Q_DIR 2 are for both directions:
-not on a track for one.
+kilometres repeat or jump unstated, or if the sender, or the last linked group before, has no kilometre or direction.
+Nor if the group is within Q_LOCACC and `--tolerance` of the end, or has the NID_BG of another one. Packets with Q_DIR 2
+are for both directions: not on a track for one.
 
 Example. The reverse link of group B names group 5, and the table has no group 5.
 """

@@ -171,15 +171,17 @@ class Passed:
 
     def __init__(self, line: Line) -> None:
         self._spans: Dict[Tuple[str, int], List[Tuple[int, int]]] = {}
-        self._unknown: List[int] = []
+        self._unknown: List[Tuple[str, Optional[int]]] = []
         for chain in line.chains:
             sender = chain.sender
             way, place = (sender.along(chain.direction), line.places[sender.number]) if sender else (None, None)
             if sender and way is not None and place is not None:
                 end = place * way + sum(link.distance for link in chain.links)
                 if not chain.links[-1].known:
-                    self._unknown.append(end * way)
+                    self._unknown.append((sender.track, end * way))
                 self._spans.setdefault((sender.track, way), []).append((place * way, end))
+            elif sender and not chain.links[-1].known:
+                self._unknown.append((sender.track, None))
         for spans in self._spans.values():
             spans.sort()
             farthest = -(10**12)
@@ -193,6 +195,6 @@ class Passed:
         index = bisect_left(spans, (place * way,))
         return index > 0 and spans[index - 1][1] > place * way
 
-    def leads_to_repositioning(self, place: int) -> bool:
-        """Whether the place of a last link with NID_BG 16,383 is near a place. It may lead to another track."""
-        return any(abs(at - place) <= REPOSITIONED for at in self._unknown)
+    def leads_to_repositioning(self, track: str, place: int) -> bool:
+        """Whether a last link with NID_BG 16,383 leads near a place, or may do so: on another track places differ."""
+        return any(own != track or at is None or abs(at - place) <= REPOSITIONED for own, at in self._unknown)

@@ -20,9 +20,10 @@ Correct data that gets it. Any that break one of these assumptions; usual cases 
 same at the infill and its signal: not if it is a number, or that of a distant signal. Infill repeats its signal: not if
 it says less on purpose, such as a lower V_MAIN, shorter or merged profiles, or other timers. Nor if it has V_MAIN above
 0 and no length for a signal at danger. The table has the signal: not on a branch line. If no packet 5 links the signal
-and the kilometres show no direction, or the tracks differ, both groups face the same way. Kilometres and distances show
-the place on the track: not if they repeat, jump unstated, follow another axis, are rounded coarsely, or belong to
-signals or to tracks without names. Packets with Q_DIR 2 are for both directions: not on a track for one.
+and the kilometres show no direction, or the tracks differ, both groups face the same way. Trains do not pass a loop
+between them. Kilometres and distances show the place on the track: not if they repeat, jump unstated, follow another
+axis, are rounded coarsely, or belong to signals or to tracks without names. Packets with Q_DIR 2 are for both
+directions: not on a track for one.
 
 Example. At yellow the infill of signal 4 has L_ENDSECTION 1,350 m, and signal 4 has 1,500 m.
 

@@ -3,8 +3,8 @@
 What it says. A single balise with Q_LINK 1 has packets for one direction, and packets 5 do not name it, or disagree
 about its direction. A direction other than that of the column `nominal` is named too. Packets 44, 145 and 254 do not
 count. A balise that is not named is passed over if no packet 5 for that way leads past its kilometre. So is one with a
-packet 16 within 500 m of a link to NID_BG 16,383, or with a refused telegram at most 10 km in rear. Single balises with
-Q_LINK 0 are L5 (SUBSET-026, 3.4.2 and 3.4.4).
+packet 16 within 500 m of a link to NID_BG 16,383, or on another track than this link, or with a refused telegram at
+most 10 km in rear. Single balises with Q_LINK 0 are L5 (SUBSET-026, 3.4.2 and 3.4.4).
 
 How urgent. At worst wrong information.
 
@@ -112,7 +112,7 @@ def _unnamed(line: Line, passed: Passed, data: GroupData) -> Iterator[Remark]:
     if not ways or any(line.may_be_refused(track, *rear(place, each, FAR)) for each in ways):
         return
     is_repositioning = any(each.number == REPOSITIONING for each in _packets(data))
-    if is_repositioning and passed.leads_to_repositioning(place):
+    if is_repositioning and passed.leads_to_repositioning(track, place):
         return
     sentence = (
         f"it is for the {direction} direction, the balise is single and has Q_LINK 1, and no packet 5 names it: those "

@@ -7,6 +7,7 @@ from __future__ import annotations
 
 from bisect import bisect_left, bisect_right
 from decimal import Decimal
+from itertools import takewhile
 from typing import Dict, Iterable, Iterator, Mapping, NamedTuple, Optional, Sequence, Set, Tuple
 
 from balisekit.rules.chainage import Chainage
@@ -116,7 +117,7 @@ class Placed:
     def known_to(self, passage: Passage) -> Optional[int]:
         """The first point at which the train may leave its track, or None if there is none.
 
-        It is on the track up to the last group of it that a packet 5 of the passage names.
+        It is on the track up to the last group of it that a packet 5 of the passage names before one of another track.
         """
         if passage not in self._limits:
             self._limits[passage] = self._known_to(passage)
@@ -128,7 +129,8 @@ class Placed:
         if not points or start is None:
             return None
         targets = (each.target for each in self.decoded.reached(passage))
-        places = (each.place for each in targets if each and each.group.track == passage.track)
+        own = takewhile(lambda each: each is None or each.group.track == passage.track, targets)
+        places = (each.place for each in own if each)
         sure = max([way * start, *(way * place for place in places if place is not None)])
         ahead = [way * spot.place for spot in points if way * spot.place > sure]
         return way * min(ahead) if ahead else None

@@ -3,7 +3,7 @@
 What it says. A speed profile has a V_STATIC that is not the line speed of the plan, on a stretch longer than
 `--tolerance` (else 1 m) and rounding. Speeds for train categories are not compared, nor is what follows a packet 136.
 Beyond a `point` of the plan nothing is compared, unless a packet 5 of the same message names a group of the track at or
-beyond that point (SUBSET-026, 7.4.2 and 7.5.1).
+beyond that point, and none of another track before it (SUBSET-026, 7.4.2 and 7.5.1).
 
 How urgent. At worst wrong information: the train may run faster than the track allows. A lower speed only slows trains.
 

@@ -3,7 +3,7 @@
 What it says. A gradient profile has another gradient than the plan, on a stretch longer than `--tolerance` (else 1 m)
 and rounding. Uphill is positive: by Q_GDIR as the train meets it, in the plan by the row's way. What follows a packet
 136 is not compared. Beyond a `point` of the plan nothing is compared, unless a packet 5 of the same message names a
-group of the track at or beyond that point (SUBSET-026, 7.4.2 and 7.5.1).
+group of the track at or beyond that point, and none of another track before it (SUBSET-026, 7.4.2 and 7.5.1).
 
 How urgent. At worst wrong information: with a gradient less downhill than the track the train brakes too late. One that
 is more downhill makes it brake early.

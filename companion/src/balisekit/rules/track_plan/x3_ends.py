@@ -5,7 +5,8 @@ nearest signal and its distance. Authorities are packets 12 with V_MAIN above 0 
 each ends at the end of its end section. Allowed are `--tolerance` (0 without it), one unit of Q_SCALE, half a unit for
 each further section, and one unit of the last decimal of the kilometres. A track with a signal in the plan for one way
 needs all signals of that way at which authorities end. Beyond a `point` of the plan nothing is compared, unless a
-packet 5 of the same message names a group of the track at or beyond that point (SUBSET-026, 7.4.2 and 7.5.1).
+packet 5 of the same message names a group of the track at or beyond that point, and none of another track before it
+(SUBSET-026, 7.4.2 and 7.5.1).
 
 How urgent. At worst wrong information.
 
