@@ -293,9 +293,10 @@ def test_a_link_out_of_the_table_is_named_if_its_sender_has_no_direction(nominal
         ("", "", 2000, "rising", False),
         ("2.000", "2", 2000, "rising", False),
         ("2.000", "2", 1000, "rising", True),
+        ("1.000", "2", 1000, "rising", False),
         ("2.500", "", 2000, "", False),
     ],
-    ids=["there", "rounded", "elsewhere", "no place", "another track", "at B", "no direction"],
+    ids=["there", "rounded", "elsewhere", "no place", "another track", "at B", "beside B", "no direction"],
 )
 def test_a_link_may_lead_to_a_refused_group(km: str, track: str, distance: int, nominal: str, is_named: bool) -> None:
     """One without identity at the place by D_LINK, or at a place that is not known. It is counted, not named."""

@@ -83,10 +83,12 @@ def _look_at(
 
 
 def _may_be_refused(line: Line, base: Optional[BaliseGroup], at: Optional[int], allowed: Decimal) -> bool:
-    """Whether a group without identity may be at that place, or on another track if this one has none there."""
+    """Whether a group without identity may be at that place, also of another track, or anywhere if this one has none."""
     if base is None or at is None or line.may_be_refused(base.track, at - allowed, at + allowed, True):
         return True
-    return any(track != base.track for track in line.nameless) and abs(line.nearest(base.track, at)[0] - at) > allowed
+    others = [track for track in line.nameless if track != base.track]
+    is_far = abs(line.nearest(base.track, at)[0] - at) > allowed
+    return any(is_far or line.may_be_refused(track, at - allowed, at + allowed, True) for track in others)
 
 
 def _there(line: Line, base: BaliseGroup, place: int, within: Decimal, other: Optional[BaliseGroup]) -> str:
