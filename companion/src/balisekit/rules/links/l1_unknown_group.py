@@ -83,7 +83,7 @@ def _look_at(
 
 
 def _may_be_refused(line: Line, base: Optional[BaliseGroup], at: Optional[int], allowed: Decimal) -> bool:
-    """Whether a group without identity may be at that place, also of another track, or anywhere if this one has none."""
+    """Whether a group without identity may be at that place, on any track, or anywhere if this one has none there."""
     if base is None or at is None or line.may_be_refused(base.track, at - allowed, at + allowed, True):
         return True
     others = [track for track in line.nameless if track != base.track]
