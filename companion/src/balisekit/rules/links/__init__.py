@@ -23,7 +23,7 @@ RULES = (L1, L2, L3, L4, L5, L6, L7, L8, L9)
 __all__ = ["L2", "RULES", "Links", "compare", "notes_on"]
 SHOWN = 20
 """How many notes with one reason are written. The others are counted."""
-INFILL = "its distances count from the group of packet 136, and are not compared"
+INFILL = "it counts from the group of packet 136, and is not compared"
 Note = Tuple[str, str]
 """What it is about, and the reason."""
 

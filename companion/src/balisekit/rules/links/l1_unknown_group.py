@@ -1,11 +1,11 @@
 """L1: linked group not in the table.
 
-What it says. A packet 5 names a group, by NID_C and NID_BG, that no telegram read has. A link without NID_C takes it
-from the group before it. A link that may lead to a group without a read telegram is only counted. If the table has that
-NID_BG under another NID_C, the line names that group. Other links are not named one by one if by D_LINK they lead
-beyond an end of a track by more than Q_LOCACC and `--tolerance`. A note for each end counts them, because the table may
-be a section of a longer line. D_LINK counts from the last linked group of the table, along its track. A link to NID_BG
-16,383 names no group, and is not reported (SUBSET-026, 3.4.4 and 7.4.2).
+What it says. A packet 5 names a group that no telegram read has, and that by D_LINK is not beyond the track's ends. A
+link without NID_C takes it from the group before it. A link that may lead to a group without a read telegram is only
+counted. If the table has that NID_BG under another NID_C, the line names that group. Other links are not named one by
+one if by D_LINK they lead beyond an end of a track by more than Q_LOCACC and `--tolerance`. A note for each end counts
+them, because the table may be a section of a longer line. D_LINK counts from the last linked group of the table, along
+its track. A link to NID_BG 16,383 names no group, and is not reported (SUBSET-026, 3.4.4 and 7.4.2).
 
 How urgent. At worst the train brakes or is tripped at each passage.
 

@@ -1,10 +1,9 @@
 """E19: gradients of both directions.
 
-What it says. By its gradients a stretch goes uphill in both directions, or downhill in both by 3 ‰ or more. Uphill both
-ways means that the gradients, as each train meets them, add up to more than 1 ‰, on a stretch longer than `--tolerance`
-(else 1 m) and rounding. Of each group without refused telegrams the longest profile counts, and of one way the one that
-contradicts the other way least: groups of one way that disagree are E13 only. Downhill both ways has the lowest
-urgency, and is named from 1 km on (SUBSET-026, 3.11.12).
+What it says. The gradients of both directions add up to more than 1 ‰, as each train meets them, or both go down by 3 ‰
+or more for 1 km. A stretch up to `--tolerance` (else 1 m) and rounding does not count. Of each group without refused
+telegrams the longest profile counts, and of one way the one that contradicts the other way least: groups of one way
+that disagree are E13 only. Downhill both ways has the lowest urgency (SUBSET-026, 3.11.12).
 
 How urgent. At worst wrong information: a train brakes too late, because it believes that it goes uphill.
 
