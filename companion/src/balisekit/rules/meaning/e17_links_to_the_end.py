@@ -19,11 +19,12 @@ How to correct it. Name all groups to the end of the authority in the packet 5.
 
 Correct data that gets it. Any that break one of these assumptions; usual cases follow "not". The line uses linking: not
 if on no part, or not on this one, such as in rear of a level 2 area. Packets 5 lead to the end of authority: not if
-only to the next signal, which has its own, or if groups that the table lacks have them. Groups ahead are for these
-trains: not those of level 2 or a national system (packet 44). Trains stay on the track: not through a loop, or on a
-route to another one, if no `point` of the track plan says where. Kilometres and distances show the place on the track:
-not if they are missing and no packet 5 leads there, repeat, jump unstated, follow another axis, are rounded coarsely,
-or belong to signals or to tracks without names. Packets with Q_DIR 2 are for both directions: not on a track for one.
+only to the next signal, which has its own, or if groups that the table lacks, or of another track, have them. Groups
+ahead are for these trains: not those of level 2 or a national system (packet 44). Trains stay on the track: not through
+a loop, or on a route to another one, if no `point` of the track plan says where. Kilometres and distances show the
+place on the track: not if they are missing and no packet 5 leads there, repeat, jump unstated, follow another axis, are
+rounded coarsely, or belong to signals or to tracks without names. Packets with Q_DIR 2 are for both directions: not on
+a track for one.
 
 Example. The authority of signal 3 ends at km 16.000, and its packet 5 names groups to km 14.500 only.
 

@@ -21,11 +21,11 @@ How to correct it. Correct the packet, or the row of the plan.
 Correct data that gets it. Any that break one of these assumptions; usual cases follow "not". The plan has the borders
 of all trains and routes: not those of trains that have no radio or start near one, or an RBC of another route. Orders
 are exactly at the border: not D_LEVELTR 32,767 or D_RBCTR 0 some metres from it, or one repeated beyond it. Write such
-places into the plan. Packets have its levels: not if announcement and border differ on purpose. Groups of the table
-name each border: not if only radio does. Trains stay on the track: not through a loop, or on a route to another one, if
-no `point` of the track plan says where. Kilometres and distances show the place on the track: not if they are missing,
-repeat, jump unstated, follow another axis, are rounded coarsely, or belong to signals or to tracks without names.
-Packets with Q_DIR 2 are for both directions: not on a track for one.
+places into the plan. Packets have its levels: not if announcement and border differ on purpose. Groups of its own track
+name each border: not if only radio or another track does. Trains stay on the track: not through a loop, or on a route
+to another one, if no `point` of the track plan says where. Kilometres and distances show the place on the track: not if
+they are missing, repeat, jump unstated, follow another axis, are rounded coarsely, or belong to signals or to tracks
+without names. Packets with Q_DIR 2 are for both directions: not on a track for one.
 
 Example. Group F announces level 2 at km 20.050, and the plan has the border at km 20.000.
 """
