@@ -502,7 +502,7 @@ def test_what_infill_says_is_noted_and_not_compared() -> None:
     one = line_with(
         (group("A", "0", nominal="rising"), [header(1, reference, link_tables.linking(1, link_tables.link(7, 99, 1)))])
     )
-    assert found(one) == [] and "count from the group of packet 136" in compare(one).notes[0]
+    assert found(one) == [] and "counts from the group of packet 136" in compare(one).notes[0]
 
 
 def test_infill_has_profiles_of_its_own() -> None:
