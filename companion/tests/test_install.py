@@ -14,7 +14,7 @@ import pytest
 
 from balisekit import __version__
 from balisekit.cli import main as cli
-from balisekit.engine import about as released_file, find_program as program_file
+from balisekit.engine import find_program as program_file
 from balisekit.engine.program import Program
 from balisekit.errors import NoAnswer, TableError
 
@@ -70,7 +70,7 @@ def test_version_starts_no_program(
 ) -> None:
     """It has the checksums of the program that was released with balisekit, by its ABOUT, and ends with 0."""
     monkeypatch.setenv("BALISECHECK", "/no such program")
-    monkeypatch.setattr(released_file, "TOP", tmp_path)
+    monkeypatch.setattr(program_file, "TOP", tmp_path)
     (tmp_path / "dist" / "one").mkdir(parents=True)
     about = tmp_path / "dist" / "one" / "ABOUT"
     for lines, said in (

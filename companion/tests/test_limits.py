@@ -259,7 +259,7 @@ def test_an_interrupt_while_a_file_is_written(great: Path, program: Program, tmp
 INTERRUPTED_IMPORT = """
 import os, signal
 signal.signal(signal.SIGINT, signal.default_int_handler)  # (a shell may start its tests with SIGINT ignored)
-from balisekit.io.optional_packages import needed
+from balisekit.errors import needed
 with needed("jinja2", "a page"):
     os.kill(os.getpid(), signal.SIGINT)
     print("imported", flush=True)

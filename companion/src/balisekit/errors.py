@@ -1,7 +1,8 @@
-"""What ends a command before its answer. Each has one line for the user, and its exit status."""
+"""What ends a command before its answer: errors with their lines and exit status, absent packages and interrupts."""
 from __future__ import annotations
 
 import signal
+import sys
 from contextlib import contextmanager
 from typing import Iterator, List, Optional, Sequence
 
@@ -71,3 +72,33 @@ class Terminated(KeyboardInterrupt):
     def __init__(self, number: signal.Signals) -> None:
         self.signal = number
         super().__init__(number.name)
+
+
+@contextmanager
+def held() -> Iterator[None]:
+    """SIGINT, SIGTERM and SIGHUP wait until the block has ended."""
+    before = signal.pthread_sigmask(signal.SIG_BLOCK, (signal.SIGINT, signal.SIGTERM, signal.SIGHUP))
+    try:
+        yield
+    finally:
+        signal.pthread_sigmask(signal.SIG_SETMASK, before)
+
+
+@contextmanager
+def needed(name: str, purpose: str) -> Iterator[None]:
+    """Where a package is imported: NoAnswer is raised if it is absent or broken.
+
+    An import that is interrupted may raise what a broken package raises, so interrupts wait.
+    """
+    try:
+        with held():
+            yield
+    except MemoryError:
+        raise
+    except Exception as error:  # a broken package raises whatever it likes
+        is_debian = sys.executable.startswith("/usr/bin/")  # (pip refuses to install for it)
+        remedy = "" if is_debian else f"`{sys.executable} -m pip install {name}`, or for /usr/bin/python3 "
+        raise NoAnswer(
+            f"{purpose} needs {name}, which {sys.executable} cannot import ({type(error).__name__}: {error}): "
+            f"{remedy}`sudo apt-get install python3-{name}`"
+        ) from error

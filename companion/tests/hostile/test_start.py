@@ -10,8 +10,7 @@ from typing import Dict, Tuple
 import pytest
 from cases_of_program import TOP
 
-from balisekit.errors import NoAnswer
-from balisekit.io.optional_packages import needed
+from balisekit.errors import NoAnswer, needed
 
 LINE = shlex.quote(str(TOP / "examples" / "table" / "line.csv"))
 DRAW = f"draw {LINE} --track --aspect green"

@@ -59,9 +59,9 @@ class _Version(argparse.Action):
     """Writes the versions of balisekit and of the program that was released with it, and ends. It starts no program."""
 
     def __call__(self, parser: Any, *_: Any) -> None:
-        from balisekit.engine import about
+        from balisekit.engine.find_program import released
 
-        print(*filter(None, (f"balisekit {__version__}", about.released())), sep="\n")
+        print(*filter(None, (f"balisekit {__version__}", released())), sep="\n")
         parser.exit()
 
 

@@ -10,8 +10,8 @@ from typing import Any, Callable, Dict, FrozenSet, Mapping, Sequence, Tuple
 
 from balisekit.cli import options as shared
 from balisekit.errors import TableError, faults_of
-from balisekit.rules import jumps as jumps_file, meaning
-from balisekit.rules.chainage import Jump
+from balisekit.rules import meaning
+from balisekit.rules.chainage import Jump, read_jumps
 from balisekit.rules.rule import ALL, LINE_SPEED, RELEASE_SPEED, Options
 from balisekit.tables import own_headings, plan as plan_file
 
@@ -83,7 +83,7 @@ def of_line(options: argparse.Namespace) -> Options:
     if "tolerance" in stated:
         more["tolerance"] = more["tolerance_of_places"] = stated["tolerance"]
     plan = plan_file.read(stated["plan"]) if "plan" in stated else None
-    own_jumps = jumps_file.read(stated["jumps"]) if "jumps" in stated else ()
+    own_jumps = read_jumps(stated["jumps"]) if "jumps" in stated else ()
     return Options(
         **more,
         line_speed=stated.get("line_speed"),
@@ -97,7 +97,7 @@ def of_line(options: argparse.Namespace) -> Options:
 def jumps(options: argparse.Namespace) -> Tuple[Jump, ...]:
     """Where the kilometres jump, by the option or by balisekit.toml."""
     path = options.jumps or _of_file(options).get("jumps")
-    return jumps_file.read(path) if path else ()
+    return read_jumps(path) if path else ()
 
 
 def _given(options: argparse.Namespace) -> Dict[str, Any]:

@@ -1,6 +1,7 @@
-"""Where the program's file is, and the metadata of a stored one."""
+"""Where the program's file is, and the metadata of released programs: ABOUT in a clone, a release or a wheel."""
 from __future__ import annotations
 
+import glob
 import hashlib
 import os
 import shutil
@@ -8,14 +9,14 @@ import sys
 from contextlib import contextmanager
 from typing import TYPE_CHECKING, Dict, Iterator, List, Optional
 
-from balisekit.engine import about
 from balisekit.errors import NoAnswer
 
 if TYPE_CHECKING:
     from subprocess import Popen
 
-TOP = about.TOP
-"""The top of the repository, if this is a clone."""
+PACKAGE = os.path.dirname(os.path.dirname(os.path.abspath(__file__)))
+TOP = os.path.normpath(os.path.join(os.path.realpath(__file__), *[os.pardir] * 5))
+"""The top of the repository or of the release. For a wheel it is neither, and the package has the file."""
 SECONDS = 60
 """How long the start script of a clone may take to compute the checksum of its sources."""
 _STARTED: List[Popen[bytes]] = []
@@ -115,4 +116,22 @@ def checksum(path: str) -> str:
 
 def papers(sha256: str) -> Dict[str, str]:
     """The lines of ABOUT that name the program with this checksum."""
-    return next((papers for papers in about.all_papers() if sha256 in papers.get("program", "")), {})
+    return next((papers for papers in all_papers() if sha256 in papers.get("program", "")), {})
+
+
+def all_papers() -> Iterator[Dict[str, str]]:
+    """The lines of each ABOUT by their first words. Files that cannot be read are skipped."""
+    stored = sorted(glob.glob(os.path.join(glob.escape(TOP), "dist", "*", "ABOUT")))
+    for about in [*stored, os.path.join(PACKAGE, "ABOUT")]:
+        try:
+            with open(about, encoding="utf-8") as file:
+                lines = file.read().split("\n")
+        except (OSError, UnicodeDecodeError):
+            continue
+        yield dict(line.split(" ", 1) for line in lines if " " in line)
+
+
+def released() -> str:
+    """Version and checksums of the program that was released with this balisekit. Empty if there is none."""
+    papers: Dict[str, str] = next(all_papers(), {})
+    return "balisecheck {version}, sources {sources}, program {program}".format(**papers) if papers else ""

@@ -10,8 +10,7 @@ from contextlib import contextmanager
 from tempfile import SpooledTemporaryFile
 from typing import TYPE_CHECKING, Iterable, Iterator, List, Mapping, Sequence, Union
 
-from balisekit.errors import NoAnswer, TableError
-from balisekit.io.interrupts import held
+from balisekit.errors import NoAnswer, TableError, held
 
 if TYPE_CHECKING:
     from balisekit.io.output_folder import OutputFolder

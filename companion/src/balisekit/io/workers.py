@@ -11,8 +11,7 @@ from itertools import chain, repeat
 from tempfile import TemporaryFile
 from typing import Any, Callable, Iterable, Iterator, List, Sequence
 
-from balisekit.errors import NoAnswer
-from balisekit.io.interrupts import held
+from balisekit.errors import NoAnswer, held
 
 LEAST, MOST = 2500, 4
 """The fewest items that are shared, and the most processes that share them: each process needs memory."""

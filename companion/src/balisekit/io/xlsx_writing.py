@@ -7,8 +7,7 @@ from tempfile import TemporaryFile
 from typing import IO, Any, Iterable, Iterator, Sequence, Union
 from zipfile import ZIP_DEFLATED, ZipFile, ZipInfo
 
-from balisekit.errors import TableError
-from balisekit.io.optional_packages import needed
+from balisekit.errors import TableError, needed
 
 GREATEST_ROW = 1_048_576
 """The last row of a sheet."""

@@ -10,7 +10,7 @@ from pathlib import Path
 from typing import Any, Callable, Iterator, List, Sequence, Tuple
 
 from balisekit.drawing.svg import svg
-from balisekit.io.optional_packages import needed
+from balisekit.errors import needed
 from balisekit.tables.names import clean
 
 PIECES = 100

@@ -1,4 +1,4 @@
-"""Kilometres and places along a track: where the kilometres jump, the places do not.
+"""Kilometres and places along a track: where the kilometres jump, the places do not. A CSV file has the jumps.
 
 A place is a whole number of decimetres along the track, counted as the kilometres of its beginning do. Kilometres that
 are finer than a decimetre are rounded.
@@ -6,12 +6,19 @@ are finer than a decimetre are rounded.
 from __future__ import annotations
 
 from decimal import ROUND_HALF_EVEN, Decimal
-from typing import NamedTuple, Optional, Sequence, Tuple
+from typing import Dict, Iterator, List, NamedTuple, Optional, Sequence, Tuple
 
+from balisekit.errors import TableError, faults_of
 from balisekit.etcs.geometry import kilometre_of
+from balisekit.io import inputs
+from balisekit.tables import csv as csv_file, reader
+from balisekit.tables.headings import Headings
 
 DECIMETRES = Decimal(10_000)
 """In a kilometre."""
+COLUMNS = ("km", "km_after", "track")
+"""Of a file of jumps, which has a line for each."""
+NEEDED = COLUMNS[:2]
 
 
 class Jump(NamedTuple):
@@ -70,3 +77,34 @@ class Chainage(NamedTuple):
                 break
             shift += before - after
         return kilometre_of(place - shift)
+
+
+def read_jumps(path: str) -> Tuple[Jump, ...]:
+    """The jumps of this file. TableError is raised if it cannot be read."""
+    with faults_of(path):
+        return tuple(_jumps(csv_file.read(inputs.read(path).content, Headings(COLUMNS, NEEDED)).rows))
+
+
+def _jumps(rows: List[List[str]]) -> Iterator[Jump]:
+    headings = Headings(COLUMNS, NEEDED)
+    first = headings.row_of(rows)
+    if first is None:
+        raise TableError(f"no row has the headings {' and '.join(NEEDED)}")
+    places = headings.look_at(rows, first)
+    for number, row in enumerate(rows[first + 1 :], first + 2):
+        cells = {name: row[place].strip() if place < len(row) else "" for name, place in places.items()}
+        if any(cells.values()):
+            jump = Jump(_kilometre(cells, "km", number), _kilometre(cells, "km_after", number), cells.get("track", ""))
+            if jump.before == jump.after:
+                raise TableError("km and km_after are the same: that is no jump", number)
+            yield jump
+
+
+def _kilometre(cells: Dict[str, str], name: str, number: int) -> Decimal:
+    try:
+        km = reader.kilometre_of(cells[name], "")
+    except TableError as error:
+        raise TableError(error.why, number, name) from error
+    if km is None:
+        raise TableError("there is no kilometre", number, name)
+    return km

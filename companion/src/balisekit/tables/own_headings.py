@@ -5,9 +5,8 @@ import os
 import sys
 from typing import Any, Dict, Mapping, NamedTuple, Optional, Sequence, Tuple
 
-from balisekit.errors import TableError, faults_of
+from balisekit.errors import TableError, faults_of, needed
 from balisekit.io import inputs
-from balisekit.io.optional_packages import needed
 from balisekit.tables.cells import COLUMNS
 from balisekit.tables.headings import Headings, alike
 

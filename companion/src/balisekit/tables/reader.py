@@ -10,11 +10,21 @@ from typing import Any, Callable, Dict, Iterator, List, Mapping, Optional, Seque
 from balisekit.errors import TableError, TableErrors, faults_of
 from balisekit.io import inputs
 from balisekit.tables import csv as csv_file, own_headings
-from balisekit.tables.cells import COLUMNS, DIGITS, ERROR, GREATEST_NAME, Sheet, digits, kind_and_text
+from balisekit.tables.cells import (
+    COLUMNS,
+    DIGITS,
+    ERROR,
+    GREATEST_NAME,
+    Sheet,
+    digits,
+    end_of_heading,
+    fill,
+    fill_heads,
+    kind_and_text,
+)
 from balisekit.tables.encoding import WORKBOOKS
 from balisekit.tables.grouping import groups_of
 from balisekit.tables.headings import SEARCHED, Headings, alike
-from balisekit.tables.merged import end_of_heading, fill, fill_heads
 from balisekit.tables.model import Row, Table
 
 KM = re.compile(r"(?!-[0-9]+\+)(-?[0-9]{1,4})(?:[.,]([0-9]{1,6})|\+([0-9]{3})(?:[.,]([0-9]{1,3}))?)?")

@@ -12,12 +12,10 @@ from itertools import islice
 from typing import Any, Callable, Dict, Iterable, Iterator, List, Optional, Pattern, Sequence, Tuple
 from xml.etree.ElementTree import Element, ParseError, iterparse
 
-from balisekit.errors import KitError, TableError
-from balisekit.io.optional_packages import needed
-from balisekit.tables.cells import Area, Sheet, of_kind
+from balisekit.errors import KitError, TableError, needed
+from balisekit.tables.cells import Area, Sheet, fill_heads, of_kind
 from balisekit.tables.encoding import OLD_WORKBOOK
 from balisekit.tables.headings import SEARCHED, Headings, is_data
-from balisekit.tables.merged import fill_heads
 
 CONTENTS = "[Content_Types].xml"
 """A part that each workbook has."""

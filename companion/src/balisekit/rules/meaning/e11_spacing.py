@@ -30,6 +30,7 @@ from typing import Dict, Iterator, List, Tuple
 
 from balisekit.rules.line import Line
 from balisekit.rules.location import BaliseGroup, Location
+from balisekit.rules.meaning.words import balises_of
 from balisekit.rules.rule import Options, Remark, Result, Rule, Urgency
 from balisekit.tables.model import Row
 from balisekit.tables.names import kilometre
@@ -57,13 +58,8 @@ def find(line: Line, options: Options) -> Result:
 
 
 def _places(group: BaliseGroup) -> Dict[int, Place]:
-    """The first row of each balise that has a kilometre, in nominal order."""
-    known: Dict[int, Place] = {}
-    for aspect in group.group.aspects:
-        for position, row in enumerate(aspect.rows):
-            if row.km is not None:
-                known.setdefault(position, (row, row.km))
-    return {position: known[position] for position in sorted(known)}
+    """The balises that have a kilometre, in nominal order."""
+    return {place: (row, row.km) for place, row in enumerate(balises_of(group)) if row and row.km is not None}
 
 
 def _spacing(
