@@ -51,6 +51,20 @@ def test_a_file_beside_the_table_binds_no_other_table(table: Write, run: Run) ->
     assert tables.read(str(table("group,telegram", f"A,{ALONE}"))).notes == ()
 
 
+def test_a_file_beside_the_table_that_is_not_read(table: Write, run: Run) -> None:
+    """A note names it if --columns names another file, because it may state the line too."""
+    path = table("group,telegram", f"A,{ALONE}")
+    beside = table(content=b"[check]\nline_speed = 200\n", name="balisekit.toml")
+    other = table(content=b"group = 'group'", name="c.toml")
+    note = f"note: {beside} is not read: --columns names another file"
+    for command in ("check", "table"):
+        words = ["--csv", path.parent / "sheet.csv", "--force"] if command == "table" else []
+        assert [note in run(command, path, *words, *more)[1] for more in (["--columns", other], [])] == [True, False]
+    assert note not in run("check", path, "--columns", beside)[1]
+    beside.unlink()
+    assert note not in run("check", path, "--columns", other)[1]
+
+
 def test_a_heading_that_is_not_there(table: Write) -> None:
     """By a file that is named each heading has to be there."""
     file = table(content=GERMAN.encode(), name="c.toml")

@@ -3,7 +3,7 @@ from __future__ import annotations
 
 import os
 import sys
-from typing import Any, Dict, Mapping, NamedTuple, Optional, Sequence, Tuple
+from typing import Any, Dict, List, Mapping, NamedTuple, Optional, Sequence, Tuple
 
 from balisekit.errors import TableError, faults_of, needed
 from balisekit.io import inputs
@@ -58,6 +58,13 @@ def stated(path: str, named: Optional[str], table: str) -> Tuple[str, Mapping[st
     """The file that states something about a table's line, and the keys and values of `table`, one of STATED."""
     file = named or beside(path)
     return file, _read(file)[table] if file else {}
+
+
+def not_read(path: str, named: Optional[str]) -> List[str]:
+    """A note on balisekit.toml in the folder of this file, if another file is named: it may state the line too."""
+    file = beside(path) if named else ""
+    is_other = file and named and not (os.path.exists(named) and os.path.samefile(file, named))
+    return [f"{file} is not read: --columns names another file"] if is_other else []
 
 
 def beside(path: str) -> str:

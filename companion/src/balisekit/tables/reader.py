@@ -69,7 +69,11 @@ def read(
         except (TableError, TableErrors) as error:
             named_hint = [TableError(NAMES, row=place + 1)] if named else []
             raise TableErrors([*_hints(passed_over, meant, place), *named_hint, *error.faults]) from error
-    of_heading = [*_notes_on_heading(place, headings.used(cells.rows[place])), *([NAMES] if named else [])]
+    of_heading = [
+        *own_headings.not_read(path, columns),
+        *_notes_on_heading(place, headings.used(cells.rows[place])),
+        *([NAMES] if named else []),
+    ]
     notes = (*cells.notes, *of_heading, *([BY_POSITION] if by_position else []), *grouped.notes)
     about = path, file.sha256, cells.encoding, cells.separator
     return Table(*about, passed_over, grouped.rows, grouped.groups, notes, meant)
