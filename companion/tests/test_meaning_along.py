@@ -394,6 +394,20 @@ def test_e15(found: Found) -> None:
     assert one.sentence.startswith("D_OL is 190 m in the infill, and 200 m in packet 12 of Signal 4")
 
 
+@pytest.mark.parametrize("g_a, beside, said", [(0, 0, ""), (5, 5, "Q_GDIR"), (0, 5, "G_A"), (5, 0, "G_A")])
+def test_e15_of_gradients_without_a_sign(found: Found, g_a: int, beside: int, said: str) -> None:
+    """A gradient of 0 has none: Q_GDIR is not compared."""
+    own = set_in_item(SITE, GREEN, 21, "elements", 0, g_a=g_a, q_gdir=0)
+    made = found("E15", INFILL, all_of(own, set_in_item("Signal 4", GREEN, 21, "elements", 0, g_a=beside, q_gdir=1)))
+    assert [each.sentence.split(" of ")[0] for each in made] == ([said] if said else [])
+
+
+@pytest.mark.parametrize("sign", [0, 1])
+def test_e15_of_end_marks(found: Found, sign: int) -> None:
+    """G_A 255 is no gradient."""
+    assert not found("E15", INFILL, set_in_item(SITE, GREEN, 21, "elements", -1, q_gdir=sign))
+
+
 def test_e15_of_aspects_named_after_a_distant_signal(found: Found) -> None:
     """As the page says: at yellow the infill has what its signal has at red."""
     names = {RED: YELLOW, YELLOW: GREEN, GREEN: "clear"}

@@ -157,6 +157,23 @@ def test_e8_of_stop_aspects(program: Program, tmp_path: Path) -> None:
         assert not found(program, tmp_path / "t.csv", "E8", *stops, packets_added(6, RED, raw(137, bit)))
 
 
+def test_e8_of_stop_aspects_for_both_directions(program: Program, tmp_path: Path) -> None:
+    """A packet with Q_DIR 2 is one stop aspect: one of five is too few, and a packet 132 that lacks is one remark."""
+    stops = [packets_added(signal, RED, raw(137, "0")) for signal in range(1, 6)]
+    both = packet_with(6, RED, 12, q_dir=2)
+    (one,) = found(program, tmp_path / "t.csv", "E8", *stops, both)
+    assert "5 of 6 stop aspects" in one.sentence
+    four = Line(signals=4, aspects=(RED, YELLOW, GREEN))
+    assert not found(program, tmp_path / "t.csv", "E8", *stops[:4], packet_with(1, RED, 12, q_dir=2), line=four)
+    stop = [packet_with(2, aspect, 12, v_main=0, q_dir=2) for aspect in (RED, YELLOW, GREEN)]
+    danger = [packets_added(2, aspect, {**raw(132, "0"), "q_dir": 2}) for aspect in (RED, GREEN)]
+    elsewhere = [packet_with(3, YELLOW, 12, v_main=0), packets_added(3, YELLOW, raw(132, "0"))]
+    made = [each for each in found(program, tmp_path / "t.csv", "E8", *stop, *danger, *elsewhere)]
+    assert [each.sentence for each in made if "packet 132" in each.sentence] == [
+        'a stop aspect without a packet 132 (danger for shunting information), which "red", "green" have'
+    ]
+
+
 def test_e8_of_packets_132(program: Program, tmp_path: Path) -> None:
     """One of three stop aspects lacks it, and has it at another signal. If it has it nowhere, that is meant."""
     stop = [packet_with(2, aspect, 12, v_main=0) for aspect in (YELLOW, GREEN)]

@@ -30,7 +30,7 @@ How sure. 87 %.
 from __future__ import annotations
 
 from decimal import Decimal
-from typing import Dict, Iterator, List, Sequence, Tuple
+from typing import Dict, Iterator, List, Sequence, Set, Tuple
 
 from balisekit.etcs.packets import packet_name
 from balisekit.rules.decoded import GroupData, Packet, Passage
@@ -86,12 +86,20 @@ def _stops(passage: Passage) -> List[Packet]:
     return [packet for packet in passage.said if packet.number == AUTHORITY and packet.form["v_main"] == 0]
 
 
-def _without_stop(stops: Sequence[Passage]) -> Iterator[Remark]:
+def _of_packet(passage: Passage) -> Tuple[int, str, int]:
+    """A stop aspect by its group and packet 12: with Q_DIR 2 that stops the trains of both directions."""
+    return id(passage.group), passage.aspect, id(_stops(passage)[0])
+
+
+def _without_stop(passages: Sequence[Passage]) -> Iterator[Remark]:
     """Stop aspects without a packet 137, if four of five have it with "stop". Its layout is balisekit's own."""
-    without = [each for each in stops if not each.of(STOP_IN_SR)]
-    having = sum(any(packet.form.get("q_srstop") == 0 for packet in each.of(STOP_IN_SR)) for each in stops)
+    stops: Dict[Tuple[int, str, int], List[Passage]] = {}
+    for each in passages:
+        stops.setdefault(_of_packet(each), []).append(each)
+    said = [(own[0], [packet for each in own for packet in each.of(STOP_IN_SR)]) for own in stops.values()]
+    having = sum(any(packet.form.get("q_srstop") == 0 for packet in packets) for _, packets in said)
     if len(stops) >= STOPS and having * 5 >= len(stops) * 4:
-        for passage in without:
+        for passage in (passage for passage, packets in said if not packets):
             words = (
                 'a stop aspect, V_MAIN 0 km/h, without a packet 137 (stop if in staff responsible) with "stop": '
                 f"{having} of {len(stops)} stop aspects of the table have it"
@@ -104,12 +112,15 @@ def _without_danger(stops: Sequence[Passage]) -> Iterator[Remark]:
     """The one stop aspect of a group without a packet 132, if two or more have it, and its name has it elsewhere."""
     names = {each.aspect for each in stops if each.of(DANGER_FOR_SH)}
     by_group: Dict[Tuple[int, str], List[Passage]] = {}
+    known: Set[Tuple[int, str, int]] = set()
     for each in stops:
         if each.group and not each.group.group.unread:
             by_group.setdefault((id(each.group), each.direction), []).append(each)
     for own in by_group.values():
         without = [each for each in own if not each.of(DANGER_FOR_SH)]
-        if len(own) >= SIBLINGS and len(without) == 1 and without[0].aspect in names:
+        is_odd = len(own) >= SIBLINGS and len(without) == 1 and without[0].aspect in names
+        if is_odd and _of_packet(without[0]) not in known:
+            known.add(_of_packet(without[0]))
             others = listed([quoted(each.aspect) for each in own if each is not without[0]], NAMED)
             words = f"a stop aspect without a packet 132 (danger for shunting information), which {others} have"
             yield Remark("E8", without[0].at(_stops(without[0])[0]), words, values={"stop_aspects": Decimal(len(own))})

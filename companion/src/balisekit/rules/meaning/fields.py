@@ -11,6 +11,8 @@ from balisekit.tables.names import ordinal
 
 NOT_COMPARED = {"q_dir", "q_scale", "l_packet", "body", "nid_packet"}
 SECTIONS, TIMERS = {"sections", "l_endsection"}, ("section_timer", "end_timer")
+SIGN, NO_SIGN = "q_gdir", {0, 255}
+"""The sign of a gradient, and each G_A that has none: a level, and the end mark."""
 INFINITE = 32_767
 """A distance that has no unit."""
 
@@ -29,7 +31,7 @@ class Apart(NamedTuple):
 
     def field_of(self, packet: Packet) -> Sequence[Field]:
         """It in one of the two packets. The sign of a gradient is a part of the gradient."""
-        key = "g_a" if self.key == "q_gdir" else self.key
+        key = "g_a" if self.key == SIGN else self.key
         return [(packet.row.number, packet.place, key, self.place)] if packet.row else []
 
 
@@ -59,7 +61,7 @@ def _compared(own: Any, theirs: Any, packets: Tuple[Packet, Packet], where: str,
     """The fields of two objects that differ, by their order in the first one."""
     keys: List[str] = [key for key in own if key not in NOT_COMPARED] + [key for key in theirs if key not in own]
     for key in keys:
-        if key in NOT_COMPARED:
+        if key in NOT_COMPARED or key == SIGN and NO_SIGN & {own["g_a"], theirs["g_a"]}:
             continue
         values: Sequence[Any] = own.get(key), theirs.get(key)
         if isinstance(values[0], dict) and isinstance(values[1], dict):
