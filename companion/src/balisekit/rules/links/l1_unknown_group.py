@@ -1,7 +1,7 @@
 """L1: linked group not in the table.
 
-What it says. A packet 5 names a group that no telegram read has, and that by D_LINK is not beyond the track's ends. A
-link without NID_C takes it from the group before it. A link that may lead to a group without a read telegram is only
+What it says. A packet 5 names a group that the table lacks, and that by D_LINK is not beyond the track's ends. A link
+without NID_C takes it from the group before it. A link that may lead to a group without a read telegram is only
 counted. If the table has that NID_BG under another NID_C, the line names that group. Other links are not named one by
 one if by D_LINK they lead beyond an end of a track by more than Q_LOCACC and `--tolerance`. A note for each end counts
 them, because the table may be a section of a longer line. D_LINK counts from the last linked group of the table, along

@@ -1,8 +1,8 @@
 """L5: direction of a single balise not known.
 
-What it says. A single balise has Q_LINK 0, and a packet that holds in one direction only (Q_DIR 0 or 1). The line names
-the first such packet; packets 44, 145 and 254 do not count. A single balise has no direction of its own, and with
-Q_LINK 0 it gets none by linking (SUBSET-026, 3.4.2).
+What it says. A single balise has Q_LINK 0, and a packet other than 44, 145 and 254 that holds in one direction only
+(Q_DIR 0 or 1). The line names the first such packet. A single balise has no direction of its own, and with Q_LINK 0 it
+gets none by linking (SUBSET-026, 3.4.2).
 
 How urgent. At worst wrong information for the other direction, or none.
 

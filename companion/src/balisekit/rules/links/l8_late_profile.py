@@ -1,8 +1,9 @@
 """L8: profile begins late.
 
-What it says. Under an authority of a group or message 3 a gradient or speed profile begins beyond 0 m, and none of its
-kind begins at 0 m. The track before it has no profile of this message. Such profiles of a message 3 after another
-message 3 are counted in a note. The program does not check where a profile begins (SUBSET-026, 3.7, 3.8 and 3.11).
+What it says. Under an authority of a group or the first message 3 a gradient or speed profile begins beyond 0 m, and
+none of its kind begins at 0 m. The track before it has no profile of this message. Such profiles of a message 3 after
+another message 3 are counted in a note. The program does not check where a profile begins (SUBSET-026, 3.7, 3.8 and
+3.11).
 
 How urgent. At worst an old profile is used on that track. Mostly the authority is refused.
 

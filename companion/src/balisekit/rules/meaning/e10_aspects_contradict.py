@@ -1,10 +1,10 @@
 """E10: aspects that contradict each other about the track.
 
-What it says. Two aspects of a group state different V_STATIC, or gradients more than 5 ‰ apart, for one stretch.
-Gradients have their sign. They are compared as far as the packets 5 of both name the same groups, also beyond an end of
-authority. Without packets 5 they are compared if both authorities end at the same place. Passed over are stretches
-shorter than `--tolerance` and the rounding of the lengths, and what lies beyond a `point` of the track plan. One remark
-names the aspect that most others disagree with, and the longest stretch (SUBSET-026, 3.11).
+What it says. Two aspects of a group that lead to one place state different V_STATIC, or gradients more than 5 ‰ apart,
+on a stretch longer than `--tolerance` and rounding. Gradients have their sign. Both are compared as far as the packets
+5 of both name the same groups, also beyond an end of authority. Without packets 5 they are compared if both authorities
+end at the same place. What lies beyond a `point` of the track plan is passed over. One remark names the aspect that
+most others disagree with, and the longest stretch (SUBSET-026, 3.11).
 
 How urgent. At worst wrong information.
 

@@ -1,9 +1,9 @@
 """E11: spacing of balises.
 
-What it says. Neighbouring balises of a group are less than 2.3 m or more than 12 m apart, or the column `nominal`
-contradicts their kilometres. With a `--line-speed` above 180 km/h the least spacing is 3.0 m. One unit of the last
-decimal of the kilometres is allowed in either direction. The rule passes over a group whose balises all have the same
-kilometre (SUBSET-036 and SUBSET-040, installation of balise groups).
+What it says. Beyond rounding neighbouring balises of a group with different kilometres are less than 2.3 m or more than
+12 m apart, or the column `nominal` contradicts their kilometres. With a `--line-speed` above 180 km/h the least spacing
+is 3.0 m. One unit of the last decimal of the kilometres is allowed in either direction. The rule passes over a group
+whose balises all have the same kilometre (SUBSET-036 and SUBSET-040, installation of balise groups).
 
 How urgent. At worst a wrong position of the train: distances of the group count from its first balise.
 

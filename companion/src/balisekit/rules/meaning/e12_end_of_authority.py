@@ -1,12 +1,12 @@
 """E12: end of authority.
 
-What it says. An authority ends elsewhere than others that lead to the same group, or near a group and not at it. It
-ends at the kilometre of its group and the sum of L_SECTION and L_ENDSECTION of a packet 12 with V_MAIN above 0, or a
-packet 15. It leads to the group of its packets 5 nearest to its end, within 200 m. If none is so near, it is the last
-one before the end, if another one is beyond it. Without packets 5 ends at most 20 m from the next one are compared. A
-packet 12 is not at a group if the first balise of the nearest one is 50 m to 200 m away. None there that packets 5 name
-may lack a kilometre or be on another track. Such an end is named only between the first and last signal of its way.
-Places may differ by `--tolerance` (else 1 m) and rounding (SUBSET-026, 3.8 and 7.4.2).
+What it says. An authority ends elsewhere than others to the same group, or that of a packet 12 ends, between signals,
+50 m to 200 m from the nearest group. It ends at the kilometre of its group and the sum of L_SECTION and L_ENDSECTION of
+a packet 12 with V_MAIN above 0, or a packet 15. It leads to the group of its packets 5 nearest to its end, within 200
+m. If none is so near, it is the last one before the end, if another one is beyond it. Without packets 5 ends at most 20
+m from the next one are compared. The nearest group counts by its first balise. None there that packets 5 name may lack
+a kilometre or be on another track. Signals are the first and last one of its way. Places may differ by `--tolerance`
+(else 1 m) and rounding (SUBSET-026, 3.8 and 7.4.2).
 
 How urgent. At worst wrong information: a train may pass the signal at which it has to stop.
 

@@ -1,10 +1,10 @@
 """E13: profiles that disagree.
 
-What it says. For one stretch the profiles of two groups state different V_STATIC, or gradients more than 5 ‰ apart.
-Each group is compared with the next one ahead of its track and way that has a profile there. Groups with a refused
-telegram do not count. They differ if no value of one group fits one of the other, in any aspect. Of the group in rear
-only those aspects count whose packet 5 names the group ahead, if any does. Stretches up to `--tolerance` (else 1 m) and
-rounding are passed over. A group that differs from those on both sides has the remark (SUBSET-026, 3.11.3 and 3.11.12).
+What it says. All aspects of a group and of the next one ahead state different V_STATIC, or gradients more than 5 ‰
+apart, on a stretch longer than `--tolerance` and rounding. The next one ahead is of its track and way, and has a
+profile there. No value of one group then fits one of the other. Groups with a refused telegram do not count. Of the
+group in rear only those aspects count whose packet 5 names the group ahead, if any does. `--tolerance` is 1 m if it is
+not given. A group that differs from those on both sides has the remark (SUBSET-026, 3.11.3 and 3.11.12).
 
 How urgent. At worst wrong information: a train may go too fast, or brake too late on a slope.
 

@@ -1,10 +1,10 @@
 """E16: direction of a single balise.
 
-What it says. A single balise with Q_LINK 1 has packets for one direction, and packets 5 do not name it, or disagree
-about its direction. A direction other than that of the column `nominal` is named too. Packets 44, 145 and 254 do not
-count. A balise that is not named is passed over if no packet 5 for that way leads past its kilometre. So is one with a
-packet 16 within 500 m of a link to NID_BG 16,383, or on another track than this link, or with a refused telegram at
-most 10 km in rear. Single balises with Q_LINK 0 are L5 (SUBSET-026, 3.4.2 and 3.4.4).
+What it says. Packets 5 lead past a single balise with Q_LINK 1 and packets for one direction without naming it, or
+disagree about the direction of a single balise. A direction other than that of the column `nominal` is named too.
+Packets 44, 145 and 254 do not count. Such a packet 5 is for that way and leads past its kilometre. Passed over is a
+balise with a packet 16 within 500 m of a link to NID_BG 16,383, or on another track than this link, or with a refused
+telegram at most 10 km in rear. Single balises with Q_LINK 0 are L5 (SUBSET-026, 3.4.2 and 3.4.4).
 
 How urgent. At worst wrong information.
 

@@ -1,7 +1,7 @@
 """E18: level transition.
 
-What it says. Packets 41 for one level transition differ in its place or its levels, or no group there has one that
-orders it. Compared are packets of one track and way, each at most 500 m from the next one. Places may differ by
+What it says. Packets 41 for one level transition differ in its place or its levels, or none orders it at its place
+within the table. Compared are packets of one track and way, each at most 500 m from the next one. Places may differ by
 `--tolerance` (else 1 m) and rounding, and M_LEVELTR and NID_NTC must be the same in the same order. A place is that of
 D_LEVELTR, or of the group if that is 0 or 32,767 (now). Of packets for now the one that most others announce counts as
 right, else the first along the way. Without one the most frequent place counts. A packet that repeats it beyond the

@@ -1,9 +1,10 @@
 """E19: gradients of both directions.
 
-What it says. The gradients of both directions add up to more than 1 ‰, as each train meets them, or both go down by 3 ‰
-or more for 1 km. A stretch up to `--tolerance` (else 1 m) and rounding does not count. Of each group without refused
-telegrams the longest profile counts, and of one way the one that contradicts the other way least: groups of one way
-that disagree are E13 only. Downhill both ways has the lowest urgency (SUBSET-026, 3.11.12).
+What it says. On a stretch each gradient of one direction and each of the other add up to more than 1 ‰, or all go down
+by 3 ‰ for 1 km. Gradients are as each train meets them. A stretch up to `--tolerance` (else 1 m) and rounding does not
+count. Of each group without refused telegrams the longest profile counts, and of one way the one that contradicts the
+other way least: groups of one way that disagree are E13 only. Downhill both ways has the lowest urgency (SUBSET-026,
+3.11.12).
 
 How urgent. At worst wrong information: a train brakes too late, because it believes that it goes uphill.
 

@@ -1,8 +1,8 @@
 """E22: temporary speed restriction.
 
-What it says. Packets 65 with one NID_TSR state different places, lengths or speeds. They are for one track and way,
-their NID_TSR is below 255, and each is at most 2 km from the next one. Place and L_TSR may differ by `--tolerance`
-(else 1 m) and rounding. The most frequent one counts as right. A packet with D_TSR 0 agrees if its group is within the
+What it says. Packets 65 with one NID_TSR below 255, at most 2 km apart on one track and way, contradict each other
+about its place, length or speed. Apart is each from the next one. Place and L_TSR may differ by `--tolerance` (else 1
+m) and rounding. The most frequent one counts as right. A packet with D_TSR 0 agrees if its group is within the
 restriction, V_TSR is equal and the end is the same. The layout of packet 65 is balisekit's own (SUBSET-026, 3.11.5 and
 7.4.2).
 

@@ -1,9 +1,9 @@
 """E23: one line, one header.
 
-What it says. A telegram has another M_VERSION than is most frequent in the table, or a group another NID_C than is most
-frequent on its track. Of equally frequent ones the first counts, of refused telegrams none. Such a group has groups
-with the usual NID_C on both sides of it, in the order of the kilometres, or else of the table. The rule is off unless
-it is asked for (SUBSET-026, 7.5.1 and 8.4.2).
+What it says. A telegram has another M_VERSION than is most frequent in the table, or between groups with the most
+frequent NID_C of a track one has another. Of equally frequent ones the first counts, of refused telegrams none. The
+order is that of the kilometres, or else of the table. The rule is off unless it is asked for (SUBSET-026, 7.5.1 and
+8.4.2).
 
 How urgent. To be looked at. L1 finds links that name the group by another NID_C.
 

@@ -1,9 +1,9 @@
 """E2: speed or gradient out of range.
 
-What it says. A speed is above `--line-speed` (else 350 km/h), a release speed above `--release-speed` (else 40 km/h),
-or G_A above 40 ‰. The speeds are V_MAIN, V_LOA, V_STATIC, V_DIFF, V_TSR and V_MAMODE. Special values, such as the end
-mark, are no speeds or gradients. With `--rules E2` it also names a V_MAIN above the greatest speed of the speed
-profiles that are said with it (SUBSET-026, 3.8, 3.11 and 7.5.1).
+What it says. V_MAIN, V_LOA, V_STATIC, V_DIFF, V_TSR or V_MAMODE is above `--line-speed` (else 350 km/h), a release
+speed above `--release-speed` (else 40 km/h), or G_A above 40 ‰. Special values, such as the end mark, are no speeds or
+gradients. With `--rules E2` it also names a V_MAIN above the greatest speed of the speed profiles that are said with it
+(SUBSET-026, 3.8, 3.11 and 7.5.1).
 
 How urgent. At worst wrong information.
 

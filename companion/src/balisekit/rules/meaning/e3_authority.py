@@ -1,10 +1,10 @@
 """E3: authority that contradicts itself.
 
-What it says. Values of a packet 12 or 15 contradict each other, such as an overlap that ends before the danger point.
-The rule names a D_SECTIONTIMERSTOPLOC beyond its section, and a D_ENDTIMERSTARTLOC or D_STARTOL above the sum of all
-lengths, if that is above 0. It names D_OL below D_DP, V_LOA above V_MAIN, an L_SECTION 0, and V_MAIN above 0 if all
-lengths are 0. It names V_LOA 0 with a T_LOA other than 1,023 (no time limit), and a danger point or overlap with V_LOA
-above 0 and T_LOA 1,023 (SUBSET-026, 3.8 and 7.4.2).
+What it says. Values of a packet 12 or 15 contradict each other in one of nine ways, such as an overlap that ends before
+the danger point. The rule names a D_SECTIONTIMERSTOPLOC beyond its section, and a D_ENDTIMERSTARTLOC or D_STARTOL above
+the sum of all lengths, if that is above 0. It names D_OL below D_DP, V_LOA above V_MAIN, an L_SECTION 0, and V_MAIN
+above 0 if all lengths are 0. It names V_LOA 0 with a T_LOA other than 1,023 (no time limit), and a danger point or
+overlap with V_LOA above 0 and T_LOA 1,023 (SUBSET-026, 3.8 and 7.4.2).
 
 How urgent. At worst wrong information.
 

@@ -1,10 +1,10 @@
 """E4: profile that contradicts itself.
 
-What it says. A profile has two elements at one place, elements after the end mark, 0 km/h, or a repeated element. The
-rule names a D_GRADIENT or D_STATIC 0 after the first element, and an end mark that is the first element. Repeated is a
-gradient, or a speed with its Q_FRONT and categories, if one distance (up to 32,767 units) could state both. The rule
-also names a train category twice in an element, and a V_DIFF by cant deficiency that is below V_STATIC or falls while
-NC_CDDIFF rises (SUBSET-026, 3.11 and 7.4.2).
+What it says. A profile has two elements at one place, elements after the end mark, V_STATIC 0, or an element that
+needlessly repeats the one before it. The rule names a D_GRADIENT or D_STATIC 0 after the first element, and an end mark
+that is the first element. A gradient, or a speed with its Q_FRONT and categories, is repeated needlessly if one
+distance (up to 32,767 units) could state both. The rule also names a train category twice in an element, and a V_DIFF
+by cant deficiency that is below V_STATIC or falls while NC_CDDIFF rises (SUBSET-026, 3.11 and 7.4.2).
 
 How urgent. At worst wrong information.
 

@@ -1,11 +1,11 @@
 """E5: both directions with a distance.
 
-What it says. One of 21 packets with distances holds in both directions (Q_DIR 2). These are 5, 12, 15, 16, 21, 27, 39,
-40, 41, 51, 52, 65, 67 to 71, 80, 88, 131 and 138. Passed over is a packet 41 with D_LEVELTR 0 or 32,767 (now). So is a
-packet 39, 40, 51, 52, 68 to 70 or 131 that gives only the place of its group, by D_TRACTION, D_CURRENT, D_TRACKINIT,
-D_SUITABILITY or D_RBCTR 0, or D_RBCTR 32,767 (now). An authority without any length is named if no other such packet is
-there: it stops the trains of both directions. All such packets of a balise or message are named together (SUBSET-026,
-3.6.1 and 7.4).
+What it says. One of 21 packets with distances holds in both directions (Q_DIR 2), unless its only distance is the place
+of its group. These are 5, 12, 15, 16, 21, 27, 39, 40, 41, 51, 52, 65, 67 to 71, 80, 88, 131 and 138. Passed over is a
+packet 41 with D_LEVELTR 0 or 32,767 (now). So is a packet 39, 40, 51, 52, 68 to 70 or 131 that gives only the place of
+its group, by D_TRACTION, D_CURRENT, D_TRACKINIT, D_SUITABILITY or D_RBCTR 0, or D_RBCTR 32,767 (now). An authority
+without any length is named if no other such packet is there: it stops the trains of both directions. All such packets
+of a balise or message are named together (SUBSET-026, 3.6.1 and 7.4).
 
 How urgent. At worst wrong information for trains in one of the directions.
 

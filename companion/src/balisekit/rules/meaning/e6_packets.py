@@ -1,10 +1,10 @@
 """E6: packets of one message.
 
-What it says. A balise has a packet that only radio sends, packet 0 is not the first one, or a train gets two packets 5.
-Only radio sends 15, 57, 58, 63 and 140. The two packets 5 hold in one direction, and what follows a packet 136 is
-counted by itself. With `--rules E6` it also names two different packets of one kind in one direction. These are 2, 3,
-12, 15, 16, 21, 27, 41, 45, 46, 80, 131, 132, 136, 137, 141 and 254. It then names in a message 3 a packet 0, 6, 12, 16,
-46, 90, 132 to 137, 145 or 254 (SUBSET-026, 7.4 and 8.4.4).
+What it says. A balise has one of five packets that only radio sends, packet 0 after another one, or a train gets at
+once two packets 5 that count from one group. The five are 15, 57, 58, 63 and 140. The two packets 5 hold in one
+direction, and what follows a packet 136 is counted by itself. With `--rules E6` it also names two different packets of
+one kind in one direction. These are 2, 3, 12, 15, 16, 21, 27, 41, 45, 46, 80, 131, 132, 136, 137, 141 and 254. It then
+names in a message 3 a packet 0, 6, 12, 16, 46, 90, 132 to 137, 145 or 254 (SUBSET-026, 7.4 and 8.4.4).
 
 How urgent. At worst wrong information.
 

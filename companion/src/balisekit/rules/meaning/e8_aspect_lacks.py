@@ -1,12 +1,12 @@
 """E8: aspect that lacks what its siblings have.
 
-What it says. An aspect lacks a packet 5, 12, 21 or 27 that its siblings have, or a stop aspect lacks a packet 137 or
-132. Siblings are three or more aspects with a V_MAIN above 0 in one direction, for packets 12 in either direction. An
-aspect is also named if it has one of these packets only for the other direction than all others that have it, two at
-least. A stop aspect has a packet 12 with V_MAIN 0, not after a packet 136. It is named if it has no packet 137 and four
-of five stop aspects of the table, five at least, have one with "stop". It is also named if only it, of three or more in
-its group, has no packet 132, and a stop aspect of its name has one elsewhere. Aspects with a refused telegram do not
-count. Their group is looked at only for packet 137 (SUBSET-026, 3.8).
+What it says. Only one of three or more proceed aspects for a direction lacks a packet 5, 12, 21 or 27, or a stop aspect
+lacks a usual packet 137 or 132. A proceed aspect has a V_MAIN above 0 in that direction, or for packets 12 in either
+direction. An aspect is also named if it has one of these packets only for the other direction than all others that have
+it, two at least. A stop aspect has a packet 12 with V_MAIN 0, not after a packet 136. It is named if it has no packet
+137 and four of five stop aspects of the table, five at least, have one with "stop". It is also named if only it, of
+three or more in its group, has no packet 132, and a stop aspect of its name has one elsewhere. Aspects with a refused
+telegram do not count. Their group is looked at only for packet 137 (SUBSET-026, 3.8).
 
 How urgent. At worst wrong information.
 

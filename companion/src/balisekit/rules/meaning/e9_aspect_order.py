@@ -1,11 +1,11 @@
 """E9: aspects in the wrong order.
 
-What it says. Of two aspects one has the longer or an equal authority, although in most groups it has the shorter one.
-Most are at least three cases, and four of five in which a group has both aspects with a V_MAIN above 0. Equal
-authorities have the lowest urgency, and are not named if both aspects say the same in that direction. The rule also
-names an aspect with V_MAIN 0 if this name has a V_MAIN above 0 in at least three cases and four of five. It names the
-reverse too. Aspects with a refused telegram do not count. `--tolerance` and the rounding of lengths are allowed
-(SUBSET-026, 3.8).
+What it says. Of two proceed aspects with different packets one has the longer or an equal authority, although in at
+least four of five cases it has the shorter one. Proceed aspects have a V_MAIN above 0. A case is a group with both
+aspects in one direction. Equal authorities have the lowest urgency, and are not named if both aspects say the same in
+that direction. The rule also names an aspect with V_MAIN 0 if this name has a V_MAIN above 0 in at least three cases
+and four of five. It names the reverse too. Aspects with a refused telegram do not count. `--tolerance` and the rounding
+of lengths are allowed (SUBSET-026, 3.8).
 
 How urgent. At worst wrong information.
 

@@ -1,12 +1,12 @@
 """X3: end of authority at no signal of the plan.
 
-What it says. A movement authority ends at no signal of the plan for trains of its way. The line names the plan's
-nearest signal and its distance. Authorities are packets 12 with V_MAIN above 0 and packets 15, if they have a length;
-each ends at the end of its end section. Allowed are `--tolerance` (0 without it), one unit of Q_SCALE, half a unit for
-each further section, and one unit of the last decimal of the kilometres. A track with a signal in the plan for one way
-needs all signals of that way at which authorities end. Beyond a `point` of the plan nothing is compared, unless a
-packet 5 of the same message names a group of the track at or beyond that point, and none of another track before it
-(SUBSET-026, 7.4.2 and 7.5.1).
+What it says. A movement authority lets trains run to no signal of the plan for their way, although the track has some.
+The line names the plan's nearest signal and its distance. Authorities are packets 12 with V_MAIN above 0 and packets
+15, if they have a length; each ends at the end of its end section. Allowed are `--tolerance` (0 without it), one unit
+of Q_SCALE, half a unit for each further section, and one unit of the last decimal of the kilometres. A track with a
+signal in the plan for one way needs all signals of that way at which authorities end. Beyond a `point` of the plan
+nothing is compared, unless a packet 5 of the same message names a group of the track at or beyond that point, and none
+of another track before it (SUBSET-026, 7.4.2 and 7.5.1).
 
 How urgent. At worst wrong information.
 
