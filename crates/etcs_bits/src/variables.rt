@@ -8,6 +8,7 @@ pub(crate) mod level;
 pub(crate) mod medium;
 pub(crate) mod plain;
 pub(crate) mod ranged;
+pub(crate) mod read_named;
 pub(crate) mod scale;
 pub(crate) mod train3;
 pub(crate) mod transmission;

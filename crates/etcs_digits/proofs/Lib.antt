@@ -1,3 +1,4 @@
+pub mod DigitLemmas
 mod HexadecimalLemmas
 mod BlockLemmas
 mod DecimalLemmas

@@ -1,9 +1,10 @@
 //! Decodes hexadecimal text: 32 digits at a time, and the last ones by two tables. Any other text goes to
 //! `hex`, which reports the error.
 
-ghost use Rattle.std.specs.Prelude.{ℕ, ◌≡◌, ◌+◌, ◌*◌, ◌<◌, ◌≤◌, true, false, length, get_or, map, ◌%◌, ◌⊎◌, IsTrue, IfOk, IfErr, Ok, MatchResult};
+ghost use Rattle.std.specs.Prelude.{ℕ, ◌≡◌, ◌↔◌, ◌+◌, ◌*◌, ◌<◌, ◌≤◌, true, false, length, get_or, map, ◌%◌, ◌⊎◌, IsTrue, IfOk, IfErr, Ok, MatchResult};
 ghost use Rattle.std.specs.Option.{unwrap_or};
-ghost use Rattle.hex.specs.Hex.{decode_of, decode_pairs, decode_sized, hex_digit_value, pair_value};
+ghost use Rattle.hex.specs.Hex.{decode_of, decode_pairs, decode_sized, hex_digit_value, is_hex_digit, pair_value};
+ghost use Rattle.etcs_digits.specs.Hexadecimal.{IsHexadecimal};
 ghost use Rattle.hex.specs.declared.error.FromHexError.TheVariants.{OddLength, OutOfMemory};
 
 use hex::FromHexError;
@@ -13,26 +14,19 @@ use std::simd::prelude::*;
 // The value of each byte as a hexadecimal digit times `unit`, or 256 if it is no digit.
 macro_rules! table {
     ($unit:literal) => {
+        table!($unit: 256 256 256 256 256 256 256 256 256 256 256 256 256 256 256 256)
+    };
+    ($unit:literal: $($none:literal)*) => {
         [
-            256, 256, 256, 256, 256, 256, 256, 256, 256, 256, 256, 256, 256, 256, 256, 256,
-            256, 256, 256, 256, 256, 256, 256, 256, 256, 256, 256, 256, 256, 256, 256, 256,
-            256, 256, 256, 256, 256, 256, 256, 256, 256, 256, 256, 256, 256, 256, 256, 256,
+            $($none, $none, $none,)*
             0, $unit, 2 * $unit, 3 * $unit, 4 * $unit, 5 * $unit, 6 * $unit, 7 * $unit,
             8 * $unit, 9 * $unit, 256, 256, 256, 256, 256, 256,
             256, 10 * $unit, 11 * $unit, 12 * $unit, 13 * $unit, 14 * $unit, 15 * $unit, 256,
             256, 256, 256, 256, 256, 256, 256, 256,
-            256, 256, 256, 256, 256, 256, 256, 256, 256, 256, 256, 256, 256, 256, 256, 256,
+            $($none,)*
             256, 10 * $unit, 11 * $unit, 12 * $unit, 13 * $unit, 14 * $unit, 15 * $unit, 256,
             256, 256, 256, 256, 256, 256, 256, 256,
-            256, 256, 256, 256, 256, 256, 256, 256, 256, 256, 256, 256, 256, 256, 256, 256,
-            256, 256, 256, 256, 256, 256, 256, 256, 256, 256, 256, 256, 256, 256, 256, 256,
-            256, 256, 256, 256, 256, 256, 256, 256, 256, 256, 256, 256, 256, 256, 256, 256,
-            256, 256, 256, 256, 256, 256, 256, 256, 256, 256, 256, 256, 256, 256, 256, 256,
-            256, 256, 256, 256, 256, 256, 256, 256, 256, 256, 256, 256, 256, 256, 256, 256,
-            256, 256, 256, 256, 256, 256, 256, 256, 256, 256, 256, 256, 256, 256, 256, 256,
-            256, 256, 256, 256, 256, 256, 256, 256, 256, 256, 256, 256, 256, 256, 256, 256,
-            256, 256, 256, 256, 256, 256, 256, 256, 256, 256, 256, 256, 256, 256, 256, 256,
-            256, 256, 256, 256, 256, 256, 256, 256, 256, 256, 256, 256, 256, 256, 256, 256,
+            $($none, $none, $none, $none, $none, $none, $none, $none, $none,)*
         ]
     };
 }
@@ -96,6 +90,20 @@ fn decode_quickly(text: &[u8], out: &mut [u8]) -> bool
         out[i] = (byte % 256) as u8;
     }
     seen < 256
+}
+
+// Whether a byte is a hexadecimal digit, of either case.
+fn is_digit(byte: u8) -> bool
+    ensures { result ≡ is_hex_digit byte }
+{
+    matches!(byte, b'0'..=b'9' | b'A'..=b'F' | b'a'..=b'f')
+}
+
+/// Whether the text is an even number of hexadecimal digits, of either case.
+pub fn is_hexadecimal(text: &[u8]) -> bool
+    ensures { IsTrue result ↔ IsHexadecimal text.now }
+{
+    text.len() % 2 == 0 && text.iter().all(|&byte| is_digit(byte))
 }
 
 /// Writes the bytes that pairs of hexadecimal digits spell, in upper or lower case, the high four bits

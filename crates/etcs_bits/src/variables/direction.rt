@@ -2,6 +2,7 @@
 
 ghost use Rattle.std.specs.Prelude.{◌≡◌, ◌↔◌, IsTrue, IsSome, IfSome};
 
+use crate::variables::read_named::read_named;
 use crate::{Bits, Cursor, DecodeError, FaultKind, Layout, Memory, Same, refused};
 use std::alloc::Global;
 
@@ -64,12 +65,7 @@ impl Layout for Dir {
 
     #[inline(always)]
     fn scan(_alloc: Global, cur: &mut Cursor<'_>) -> Result<Self, DecodeError> {
-        let at = cur.at();
-        let n = cur.take(2)?;
-        match Dir::new(n as u32) {
-            Some(dir) => Ok(dir),
-            None => Err(refused(at, cur, FaultKind::Spare)),
-        }
+        read_named!(cur, 2, Dir, Spare)
     }
 }
 

@@ -2,6 +2,7 @@
 
 ghost use Rattle.std.specs.Prelude.{◌≡◌, ◌↔◌, IsTrue, IsSome, IfSome};
 
+use crate::variables::read_named::read_named;
 use crate::{Bits, Cursor, DecodeError, FaultKind, Layout, Memory, Same, refused};
 use std::alloc::Global;
 
@@ -64,12 +65,7 @@ impl Layout for Scale {
 
     #[inline(always)]
     fn scan(_alloc: Global, cur: &mut Cursor<'_>) -> Result<Self, DecodeError> {
-        let at = cur.at();
-        let n = cur.take(2)?;
-        match Scale::new(n as u32) {
-            Some(scale) => Ok(scale),
-            None => Err(refused(at, cur, FaultKind::Spare)),
-        }
+        read_named!(cur, 2, Scale, Spare)
     }
 }
 

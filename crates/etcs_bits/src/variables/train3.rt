@@ -2,6 +2,7 @@
 
 ghost use Rattle.std.specs.Prelude.{◌≡◌, ◌↔◌, IsTrue, IsSome, IfSome};
 
+use crate::variables::read_named::read_named;
 use crate::{Bits, Cursor, DecodeError, FaultKind, Layout, Memory, Same, refused};
 use std::alloc::Global;
 
@@ -65,12 +66,7 @@ impl Layout for Train3 {
 
     #[inline(always)]
     fn scan(_alloc: Global, cur: &mut Cursor<'_>) -> Result<Self, DecodeError> {
-        let at = cur.at();
-        let n = cur.take(2)?;
-        match Train3::new(n as u32) {
-            Some(side) => Ok(side),
-            None => Err(refused(at, cur, FaultKind::Spare)),
-        }
+        read_named!(cur, 2, Train3, Spare)
     }
 }
 

@@ -2,6 +2,7 @@
 
 ghost use Rattle.std.specs.Prelude.{◌≡◌, ◌↔◌, IsTrue, IsSome, IfSome};
 
+use crate::variables::read_named::read_named;
 use crate::{Bits, Cursor, DecodeError, FaultKind, Layout, Memory, Same, refused};
 use std::alloc::Global;
 
@@ -58,12 +59,7 @@ impl Layout for Transmission {
 
     #[inline(always)]
     fn scan(_alloc: Global, cur: &mut Cursor<'_>) -> Result<Self, DecodeError> {
-        let at = cur.at();
-        let n = cur.take(1)?;
-        match Transmission::new(n as u32) {
-            Some(transmission) => Ok(transmission),
-            None => Err(refused(at, cur, FaultKind::Downlink)),
-        }
+        read_named!(cur, 1, Transmission, Downlink)
     }
 }
 

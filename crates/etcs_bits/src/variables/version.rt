@@ -2,6 +2,7 @@
 
 ghost use Rattle.std.specs.Prelude.{◌≡◌, ◌↔◌, IsTrue, IsSome, IfSome};
 
+use crate::variables::read_named::read_named;
 use crate::{Bits, Cursor, DecodeError, FaultKind, Layout, Memory, Same, refused};
 use std::alloc::Global;
 
@@ -61,12 +62,7 @@ impl Layout for Version {
 
     #[inline(always)]
     fn scan(_alloc: Global, cur: &mut Cursor<'_>) -> Result<Self, DecodeError> {
-        let at = cur.at();
-        let n = cur.take(7)?;
-        match Version::new(n as u32) {
-            Some(version) => Ok(version),
-            None => Err(refused(at, cur, FaultKind::Version)),
-        }
+        read_named!(cur, 7, Version, Version)
     }
 }
 
