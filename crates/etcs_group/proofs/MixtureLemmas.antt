@@ -365,9 +365,6 @@ one_more_shown shown i bits some before p = elim (cases_eq p i) [
 
 -- ---- what is read so far, and what the remaining places show
 
-pub mixed-is : (run : Run) (aspects : List (List Telegram)) (shown : ℕ → Option ℕ) → mixture_reading run aspects shown ≡ in_passing_order run (mixed_from aspects shown 0 (balise_count aspects))
-mixed-is run aspects shown = ap (in_passing_order run) (mixed-from aspects shown 0 (balise_count aspects))
-
 module _ (aspects : List (List Telegram)) (shown : ℕ → Option ℕ) (i n : ℕ) (lt : i < n) where
   mixed_step : mixed_from aspects shown i (n - i) ≡ cons_option (shown_telegram aspects shown i) (mixed_from aspects shown (i + 1) (n - (i + 1)))
   mixed_step =

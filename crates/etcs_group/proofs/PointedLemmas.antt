@@ -1,5 +1,5 @@
 -- Lists of references, as the values that they refer to.
-use Rattle.std.proofs.Common.{◌≡◌, ℕ, ◌<◌, ◌≤◌, Bool, true, false, ◌||◌, List, [], ◌∷◌, ◌++◌, map, reverse, length, take, get_or, Some, option_map, refl, sym, ap, ◌∙◌}
+use Rattle.std.proofs.Common.{◌≡◌, ℕ, ◌-◌, ◌<◌, ◌≤◌, Bool, true, false, ◌||◌, List, [], ◌∷◌, ◌++◌, map, reverse, length, take, get_or, Option, Some, None, option_map, refl, sym, ap, ◌∙◌, arith}
 use Rattle.std.specs.List.{list_any}
 use Rattle.std.proofs.lemmas.List.{reverse-append, map-append, length-map, take-map, take_all}
 use Rattle.std.proofs.lemmas.List.Folds.{list_any_at}
@@ -21,6 +21,14 @@ reverse-pointed xs = reverse-map (λ r. r.now) xs
 pub length-pointed : {X : Type 0} (xs : List (Bor X)) → length (pointed xs) ≡ length xs
 length-pointed xs = length-map xs (λ r. r.now)
 
+-- a range over the places
+pub count-pointed : {X : Type 0} (xs : List (Bor X)) → length xs - 0 ≡ length (pointed xs)
+count-pointed xs = let e = length-pointed xs in omega arith
+
+pub itself : (o : Option ℕ) → o ≡ option_map (λ n. n) o
+itself None = refl
+itself (Some n) = refl
+
 pub take-pointed : {X : Type 0} (n : ℕ) (xs : List (Bor X)) → take n (pointed xs) ≡ pointed (take n xs)
 take-pointed n xs = take-map (λ r. r.now) n xs
 
@@ -29,7 +37,7 @@ at-pointed xs i x lt is = slice_get-map (λ r. r.now) xs i ∙ ap (option_map (�
 
 -- ---- tests
 
-list_any-pointed : {X : Type 0} (p : X → Bool) (xs : List (Bor X)) → list_any p (pointed xs) ≡ list_any (λ r. p r.now) xs
+pub list_any-pointed : {X : Type 0} (p : X → Bool) (xs : List (Bor X)) → list_any p (pointed xs) ≡ list_any (λ r. p r.now) xs
 list_any-pointed p [] = refl
 list_any-pointed p (x ∷ xs) = ap (λ b. p x.now || b) (list_any-pointed p xs)
 

@@ -1,5 +1,5 @@
 -- Steps of the calls that read a group and put a message together.
-use Rattle.std.proofs.Common.{◌≡◌, ◌≢◌, ℕ, zero, suc, ◌+◌, ◌-◌, ◌<◌, Bool, true, false, not, cond, ◌&&◌, ◌||◌, eqb, ltb, List, [], ◌∷◌, ◌++◌, length, take, drop, filter, Some, None, Result, Ok, Err, OnErr, refl, sym, ap, ◌∙◌, arith}
+use Rattle.std.proofs.Common.{◌≡◌, ◌≢◌, ℕ, zero, suc, ◌+◌, ◌-◌, ◌<◌, Bool, true, false, not, cond, ◌&&◌, ◌||◌, eqb, ltb, List, [], ◌∷◌, ◌++◌, take, drop, filter, Result, Ok, Err, OnErr, refl, sym, ap, ◌∙◌, arith}
 use Rattle.std.specs.List.{list_any, flat_map, enumerate_from}
 use Rattle.std.proofs.lemmas.Option.{none-some, same_Some, slice_get_within, get_or_from_slice_get}
 use Rattle.std.proofs.lemmas.List.{drop_more, append_assoc}
@@ -7,12 +7,11 @@ use Rattle.std.proofs.lemmas.Bool.{lt-ltb, ne_eqb}
 use Rattle.etcs_profile.specs.declared.run.Run.{Run}
 use Rattle.etcs_profile.specs.declared.track.TrackPacket.{TrackPacket}
 use Rattle.etcs_telegram.specs.Record.{Telegram}
-use Rattle.etcs_group.specs.declared.refused.Refused.TheVariants as reasons
-use Rattle.etcs_group.specs.Places.{At, element_passes, least}
-use Rattle.etcs_group.specs.Assembly.{are_in_order, names, header_disagrees, is_misplaced, is_absent, is_miscounted, position_count, first_refusal}
+use Rattle.etcs_group.specs.Places.{At, element_passes}
+use Rattle.etcs_group.specs.Assembly.{are_in_order, names, is_misplaced, is_miscounted}
 use Rattle.etcs_group.specs.Packets.{held_packets, given_packets}
 use Rattle.etcs_group.proofs.PlaceLemmas.{element_passes-at}
-use Rattle.etcs_group.proofs.RefusalLemmas.{refusal-some, misplaces, miscounts}
+use Rattle.etcs_group.proofs.RefusalLemmas.{misplaces, miscounts}
 
 -- a fact that holds anyway holds of an error
 pub on_err : {A E : Type 0} (r : Result A E) (P : Type 0) → P → OnErr r P
@@ -20,19 +19,6 @@ on_err (Ok x) P p = tt
 on_err (Err e) P p = p
 
 -- ---- refusals
-
-module _ (run : Run) (s : List Telegram) (long : 0 < length s) (same : None ≡ least (length s) (header_disagrees s)) where
-  pub refusal-order : (i : ℕ) → Some i ≡ least (length s) (is_misplaced run s) → Some (reasons.Order i) ≡ first_refusal run s
-  refusal-order i b = sym (refusal-some run s long ∙ rw (← same, ← b) refl)
-
-  pub refusal-missing : (p : ℕ) → None ≡ least (length s) (is_misplaced run s) → Some p ≡ least (position_count s) (is_absent s) → Some (reasons.Absent p) ≡ first_refusal run s
-  refusal-missing p b c = sym (refusal-some run s long ∙ rw (← same, ← b, ← c) refl)
-
-  pub refusal-counter : (i : ℕ) → None ≡ least (length s) (is_misplaced run s) → None ≡ least (position_count s) (is_absent s) → Some i ≡ least (length s) (is_miscounted s) → Some (reasons.Counter i) ≡ first_refusal run s
-  refusal-counter i b c e = sym (refusal-some run s long ∙ rw (← same, ← b, ← c, ← e) refl)
-
-  pub refusal-not : None ≡ least (length s) (is_misplaced run s) → None ≡ least (position_count s) (is_absent s) → None ≡ least (length s) (is_miscounted s) → None ≡ first_refusal run s
-  refusal-not b c e = sym (refusal-some run s long ∙ rw (← same, ← b, ← c, ← e) refl)
 
 -- a telegram whose position is not above its total is misplaced if and only if it does not come after
 -- the one before

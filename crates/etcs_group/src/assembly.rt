@@ -19,12 +19,9 @@ use std::alloc::Global;
 fn is_named_before(earlier: &[&Telegram], telegram: &Telegram) -> bool
     ensures { result ≡ list_any (λ u. names telegram.now u.header.position) (pointed earlier.now) }
 {
-    'earlier: for passed in earlier {
-        if names(telegram, position(passed)) {
-            return true;
-        }
-    }
-    false
+    earlier
+        .iter()
+        .any(|passed| names(telegram, position(passed)))
 }
 
 // Appends the telegram's packets that hold in the running direction.

@@ -4,6 +4,7 @@
 ghost use Rattle.etcs_group.specs.Laws.{AcceptedOrRefused, MixturesAreDecided, ReadingsAreDecided, ReadingsSayTheSame};
 
 /// A list of telegrams is accepted if and only if there is no reason to refuse it.
+#[tactic(auto, using(crate::proofs::RefusalLemmas::accepted_or_refused))]
 pub fn accepted_or_refused()
     ensures { AcceptedOrRefused }
 {}
@@ -17,6 +18,7 @@ pub fn readings_are_decided()
 
 /// The message of a well-formed group is the message of the reading with nothing missed. If the two balises
 /// of each pair have the same packets for the running direction, it is the message of each covered reading.
+#[tactic(auto, using(crate::proofs::BlockLemmas::readings_say_the_same))]
 pub fn readings_say_the_same()
     ensures { ReadingsSayTheSame }
 {}

@@ -30,12 +30,7 @@ fn header_disagrees(read: &[&Telegram], place: usize) -> bool
 fn first_disagreement(read: &[&Telegram]) -> Option<usize>
     ensures { result ≡ least (length (pointed read.now)) (header_disagrees (pointed read.now)) }
 {
-    'places: for place in 0..read.len() {
-        if header_disagrees(read, place) {
-            return Some(place);
-        }
-    }
-    None
+    (0..read.len()).find(|place| header_disagrees(read, *place))
 }
 
 fn is_misplaced(run: Run, read: &[&Telegram], place: usize) -> bool
@@ -53,24 +48,14 @@ fn is_misplaced(run: Run, read: &[&Telegram], place: usize) -> bool
 fn first_misplaced(run: Run, read: &[&Telegram]) -> Option<usize>
     ensures { result ≡ least (length (pointed read.now)) (is_misplaced run (pointed read.now)) }
 {
-    'places: for place in 0..read.len() {
-        if is_misplaced(run, read, place) {
-            return Some(place);
-        }
-    }
-    None
+    (0..read.len()).find(|place| is_misplaced(run, read, *place))
 }
 
 fn is_absent(read: &[&Telegram], wanted: u32) -> bool
     requires { wanted < 8 }
     ensures { result ≡ is_absent (pointed read.now) wanted }
 {
-    'telegrams: for telegram in read {
-        if stands_for(telegram, wanted) {
-            return false;
-        }
-    }
-    true
+    !read.iter().any(|telegram| stands_for(telegram, wanted))
 }
 
 // The least position, up to the total at index 0, that no telegram has or names.
@@ -108,12 +93,7 @@ fn is_miscounted(read: &[&Telegram], place: usize) -> bool
 fn first_miscounted(read: &[&Telegram]) -> Option<usize>
     ensures { result ≡ least (length (pointed read.now)) (is_miscounted (pointed read.now)) }
 {
-    'places: for place in 0..read.len() {
-        if is_miscounted(read, place) {
-            return Some(place);
-        }
-    }
-    None
+    (0..read.len()).find(|place| is_miscounted(read, *place))
 }
 
 // The first reason to refuse the telegrams, if there is one. The order of the reasons keeps this linear:

@@ -1,14 +1,9 @@
-use Rattle.std.proofs.Common.{sym, ap, ◌∙◌}
+use Rattle.std.proofs.Common.{rules, tests, sym, ◌∙◌}
+use Rattle.std.proofs.lemmas.Iterator.{YieldsList-from_slice}
+use Rattle.std.proofs.lemmas.Iterator.Search.{any_from_yields_List}
 use Rattle.etcs_group.specs.Assembly.{names}
-use Rattle.etcs_group.proofs.PointedLemmas.{list_any-found, list_any-not_found}
+use Rattle.etcs_group.proofs.PointedLemmas.{list_any-pointed}
 use Rattle.etcs_group.proofs.assembly.is_named_before.Goals as goal
 
--- One telegram settles it.
-pub returns-then-names : goal.returns-then-names
-returns-then-names c =
-    sym (list_any-found (λ u. names c.args.telegram.now u.header.position) c.args.earlier.now c.earlier.passed-index c.passed-item.result c.earlier-test.true c.passed-item.is
-    (ap (names c.args.telegram.now) (sym c.position.ensures.value) ∙ sym c.if-names.ensures))
-
--- None of them does.
 pub returns : goal.returns
-returns c = sym (list_any-not_found (λ u. names c.args.telegram.now u.header.position) c.args.earlier.now c.earlier.passed-index c.earlier-test.false c.earlier.invariant)
+returns c = any_from_yields_List (λ r. names c.args.telegram.now r.now.header.position) _ _ _ c.any.ensures.ran (YieldsList-from_slice c.args.earlier.now cc) (λ x b q k. search (rules, tests)) ∙ sym (list_any-pointed _ c.args.earlier.now)

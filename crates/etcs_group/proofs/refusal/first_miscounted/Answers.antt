@@ -1,18 +1,10 @@
-use Rattle.std.proofs.Common.{length, sym, arith}
+use Rattle.std.proofs.Common.{rules, tests, length, refl, ◌∙◌}
+use Rattle.std.proofs.lemmas.Iterator.{YieldsList-from_range}
+use Rattle.std.proofs.lemmas.Iterator.Search.{find_from_yields_List}
 use Rattle.etcs_group.specs.Assembly.{is_miscounted}
 use Rattle.etcs_group.specs.Places.{pointed}
-use Rattle.etcs_group.proofs.PlaceLemmas.{least-at, least-none}
-use Rattle.etcs_group.proofs.PointedLemmas.{length-pointed}
+use Rattle.etcs_group.proofs.PointedLemmas.{count-pointed, itself}
 use Rattle.etcs_group.proofs.refusal.first_miscounted.Goals as goal
 
--- The places before this one have been looked at.
-pub returns-then-is_miscounted : goal.returns-then-is_miscounted
-returns-then-is_miscounted c =
-    let long = length-pointed c.args.read.now in
-    sym (least-at (length (pointed c.args.read.now)) c.places.place (is_miscounted (pointed c.args.read.now)) (omega arith) (sym c.if-is_miscounted.ensures) c.places.invariant)
-
--- All places have been looked at.
 pub returns : goal.returns
-returns c =
-    let long = length-pointed c.args.read.now in
-    sym (least-none (length (pointed c.args.read.now)) (is_miscounted (pointed c.args.read.now)) (λ k lt. c.places.invariant k (omega arith)))
+returns c = itself _ ∙ find_from_yields_List (is_miscounted (pointed c.args.read.now)) _ _ c.find.result c.find.ensures.ran (YieldsList-from_range 0 (length c.args.read.now) (length (pointed c.args.read.now)) refl (count-pointed c.args.read.now)) (λ x b q k. search (rules, tests))
