@@ -11,6 +11,7 @@ pub mod Found
 pub mod RowLemmas
 pub mod Values
 pub mod Combined
+pub mod Growth
 pub mod Laid
 pub mod CombinedLemmas
 pub mod LaidLemmas

@@ -9,7 +9,7 @@ pub(crate) mod pair;
 pub(crate) mod same;
 
 ghost use Rattle.std.specs.Prelude.{◌≡◌, ◌↔◌, ◌++◌, min, IsTrue, IfOk, OnOk, OnErr};
-ghost use Rattle.etcs_bits.specs.layout.Rows.{AreAllowed, join, width, IsSpelled};
+ghost use Rattle.etcs_bits.specs.layout.Rows.{AreAllowed, Place, join, width, IsSpelled};
 ghost use Rattle.etcs_bits.specs.layout.Fault.{IsFault, NoneBegins};
 ghost use Rattle.etcs_bits.specs.layout.Reading.{rows_at};
 ghost use Rattle.etcs_bits.specs.layout.Format.{Format};
@@ -35,8 +35,9 @@ pub trait Layout: Drop {
     /// holds if the record's types keep the numbers in range.
     ghost fit: { Self → Type 0 } = { λ _. Unit {0} };
 
-    /// Whether reading a record may ask for memory: only if it holds a list or bits of its own.
-    ghost grows: { Type 0 } = { ⊥ };
+    /// Whether reading a record at a place may ask for memory: only if it comes there to a list that is
+    /// not empty, or to bits that it copies.
+    ghost grows: { Place → Type 0 } = { λ _. ⊥ };
 
     /// Whether the number of each variable fits in its bits and is allowed. Takes no memory.
     fn is_allowed(&self) -> bool
@@ -57,7 +58,7 @@ pub trait Layout: Drop {
     /// `read`.
     fn scan(alloc: Global, cur: &mut Cursor<'_>) -> Result<Self, DecodeError>
         ensures gives { Gives format.rows result (rows_at format.fields cur.old) cur.new }
-        ensures memory { IfMemory result grows };
+        ensures memory { IfMemory result (grows cur.old) };
 
     /// Appends the spelling of a record that is allowed. If memory runs out, nothing is appended.
     final fn write(&self, out: &mut Bits) -> Result<(), Memory>
@@ -85,8 +86,8 @@ pub trait Layout: Drop {
         ensures none { IfFault result (λ f. NoneBegins format.rows cur.old f) }
         ensures err { OnErr result (cur.new ≡ cur.old) }
 
-        // Reading a record that does not grow never answers that memory ran out.
-        ensures memory { IfMemory result grows }
+        // Where the record does not grow, the answer is never that memory ran out.
+        ensures memory { IfMemory result (grows cur.old) }
     {
         let mut ahead = cur.fork();
         let value = Self::scan(alloc, &mut ahead)?;

@@ -115,6 +115,7 @@ impl<T: Layout> Layout for Items<T> {
     ghost use Rattle.std.specs.Prelude.{◌≡◌, ◌≢◌, ◌+◌, ◌<◌, length, Ok, Err, IfOk};
     ghost use Rattle.etcs_bits.specs.layout.Fault.{short};
     ghost use Rattle.etcs_bits.specs.layout.Fields.{counted};
+    ghost use Rattle.etcs_bits.specs.layout.Growth.{HasItems};
     ghost use Rattle.etcs_bits.specs.layout.Reading.{forward, rows_at, taken};
     ghost use Rattle.etcs_bits.specs.layout.Results.{Gives, IfMemory};
     ghost use Rattle.etcs_bits.specs.layout.Combined.{n_iter, counted_rows};
@@ -124,7 +125,7 @@ impl<T: Layout> Layout for Items<T> {
 
     ghost fit = { λ l. (length l ≤ 31) × AllByRecursion T.fit l };
 
-    ghost grows = { Unit {0} };
+    ghost grows = { HasItems };
 
     fn is_allowed(&self) -> bool {
         self.items.len() < 32 && are_allowed(self.items.as_slice())
@@ -150,7 +151,7 @@ impl<T: Layout> Layout for Items<T> {
         // Memory is asked for only after the count, and not if the count is 0.
         ensures short { length cur.old.bits < cur.old.at + 5
             → result ≡ Err (DecodeError.Fault (short cur.old)) }
-        ensures memory { IfMemory result (taken 5 cur.old ≢ Ok (0, forward cur.old 5)) }
+        ensures memory { IfMemory result (HasItems cur.old) }
     {
         let count = cur.take(5)?;
         let items = scan_items(alloc, count, cur)?;
