@@ -6,7 +6,7 @@
 - code: the lines of src/ that are not empty, no comment, no import and no attribute, and that begin neither ghost code
   nor a clause of a contract or of a loop. The other lines of a long clause count.
 - proofs: the lines of proofs/, also empty ones and comments.
-- definitions: in specs/, as tests/trusted finds them; after it those whose names end in a preposition, as `reading_of`.
+- definitions: in specs/, as tests/trusted finds them; after it those whose names end in a preposition, as `group_reading`.
 
 It is no step of tests/all or of the gate: it judges nothing.
 """

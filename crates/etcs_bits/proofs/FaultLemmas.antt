@@ -8,11 +8,11 @@ use Rattle.etcs_bits.specs.bits.Number.{num}
 use Rattle.etcs_bits.specs.layout.Rows.{Variable, Row, Place, Stands, IsSpelled, AreAllowed, join, width}
 use Rattle.etcs_bits.specs.layout.Fields.{Fields, nothing, field, ◌▹◌, sized, l_packet, AreRowsOf, Due, due, differs, IsOpen}
 use Rattle.etcs_bits.specs.layout.Fault.{lack, IsDueFault, IsFault}
-use Rattle.etcs_bits.specs.layout.Reading.{forward, field_at, rows_at}
+use Rattle.etcs_bits.specs.layout.Reading.{forward, read_field, read_rows}
 use Rattle.etcs_bits.proofs.NumberLemmas.{length-num}
 use Rattle.etcs_bits.proofs.BindLemmas.{ok_is, err_is}
 use Rattle.etcs_bits.proofs.StandLemmas.{place_in, join-append, length-join, same_position, stands_parts, stands_within, stands_moved}
-use Rattle.etcs_bits.specs.layout.RowLemmas.{allowed_first, allowed_second}
+use Rattle.etcs_bits.specs.lemmas.RowLemmas.{allowed_first, allowed_second}
 use Rattle.etcs_bits.proofs.ReadingLemmas.{taken_again, closed_again, closed_lacks, field_again, spelled_is_read}
 
 abbrev given : List Row → Place → Result (List Row × Place) Fault
@@ -24,11 +24,11 @@ failing f = Err f
 abbrev short_of : ℕ → ℕ → Fault
 short_of at len = record { at = at; end = len; why = Short }
 
-pub field_fault_is_given : (x : Variable) (p : Place) (f : Fault) → p.at ≤ length p.bits → IsDueFault (due x) p f → field_at x p ≡ Err f
+pub field_fault_is_given : (x : Variable) (p : Place) (f : Fault) → p.at ≤ length p.bits → IsDueFault (due x) p f → read_field x p ≡ Err f
 field_fault_is_given x p f within (inl (lt, e)) = rw (closed_lacks x.closes x.width p lt, e) refl
 field_fault_is_given x p f within (inr (n, after, stands, small, spare, e)) = rw (closed_again x.closes x.width p (n, after) (taken_again x.width n p after small within stands), spare, e) refl
 
-open_fault_is_given : (fields : Fields) (rows : List Row) (d : Due) (p q : Place) (f : Fault) → p.at ≤ length p.bits → IsOpen fields rows d → IsSpelled rows p q → IsDueFault d q f → rows_at fields p ≡ Err f
+open_fault_is_given : (fields : Fields) (rows : List Row) (d : Due) (p q : Place) (f : Fault) → p.at ≤ length p.bits → IsOpen fields rows d → IsSpelled rows p q → IsDueFault d q f → read_rows fields p ≡ Err f
 open_fault_is_given nothing rows d p q f within o spelled due_fault = absurd o
 open_fault_is_given (field v next) rows d p q f within (inl (none, is_due)) spelled due_fault =
     let here = subst (λ (rs : List Row). IsSpelled rs p q) none spelled in
@@ -75,7 +75,7 @@ open_fault_is_given (sized before body) rows d p q f within (inr (l, more, e, in
     rw (field_again l_packet l p middle here.allowed.0.0 here.allowed.0.1 within parts.0, second, test, due_fault_here, back) refl
 
 -- The fault of an open list is the one that reading gives: no two lists have different faults.
-pub fault_is_given : (fields : Fields) (p : Place) (f : Fault) → p.at ≤ length p.bits → IsFault fields p f → rows_at fields p ≡ Err f
+pub fault_is_given : (fields : Fields) (p : Place) (f : Fault) → p.at ≤ length p.bits → IsFault fields p f → read_rows fields p ≡ Err f
 fault_is_given fields p f within t = open_fault_is_given fields t.rows t.next p t.reached f within t.is_open t.spelled t.due_fault
 
 lack_end : (b : Bool) (p : Place) → p.at ≤ length p.bits → p.at ≤ (lack b p).end

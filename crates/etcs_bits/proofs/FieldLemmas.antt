@@ -7,14 +7,14 @@ use Rattle.etcs_bits.specs.bits.Number.{num}
 use Rattle.etcs_bits.specs.layout.Rows.{Variable, Place, Stands, IsSpelled, alone}
 use Rattle.etcs_bits.specs.layout.Fields.{due}
 use Rattle.etcs_bits.specs.layout.Fault.{IsDueFault}
-use Rattle.etcs_bits.specs.layout.Reading.{◌>>=◌, taken, field_at}
+use Rattle.etcs_bits.specs.layout.Reading.{◌>>=◌, taken, read_field}
 use Rattle.etcs_bits.specs.variables.Variables.{free}
 use Rattle.etcs_bits.proofs.ReadingLemmas.{field_ok, field_again, field_err}
 use Rattle.etcs_bits.proofs.FaultLemmas.{field_fault_is_given}
 
 -- a number is read exactly if it is spelled there
 pub field_is_read : (x : Variable) (p q : Place) (n : ℕ) → p.at ≤ length p.bits
-    → IsSpelled (alone x n) p q ↔ (field_at x p ≡ Ok (n, q))
+    → IsSpelled (alone x n) p q ↔ (read_field x p ≡ Ok (n, q))
 unfolding alone
 field_is_read x p q n within =
     let Here : List Bool → Type 0 = λ bits. Stands bits p q in (
@@ -30,7 +30,7 @@ field_is_read x p q n within =
 
 -- a fault is read exactly if the field has it
 pub field_fault_is_read : (x : Variable) (p : Place) (f : Fault) → p.at ≤ length p.bits
-    → IsDueFault (due x) p f ↔ (field_at x p ≡ Err f)
+    → IsDueFault (due x) p f ↔ (read_field x p ≡ Err f)
 field_fault_is_read x p f within = (field_fault_is_given x p f within, field_err x p f within)
 
 -- a last step that changes nothing
@@ -39,5 +39,5 @@ same_after (Ok x) = refl
 same_after (Err f) = refl
 
 -- bits are taken as the number of a variable that allows every number
-pub taken_is_free : (w : ℕ) (p : Place) → taken w p ≡ field_at (free w) p
+pub taken_is_free : (w : ℕ) (p : Place) → taken w p ≡ read_field (free w) p
 taken_is_free w p = same_after (taken w p)

@@ -19,3 +19,4 @@ pub mod ValueLemmas
 pub mod FitLemmas
 pub mod SumLemmas
 pub mod KeptLemmas
+pub mod GrowthLemmas

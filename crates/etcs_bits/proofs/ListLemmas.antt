@@ -8,10 +8,10 @@ use Rattle.etcs_bits.specs.declared.layout.fault.DecodeError.{DecodeError}
 use Rattle.etcs_bits.specs.declared.layout.fault.DecodeError.TheVariants as errors
 use Rattle.etcs_bits.specs.layout.Rows.{Row, Place, AreAllowed, join, width}
 use Rattle.etcs_bits.specs.layout.Fields.{Fields, times}
-use Rattle.etcs_bits.specs.layout.Reading.{◌>>=◌, rows_at}
+use Rattle.etcs_bits.specs.layout.Reading.{◌>>=◌, read_rows}
 use Rattle.etcs_bits.specs.layout.Results.{Fails}
 use Rattle.etcs_bits.proofs.StandLemmas.{join-append}
-use Rattle.etcs_bits.specs.layout.RowLemmas.{allowed_first, allowed_second}
+use Rattle.etcs_bits.specs.lemmas.RowLemmas.{allowed_first, allowed_second}
 use Rattle.etcs_bits.proofs.WidthLemmas.{width_both}
 
 -- ---- the items up to one, that one, and those after it
@@ -76,26 +76,26 @@ regroup front rows (Err f) = refl
 -- one more item was read
 pub goes_on : {X : Type 0} (rows : X → List Row) (fields : Fields) (xs : List X) (x : X)
     (count i : ℕ) (p q : Place) (total : Result (List Row × Place) Fault)
-    → i < count → rows_at fields p ≡ Ok (rows x, q)
-    → with_front (flat_map rows xs) (rows_at (times (count - i) fields) p) ≡ total
-    → with_front (flat_map rows (xs ++ x ∷ [])) (rows_at (times (count - (i + 1)) fields) q) ≡ total
+    → i < count → read_rows fields p ≡ Ok (rows x, q)
+    → with_front (flat_map rows xs) (read_rows (times (count - i) fields) p) ≡ total
+    → with_front (flat_map rows (xs ++ x ∷ [])) (read_rows (times (count - (i + 1)) fields) q) ≡ total
 goes_on rows fields xs x count i p q total lt h so_far =
     let k : count - i ≡ suc (count - (i + 1)) = omega arith in
-    let rest = rows_at (times (count - (i + 1)) fields) q in
+    let rest = read_rows (times (count - (i + 1)) fields) q in
     let front : flat_map rows (xs ++ x ∷ []) ≡ flat_map rows xs ++ rows x =
     flat_map-append rows xs (x ∷ [])
     ∙ ap (λ ys. flat_map rows xs ++ ys) (append-nil (rows x)) in
-    let one : with_front (flat_map rows xs) (rows_at (times (count - i) fields) p)
+    let one : with_front (flat_map rows xs) (read_rows (times (count - i) fields) p)
     ≡ with_front (flat_map rows xs ++ rows x) rest =
     rw (k, h) (regroup (flat_map rows xs) (rows x) rest) in
     rw front (sym one ∙ so_far)
 
 -- the next item has a fault
 pub ends : (e : DecodeError) (front : List Row) (fields : Fields) (count i : ℕ) (p : Place)
-    (total : Result (List Row × Place) Fault) → i < count → Fails e (rows_at fields p)
-    → with_front front (rows_at (times (count - i) fields) p) ≡ total → Fails e total
+    (total : Result (List Row × Place) Fault) → i < count → Fails e (read_rows fields p)
+    → with_front front (read_rows (times (count - i) fields) p) ≡ total → Fails e total
 ends errors.Memory front fields count i p total lt h so_far = tt
 ends (errors.Fault f) front fields count i p total lt h so_far =
     let k : count - i ≡ suc (count - (i + 1)) = omega arith in
-    let one : with_front front (rows_at (times (count - i) fields) p) ≡ Err f = rw (k, h) refl in
+    let one : with_front front (read_rows (times (count - i) fields) p) ≡ Err f = rw (k, h) refl in
     sym so_far ∙ one

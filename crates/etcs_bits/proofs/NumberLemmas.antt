@@ -1,5 +1,5 @@
 -- Laws of the bits of numbers and of bytes, further ones.
-pub use Rattle.etcs_bits.specs.bits.NumberLemmas.{worth_of_digit, num_of_bits-cons, num_of_bits-lt, same_from_num, length-num, num_of_bits-num, num_of_bits-small, num-num_of_bits}
+pub use Rattle.etcs_bits.specs.lemmas.NumberLemmas.{worth_of_digit, num_of_bits-cons, num_of_bits-lt, same_from_num, length-num, num_of_bits-num, num_of_bits-small, num-num_of_bits}
 use Rattle.std.proofs.Common.{◌≡◌, ℕ, zero, suc, ◌+◌, ◌-◌, ◌*◌, ◌/◌, ◌%◌, ◌^◌, ◌<◌, ◌≤◌, Bool, List, [], ◌∷◌, ◌++◌, length, take, drop, refl, sym, ap, ap₂, ◌∙◌, arith, length-append, length-drop, append_assoc, mod-eq_of_lt}
 use Rattle.std.proofs.lemmas.Nat.{pow-add, field_of, shr_high, mod_low}
 use Rattle.std.proofs.lemmas.List.{take-append-drop, drop-drop, drop-take, take-take, drop_at, append-nil}

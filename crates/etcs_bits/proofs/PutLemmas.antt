@@ -5,7 +5,7 @@ use Rattle.std.proofs.lemmas.List.{length-append, take_at, take-take}
 use Rattle.etcs_bits.specs.layout.Rows.{Row, AreAllowed, join}
 use Rattle.etcs_bits.specs.layout.Results.{Puts}
 use Rattle.etcs_bits.proofs.StandLemmas.{join-append, allowed-append}
-use Rattle.etcs_bits.specs.layout.RowLemmas.{allowed_first, allowed_second}
+use Rattle.etcs_bits.specs.lemmas.RowLemmas.{allowed_first, allowed_second}
 
 -- bits put after other bits
 pub puts_bits : {X E : Type 0} (x y : List Bool) (r : Result X E) (old mid new : List Bool) → mid ≡ old ++ x → Puts y r mid new → Puts (x ++ y) r old new

@@ -8,11 +8,11 @@ use Rattle.etcs_bits.specs.bits.Number.{num, num_of_bits}
 use Rattle.etcs_bits.specs.layout.Rows.{Variable, Row, Place, Stands, IsSpelled, join, width}
 use Rattle.etcs_bits.specs.layout.Fields.{Fields, nothing, field, ◌▹◌, sized, l_packet, AreRowsOf, due, differs}
 use Rattle.etcs_bits.specs.layout.Fault.{short, lack, refused, IsDueFault, IsFault}
-use Rattle.etcs_bits.specs.layout.Reading.{◌>>=◌, forward, taken, taken_or_closed, field_at, rows_at}
+use Rattle.etcs_bits.specs.layout.Reading.{◌>>=◌, forward, taken, taken_or_closed, read_field, read_rows}
 use Rattle.etcs_bits.proofs.NumberLemmas.{length-num, num_of_bits-lt}
 use Rattle.etcs_bits.proofs.BindLemmas.{bind_ok, bind_err, pass_ok, pass_err, stop_ok, stop_err, ok_is, err_is, after_stop}
 use Rattle.etcs_bits.proofs.StandLemmas.{join-append, length-join, allowed-append, same_position, stands_nothing, stands_then, stands_parts, stands_within, number_stands, standing_number}
-use Rattle.etcs_bits.specs.layout.RowLemmas.{allowed_first, allowed_second}
+use Rattle.etcs_bits.specs.lemmas.RowLemmas.{allowed_first, allowed_second}
 
 -- ---- one field
 
@@ -67,14 +67,14 @@ pub record TookField (x : Variable) (p : Place) (n : ℕ) (q : Place) : Type 0 w
   pub took : Took x.width p n q
   pub allowed : x.allows n ≡ true
 
-pub field_ok : (x : Variable) (p : Place) (y : ℕ × Place) → field_at x p ≡ Ok y → TookField x p y.0 y.1
+pub field_ok : (x : Variable) (p : Place) (y : ℕ × Place) → read_field x p ≡ Ok y → TookField x p y.0 y.1
 field_ok x p y e =
     let b = bind_ok (taken_or_closed x.closes x.width p) (λ n. cond (x.allows n.0) (Ok n) (Err (refused x p))) y e in
     let g = pass_ok (x.allows b.0.0) (refused x p) b.0 y b.2 in
     let made : TookField x p b.0.0 b.0.1 = record { took = taken_ok x.width p b.0 (closed_ok x.closes x.width p b.0 b.1); allowed = g.0 } in
     subst (λ (z : ℕ × Place). TookField x p z.0 z.1) g.1 made
 
-pub field_again : (x : Variable) (n : ℕ) (p q : Place) → n < 2 ^ x.width → x.allows n ≡ true → p.at ≤ length p.bits → Stands (num x.width n) p q → field_at x p ≡ Ok (n, q)
+pub field_again : (x : Variable) (n : ℕ) (p q : Place) → n < 2 ^ x.width → x.allows n ≡ true → p.at ≤ length p.bits → Stands (num x.width n) p q → read_field x p ≡ Ok (n, q)
 field_again x n p q small allowed within s = rw (closed_again x.closes x.width p (n, q) (taken_again x.width n p q small within s), allowed) refl
 
 -- ---- rows
@@ -99,13 +99,13 @@ pub record IsRead (fields : Fields) (from : Place) (rows : List Row) (to : Place
   pub within : to.at ≤ length from.bits
 
 -- What is read is spelled there.
-pub read_is_spelled : (fields : Fields) (p : Place) (x : List Row × Place) → p.at ≤ length p.bits → rows_at fields p ≡ Ok x → IsRead fields p x.0 x.1
+pub read_is_spelled : (fields : Fields) (p : Place) (x : List Row × Place) → p.at ≤ length p.bits → read_rows fields p ≡ Ok x → IsRead fields p x.0 x.1
 read_is_spelled nothing p x within e =
     let made : IsRead nothing p [] p = record { whole = refl; spelled = record { allowed = tt; stands = stands_nothing p }; within = within } in
     subst (λ (y : List Row × Place). IsRead nothing p y.0 y.1) (ok_is ([], p) x e) made
 read_is_spelled (field v next) p x within e =
-    let a = bind_ok (field_at v p) (λ n. rows_at (next n.0) n.1 >>= λ more. Ok (record { variable = v; number = n.0 } ∷ more.0, more.1)) x e in
-    let b = bind_ok (rows_at (next a.0.0) a.0.1) (λ more. Ok (record { variable = v; number = a.0.0 } ∷ more.0, more.1)) x a.2 in
+    let a = bind_ok (read_field v p) (λ n. read_rows (next n.0) n.1 >>= λ more. Ok (record { variable = v; number = n.0 } ∷ more.0, more.1)) x e in
+    let b = bind_ok (read_rows (next a.0.0) a.0.1) (λ more. Ok (record { variable = v; number = a.0.0 } ∷ more.0, more.1)) x a.2 in
     let first = field_ok v p a.0 a.1 in
     let inside : a.0.1.at ≤ length a.0.1.bits = rw first.took.stands.same first.took.within in
     let second = read_is_spelled (next a.0.0) a.0.1 b.0 inside b.1 in
@@ -119,8 +119,8 @@ read_is_spelled (field v next) p x within e =
     } in
     subst (λ (y : List Row × Place). IsRead (field v next) p y.0 y.1) (ok_is (record { variable = v; number = a.0.0 } ∷ b.0.0, b.0.1) x b.2) made
 read_is_spelled (l ▹ r) p x within e =
-    let a = bind_ok (rows_at l p) (λ first. rows_at r first.1 >>= λ second. Ok (first.0 ++ second.0, second.1)) x e in
-    let b = bind_ok (rows_at r a.0.1) (λ second. Ok (a.0.0 ++ second.0, second.1)) x a.2 in
+    let a = bind_ok (read_rows l p) (λ first. read_rows r first.1 >>= λ second. Ok (first.0 ++ second.0, second.1)) x e in
+    let b = bind_ok (read_rows r a.0.1) (λ second. Ok (a.0.0 ++ second.0, second.1)) x a.2 in
     let first = read_is_spelled l p a.0 within a.1 in
     let inside : a.0.1.at ≤ length a.0.1.bits = rw first.spelled.stands.same first.within in
     let second = read_is_spelled r a.0.1 b.0 inside b.1 in
@@ -134,8 +134,8 @@ read_is_spelled (l ▹ r) p x within e =
     } in
     subst (λ (y : List Row × Place). IsRead (l ▹ r) p y.0 y.1) (ok_is (a.0.0 ++ b.0.0, b.0.1) x b.2) made
 read_is_spelled (sized before body) p x within e =
-    let a = bind_ok (field_at l_packet p) (λ l. rows_at body l.1 >>= λ more. cond (eqb l.0 (before + (more.1.at - p.at))) (Ok (length_row l.0 ∷ more.0, more.1)) (Err (wrong p more.1))) x e in
-    let b = bind_ok (rows_at body a.0.1) (λ more. cond (eqb a.0.0 (before + (more.1.at - p.at))) (Ok (length_row a.0.0 ∷ more.0, more.1)) (Err (wrong p more.1))) x a.2 in
+    let a = bind_ok (read_field l_packet p) (λ l. read_rows body l.1 >>= λ more. cond (eqb l.0 (before + (more.1.at - p.at))) (Ok (length_row l.0 ∷ more.0, more.1)) (Err (wrong p more.1))) x e in
+    let b = bind_ok (read_rows body a.0.1) (λ more. cond (eqb a.0.0 (before + (more.1.at - p.at))) (Ok (length_row a.0.0 ∷ more.0, more.1)) (Err (wrong p more.1))) x a.2 in
     let g = pass_ok (eqb a.0.0 (before + (b.0.1.at - p.at))) (wrong p b.0.1) (length_row a.0.0 ∷ b.0.0, b.0.1) x b.2 in
     let first = field_ok l_packet p a.0 a.1 in
     let inside : a.0.1.at ≤ length a.0.1.bits = rw first.took.stands.same first.took.within in
@@ -152,7 +152,7 @@ read_is_spelled (sized before body) p x within e =
     subst (λ (y : List Row × Place). IsRead (sized before body) p y.0 y.1) g.1 made
 
 -- What is spelled there is read.
-pub spelled_is_read : (fields : Fields) (rows : List Row) (p q : Place) → p.at ≤ length p.bits → AreRowsOf fields rows → IsSpelled rows p q → rows_at fields p ≡ Ok (rows, q)
+pub spelled_is_read : (fields : Fields) (rows : List Row) (p q : Place) → p.at ≤ length p.bits → AreRowsOf fields rows → IsSpelled rows p q → read_rows fields p ≡ Ok (rows, q)
 spelled_is_read nothing rows p q within w spelled =
     let none = subst (λ (rs : List Row). IsSpelled rs p q) w spelled in
     let there : p ≡ q = same_position p q (sym none.stands.same) (omega (arith, none.stands.past)) in
@@ -188,7 +188,7 @@ spelled_is_read (sized before body) rows p q within (more, e, w) spelled =
 
 -- ---- faults
 
-pub field_err : (x : Variable) (p : Place) (f : Fault) → p.at ≤ length p.bits → field_at x p ≡ Err f → IsDueFault (due x) p f
+pub field_err : (x : Variable) (p : Place) (f : Fault) → p.at ≤ length p.bits → read_field x p ≡ Err f → IsDueFault (due x) p f
 field_err x p f within e =
     elim (bind_err (taken_or_closed x.closes x.width p) (λ n. cond (x.allows n.0) (Ok n) (Err (refused x p))) f e) [
       | inl t ↦ inl (closed_err x.closes x.width p f t)
@@ -199,15 +199,15 @@ field_err x p f within e =
     ]
 
 -- A fault of reading is the fault of an open list.
-pub read_is_fault : (fields : Fields) (p : Place) (f : Fault) → p.at ≤ length p.bits → rows_at fields p ≡ Err f → IsFault fields p f
+pub read_is_fault : (fields : Fields) (p : Place) (f : Fault) → p.at ≤ length p.bits → read_rows fields p ≡ Err f → IsFault fields p f
 read_is_fault nothing p f within e = absurd cc
 read_is_fault (field v next) p f within e =
-    elim (bind_err (field_at v p) (λ n. rows_at (next n.0) n.1 >>= λ more. Ok (record { variable = v; number = n.0 } ∷ more.0, more.1)) f e) [
+    elim (bind_err (read_field v p) (λ n. read_rows (next n.0) n.1 >>= λ more. Ok (record { variable = v; number = n.0 } ∷ more.0, more.1)) f e) [
       | inl t ↦ record { rows = []; next = due v; reached = p; is_open = inl (refl, refl); spelled = record { allowed = tt; stands = stands_nothing p }; due_fault = field_err v p f within t }
       | inr a ↦
           let first = field_ok v p a.0 a.1 in
           let inside : a.0.1.at ≤ length a.0.1.bits = rw first.took.stands.same first.took.within in
-          let found = read_is_fault (next a.0.0) a.0.1 f inside (not_after (rows_at (next a.0.0) a.0.1) (λ more. (record { variable = v; number = a.0.0 } ∷ more.0, more.1)) f a.2) in
+          let found = read_is_fault (next a.0.0) a.0.1 f inside (not_after (read_rows (next a.0.0) a.0.1) (λ more. (record { variable = v; number = a.0.0 } ∷ more.0, more.1)) f a.2) in
           record {
             rows = record { variable = v; number = a.0.0 } ∷ found.rows;
             next = found.next;
@@ -218,14 +218,14 @@ read_is_fault (field v next) p f within e =
           }
     ]
 read_is_fault (l ▹ r) p f within e =
-    elim (bind_err (rows_at l p) (λ first. rows_at r first.1 >>= λ second. Ok (first.0 ++ second.0, second.1)) f e) [
+    elim (bind_err (read_rows l p) (λ first. read_rows r first.1 >>= λ second. Ok (first.0 ++ second.0, second.1)) f e) [
       | inl t ↦
           let found = read_is_fault l p f within t in
           record { rows = found.rows; next = found.next; reached = found.reached; is_open = inl found.is_open; spelled = found.spelled; due_fault = found.due_fault }
       | inr a ↦
           let first = read_is_spelled l p a.0 within a.1 in
           let inside : a.0.1.at ≤ length a.0.1.bits = rw first.spelled.stands.same first.within in
-          let found = read_is_fault r a.0.1 f inside (not_after (rows_at r a.0.1) (λ second. (a.0.0 ++ second.0, second.1)) f a.2) in
+          let found = read_is_fault r a.0.1 f inside (not_after (read_rows r a.0.1) (λ second. (a.0.0 ++ second.0, second.1)) f a.2) in
           record {
             rows = a.0.0 ++ found.rows;
             next = found.next;
@@ -239,12 +239,12 @@ read_is_fault (l ▹ r) p f within e =
           }
     ]
 read_is_fault (sized before body) p f within e =
-    elim (bind_err (field_at l_packet p) (λ l. rows_at body l.1 >>= λ more. cond (eqb l.0 (before + (more.1.at - p.at))) (Ok (length_row l.0 ∷ more.0, more.1)) (Err (wrong p more.1))) f e) [
+    elim (bind_err (read_field l_packet p) (λ l. read_rows body l.1 >>= λ more. cond (eqb l.0 (before + (more.1.at - p.at))) (Ok (length_row l.0 ∷ more.0, more.1)) (Err (wrong p more.1))) f e) [
       | inl t ↦ record { rows = []; next = due l_packet; reached = p; is_open = inl (refl, refl); spelled = record { allowed = tt; stands = stands_nothing p }; due_fault = field_err l_packet p f within t }
       | inr a ↦
           let first = field_ok l_packet p a.0 a.1 in
           let inside : a.0.1.at ≤ length a.0.1.bits = rw first.took.stands.same first.took.within in
-          elim (bind_err (rows_at body a.0.1) (λ more. cond (eqb a.0.0 (before + (more.1.at - p.at))) (Ok (length_row a.0.0 ∷ more.0, more.1)) (Err (wrong p more.1))) f a.2) [
+          elim (bind_err (read_rows body a.0.1) (λ more. cond (eqb a.0.0 (before + (more.1.at - p.at))) (Ok (length_row a.0.0 ∷ more.0, more.1)) (Err (wrong p more.1))) f a.2) [
             | inl t ↦
                 let found = read_is_fault body a.0.1 f inside t in
                 record {

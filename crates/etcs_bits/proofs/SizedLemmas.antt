@@ -3,7 +3,7 @@ use Rattle.std.proofs.Common.{◌≡◌, ℕ, ◌+◌, ◌-◌, ◌≤◌, List,
 use Rattle.std.proofs.lemmas.Bool.{eq-eqb}
 use Rattle.etcs_bits.specs.layout.Rows.{Row, row, Place, width}
 use Rattle.etcs_bits.specs.layout.Fields.{Fields, sized, l_packet}
-use Rattle.etcs_bits.specs.layout.Reading.{taken, rows_at}
+use Rattle.etcs_bits.specs.layout.Reading.{taken, read_rows}
 use Rattle.etcs_bits.proofs.NumberLemmas.{length-num}
 use Rattle.etcs_bits.proofs.StandLemmas.{length-join}
 use Rattle.etcs_bits.proofs.ReadingLemmas.{taken_ok, read_is_spelled}
@@ -12,7 +12,7 @@ use Rattle.etcs_bits.proofs.ReadingLemmas.{taken_ok, read_is_spelled}
 pub record AreSized (fields : Fields) (p : Place) (l : ℕ) (q : Place) (rows : List Row) (r : Place) : Type 0 where
   pub within : p.at ≤ length p.bits
   pub length_read : taken 13 p ≡ Ok (l, q)
-  pub body_read : rows_at fields q ≡ Ok (rows, r)
+  pub body_read : read_rows fields q ≡ Ok (rows, r)
 
 pub sized_place : (fields : Fields) (p : Place) (l : ℕ) (q : Place) (rows : List Row) (r : Place)
     → AreSized fields p l q rows r → r.at ≡ p.at + (13 + width rows)
@@ -24,7 +24,7 @@ sized_place fields p l q rows r s =
 
 pub sized_ok : (before : ℕ) (fields : Fields) (p : Place) (l : ℕ) (q : Place) (rows : List Row) (r : Place)
     → AreSized fields p l q rows r → l ≡ before + (r.at - p.at)
-    → rows_at (sized before fields) p ≡ Ok (row l_packet (before + (13 + width rows)) ∷ rows, r)
+    → read_rows (sized before fields) p ≡ Ok (row l_packet (before + (13 + width rows)) ∷ rows, r)
 sized_ok before fields p l q rows r s e =
     let place = sized_place fields p l q rows r s in
     let sum : l ≡ before + (13 + width rows) = omega (arith, e, place) in

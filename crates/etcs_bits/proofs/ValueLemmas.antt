@@ -7,7 +7,7 @@ use Rattle.etcs_bits.specs.layout.Rows.{row, IsAllowed}
 use Rattle.etcs_bits.proofs.LayoutLemmas.{laid_out}
 use Rattle.etcs_bits.specs.variables.Variables.{plain, free, ranged}
 use Rattle.etcs_bits.specs.variables.Level.{level_variable, level_number}
-use Rattle.etcs_bits.specs.Laws.{AreLaidOut}
+use Rattle.etcs_bits.specs.Laws.{HasLayoutLaws}
 use Rattle.etcs_bits.specs.layout.Values.{HasNumbers, IsNumberOf}
 use Rattle.etcs_bits.specs.layout.Format.{variable}
 
@@ -60,7 +60,7 @@ plain_has_numbers w = record {
 pub free_has_numbers : (w : ℕ) → HasNumbers (free w) w (λ n. n < 2 ^ w)
 free_has_numbers w = record { width = refl; numbers = λ n. (λ allowed. allowed.0, λ small. (small, refl)) }
 
-pub free_laid_out : (w : ℕ) → AreLaidOut (variable (free w))
+pub free_laid_out : (w : ℕ) → HasLayoutLaws (variable (free w))
 free_laid_out w = laid_out (variable (free w))
 
 in_range : (n last from : ℕ) → (leb n last || leb from n) ≡ true → (n ≤ last) ⊎ (from ≤ n)

@@ -29,7 +29,7 @@ HasOneFault x =
     → IsFault x.fields p f → IsFault x.fields p g → f ≡ g
 
 -- The four laws of spellings and faults.
-pub record AreLaidOut {X : Type 0} (x : Format X) : Type 0 where
+pub record HasLayoutLaws {X : Type 0} (x : Format X) : Type 0 where
   pub one_record : SpellsOneRecord x
   pub no_front : NoSpellingBegins x
   pub fault_or_record : FaultMeansNone x

@@ -1,4 +1,3 @@
 -- Bits as numbers, and bits in bytes.
 pub mod Number
-pub mod NumberLemmas
 pub mod Packed

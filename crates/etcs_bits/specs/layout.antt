@@ -6,15 +6,11 @@ pub mod FaultWords
 pub mod Reading
 pub mod Results
 pub mod Cut
-pub mod CutLemmas
 pub mod Found
-pub mod RowLemmas
 pub mod Values
 pub mod Combined
+pub mod Growth
 pub mod Laid
-pub mod CombinedLemmas
-pub mod LaidLemmas
 pub mod Struct
 pub mod Choice
-pub mod ChoiceLemmas
 pub mod Format

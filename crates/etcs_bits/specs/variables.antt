@@ -1,7 +1,6 @@
 -- The variables of telegrams and packets, and records of a few of them.
 pub mod VariableValues
 pub mod Variables
-pub mod VariableLemmas
 pub mod VariableFormats
 pub mod Identity
 pub mod Level

@@ -1,4 +1,4 @@
-//! Lists of bits.
+//! `Bits`: an owned list of bits, kept in bytes. Bits are appended, read one by one, and copied from and to bytes.
 
 pub(crate) mod bytes;
 pub(crate) mod cursor;

@@ -4,20 +4,20 @@
 
 ghost use Rattle.std.specs.Prelude.{◌≡◌, ◌↔◌, ℕ, ◌≤◌, ◌<◌, ◌^◌, ◌⊎◌, Bool, List, length, Ok, Err};
 ghost use Rattle.etcs_bits.specs.declared.layout.fault.Fault.{Fault};
-ghost use Rattle.etcs_bits.specs.Laws.{SpellsOneRecord, NoSpellingBegins, FaultMeansNone, HasOneFault, AreLaidOut};
+ghost use Rattle.etcs_bits.specs.Laws.{SpellsOneRecord, NoSpellingBegins, FaultMeansNone, HasOneFault, HasLayoutLaws};
 ghost use Rattle.etcs_bits.specs.layout.Rows.{Variable, Row, Place, IsSpelled, alone};
 ghost use Rattle.etcs_bits.specs.layout.Fields.{due};
 ghost use Rattle.etcs_bits.specs.layout.Fault.{IsFault, IsDueFault};
-ghost use Rattle.etcs_bits.specs.layout.Reading.{taken, field_at, rows_at};
+ghost use Rattle.etcs_bits.specs.layout.Reading.{taken, read_field, read_rows};
 ghost use Rattle.etcs_bits.specs.layout.Values.{HasNumbers, IsNumberOf, HasValues};
 ghost use Rattle.etcs_bits.specs.bits.Number.{num, num_of_bits, worth};
 ghost use Rattle.etcs_bits.specs.layout.Format.{variable, number, ranges, flag, ◌then◌, if_there, several, behind_length};
 ghost use Rattle.etcs_bits.specs.variables.Variables.{plain, free, ranged, transmission_variable, transmission_number, medium_variable, medium_number, version_variable, version_number, duplicate_variable, dup_number, scale_variable, scale_number, dir_variable, dir_number};
-ghost use Rattle.etcs_bits.specs.variables.VariableValues.{transmission_of, medium_of, version_of, dup_of, scale_of, dir_of, flag_of};
+ghost use Rattle.etcs_bits.specs.variables.VariableValues.{transmission_value, medium_value, version_value, dup_value, scale_value, dir_value, flag_value};
 ghost use Rattle.etcs_bits.specs.variables.VariableFormats.{q_updown, q_media, m_version, m_dup, q_scale, q_dir};
 ghost use Rattle.etcs_bits.specs.variables.Identity.{identity};
 ghost use Rattle.etcs_bits.specs.variables.Level.{m_level, level_variable, level_number};
-ghost use Rattle.etcs_bits.specs.variables.Train3.{train3, train3_variable, train3_number, train3_of};
+ghost use Rattle.etcs_bits.specs.variables.Train3.{train3, train3_variable, train3_number, train3_value};
 
 use crate::layout::Layout;
 use crate::layout::body::Body;
@@ -41,15 +41,15 @@ use crate::variables::version::Version;
 pub fn a_record_is_read_as_it_is_spelled<T: Layout>()
     ensures spelled { (p q : Place) (v : T) → p.at ≤ length p.bits
         → IsSpelled (T.format.rows v) p q
-        ↔ ((r : List Row) × (rows_at T.format.fields p ≡ Ok (r, q)) × (T.format.of r ≡ v)) }
+        ↔ ((r : List Row) × (read_rows T.format.fields p ≡ Ok (r, q)) × (T.format.of r ≡ v)) }
     ensures rows { (p q : Place) (r : List Row) → p.at ≤ length p.bits
-        → rows_at T.format.fields p ≡ Ok (r, q) → T.format.rows (T.format.of r) ≡ r }
+        → read_rows T.format.fields p ≡ Ok (r, q) → T.format.rows (T.format.of r) ≡ r }
 {}
 
 /// A place has a fault exactly if reading gives that fault there.
 pub fn a_fault_is_read_as_it_is_defined<T: Layout>()
     ensures { (p : Place) (f : Fault) → p.at ≤ length p.bits
-        → IsFault T.format.fields p f ↔ (rows_at T.format.fields p ≡ Err f) }
+        → IsFault T.format.fields p f ↔ (read_rows T.format.fields p ≡ Err f) }
 {}
 
 /// Reading a single field, as a function of the bits, gives a number exactly if the number is
@@ -57,10 +57,10 @@ pub fn a_fault_is_read_as_it_is_defined<T: Layout>()
 /// variable that allows every number.
 pub fn a_field_is_read_as_it_is_spelled()
     ensures number { (x : Variable) (p q : Place) (n : ℕ) → p.at ≤ length p.bits
-        → IsSpelled (alone x n) p q ↔ (field_at x p ≡ Ok (n, q)) }
+        → IsSpelled (alone x n) p q ↔ (read_field x p ≡ Ok (n, q)) }
     ensures fault { (x : Variable) (p : Place) (f : Fault) → p.at ≤ length p.bits
-        → IsDueFault (due x) p f ↔ (field_at x p ≡ Err f) }
-    ensures taken { (w : ℕ) (p : Place) → taken w p ≡ field_at (free w) p }
+        → IsDueFault (due x) p f ↔ (read_field x p ≡ Err f) }
+    ensures taken { (w : ℕ) (p : Place) → taken w p ≡ read_field (free w) p }
 {}
 
 /// At most one record is spelled at a place, and it has one end.
@@ -86,7 +86,7 @@ pub fn a_place_has_one_fault<T: Layout>()
 
 /// A record is laid out in its fields: the four laws of spellings and faults hold for it.
 pub fn records_are_laid_out<T: Layout>()
-    ensures { AreLaidOut T.format }
+    ensures { HasLayoutLaws T.format }
 {
     a_place_spells_one_record::<T>();
     no_spelling_begins_another::<T>();
@@ -98,33 +98,33 @@ pub fn records_are_laid_out<T: Layout>()
 
 /// Two records, one after the other, are laid out in the fields of both.
 pub fn pairs_are_laid_out<A: Layout, B: Layout>()
-    ensures { AreLaidOut (A.format then B.format) }
+    ensures { HasLayoutLaws (A.format then B.format) }
 {
     records_are_laid_out::<(A, B)>();
 }
 
 /// An optional record is laid out after the qualifier that says whether it is present.
 pub fn options_are_laid_out<T: Layout>()
-    ensures { AreLaidOut (if_there T.format) }
+    ensures { HasLayoutLaws (if_there T.format) }
 {
     records_are_laid_out::<Option<T>>();
 }
 
 /// Items are laid out after N_ITER, which counts them.
 pub fn lists_are_laid_out<T: Layout>()
-    ensures { AreLaidOut (several T.format) }
+    ensures { HasLayoutLaws (several T.format) }
 {
     records_are_laid_out::<Items<T>>();
 }
 
 /// A packet's body is laid out after L_PACKET, which also counts the bits before it.
 pub fn bodies_are_laid_out<const BEFORE: u32, T: Layout>()
-    ensures { AreLaidOut (behind_length BEFORE T.format) }
+    ensures { HasLayoutLaws (behind_length BEFORE T.format) }
 {}
 
 /// The identity of a balise group is laid out as NID_C and then NID_BG.
 pub fn identities_are_laid_out()
-    ensures { AreLaidOut identity }
+    ensures { HasLayoutLaws identity }
 {
     records_are_laid_out::<Identity>();
 }
@@ -143,7 +143,7 @@ pub fn numbers_are_their_bits()
 #[tactic(auto, using(crate::proofs::ValueLemmas::plain_has_numbers))]
 pub fn plain_variables_have_all_numbers<const W: u32>()
     ensures numbers { HasNumbers (plain W) W (λ n. (1 ≤ W) × (W ≤ 32) × (n < 2 ^ W)) }
-    ensures laid_out { AreLaidOut (number W) }
+    ensures laid_out { HasLayoutLaws (number W) }
 {
     records_are_laid_out::<Plain<W>>();
 }
@@ -154,7 +154,7 @@ pub fn plain_variables_have_all_numbers<const W: u32>()
 pub fn ranged_variables_have_two_ranges<const W: u32, const LAST: u32, const FROM: u32>()
     ensures numbers { HasNumbers (ranged W LAST FROM) W
         (λ n. (1 ≤ W) × (W ≤ 32) × (n < 2 ^ W) × ((n ≤ LAST) ⊎ (FROM ≤ n))) }
-    ensures laid_out { AreLaidOut (ranges W LAST FROM) }
+    ensures laid_out { HasLayoutLaws (ranges W LAST FROM) }
 {
     records_are_laid_out::<Ranged<W, LAST, FROM>>();
 }
@@ -162,78 +162,78 @@ pub fn ranged_variables_have_two_ranges<const W: u32, const LAST: u32, const FRO
 /// Bits that are kept as they are have every number of their width.
 pub fn free_bits_have_all_numbers()
     ensures numbers { (w : ℕ) → HasNumbers (free w) w (λ n. n < 2 ^ w) }
-    ensures laid_out { (w : ℕ) → AreLaidOut (variable (free w)) }
+    ensures laid_out { (w : ℕ) → HasLayoutLaws (variable (free w)) }
 {}
 
 /// A flag has one bit. Its two numbers are its two values.
-#[tactic(auto, using(crate::specs::variables::VariableLemmas::flags_have_values))]
+#[tactic(auto, using(crate::specs::lemmas::VariableLemmas::flags_have_values))]
 pub fn flags_have_their_numbers()
-    ensures numbers { HasValues (plain 1) 1 worth flag_of }
-    ensures laid_out { AreLaidOut flag }
+    ensures numbers { HasValues (plain 1) 1 worth flag_value }
+    ensures laid_out { HasLayoutLaws flag }
 {
     records_are_laid_out::<bool>();
 }
 
 /// Q_UPDOWN has one bit. The direction that is read has its number.
-#[tactic(auto, using(crate::specs::variables::VariableLemmas::names_have_values, crate::specs::variables::VariableLemmas::transmission_names))]
+#[tactic(auto, using(crate::specs::lemmas::VariableLemmas::names_have_values, crate::specs::lemmas::VariableLemmas::transmission_names))]
 pub fn transmissions_have_their_numbers()
-    ensures numbers { HasValues transmission_variable 1 transmission_number transmission_of }
-    ensures laid_out { AreLaidOut q_updown }
+    ensures numbers { HasValues transmission_variable 1 transmission_number transmission_value }
+    ensures laid_out { HasLayoutLaws q_updown }
 {
     records_are_laid_out::<Transmission>();
 }
 
 /// Q_MEDIA has one bit. The medium that is read has its number.
-#[tactic(auto, using(crate::specs::variables::VariableLemmas::names_have_values, crate::specs::variables::VariableLemmas::medium_names))]
+#[tactic(auto, using(crate::specs::lemmas::VariableLemmas::names_have_values, crate::specs::lemmas::VariableLemmas::medium_names))]
 pub fn media_have_their_numbers()
-    ensures numbers { HasValues medium_variable 1 medium_number medium_of }
-    ensures laid_out { AreLaidOut q_media }
+    ensures numbers { HasValues medium_variable 1 medium_number medium_value }
+    ensures laid_out { HasLayoutLaws q_media }
 {
     records_are_laid_out::<Medium>();
 }
 
 /// M_VERSION has seven bits. The versions that are read have their numbers.
-#[tactic(auto, using(crate::specs::variables::VariableLemmas::names_have_values, crate::specs::variables::VariableLemmas::version_names))]
+#[tactic(auto, using(crate::specs::lemmas::VariableLemmas::names_have_values, crate::specs::lemmas::VariableLemmas::version_names))]
 pub fn versions_have_their_numbers()
-    ensures numbers { HasValues version_variable 7 version_number version_of }
-    ensures laid_out { AreLaidOut m_version }
+    ensures numbers { HasValues version_variable 7 version_number version_value }
+    ensures laid_out { HasLayoutLaws m_version }
 {
     records_are_laid_out::<Version>();
 }
 
 /// M_DUP has two bits. Each mark has its number, and no other number is allowed.
-#[tactic(auto, using(crate::specs::variables::VariableLemmas::names_have_values, crate::specs::variables::VariableLemmas::dup_names))]
+#[tactic(auto, using(crate::specs::lemmas::VariableLemmas::names_have_values, crate::specs::lemmas::VariableLemmas::dup_names))]
 pub fn marks_have_their_numbers()
-    ensures numbers { HasValues duplicate_variable 2 dup_number dup_of }
-    ensures laid_out { AreLaidOut m_dup }
+    ensures numbers { HasValues duplicate_variable 2 dup_number dup_value }
+    ensures laid_out { HasLayoutLaws m_dup }
 {
     records_are_laid_out::<Dup>();
 }
 
 /// Q_SCALE has two bits. Each unit has its number, and no other number is allowed.
-#[tactic(auto, using(crate::specs::variables::VariableLemmas::names_have_values, crate::specs::variables::VariableLemmas::scale_names))]
+#[tactic(auto, using(crate::specs::lemmas::VariableLemmas::names_have_values, crate::specs::lemmas::VariableLemmas::scale_names))]
 pub fn scales_have_their_numbers()
-    ensures numbers { HasValues scale_variable 2 scale_number scale_of }
-    ensures laid_out { AreLaidOut q_scale }
+    ensures numbers { HasValues scale_variable 2 scale_number scale_value }
+    ensures laid_out { HasLayoutLaws q_scale }
 {
     records_are_laid_out::<Scale>();
 }
 
 /// Q_DIR has two bits. Each direction has its number, and no other number is allowed.
-#[tactic(auto, using(crate::specs::variables::VariableLemmas::names_have_values, crate::specs::variables::VariableLemmas::dir_names))]
+#[tactic(auto, using(crate::specs::lemmas::VariableLemmas::names_have_values, crate::specs::lemmas::VariableLemmas::dir_names))]
 pub fn directions_have_their_numbers()
-    ensures numbers { HasValues dir_variable 2 dir_number dir_of }
-    ensures laid_out { AreLaidOut q_dir }
+    ensures numbers { HasValues dir_variable 2 dir_number dir_value }
+    ensures laid_out { HasLayoutLaws q_dir }
 {
     records_are_laid_out::<Dir>();
 }
 
 /// Q_DIRLRBG, Q_DLRBG and Q_DIRTRAIN have two bits. Each value has its number, and no other number is
 /// allowed.
-#[tactic(auto, using(crate::specs::variables::VariableLemmas::names_have_values, crate::specs::variables::Train3::train3_names))]
+#[tactic(auto, using(crate::specs::lemmas::VariableLemmas::names_have_values, crate::specs::variables::Train3::train3_names))]
 pub fn sides_have_their_numbers()
-    ensures numbers { HasValues train3_variable 2 train3_number train3_of }
-    ensures laid_out { AreLaidOut train3 }
+    ensures numbers { HasValues train3_variable 2 train3_number train3_value }
+    ensures laid_out { HasLayoutLaws train3 }
 {
     records_are_laid_out::<Train3>();
 }
@@ -244,7 +244,7 @@ pub fn sides_have_their_numbers()
 pub fn levels_have_their_numbers()
     ensures numbers { HasNumbers level_variable 3 (IsNumberOf level_number) }
     ensures ntc { HasNumbers (plain 8) 8 (λ n. n < 256) }
-    ensures laid_out { AreLaidOut m_level }
+    ensures laid_out { HasLayoutLaws m_level }
 {
     records_are_laid_out::<Level>();
 }

@@ -1,4 +1,5 @@
-//! What a record of fields is, and how it is written and read.
+//! The trait `Layout`: a record of variables, how it is written as bits and read from them. The modules below it make
+//! records of other records.
 
 pub(crate) mod body;
 pub(crate) mod fault;
@@ -9,9 +10,9 @@ pub(crate) mod pair;
 pub(crate) mod same;
 
 ghost use Rattle.std.specs.Prelude.{◌≡◌, ◌↔◌, ◌++◌, min, IsTrue, IfOk, OnOk, OnErr};
-ghost use Rattle.etcs_bits.specs.layout.Rows.{AreAllowed, join, width, IsSpelled};
+ghost use Rattle.etcs_bits.specs.layout.Rows.{AreAllowed, Place, join, width, IsSpelled};
 ghost use Rattle.etcs_bits.specs.layout.Fault.{IsFault, NoneBegins};
-ghost use Rattle.etcs_bits.specs.layout.Reading.{rows_at};
+ghost use Rattle.etcs_bits.specs.layout.Reading.{read_rows};
 ghost use Rattle.etcs_bits.specs.layout.Format.{Format};
 ghost use Rattle.etcs_bits.specs.layout.Results.{Gives, IfFault, IfMemory, Puts};
 
@@ -35,8 +36,9 @@ pub trait Layout: Drop {
     /// holds if the record's types keep the numbers in range.
     ghost fit: { Self → Type 0 } = { λ _. Unit {0} };
 
-    /// Whether reading a record may ask for memory: only if it holds a list or bits of its own.
-    ghost grows: { Type 0 } = { ⊥ };
+    /// Whether reading a record at a place may ask for memory: only if it comes there to a list that is
+    /// not empty, or to bits that it copies.
+    ghost grows: { Place → Type 0 } = { λ _. ⊥ };
 
     /// Whether the number of each variable fits in its bits and is allowed. Takes no memory.
     fn is_allowed(&self) -> bool
@@ -56,8 +58,8 @@ pub trait Layout: Drop {
     /// Reads a record at the cursor. After an error nothing is promised of the cursor. So users call
     /// `read`.
     fn scan(alloc: Global, cur: &mut Cursor<'_>) -> Result<Self, DecodeError>
-        ensures gives { Gives format.rows result (rows_at format.fields cur.old) cur.new }
-        ensures memory { IfMemory result grows };
+        ensures gives { Gives format.rows result (read_rows format.fields cur.old) cur.new }
+        ensures memory { IfMemory result (grows cur.old) };
 
     /// Appends the spelling of a record that is allowed. If memory runs out, nothing is appended.
     final fn write(&self, out: &mut Bits) -> Result<(), Memory>
@@ -85,8 +87,8 @@ pub trait Layout: Drop {
         ensures none { IfFault result (λ f. NoneBegins format.rows cur.old f) }
         ensures err { OnErr result (cur.new ≡ cur.old) }
 
-        // Reading a record that does not grow never answers that memory ran out.
-        ensures memory { IfMemory result grows }
+        // Where the record does not grow, the answer is never that memory ran out.
+        ensures memory { IfMemory result (grows cur.old) }
     {
         let mut ahead = cur.fork();
         let value = Self::scan(alloc, &mut ahead)?;

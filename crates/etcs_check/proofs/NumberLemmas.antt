@@ -12,8 +12,8 @@ use Rattle.etcs_bits.specs.declared.variables.duplicate.Dup.TheVariants as dups
 use Rattle.etcs_bits.specs.declared.variables.identity.Identity.{Identity}
 use Rattle.etcs_bits.specs.declared.variables.version.Version.{Version}
 use Rattle.etcs_bits.specs.variables.Variables.{version_number}
-use Rattle.etcs_bits.specs.variables.VariableValues.{version_of}
-use Rattle.etcs_bits.specs.variables.VariableLemmas.{version_names}
+use Rattle.etcs_bits.specs.variables.VariableValues.{version_value}
+use Rattle.etcs_bits.specs.lemmas.VariableLemmas.{version_names}
 use Rattle.etcs_bits.specs.layout.Rows.{Row, row, width}
 use Rattle.etcs_bits.specs.layout.Fields.{Fields, nothing, field, ◌▹◌, sized, l_packet, AreRowsOf}
 use Rattle.etcs_profile.specs.Track.{track_packet}
@@ -145,7 +145,7 @@ abbrev telegram_of : Size → Header → List TrackPacket → Telegram
 telegram_of s h ps = record { size = s; header = h; packets = ps }
 
 pub version_same : (v w : Version) → version_number v ≡ version_number w → v ≡ w
-version_same v w e = sym (version_names v).0 ∙ ap version_of e ∙ (version_names w).0
+version_same v w e = sym (version_names v).0 ∙ ap version_value e ∙ (version_names w).0
 
 header_same : (v w : Version) (p q n m : ℕ) (d e : Dup) (c k : ℕ) (i j : Identity) (l o : Bool)
     → v ≡ w → p ≡ q → n ≡ m → d ≡ e → c ≡ k → i ≡ j → l ≡ o

@@ -7,7 +7,7 @@ use Rattle.std.proofs.lemmas.Bool.{eqb-true, eq-eqb, ne_eqb}
 use Rattle.etcs_group.specs.Places.{At}
 use Rattle.etcs_group.specs.Group.{partner_place, IsWellFormed}
 use Rattle.etcs_group.specs.Missed.{IsCovered, none_missed}
-use Rattle.etcs_group.specs.Reading.{reading_of}
+use Rattle.etcs_group.specs.Reading.{group_reading}
 use Rattle.etcs_group.specs.Packets.{held_packets, assembled}
 use Rattle.etcs_check.specs.Violation.{only, passed_first}
 use Rattle.etcs_profile.specs.declared.run.Run.{Run}
@@ -94,7 +94,7 @@ pair_equal runs.Reverse b t u rest e f same =
     append_cancel_left rest _ _ (ap (λ l. l ++ held_packets runs.Reverse t) (sym (append-nil rest)) ∙ plain ∙ append-nil (rest ++ held_packets runs.Reverse u))
 
 pub duplicates-equal : (group : List Telegram) (run : Run) (b : ℕ) (t u : Telegram) → IsWellFormed group → At group b t → At group (suc b) u → t.header.dup ≡ dups.Next → u.header.dup ≡ dups.Previous
-    → assembled run (reading_of run (only (passed_first run b)) group) ≡ assembled run (reading_of run none_missed group)
+    → assembled run (group_reading run (only (passed_first run b)) group) ≡ assembled run (group_reading run none_missed group)
     → held_packets run t ≡ held_packets run u
 duplicates-equal group run b t u formed at au e f same =
     let all : passed run (part run (only (passed_first run b))) 0 group ≡ passed run (part run none_missed) 0 group = sym (packets-passed group run (only (passed_first run b)) formed) ∙ same ∙ packets-passed group run none_missed formed in

@@ -11,7 +11,7 @@ use Rattle.etcs_telegram.specs.Record.{Telegram}
 use Rattle.etcs_group.specs.Places.{At}
 use Rattle.etcs_group.specs.Group.{is_modelled, named_neighbour, AreAlike, IsWellFormed, HasOneCounter}
 use Rattle.etcs_group.specs.Missed.{IsSetOf, IsCovered, none_missed}
-use Rattle.etcs_group.specs.Reading.{reading_of}
+use Rattle.etcs_group.specs.Reading.{group_reading}
 use Rattle.etcs_group.specs.Assembly.{IsAccepted}
 use Rattle.etcs_group.specs.Packets.{held_packets, assembled, group_message, HasEqualPairs}
 use Rattle.etcs_group.proofs.PlaceLemmas.{one_at, some_at}
@@ -137,7 +137,7 @@ module _ (aspects : List (List Telegram)) (a : ℕ) (group : List Telegram) (lon
     profiles-from speed_reach (group_message run group) (parts rules.NoSpeed (Some run) None None) (said-long speed_reach group run (λ b k. parts rules.SpeedShort (Some run) (Some b) (Some k))) i p limit at is,
   )
 
-  says_said : (run : Run) (missed : ℕ → Bool) → IsCovered group missed → assembled run (reading_of run missed group) ≡ group_message run group
+  says_said : (run : Run) (missed : ℕ → Bool) → IsCovered group missed → assembled run (group_reading run missed group) ≡ group_message run group
   says_said run missed covered =
       (readings_say_the_same run group formed).covered (equal_pairs group run formed (λ b. parts rules.DuplicatesDiffer (Some run) (Some b) None)) missed covered
 
@@ -160,7 +160,7 @@ none_covered : (group : List Telegram) → IsCovered group none_missed
 none_covered group p h = absurd (both_ways false refl h)
 
 -- the counters agree if the reading with nothing missed is accepted
-pub fitting-from_accepted : (group : List Telegram) (run : Run) → IsAccepted run (reading_of run none_missed group) → HasOneCounter group
+pub fitting-from_accepted : (group : List Telegram) (run : Run) → IsAccepted run (group_reading run none_missed group) → HasOneCounter group
 fitting-from_accepted group run accepted = record {
   agrees = λ b t at. let r = at-reading group none_missed run b t at refl in accepted.one_counter.agrees r.0 t r.1;
   equal = λ b c t u at au m n.

@@ -7,7 +7,7 @@ use Rattle.etcs_telegram.specs.Record.{Telegram}
 use Rattle.etcs_radio.specs.declared.message.Message.{Message}
 use Rattle.etcs_group.specs.Places.{At}
 use Rattle.etcs_group.specs.Missed.{IsSetOf}
-use Rattle.etcs_group.specs.Reading.{reading_of}
+use Rattle.etcs_group.specs.Reading.{group_reading}
 use Rattle.etcs_group.specs.Laws.{IsDecided, IsMixtureDecided}
 use Rattle.etcs_group.specs.Controlled.{IsControlled}
 use Rattle.etcs_group.specs.Mixture.{Fits}
@@ -108,7 +108,7 @@ FindingsAreTheFactsInOrder = (groups : List Aspects) (messages : List Message) (
 abbrev pub SoundGroupsAreDecided : Type 0
 SoundGroupsAreDecided = (group : Telegrams) (run : Run) (missed : ℕ → Bool)
     → IsSoundGroup group → 0 < length group → IsSetOf group missed
-    → IsDecided run group missed (reading_of run missed group)
+    → IsDecided run group missed (group_reading run missed group)
 
 -- In a sound controlled group a mixture is accepted if and only if it is covered and one aspect has all
 -- that it shows. Its message is then the message of this aspect with nothing missed.

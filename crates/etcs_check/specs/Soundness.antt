@@ -9,7 +9,7 @@ use Rattle.etcs_profile.specs.declared.run.Run.{Run}
 use Rattle.etcs_group.specs.Places.{At}
 use Rattle.etcs_group.specs.Group.{IsWellFormed, is_modelled, Telegrams, Aspects}
 use Rattle.etcs_group.specs.Missed.{IsSetOf, IsCovered, none_missed}
-use Rattle.etcs_group.specs.Reading.{reading_of}
+use Rattle.etcs_group.specs.Reading.{group_reading}
 use Rattle.etcs_group.specs.Assembly.{IsAccepted}
 use Rattle.etcs_group.specs.Packets.{assembled}
 use Rattle.etcs_group.specs.Controlled.{AreOneGroup}
@@ -19,9 +19,9 @@ use Rattle.etcs_check.specs.Profiles.{AreReached}
 
 -- A reading is sound: it makes the message of the reading with nothing missed, whose packets are reached.
 pub record IsSoundReading (group : Telegrams) (run : Run) (missed : ℕ → Bool) : Type 0 where
-  pub accepted : IsAccepted run (reading_of run missed group)
-  pub same : assembled run (reading_of run missed group) ≡ assembled run (reading_of run none_missed group)
-  pub reached : AreReached (assembled run (reading_of run missed group))
+  pub accepted : IsAccepted run (group_reading run missed group)
+  pub same : assembled run (group_reading run missed group) ≡ assembled run (group_reading run none_missed group)
+  pub reached : AreReached (assembled run (group_reading run missed group))
 
 -- A sound group is well formed, and in each running direction each covered reading of it is sound.
 pub record IsSoundGroup (group : Telegrams) : Type 0 where

@@ -15,7 +15,7 @@ use Rattle.etcs_telegram.specs.Record.{Telegram}
 use Rattle.etcs_group.specs.Places.{At}
 use Rattle.etcs_group.specs.Group.{AreAlike, IsWellFormed, is_modelled, partner_place, Telegrams, Aspects}
 use Rattle.etcs_group.specs.Missed.{IsCovered, none_missed}
-use Rattle.etcs_group.specs.Reading.{reading_of}
+use Rattle.etcs_group.specs.Reading.{group_reading}
 use Rattle.etcs_group.specs.Assembly.{IsAccepted}
 use Rattle.etcs_group.specs.Packets.{held_packets, is_silent, assembled, group_message}
 use Rattle.etcs_group.specs.Controlled.{Shows, IsFixed, IsSwitched}
@@ -40,18 +40,18 @@ passed_first runs.Reverse b = suc b
 
 -- in each direction the reading with nothing missed is refused
 abbrev pub IsNeverAccepted : Telegrams → Type 0
-IsNeverAccepted group = (run : Run) → IsAccepted run (reading_of run none_missed group) → ⊥
+IsNeverAccepted group = (run : Run) → IsAccepted run (group_reading run none_missed group) → ⊥
 
 -- the packets of the reading with nothing missed
 abbrev pub full_packets : Telegrams → Run → List TrackPacket
-full_packets group run = assembled run (reading_of run none_missed group)
+full_packets group run = assembled run (group_reading run none_missed group)
 
 -- the balise of a pair that is passed first may be missed, and the packets are then different from the
 -- packets of the reading with nothing missed
 abbrev pub DependsOnMissed : Telegrams → Run → ℕ → Type 0
 DependsOnMissed group run b =
     IsCovered group (only (passed_first run b))
-    × (assembled run (reading_of run (only (passed_first run b)) group) ≢ full_packets group run)
+    × (assembled run (group_reading run (only (passed_first run b)) group) ≢ full_packets group run)
 
 -- the packets of the reading with nothing missed are not reached
 abbrev pub IsNotReached : Telegrams → Run → Type 0

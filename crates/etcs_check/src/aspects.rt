@@ -1,4 +1,5 @@
-//! The rules by which the aspects of a controlled group are distinguished.
+//! Rule F16: functions that find aspects of a controlled group which a train cannot distinguish by their counters. No
+//! types.
 
 ghost use Rattle.std.specs.Prelude.{◌≡◌, ◌≢◌, ◌<◌, ◌≤◌, ◌++◌, ◌||◌, [], ℕ, length, Some, OnOk, OnErr};
 ghost use Rattle.etcs_group.specs.Places.{element_passes};

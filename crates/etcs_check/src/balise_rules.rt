@@ -1,4 +1,5 @@
-//! The rules about single balises, and about packets that are not modelled.
+//! Rules about a single balise: its header, its place in the group, and packets that are not modelled. Functions that
+//! push findings: `push_alone`, `push_unmodelled`.
 
 ghost use Rattle.std.specs.Prelude.{◌≡◌, ◌≢◌, ◌<◌, ◌≤◌, ◌++◌, [], length, slice_get, Some, IsFalse, OnOk, OnErr};
 ghost use Rattle.etcs_group.specs.Group.{partner_place};

@@ -1,4 +1,5 @@
-//! Equality of packets and telegrams, and differences between duplicates.
+//! Equality of packets and telegrams, `same_packets` and `same_telegram`, and differences between a balise and its
+//! duplicate.
 
 ghost use Rattle.std.specs.Prelude.{◌≡◌, ◌↔◌, ◌≤◌, ◌<◌, ◌+◌, ℕ, length, drop, filter, slice_get, Some, IsFalse, IsTrue};
 ghost use Rattle.std.specs.Cmp.Lexicographic.{pointwise};

@@ -1,4 +1,5 @@
-//! Findings: facts against a line, each with its rule and location.
+//! `Finding`: a fact against a line, with its `Rule`, its `Site` (group or message) and its `Spot` (balise and
+//! packet).
 
 ghost use Rattle.std.specs.Prelude.{◌≡◌, ◌≢◌, ◌++◌, [], OnOk, OnErr};
 ghost use Rattle.etcs_check.specs.Findings.{new_finding, noted};

@@ -1,4 +1,4 @@
-//! A railway line, and all facts against it.
+//! `Line`: a railway line, its groups and messages. `check` finds all facts against it.
 
 ghost use Rattle.std.specs.Prelude.{◌≡◌, ◌≢◌, ◌↔◌, ◌<◌, ◌++◌, ◌&&◌, ◌||◌, ◌==◌, [], ℕ, Bool, true, false, length, Option, IfOk, OnOk, OnErr};
 ghost use Rattle.std.specs.BTreeSet.{contains};
@@ -6,7 +6,7 @@ ghost use Rattle.std.specs.Ordering.{nat_cmp};
 ghost use Rattle.etcs_profile.specs.declared.run.Run.{Run};
 ghost use Rattle.etcs_group.specs.Places.{At};
 ghost use Rattle.etcs_group.specs.Missed.{IsSetOf};
-ghost use Rattle.etcs_group.specs.Reading.{reading_of};
+ghost use Rattle.etcs_group.specs.Reading.{group_reading};
 ghost use Rattle.etcs_group.specs.Laws.{IsDecided, IsMixtureDecided};
 ghost use Rattle.etcs_group.specs.Mixture.{Fits};
 ghost use Rattle.etcs_group.specs.Group.{Telegrams, Aspects};
@@ -143,7 +143,7 @@ pub fn check(alloc: Global, line: &Line) -> Result<Vec<Finding>, Memory>
     // next one are laws of the line, whatever is found.
     ensures decided { OnOk result ((g a : ℕ) (aspects : Aspects) (group : Telegrams) (run : Run)
         (missed : ℕ → Bool) → At line.now.groups.items g aspects → At aspects a group → IsSoundGroup group
-        → IsSetOf group missed → IsDecided run group missed (reading_of run missed group)) }
+        → IsSetOf group missed → IsDecided run group missed (group_reading run missed group)) }
 
     // A mixture of aspects of a sound group is accepted if and only if it is covered and one aspect has all
     // that it shows. Its packets are then the packets of that aspect.

@@ -1,4 +1,5 @@
-//! Checks a railway line group by group and message by message, without keeping them.
+//! `LineChecker` checks a railway line group by group and message by message, without keeping them. `CheckError`: why
+//! it stops.
 
 ghost use Rattle.std.specs.Prelude.{◌≡◌, ◌≢◌, ◌↔◌, ◌∷◌, ◌++◌, [], ℕ, List, length, IfOk, IsErrOf, OnOk, OnErr};
 ghost use Rattle.etcs_radio.specs.declared.message.Message.{Message as SomeMessage};

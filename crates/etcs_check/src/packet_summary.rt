@@ -1,5 +1,5 @@
-//! A summary of the packets of a message in a running direction: the greatest supervised location, and which
-//! profiles there are.
+//! `PacketSummary`: what the packets of a message contain in a running direction. It has the greatest supervised
+//! location, and which profiles there are.
 
 ghost use Rattle.std.specs.Prelude.{◌≡◌, ◌<◌, if◌then◌else◌, length, filter, slice_get, Some};
 ghost use Rattle.etcs_profile.specs.Track.{holds};

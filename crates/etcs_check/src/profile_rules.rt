@@ -1,4 +1,5 @@
-//! The rules about movement authorities and the profiles that they need.
+//! Rules about movement authorities and the profiles that they need: a profile is missing, `push_lacks`, or ends too
+//! early, `push_short`.
 
 ghost use Rattle.std.specs.Prelude.{◌≡◌, ◌≢◌, ◌<◌, ◌++◌, [], ℕ, length, Option, Some, OnOk, OnErr};
 ghost use Rattle.std.specs.Option.{option_map_or};

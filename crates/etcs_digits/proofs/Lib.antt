@@ -3,4 +3,4 @@ mod HexadecimalLemmas
 mod BlockLemmas
 mod DecimalLemmas
 mod LaneLemmas
-mod LineTextLemmas
+mod JsonLineWriterLemmas

@@ -1,3 +1,3 @@
 pub mod Hexadecimal
-pub mod LineText
-pub mod LineLemmas
+pub mod JsonLineWriter
+pub mod lemmas

@@ -1,4 +1,4 @@
-//! Texts that need no escape in a JSON string.
+//! `is_plain`: whether a text needs no escape in a JSON string.
 
 ghost use Rattle.std.specs.Prelude.{◌≡◌};
 ghost use Rattle.std.specs.Bool.{OnTrue};

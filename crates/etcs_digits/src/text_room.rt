@@ -1,8 +1,9 @@
-//! A text buffer whose spare capacity is initialized ahead, so that a member needs only one capacity check.
+//! Functions that place bytes, texts and numbers in a `Vec` whose spare capacity is initialized ahead, so that a
+//! member needs only one capacity check. `JsonLineWriter` is written with them.
 
 ghost use Rattle.std.specs.Prelude.{◌≡◌, ◌+◌, ◌<◌, ◌≤◌, ◌++◌, ◌∷◌, [], OnErr, OnOk, decimal, length, take, vec_capacity, vec_len};
 ghost use Rattle.json.specs.Filled.{Placed};
-ghost use Rattle.etcs_digits.specs.LineText.{quoted_text};
+ghost use Rattle.etcs_digits.specs.JsonLineWriter.{quoted_text};
 
 use crate::decimal::place_decimal;
 use std::alloc::AllocError;

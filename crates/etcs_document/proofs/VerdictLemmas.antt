@@ -14,7 +14,7 @@ use Rattle.etcs_document.specs.Verdict.{AreMixturesDecided, IsOnlyRecord, IsReac
 use Rattle.etcs_group.specs.Laws.{IsDecided}
 use Rattle.etcs_group.specs.Missed.{IsSetOf}
 use Rattle.etcs_group.specs.Places.{At}
-use Rattle.etcs_group.specs.Reading.{reading_of}
+use Rattle.etcs_group.specs.Reading.{group_reading}
 use Rattle.etcs_profile.specs.declared.run.Run.{Run}
 use Rattle.etcs_radio.proofs.TextLemmas.{means_text, text_meaning}
 use Rattle.etcs_radio.specs.Text.{IsMessageText}
@@ -69,7 +69,7 @@ reached (messages.Position m) sound = tt
 -- only what was missed decides whether a reading of an aspect is accepted
 abbrev AreDecided : List (List (List Telegram)) → Type 0
 AreDecided groups = (g a : ℕ) (aspects : List (List Telegram)) (group : List Telegram) (run : Run) (missed : ℕ → Bool)
-    → At groups g aspects → At aspects a group → IsSetOf group missed → IsDecided run group missed (reading_of run missed group)
+    → At groups g aspects → At aspects a group → IsSetOf group missed → IsDecided run group missed (group_reading run missed group)
 
 -- what a yes states is true for a sound line
 pub says_yes : (bytes : List ℕ) (groups : List (List (List Telegram))) (ms : List Message) → line_of_text bytes ≡ Ok (groups, ms) → IsSoundLine groups ms

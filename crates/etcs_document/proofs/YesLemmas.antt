@@ -19,7 +19,7 @@ use Rattle.etcs_group.specs.Laws.{IsDecided, IsMixtureDecided}
 use Rattle.etcs_group.specs.Missed.{IsSetOf}
 use Rattle.etcs_group.specs.Mixture.{Fits}
 use Rattle.etcs_group.specs.Places.{At}
-use Rattle.etcs_group.specs.Reading.{reading_of}
+use Rattle.etcs_group.specs.Reading.{group_reading}
 use Rattle.etcs_profile.specs.declared.run.Run.{Run}
 use Rattle.etcs_radio.specs.declared.message.Message.{Message}
 use Rattle.etcs_telegram.specs.Record.{Telegram}
@@ -30,7 +30,7 @@ module _ (bytes : List ℕ) (groups : List (List (List Telegram))) (ms : List Me
   controlled = line_controlled bytes groups ms is
 
   pub aspects_decided : (g a : ℕ) (aspects : List (List Telegram)) (group : List Telegram) (run : Run) (missed : ℕ → Bool) → At groups g aspects → At aspects a group
-      → IsSoundGroup group → IsSetOf group missed → IsDecided run group missed (reading_of run missed group)
+      → IsSoundGroup group → IsSetOf group missed → IsDecided run group missed (group_reading run missed group)
   aspects_decided g a aspects group run missed here within sound set =
       sound_groups_are_decided group run missed sound (aspect_long aspects (controlled g aspects here) a group within) set
 

@@ -17,7 +17,7 @@ use Rattle.etcs_group.specs.Laws.{IsMixtureDecided}
 use Rattle.etcs_group.specs.Missed.{IsCovered, IsSetOf}
 use Rattle.etcs_group.specs.Mixture.{Fits}
 use Rattle.etcs_group.specs.Places.{At}
-use Rattle.etcs_group.specs.Reading.{reading_of}
+use Rattle.etcs_group.specs.Reading.{group_reading}
 use Rattle.etcs_group.specs.Group.{Telegrams, Aspects}
 use Rattle.etcs_profile.specs.Track.{holds}
 use Rattle.etcs_profile.specs.declared.run.Run.{Run}
@@ -107,7 +107,7 @@ AreMixturesDecided groups = (g : ℕ) (aspects : Aspects) (run : Run) (shown : �
 -- The message assembled from an aspect, if a train has missed these balises: it is accepted if and only if
 -- their declared duplicates are read. It then equals the message with nothing missed, and is reached.
 pub record IsSoundIfCovered (group : Telegrams) (run : Run) (missed : ℕ → Bool) : Type 0 where
-  pub accepted : IsCovered group missed ↔ IsAccepted run (reading_of run missed group)
+  pub accepted : IsCovered group missed ↔ IsAccepted run (group_reading run missed group)
   pub sound : IsCovered group missed → IsSoundReading group run missed
 
 -- Every telegram and message of the line has exactly one record. For each aspect of every group, running

@@ -1,4 +1,4 @@
-//! Checks the document of a railway line.
+//! `check_text`: reads the document of a railway line and checks the line, with a `Verdict` as its result.
 
 ghost use Rattle.std.specs.Prelude.{◌≡◌, ◌≢◌, ◌↔◌, ℕ, Bool, false, [], Option, IfOk};
 ghost use Rattle.std.specs.Str.{is_utf8};
@@ -7,7 +7,7 @@ ghost use Rattle.etcs_group.specs.Laws.{IsDecided, IsMixtureDecided};
 ghost use Rattle.etcs_group.specs.Missed.{IsSetOf};
 ghost use Rattle.etcs_group.specs.Mixture.{Fits};
 ghost use Rattle.etcs_group.specs.Places.{At};
-ghost use Rattle.etcs_group.specs.Reading.{reading_of};
+ghost use Rattle.etcs_group.specs.Reading.{group_reading};
 ghost use Rattle.etcs_group.specs.Group.{Telegrams, Aspects};
 ghost use Rattle.etcs_check.specs.Soundness.{IsSoundControlled, IsSoundGroup};
 ghost use Rattle.etcs_document.specs.DocumentFault.{Gives};
@@ -49,7 +49,7 @@ pub fn check_text(alloc: Global, bytes: &[u8]) -> Result<Verdict, LineError>
     // Only what was missed decides whether a reading of a sound aspect is accepted, whatever else is found.
     ensures decided { IfOk result (λ v. (g a : ℕ) (aspects : Aspects) (group : Telegrams)
         (run : Run) (missed : ℕ → Bool) → At v.line.groups.items g aspects → At aspects a group
-        → IsSoundGroup group → IsSetOf group missed → IsDecided run group missed (reading_of run missed group)) }
+        → IsSoundGroup group → IsSetOf group missed → IsDecided run group missed (group_reading run missed group)) }
 
     // A mixture of a sound group's aspects is accepted if and only if it is covered and one aspect has all
     // that it shows, whatever else is found. Its packets are then the packets of that aspect.

@@ -1,4 +1,4 @@
-//! Reads the document of a railway line.
+//! `read_line`: reads the document of a railway line into a `Line`.
 
 ghost use Rattle.std.specs.Prelude.{◌≡◌, [], false};
 ghost use Rattle.std.specs.Str.{is_utf8};

@@ -1,4 +1,4 @@
-//! The aspects of a group, each with its balises.
+//! `read_aspect`: an aspect of a group in a document, with its balises.
 
 ghost use Rattle.std.specs.Prelude.{◌≡◌, map};
 ghost use Rattle.serde_json.specs.View.{view};

@@ -1,4 +1,4 @@
-//! The groups of a document.
+//! `read_groups`: the balise groups of a document, each with its aspects.
 
 ghost use Rattle.std.specs.Prelude.{◌∷◌, [], ◌<◌, map};
 ghost use Rattle.serde_json.specs.View.{view};

@@ -1,4 +1,4 @@
-//! The radio messages of a document.
+//! `read_messages`: the radio messages of a document.
 
 ghost use Rattle.std.specs.Prelude.{map};
 ghost use Rattle.serde_json.specs.View.{view};

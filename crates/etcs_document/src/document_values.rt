@@ -1,4 +1,4 @@
-//! The lists of a document, before their values are read.
+//! The lists of a document as JSON values, before their items are read: `values_at` and `only_values`.
 
 ghost use Rattle.std.specs.Prelude.{map};
 ghost use Rattle.serde_json.specs.View.{view};

@@ -1,4 +1,4 @@
-//! Why bytes are not the document of a railway line.
+//! `LineError`: why bytes are not the document of a railway line.
 
 ghost use Rattle.std.specs.Prelude.{◌≡◌, ◌++◌, IfSome, IsSomeAnd};
 ghost use Rattle.etcs_document.specs.Document.{group_path};

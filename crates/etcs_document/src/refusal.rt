@@ -1,4 +1,4 @@
-//! `Refusal`: why an input is refused, and the text of the refusal.
+//! `Refusal`, with `LineFault` and `StreamFault`: why an input is refused. `refusal_text` writes its text.
 
 ghost use Rattle.std.specs.Prelude.{◌≡◌, ◌++◌, codes, map, string_bytes, IfOk};
 ghost use Rattle.etcs_schema.specs.Fault.{step_view};

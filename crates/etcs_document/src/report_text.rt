@@ -1,4 +1,4 @@
-//! `report`: the findings of a line, as text.
+//! `report`: the findings of a line, as text, with their counts.
 
 ghost use Rattle.std.specs.Prelude.{◌≡◌, ◌++◌, length, string_bytes, IfOk, OnOk};
 ghost use Rattle.etcs_document.specs.ReportText.{direction_words, finding_words, findings_words, part_words, place_words, report_words, rule_words, site_words};

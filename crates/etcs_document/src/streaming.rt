@@ -1,5 +1,5 @@
-//! Streaming check: reads the document of a railway line and checks it group by group. `None` means
-//! undecided, not refused.
+//! Streaming check: `check_in_order` reads the document of a railway line and checks it group by group, with a
+//! `Checked` as its result. `None` means undecided, not refused.
 
 ghost use Rattle.std.specs.Prelude.{◌≡◌, ◌∷◌, [], false, List, Ok, IfOk, IfSome, IsTrue};
 ghost use Rattle.std.specs.Str.{is_utf8};

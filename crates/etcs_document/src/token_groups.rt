@@ -1,4 +1,4 @@
-//! The groups and the messages of a document, read from tokens.
+//! The trait `FromTokens`: the groups and the messages of a document, read from a `TokenReader`.
 
 ghost use Rattle.std.specs.Prelude.{IfSome};
 ghost use Rattle.serde_json.specs.Data.{Data};

@@ -1,6 +1,6 @@
-//! Fast path: the tokens of a document, read one by one from its bytes. They are the tokens that `json` gives
-//! for the text. Strings without escapes only. `false` or `None` is inconclusive; the caller then uses the
-//! full reader.
+//! Fast path: `TokenReader` reads the tokens of a document one by one from its bytes. They are the tokens that `json`
+//! gives for the text. Strings without escapes only. `false` or `None` is inconclusive; the caller then uses the full
+//! reader.
 
 ghost use Rattle.std.specs.Prelude.{◌≡◌, ◌≤◌, ◌∷◌, [], false, length, None, Some, IfSome, IsFalse, IsTrue};
 ghost use Rattle.std.specs.Bool.{MatchBool};

@@ -1,4 +1,4 @@
-//! The verdict on a line.
+//! `Verdict`: a line and its findings. `is_yes` is true if there are none.
 
 ghost use Rattle.std.specs.Prelude.{◌≡◌, ◌↔◌, [], IsTrue};
 

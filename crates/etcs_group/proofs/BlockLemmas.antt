@@ -13,7 +13,7 @@ use Rattle.etcs_telegram.specs.Record.{Telegram}
 use Rattle.etcs_group.specs.Places.{At}
 use Rattle.etcs_group.specs.Group.{IsWellFormed}
 use Rattle.etcs_group.specs.Missed.{IsCovered, none_missed}
-use Rattle.etcs_group.specs.Reading.{reading_of}
+use Rattle.etcs_group.specs.Reading.{group_reading}
 use Rattle.etcs_group.specs.Packets.{held_packets, assembled, group_message, HasEqualPairs}
 use Rattle.etcs_group.specs.Laws.{ReadingsSayTheSame}
 use Rattle.etcs_group.proofs.PlaceLemmas.{one_at}
@@ -145,7 +145,7 @@ module _ (group : List Telegram) (run : Run) (missed : ℕ → Bool) (formed : I
 
 -- ---- the law
 
-packets-same : (run : Run) (group : List Telegram) (missed : ℕ → Bool) → IsWellFormed group → IsCovered group missed → HasEqualPairs run group → assembled run (reading_of run missed group) ≡ group_message run group
+packets-same : (run : Run) (group : List Telegram) (missed : ℕ → Bool) → IsWellFormed group → IsCovered group missed → HasEqualPairs run group → assembled run (group_reading run missed group) ≡ group_message run group
 packets-same run group missed formed covered equal =
     packets-passed group run missed formed ∙ passed-same group run missed formed covered equal ∙ sym (said-passed group formed run)
 

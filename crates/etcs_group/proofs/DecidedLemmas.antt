@@ -11,7 +11,7 @@ use Rattle.etcs_group.specs.declared.refused.Refused.TheVariants as reasons
 use Rattle.etcs_group.specs.Places.{At, least, IsLeast}
 use Rattle.etcs_group.specs.Group.{named_neighbour, partner_place, AreAlike, IsWellFormed, HasOneCounter}
 use Rattle.etcs_group.specs.Missed.{IsSetOf, IsCovered, IsLost}
-use Rattle.etcs_group.specs.Reading.{reading_of}
+use Rattle.etcs_group.specs.Reading.{group_reading}
 use Rattle.etcs_group.specs.Assembly.{are_in_order, names, header_disagrees, is_misplaced, is_absent, position_count, first_refusal}
 use Rattle.etcs_group.specs.Laws.{ReadingsAreDecided}
 use Rattle.etcs_group.proofs.PlaceLemmas.{some_at, at_list_any, list_any-none, least-none, least-some, least-none_says}
@@ -26,19 +26,19 @@ stands_for t p = eqb t.header.position p || names t p
 module _ (run : Run) (group : List Telegram) (missed : ℕ → Bool) (formed : IsWellFormed group) where
   -- ---- only a position can be missing
 
-  like_first : (i : ℕ) (t first : Telegram) → At group 0 first → At (reading_of run missed group) i t → AreAlike t first × (t.header.total + 1 ≡ length group)
+  like_first : (i : ℕ) (t first : Telegram) → At group 0 first → At (group_reading run missed group) i t → AreAlike t first × (t.header.total + 1 ≡ length group)
   like_first i t first at e =
       let p = reading-at group missed run i t e in
       (formed.alike p.0 t first p.1 at, formed.counted p.0 t p.1)
 
-  first_of : (i : ℕ) (t : Telegram) → At (reading_of run missed group) i t → (first : Telegram) × At group 0 first
+  first_of : (i : ℕ) (t : Telegram) → At (group_reading run missed group) i t → (first : Telegram) × At group 0 first
   first_of i t e =
       let p = reading-at group missed run i t e in
       let within : p.0 < length group = slice_get_within group p.0 t p.1 in
       some_at group 0 (omega arith)
 
-  read_disagrees : (i : ℕ) → header_disagrees (reading_of run missed group) i ≡ false
-  read_disagrees = disagrees-none (reading_of run missed group)
+  read_disagrees : (i : ℕ) → header_disagrees (group_reading run missed group) i ≡ false
+  read_disagrees = disagrees-none (group_reading run missed group)
       (λ i j t u e f.
       let first = first_of i t e in
       alike-both t u first.0 (like_first i t first.0 first.1 e).0 (like_first j u first.0 first.1 f).0)
@@ -52,8 +52,8 @@ module _ (run : Run) (group : List Telegram) (missed : ℕ → Bool) (formed : I
   read_after runs.Nominal b c t u e f lt = lt-ltb _ _ (omega arith)
   read_after runs.Reverse b c t u e f lt = lt-ltb _ _ (omega arith)
 
-  read_misplaced : (i : ℕ) → is_misplaced run (reading_of run missed group) i ≡ false
-  read_misplaced = misplaced-none run (reading_of run missed group)
+  read_misplaced : (i : ℕ) → is_misplaced run (group_reading run missed group) i ≡ false
+  read_misplaced = misplaced-none run (group_reading run missed group)
       (λ i t e. let p = reading-at group missed run i t e in
       let w = slice_get_within group p.0 t p.1 in
       let m = formed.counted p.0 t p.1 in
@@ -61,7 +61,7 @@ module _ (run : Run) (group : List Telegram) (missed : ℕ → Bool) (formed : I
       (λ i j t u lt e f. let r = reading-order group missed run i j t u lt e f in
       read_after run r.0 r.1 t u (formed.placed r.0 t r.3) (formed.placed r.1 u r.4) r.2)
 
-  read_counters : HasOneCounter group → HasOneCounter (reading_of run missed group)
+  read_counters : HasOneCounter group → HasOneCounter (group_reading run missed group)
   read_counters one = record {
     agrees = λ i t e. let p = reading-at group missed run i t e in one.agrees p.0 t p.1;
     equal = λ i j t u e f m n.
@@ -70,16 +70,16 @@ module _ (run : Run) (group : List Telegram) (missed : ℕ → Bool) (formed : I
         one.equal p.0 q.0 t u p.1 q.1 m n;
   }
 
-  read_positions : 0 < length (reading_of run missed group) → position_count (reading_of run missed group) ≡ length group
+  read_positions : 0 < length (group_reading run missed group) → position_count (group_reading run missed group) ≡ length group
   read_positions long =
-      let first = some_at (reading_of run missed group) 0 long in
+      let first = some_at (group_reading run missed group) 0 long in
       let p = reading-at group missed run 0 first.0 first.1 in
-      positions-at (reading_of run missed group) first.0 first.1 ∙ formed.counted p.0 first.0 p.1
+      positions-at (group_reading run missed group) first.0 first.1 ∙ formed.counted p.0 first.0 p.1
 
   -- ---- a position is absent if and only if its balise is lost
 
-  absent-lost : (b : ℕ) → b < length group → IsLost group missed b → is_absent (reading_of run missed group) b ≡ true
-  absent-lost b lt h = not_from_false _ (list_any-none (λ u. stands_for u b) (reading_of run missed group) (λ i u e.
+  absent-lost : (b : ℕ) → b < length group → IsLost group missed b → is_absent (group_reading run missed group) b ≡ true
+  absent-lost b lt h = not_from_false _ (list_any-none (λ u. stands_for u b) (group_reading run missed group) (λ i u e.
       let q = reading-at group missed run i u e in
       let placed = formed.placed q.0 u q.1 in
       or_from _ _
@@ -90,33 +90,33 @@ module _ (run : Run) (group : List Telegram) (missed : ℕ → Bool) (formed : I
       let gone : missed q.0 ≡ true = subst (λ o. MatchOption o ⊤ (λ p. IsTrue (missed p))) back h.1 in
       both_ways (missed q.0) q.2 gone))))
 
-  there-read : (b : ℕ) → b < length group → missed b ≡ false → is_absent (reading_of run missed group) b ≡ false
+  there-read : (b : ℕ) → b < length group → missed b ≡ false → is_absent (group_reading run missed group) b ≡ false
   there-read b lt m =
       let t = some_at group b lt in
       let r = at-reading group missed run b t.0 t.1 m in
-      not_from_true _ (at_list_any (λ u. stands_for u b) (reading_of run missed group) r.0 t.0 r.1 (or_left _ _ (eq-eqb _ _ (formed.placed b t.0 t.1))))
+      not_from_true _ (at_list_any (λ u. stands_for u b) (group_reading run missed group) r.0 t.0 r.1 (or_left _ _ (eq-eqb _ _ (formed.placed b t.0 t.1))))
 
-  there-named : (b q : ℕ) → partner_place group b ≡ Some q → missed q ≡ false → is_absent (reading_of run missed group) b ≡ false
+  there-named : (b q : ℕ) → partner_place group b ≡ Some q → missed q ≡ false → is_absent (group_reading run missed group) b ≡ false
   there-named b q e m =
       let back = partner-says group q b (formed.answered b q e) in
       let r = at-reading group missed run q back.0 back.1 m in
       let n : named_neighbour back.0.header.dup back.0.header.position ≡ Some b = ap (named_neighbour back.0.header.dup) (formed.placed q back.0 back.1) ∙ back.2 in
-      not_from_true _ (at_list_any (λ u. stands_for u b) (reading_of run missed group) r.0 back.0 r.1 (or_right _ _ (test_from-named back.0.header.dup back.0.header.position b n)))
+      not_from_true _ (at_list_any (λ u. stands_for u b) (group_reading run missed group) r.0 back.0 r.1 (or_right _ _ (test_from-named back.0.header.dup back.0.header.position b n)))
 
   -- each place is lost, or its position is there
-  lost_or_there : (b : ℕ) → b < length group → IsLost group missed b ⊎ (is_absent (reading_of run missed group) b ≡ false)
+  lost_or_there : (b : ℕ) → b < length group → IsLost group missed b ⊎ (is_absent (group_reading run missed group) b ≡ false)
   lost_or_there b lt = elim (cases_Bool (missed b)) [
     | inr kept ↦ inr (there-read b lt kept)
     | inl gone ↦ by_partner gone (partner_place group b) refl
   ]
     where
-      by_missed : missed b ≡ true → (q : ℕ) → partner_place group b ≡ Some q → IsLost group missed b ⊎ (is_absent (reading_of run missed group) b ≡ false)
+      by_missed : missed b ≡ true → (q : ℕ) → partner_place group b ≡ Some q → IsLost group missed b ⊎ (is_absent (group_reading run missed group) b ≡ false)
       by_missed gone q e = elim (cases_Bool (missed q)) [
         | inl both ↦ inl (gone, rw e both)
         | inr one ↦ inr (there-named b q e one)
       ]
 
-      by_partner : missed b ≡ true → (o : Option ℕ) → partner_place group b ≡ o → IsLost group missed b ⊎ (is_absent (reading_of run missed group) b ≡ false)
+      by_partner : missed b ≡ true → (o : Option ℕ) → partner_place group b ≡ o → IsLost group missed b ⊎ (is_absent (group_reading run missed group) b ≡ false)
       by_partner gone None e = inl (gone, rw e tt)
       by_partner gone (Some q) e = by_missed gone q e
 
@@ -149,7 +149,7 @@ readings_are_decided run group missed formed one long set = record {
 }
   where
     s : List Telegram
-    s = reading_of run missed group
+    s = group_reading run missed group
 
     by_refusal : 0 < length s → first_refusal run s ≡ option_map reasons.Absent (least (length group) (is_absent s))
     by_refusal lt =

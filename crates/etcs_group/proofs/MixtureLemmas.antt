@@ -13,7 +13,7 @@ use Rattle.etcs_telegram.specs.Record.{Telegram}
 use Rattle.etcs_group.specs.Places.{At, least}
 use Rattle.etcs_group.specs.Group.{named_neighbour, partner_place, HasOneCounter}
 use Rattle.etcs_group.specs.Missed.{is_missed, IsSetOf, IsCovered, none_missed}
-use Rattle.etcs_group.specs.Reading.{in_passing_order, reading_of}
+use Rattle.etcs_group.specs.Reading.{in_passing_order, group_reading}
 use Rattle.etcs_group.specs.Assembly.{IsAccepted}
 use Rattle.etcs_group.specs.Packets.{assembled}
 use Rattle.etcs_group.specs.Controlled.{balise_count, IsControlled, Shows, IsFixed, AreOneGroup}
@@ -62,7 +62,7 @@ one_counter group makes = record {
       full.one_counter.equal r.0 q.0 t u r.1 q.1 low low';
 }
   where
-    full : IsAccepted runs.Nominal (reading_of runs.Nominal none_missed group)
+    full : IsAccepted runs.Nominal (group_reading runs.Nominal none_missed group)
     full = makes.accepted runs.Nominal none_missed (λ b m. absurd (both_ways false refl m)) (λ b m. absurd (both_ways false refl m))
 
 -- ---- what is shown, place by place
@@ -134,7 +134,7 @@ module _ (aspects : List (List Telegram)) (shown : ℕ → Option ℕ) (is : IsC
             let s' : shown_telegram aspects shown i ≡ Some t = s.2 ∙ ap Some same in
             rw (m, s') (ap (λ l. t ∷ l) ih)
 
-    mixed_reading : (run : Run) → mixture_reading run aspects shown ≡ reading_of run (shows_nothing aspects shown) group
+    mixed_reading : (run : Run) → mixture_reading run aspects shown ≡ group_reading run (shows_nothing aspects shown) group
     mixed_reading run =
         let whole : 0 + length group ≡ balise_count aspects = omega arith in
         ap (in_passing_order run) (
@@ -237,7 +237,7 @@ module _ (aspects : List (List Telegram)) (shown : ℕ → Option ℕ) (is : IsC
     marks_of : (a b : ℕ) (g h : List Telegram) → At aspects a g → At aspects b h → (p : ℕ) (t u : Telegram) → At g p t → At h p u → t.header.dup ≡ u.header.dup
     marks_of a b g h at at' p t u x y = marks a b p t u (g, at, x) (h, at', y)
 
-    decided_in : (a : ℕ) (group : List Telegram) → At aspects a group → IsDecided run group (shows_nothing aspects shown) (reading_of run (shows_nothing aspects shown) group)
+    decided_in : (a : ℕ) (group : List Telegram) → At aspects a group → IsDecided run group (shows_nothing aspects shown) (group_reading run (shows_nothing aspects shown) group)
     decided_in a group at =
         let long = is.counts a group at in
         let some = is.balises in

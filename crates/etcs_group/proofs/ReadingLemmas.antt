@@ -8,7 +8,7 @@ use Rattle.etcs_profile.specs.declared.run.Run.{Run}
 use Rattle.etcs_profile.specs.declared.run.Run.TheVariants as runs
 use Rattle.etcs_telegram.specs.Record.{Telegram}
 use Rattle.etcs_group.specs.Places.{At}
-use Rattle.etcs_group.specs.Reading.{reading_of}
+use Rattle.etcs_group.specs.Reading.{group_reading}
 use Rattle.etcs_group.proofs.PlaceLemmas.{At-reverse}
 
 -- the telegrams that are kept; the first of the list is at place i
@@ -102,18 +102,18 @@ module _ (group : List Telegram) (missed : ℕ → Bool) where
       let k' : At (kept_from 0 missed group) j u = rw (← kept-is missed group) k in
       kept-order 0 missed group i j t u lt h' k'
 
-  pub reading-at : (run : Run) (a : ℕ) (t : Telegram) → At (reading_of run missed group) a t → (b : ℕ) × At group b t × (missed b ≡ false)
+  pub reading-at : (run : Run) (a : ℕ) (t : Telegram) → At (group_reading run missed group) a t → (b : ℕ) × At group b t × (missed b ≡ false)
   reading-at runs.Nominal a t h = in_kept a t h
   reading-at runs.Reverse a t h = let q = At-reverse (kept missed group) a t h in in_kept q.0 t q.1
 
-  pub at-reading : (run : Run) (b : ℕ) (t : Telegram) → At group b t → missed b ≡ false → (a : ℕ) × At (reading_of run missed group) a t
+  pub at-reading : (run : Run) (b : ℕ) (t : Telegram) → At group b t → missed b ≡ false → (a : ℕ) × At (group_reading run missed group) a t
   at-reading runs.Nominal b t h m = to_kept b t h m
   at-reading runs.Reverse b t h m = let r = to_kept b t h m in reversed (kept missed group) r.0 t r.1
     where
       reversed : (xs : List Telegram) (i : ℕ) (x : Telegram) → At xs i x → (j : ℕ) × At (reverse xs) j x
       reversed xs i x h = let h' : At (reverse (reverse xs)) i x = rw reverse-reverse h in let r = At-reverse (reverse xs) i x h' in (r.0, r.1)
 
-  pub reading-order : (run : Run) (i j : ℕ) (t u : Telegram) → i < j → At (reading_of run missed group) i t → At (reading_of run missed group) j u → (b c : ℕ) × IsPassedBefore run b c × At group b t × At group c u
+  pub reading-order : (run : Run) (i j : ℕ) (t u : Telegram) → i < j → At (group_reading run missed group) i t → At (group_reading run missed group) j u → (b c : ℕ) × IsPassedBefore run b c × At group b t × At group c u
   reading-order runs.Nominal i j t u lt h k = ordered i j t u lt h k
   reading-order runs.Reverse i j t u lt h k =
       let p = At-reverse (kept missed group) i t h in
@@ -124,18 +124,18 @@ module _ (group : List Telegram) (missed : ℕ → Bool) where
       (r.1, r.0, r.2, r.4, r.3)
 
   -- if all is missed, nothing is read
-  pub all_missed : (run : Run) → ((b : ℕ) → b < length group → IsTrue (missed b)) → reading_of run missed group ≡ []
-  all_missed run h = go (reading_of run missed group) refl
+  pub all_missed : (run : Run) → ((b : ℕ) → b < length group → IsTrue (missed b)) → group_reading run missed group ≡ []
+  all_missed run h = go (group_reading run missed group) refl
     where
-      go : (s : List Telegram) → reading_of run missed group ≡ s → s ≡ []
+      go : (s : List Telegram) → group_reading run missed group ≡ s → s ≡ []
       go [] e = refl
       go (t ∷ ts) e =
-          let at : At (reading_of run missed group) 0 t = rw e refl in
+          let at : At (group_reading run missed group) 0 t = rw e refl in
           let r = reading-at run 0 t at in
           absurd (both_ways (missed r.0) r.2 (h r.0 (slice_get_within group r.0 t r.1)))
 
   -- if one is not missed, something is read
-  pub reading-some : (run : Run) (b : ℕ) (t : Telegram) → At group b t → missed b ≡ false → reading_of run missed group ≢ []
+  pub reading-some : (run : Run) (b : ℕ) (t : Telegram) → At group b t → missed b ≡ false → group_reading run missed group ≢ []
   reading-some run b t at kept none =
       let r = at-reading run b t at kept in
       none-some t (sym (ap (λ (s : List Telegram). slice_get s r.0) none) ∙ r.1)

@@ -13,7 +13,7 @@ use Rattle.etcs_telegram.specs.Record.{Telegram}
 use Rattle.etcs_group.specs.Places.{At}
 use Rattle.etcs_group.specs.Group.{named_neighbour, IsWellFormed}
 use Rattle.etcs_group.specs.Missed.{none_missed}
-use Rattle.etcs_group.specs.Reading.{reading_of}
+use Rattle.etcs_group.specs.Reading.{group_reading}
 use Rattle.etcs_group.specs.Assembly.{names}
 use Rattle.etcs_group.specs.Packets.{held_packets, given_packets, assembled, is_silent, balise_packets, group_message}
 use Rattle.etcs_group.proofs.PlaceLemmas.{some_at, one_at, at_list_any, list_any-at, At-take, at_take}
@@ -69,11 +69,11 @@ passed_same runs.Reverse b h = omega arith
 module _ (group : List Telegram) (run : Run) (missed : ℕ → Bool) (formed : IsWellFormed group) where
   -- the telegram that a duplicate flag names is read earlier if and only if its balise is read and passed
   -- before
-  quiet-read : (i : ℕ) (t : Telegram) → At (reading_of run missed group) i t → list_any (λ u. names t u.header.position) (take i (reading_of run missed group)) ≡ is_quiet run missed t.header.dup t.header.position
+  quiet-read : (i : ℕ) (t : Telegram) → At (group_reading run missed group) i t → list_any (λ u. names t u.header.position) (take i (group_reading run missed group)) ≡ is_quiet run missed t.header.dup t.header.position
   quiet-read i t e = same_bool _ _ forth back
     where
       s : List Telegram
-      s = reading_of run missed group
+      s = group_reading run missed group
 
       forth : list_any (λ u. names t u.header.position) (take i s) ≡ true → is_quiet run missed t.header.dup t.header.position ≡ true
       forth h =
@@ -116,9 +116,9 @@ module _ (group : List Telegram) (run : Run) (missed : ℕ → Bool) (formed : I
           ]
 
   -- the packets of a reading, by the places of the group
-  pub packets-passed : assembled run (reading_of run missed group) ≡ passed run (part run missed) 0 group
+  pub packets-passed : assembled run (group_reading run missed group) ≡ passed run (part run missed) 0 group
   packets-passed =
-      flat_enumerated (given_packets run (reading_of run missed group)) f 0 (reading_of run missed group) given
+      flat_enumerated (given_packets run (group_reading run missed group)) f 0 (group_reading run missed group) given
       ∙ joined_by-is run f (kept missed group)
       ∙ ap (joined_by run f) (kept-is missed group)
       ∙ passed_kept run f missed 0 group
@@ -129,10 +129,10 @@ module _ (group : List Telegram) (run : Run) (missed : ℕ → Bool) (formed : I
       f : Telegram → List TrackPacket
       f t = cond (is_quiet run missed t.header.dup t.header.position) [] (held_packets run t)
 
-      given : (k : ℕ) (t : Telegram) → At (reading_of run missed group) k t → given_packets run (reading_of run missed group) (0 + k) t ≡ f t
+      given : (k : ℕ) (t : Telegram) → At (group_reading run missed group) k t → given_packets run (group_reading run missed group) (0 + k) t ≡ f t
       given k t e =
           let z : 0 + k ≡ k = omega arith in
-          ap (λ n. given_packets run (reading_of run missed group) n t) z ∙ ap (λ b. cond b [] (held_packets run t)) (quiet-read k t e)
+          ap (λ n. given_packets run (group_reading run missed group) n t) z ∙ ap (λ b. cond b [] (held_packets run t)) (quiet-read k t e)
 
 -- ---- the message of a group, by its places
 
@@ -163,5 +163,5 @@ module _ (group : List Telegram) (formed : IsWellFormed group) where
       ap (λ s. cond s [] (held_packets run t)) (silent-quiet run (0 + k) t (subst (λ n. At group n t) (sym z) e)))
 
   -- with nothing missed the packets are the message of the group
-  pub said-packets : (run : Run) → group_message run group ≡ assembled run (reading_of run none_missed group)
+  pub said-packets : (run : Run) → group_message run group ≡ assembled run (group_reading run none_missed group)
   said-packets run = said-passed run ∙ sym (packets-passed group run none_missed formed)

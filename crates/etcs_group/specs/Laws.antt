@@ -5,7 +5,7 @@ use Rattle.etcs_group.specs.declared.refused.Refused.TheVariants as reasons
 use Rattle.etcs_group.specs.Places.{At, IsLeast}
 use Rattle.etcs_group.specs.Group.{IsWellFormed, HasOneCounter, Telegrams, Aspects}
 use Rattle.etcs_group.specs.Missed.{IsSetOf, IsCovered, IsLost, none_missed}
-use Rattle.etcs_group.specs.Reading.{reading_of}
+use Rattle.etcs_group.specs.Reading.{group_reading}
 use Rattle.etcs_group.specs.Assembly.{IsAccepted, first_refusal}
 use Rattle.etcs_group.specs.Packets.{assembled, group_message, HasEqualPairs}
 use Rattle.etcs_group.specs.Controlled.{IsControlled, AreOneGroup}
@@ -27,14 +27,14 @@ pub record IsDecided (run : Run) (group : Telegrams) (missed : ℕ → Bool) (s 
 abbrev pub ReadingsAreDecided : Type 0
 ReadingsAreDecided = (run : Run) (group : Telegrams) (missed : ℕ → Bool)
     → IsWellFormed group → HasOneCounter group → 0 < length group → IsSetOf group missed
-    → IsDecided run group missed (reading_of run missed group)
+    → IsDecided run group missed (group_reading run missed group)
 
 -- The message of a group is the message of its reading with nothing missed. If each balise and its partner
 -- have equal packets, it is the message of each covered reading too.
 pub record SaysTheSame (run : Run) (group : Telegrams) : Type 0 where
-  pub full : group_message run group ≡ assembled run (reading_of run none_missed group)
+  pub full : group_message run group ≡ assembled run (group_reading run none_missed group)
   pub covered : HasEqualPairs run group → (missed : ℕ → Bool) → IsCovered group missed
-      → assembled run (reading_of run missed group) ≡ group_message run group
+      → assembled run (group_reading run missed group) ≡ group_message run group
 
 -- Each well-formed group has the message of its reading with nothing missed, and the message of each covered
 -- reading if each balise and its partner have equal packets.
@@ -48,9 +48,9 @@ ReadingsSayTheSame = (run : Run) (group : Telegrams) → IsWellFormed group → 
 pub record MakesOneMessage (group : Telegrams) : Type 0 where
   pub formed : IsWellFormed group
   pub accepted : (run : Run) (missed : ℕ → Bool) → IsSetOf group missed → IsCovered group missed
-      → IsAccepted run (reading_of run missed group)
+      → IsAccepted run (group_reading run missed group)
   pub same : (run : Run) (missed : ℕ → Bool) → IsSetOf group missed → IsCovered group missed
-      → assembled run (reading_of run missed group) ≡ assembled run (reading_of run none_missed group)
+      → assembled run (group_reading run missed group) ≡ assembled run (group_reading run none_missed group)
 
 -- A mixture is accepted if and only if it is covered and one aspect has all that it shows. Its message is
 -- then the message of this aspect with nothing missed.
@@ -59,7 +59,7 @@ pub record IsMixtureDecided (run : Run) (aspects : Aspects) (shown : ℕ → Opt
       × ((a : ℕ) × (group : Telegrams) × At aspects a group × HasAllShown aspects shown group))
   pub packets : (a : ℕ) (group : Telegrams) → At aspects a group → HasAllShown aspects shown group
       → IsAccepted run (mixture_reading run aspects shown)
-      → assembled run (mixture_reading run aspects shown) ≡ assembled run (reading_of run none_missed group)
+      → assembled run (mixture_reading run aspects shown) ≡ assembled run (group_reading run none_missed group)
 
 -- The law about mixtures, for a controlled group whose aspects make one message each and, if there are two
 -- or more, are contents of one group and distinguished by their counters.

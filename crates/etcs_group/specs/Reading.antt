@@ -12,6 +12,6 @@ in_passing_order runs.Nominal xs = xs
 in_passing_order runs.Reverse xs = reverse xs
 
 -- the reading of a group: the telegrams whose places are not missed
-abbrev pub reading_of : Run → (ℕ → Bool) → Telegrams → Telegrams
-reading_of run missed group =
+abbrev pub group_reading : Run → (ℕ → Bool) → Telegrams → Telegrams
+group_reading run missed group =
     in_passing_order run (map (λ e. e.1) (filter (λ e. not (missed e.0)) (enumerate_from 0 group)))

@@ -1,4 +1,5 @@
-//! The message that a train makes of the telegrams that it read.
+//! `assemble`: the message, a list of packets, that a train makes of the telegrams that it read, or why it makes
+//! none.
 
 ghost use Rattle.std.specs.Prelude.{◌≡◌, ◌≢◌, ◌++◌, [], Err, Some, IfErr, IfOk, OnErr, OnOk};
 ghost use Rattle.std.specs.List.{list_any};

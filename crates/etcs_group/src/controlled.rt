@@ -1,4 +1,4 @@
-//! A balise group that shows one of several contents.
+//! `Controlled`: a balise group that shows one of several contents, its aspects.
 
 ghost use Rattle.std.specs.Prelude.{◌≡◌, ◌↔◌, IfOk, IfErr, IsOk, IsTrue};
 ghost use Rattle.etcs_group.specs.Controlled.{IsControlled};

@@ -1,4 +1,4 @@
-//! A balise group.
+//! `Group`: a balise group, one to eight telegrams.
 
 ghost use Rattle.std.specs.Prelude.{◌≡◌, ◌↔◌, ◌<◌, ◌≤◌, length, IfOk, IfErr, IsOk};
 

@@ -1,4 +1,5 @@
-//! The header fields that place a telegram in a message.
+//! Functions on the headers of telegrams that were read: position, total, counter, duplicates, and whether the
+//! telegrams are in order.
 
 ghost use Rattle.std.specs.Prelude.{◌≡◌, ◌<◌, ◌==◌, ◌||◌};
 ghost use Rattle.etcs_group.specs.Assembly.{are_in_order, names};

@@ -1,4 +1,4 @@
-//! Balises that a train misses, and whether it reads a duplicate of each.
+//! `Missed`: the set of balises that a train misses. `is_covered`: whether the train reads a duplicate of each.
 
 ghost use Rattle.std.specs.Prelude.{◌≡◌, ◌↔◌, ◌≤◌, length, IsFalse, IsSomeAnd, IsTrue};
 ghost use Rattle.etcs_group.specs.Group.{partner_place};

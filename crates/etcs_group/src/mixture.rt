@@ -1,4 +1,5 @@
-//! What a train reads of a group that is switched while it passes.
+//! `Mixture`: which aspect each balise shows, if a group is switched while a train passes. `Controlled::mixed` gives
+//! what the train reads.
 
 ghost use Rattle.std.specs.Prelude.{◌≡◌, ◌≢◌, ◌↔◌, ℕ, ◌<◌, ◌≤◌, [], length, Some, None, IfOk, IsTrue, MatchOption, OnErr};
 ghost use Rattle.etcs_group.specs.Controlled.{IsControlled, balise_count};

@@ -1,9 +1,10 @@
-//! What a train reads of a group.
+//! `Group::reading`: the telegrams that a train reads of a group, in the order in which it passes the balises, if it
+//! misses some. No types.
 
 ghost use Rattle.std.specs.Prelude.{◌≡◌, ◌≢◌, [], IfOk, OnErr};
 ghost use Rattle.etcs_group.specs.Missed.{is_missed};
 ghost use Rattle.etcs_group.specs.Places.{pointed};
-ghost use Rattle.etcs_group.specs.Reading.{reading_of};
+ghost use Rattle.etcs_group.specs.Reading.{group_reading};
 
 use crate::group::Group;
 use crate::missed::Missed;
@@ -20,8 +21,8 @@ impl Group {
     /// Allocates only if something is read. The only error is that memory runs out; then no list is
     /// returned.
     pub fn reading(&self, alloc: Global, run: Run, missed: Missed) -> Result<Vec<&Telegram>, Memory>
-        ensures ok { IfOk result (λ read. pointed read.items ≡ reading_of run (is_missed missed.0) self.now) }
-        ensures memory { OnErr result (reading_of run (is_missed missed.0) self.now ≢ []) }
+        ensures ok { IfOk result (λ read. pointed read.items ≡ group_reading run (is_missed missed.0) self.now) }
+        ensures memory { OnErr result (group_reading run (is_missed missed.0) self.now ≢ []) }
     {
         let telegrams = self.telegrams();
         let mut read = Vec::new(alloc);

@@ -1,4 +1,4 @@
-//! The first reason to refuse telegrams, found without allocating.
+//! `first_refusal`: the first reason to refuse telegrams that were read, found without allocating.
 
 ghost use Rattle.std.specs.Prelude.{◌≡◌, ◌<◌, length};
 ghost use Rattle.etcs_group.specs.Places.{least, pointed};

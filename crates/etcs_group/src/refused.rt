@@ -1,4 +1,4 @@
-//! Why telegrams make no message.
+//! `Refused`: why telegrams that were read make no message.
 
 ghost use Rattle.std.specs.Prelude.{◌≡◌};
 ghost use Rattle.etcs_group.specs.declared.refused.Refused.TheVariants as reasons;

@@ -4,7 +4,7 @@
 -- qualifier in the form: its key is present or absent. Keys are in the order in which they are read.
 use Rattle.std.specs.Prelude.{◌≡◌, ◌⊎◌, true, codes, refl}
 use Rattle.etcs_schema.specs.Prelude.{inl, inr, option_rows, pair_rows, ranged}
-use Rattle.etcs_profile.specs.Authority.{AuthorityValue, WithMain, WithoutMain, again, authority_variable, numbered_of, authority_of_parts, v_main, with_main as with_main_layout, without_main as without_main_layout}
+use Rattle.etcs_profile.specs.Authority.{AuthorityValue, WithMain, WithoutMain, again, authority_variable, authority_parts, make_authority, v_main, with_main as with_main_layout, without_main as without_main_layout}
 use Rattle.etcs_profile.specs.Parts.{d_dp, d_endtimerstartloc, d_ol, d_sectiontimerstoploc, d_startol, danger_point as danger_point_layout, danger_point_struct, end_timer as end_timer_layout, end_timer_struct, l_section, overlap as overlap_layout, overlap_struct, section as section_layout, section_struct, section_timer as section_timer_layout, section_timer_struct, t_endtimer, t_ol, t_sectiontimer, v_releasedp, v_releaseol}
 use Rattle.etcs_profile.specs.Terms.{conditions_struct, l_endsection, t_loa, terms as terms_layout, v_loa}
 use Rattle.etcs_schema.specs.Choices.{Choice, numbered_members, chosen, either, last}
@@ -82,4 +82,4 @@ either_nid (inr p) = refl
 
 -- a movement authority; NID_PACKET is read before the other keys
 unfoldable pub authority : Codec AuthorityValue
-authority = renamed authority_of_parts numbered_of again (chosen (codes "nid_packet") (is_allowed (ranged 8 254 256)) either_authority (λ v _. either_nid v))
+authority = renamed make_authority authority_parts again (chosen (codes "nid_packet") (is_allowed (ranged 8 254 256)) either_authority (λ v _. either_nid v))

@@ -8,8 +8,8 @@ use Rattle.etcs_bits.specs.declared.variables.identity.Identity.{Identity}
 use Rattle.etcs_bits.specs.variables.Identity.{identity as identity_layout, identity_struct}
 use Rattle.etcs_radio.specs.Integrity.{length_numbered, q_length}
 use Rattle.etcs_radio.specs.Lrbg.{lrbg_rows}
-use Rattle.etcs_radio.specs.Report.{WithOne, WithTwo, again, d_lrbg, l_doubtover, l_doubtunder, m_mode, numbered_of, report_of, report_variable, situation as situation_layout, v_train, with_one as with_one_layout, with_two as with_two_layout}
-use Rattle.etcs_bits.specs.variables.Train3.{train3_names, train3_number, train3_of, train3_variable}
+use Rattle.etcs_radio.specs.Report.{WithOne, WithTwo, again, d_lrbg, l_doubtover, l_doubtunder, m_mode, report_parts, make_report, report_variable, situation as situation_layout, v_train, with_one as with_one_layout, with_two as with_two_layout}
+use Rattle.etcs_bits.specs.variables.Train3.{train3_names, train3_number, train3_value, train3_variable}
 use Rattle.etcs_radio.specs.declared.report.Report.{Report}
 use Rattle.etcs_bits.specs.declared.variables.train3.Train3.{Train3}
 use Rattle.etcs_schema.specs.Choices.{Choice, numbered_members, chosen, either, last}
@@ -37,7 +37,7 @@ lrbg country group = with_bits lrbg_rows lrbg_allowed (identity country group)
 
 -- Q_DIRLRBG, Q_DLRBG and Q_DIRTRAIN: a direction or a side, as seen from the group
 abbrev pub side : Codec Train3
-side = named_numbers train3_variable train3_number train3_of train3_names
+side = named_numbers train3_variable train3_number train3_value train3_names
 
 pub length_keys : (n : ℕ) → HasKeys (length_numbered.next n) (codes "l_trainint" ∷ [])
 length_keys n = keys_by _ _ _ (n == 0) tt (keys_by _ _ _ (n == 1) (λ _. tt) (keys_by _ _ _ (n == 2) (λ _. tt) tt))
@@ -79,4 +79,4 @@ either_nid (inr p) = refl
 
 -- a position report; NID_PACKET is read first
 unfoldable pub report : Codec Report
-report = renamed report_of numbered_of again (chosen (codes "nid_packet") (is_allowed (plain 1)) either_report (λ v _. either_nid v))
+report = renamed make_report report_parts again (chosen (codes "nid_packet") (is_allowed (plain 1)) either_report (λ v _. either_nid v))

@@ -7,7 +7,7 @@ use Rattle.std.specs.Prelude.{◌≡◌, ℕ, ◌+◌, Bool, true, List, Result,
 use Rattle.etcs_schema.specs.Prelude.{arith, le-leb, Data, Format, AreAllowed, alone, width, nid_bg, nid_c, ranged}
 use Rattle.etcs_bits.specs.declared.variables.direction.Dir.{Dir}
 use Rattle.etcs_profile.specs.Elements.{elements, profile_struct}
-use Rattle.etcs_profile.specs.Track.{d_gradient, g_a, gradient_element as gradient_layout, gradient_struct, d_link, link as link_layout, link_struct, q_linkreaction, q_locacc, d_static, difference as difference_layout, difference_struct, nc_diff, q_diff, speed_element as speed_layout, speed_struct, v_diff, v_static, NumberedTrackPacket, again, parts_of, track_of}
+use Rattle.etcs_profile.specs.Track.{d_gradient, g_a, gradient_element as gradient_layout, gradient_struct, d_link, link as link_layout, link_struct, q_linkreaction, q_locacc, d_static, difference as difference_layout, difference_struct, nc_diff, q_diff, speed_element as speed_layout, speed_struct, v_diff, v_static, NumberedTrackPacket, again, track_parts, make_track_packet}
 use Rattle.etcs_profile.specs.Packet.{rest}
 use Rattle.etcs_profile.specs.Profile.{Profile}
 use Rattle.etcs_profile.specs.declared.raw.RawPacket.{RawPacket}
@@ -105,4 +105,4 @@ track_numbered =
 
 -- NID_PACKET is read first; 255, the end mark, is the number of no packet
 abbrev pub track_packet : Codec TrackPacket
-track_packet = renamed track_of parts_of again (chosen (codes "nid_packet") (is_allowed (ranged 8 254 256)) track_numbered (λ v nid. nid_range (track_numbered.number v) nid.0 nid.1))
+track_packet = renamed make_track_packet track_parts again (chosen (codes "nid_packet") (is_allowed (ranged 8 254 256)) track_numbered (λ v nid. nid_range (track_numbered.number v) nid.0 nid.1))

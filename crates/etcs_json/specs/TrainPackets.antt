@@ -4,7 +4,7 @@ use Rattle.etcs_schema.specs.Prelude.{ranged}
 use Rattle.etcs_profile.specs.PacketNumbers.{nid_track as nid_train}
 use Rattle.etcs_radio.specs.RawTrain.{other_of, others as other_bits}
 use Rattle.etcs_radio.specs.TrainNumbers.{nid_raw}
-use Rattle.etcs_radio.specs.TrainPacket.{NumberedTrainPacket, again, parts_of, train_of}
+use Rattle.etcs_radio.specs.TrainPacket.{NumberedTrainPacket, again, train_parts, make_train_packet}
 use Rattle.etcs_radio.specs.declared.raw_train.RawTrainPacket.{RawTrainPacket}
 use Rattle.etcs_radio.specs.declared.train_packet.TrainPacket.{TrainPacket}
 use Rattle.etcs_schema.specs.Choices.{Choice, HasNumber, begins_with, chosen, either, others}
@@ -27,4 +27,4 @@ train_numbered = either with_one (either with_two raw refl) refl
 
 -- NID_PACKET is read first; 255, the end mark, is the number of no packet
 abbrev pub train_packet : Codec TrainPacket
-train_packet = renamed train_of parts_of again (chosen (codes "nid_packet") (is_allowed (ranged 8 254 256)) train_numbered (λ v nid. nid_range (train_numbered.number v) nid.0 nid.1))
+train_packet = renamed make_train_packet train_parts again (chosen (codes "nid_packet") (is_allowed (ranged 8 254 256)) train_numbered (λ v nid. nid_range (train_numbered.number v) nid.0 nid.1))

@@ -1,4 +1,5 @@
-//! Values with a JSON form.
+//! The traits `Form`, values with a JSON form that is read and written, and `WriteJson`, which writes a form token by
+//! token.
 
 ghost use Rattle.std.specs.Prelude.{◌≡◌, ◌∷◌, [], Some, Ok, IfOk, OnErr, OnOk};
 ghost use Rattle.serde_json.specs.Data.{Data};
@@ -61,7 +62,7 @@ pub trait Form: Drop {
 
 /// A value whose form can be written token by token, without a JSON value in memory.
 pub trait WriteJson: Form {
-    /// Writes the form to a writer of JSON, or to a [`LineText`](etcs_digits::LineText). Fails only if memory
+    /// Writes the form to a writer of JSON, or to a [`JsonLineWriter`](etcs_digits::JsonLineWriter). Fails only if memory
     /// runs out; part of the form might then be written.
     fn write_json<M: TokenWriter>(&self, out: &mut M) -> Result<(), Memory>
         ensures { OnOk result (M.adds (data_tokens (Self.codec.to self.now)) out.old out.new) };

@@ -1,4 +1,5 @@
-//! Reading the parts of a form.
+//! Functions that read the parts of a form, such as `read_list`, and the trait `Numbers`, variables that are read as
+//! whole numbers.
 
 ghost use Rattle.std.specs.Prelude.{◌≡◌, ◌==◌, ℕ, Bool, true, IfOk, IsOk};
 ghost use Rattle.etcs_schema.specs.Choices.{any_object, tag_member};

@@ -1,4 +1,4 @@
-//! Records whose forms are objects.
+//! The traits of records whose forms are objects: `Record`, `InRange`, `LayoutRecord` and `ObjectCodec`.
 
 ghost use Rattle.std.specs.Prelude.{◌≡◌, map, IsOk, OnOk};
 ghost use Rattle.std.specs.List.{flat_map};

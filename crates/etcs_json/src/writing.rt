@@ -1,4 +1,4 @@
-//! Writing the members of an object to a [`MemberWriter`]: a writer of tokens, or an object in memory.
+//! The trait `MemberWriter`: a receiver of an object's members, either a writer of tokens or an `ObjectBuilder`.
 
 ghost use Rattle.std.specs.Prelude.{◌≡◌, ◌++◌, ◌∷◌, [], ℕ, List, Some, None, OnOk};
 ghost use Rattle.serde_json.specs.Data.{array, string};

@@ -5,14 +5,14 @@ use Rattle.etcs_bits.specs.declared.layout.fault.Fault.{Fault}
 use Rattle.etcs_bits.specs.layout.Rows.{Row, Place, IsSpelled}
 use Rattle.etcs_bits.specs.layout.Fields.{Fields, AreRowsOf}
 use Rattle.etcs_bits.specs.layout.Fault.{IsFault}
-use Rattle.etcs_bits.specs.layout.Reading.{◌>>=◌, rows_at}
+use Rattle.etcs_bits.specs.layout.Reading.{◌>>=◌, read_rows}
 use Rattle.etcs_bits.proofs.BindLemmas.{bind_ok, bind_err, ok_is}
 use Rattle.etcs_bits.proofs.StandLemmas.{length-join}
 use Rattle.etcs_bits.proofs.ReadingLemmas.{read_is_spelled, spelled_is_read, read_is_fault}
 use Rattle.etcs_bits.proofs.FaultLemmas.{fault_is_given}
 use Rattle.etcs_packet.specs.declared.stop.Stop.{Stop}
 use Rattle.etcs_packet.specs.Lists.{IsHeaded, ends, Follow, IsListFault}
-use Rattle.etcs_packet.specs.Reading.{at_most, items_at}
+use Rattle.etcs_packet.specs.Reading.{at_most, read_list}
 use Rattle.etcs_packet.proofs.EndLemmas.{headed_wide, next_within}
 
 -- a list with one record more at its front
@@ -23,7 +23,7 @@ with_first x read = read >>= λ more. Ok (x ∷ more.0, more.1)
 abbrev then_most : {X : Type 0}
     → ℕ → Stop → Fields → (List Row → X) → Place → Result (List X × Place) Fault
 then_most n stop fields of p =
-    rows_at fields p >>= λ first. with_first (of first.0) (at_most n stop fields of first.1)
+    read_rows fields p >>= λ first. with_first (of first.0) (at_most n stop fields of first.1)
 
 at_most_none : {X : Type 0} (stop : Stop) (fields : Fields) (of : List Row → X) (p : Place)
     → at_most 0 stop fields of p ≡ Ok ([], p)
@@ -36,8 +36,8 @@ unfolding at_most
 at_most_more n stop fields of p = refl
 
 all_items : {X : Type 0} (stop : Stop) (fields : Fields) (of : List Row → X) (p : Place)
-    → items_at stop fields of p ≡ at_most (suc (length p.bits)) stop fields of p
-unfolding items_at
+    → read_list stop fields of p ≡ at_most (suc (length p.bits)) stop fields of p
+unfolding read_list
 all_items stop fields of p = refl
 
 -- Fewer than `n` bits are left, so `n` records do not fit.
@@ -69,7 +69,7 @@ stands_read of (rows ∷ xs) (suc n) stop fields p q head within enough (goes, (
 pub follow_is_read : {X : Type 0} (of : List Row → X) (xs : List (List Row)) (stop : Stop)
     (fields : Fields) (p q : Place) → IsHeaded fields → p.at ≤ length p.bits
     → Follow stop fields xs p q → ends stop q ≡ true
-    → items_at stop fields of p ≡ Ok (map of xs, q)
+    → read_list stop fields of p ≡ Ok (map of xs, q)
 follow_is_read of xs stop fields p q head within follow over =
     all_items stop fields of p
     ∙ stands_read of xs (suc (length p.bits)) stop fields p q head within (omega arith) follow over
@@ -94,7 +94,7 @@ items_fault_is_read of (rows ∷ xs) (suc n) stop fields p q f head within enoug
 
 pub list_fault_is_read : {X : Type 0} (of : List Row → X) (stop : Stop) (fields : Fields) (p : Place)
     (f : Fault) → IsHeaded fields → p.at ≤ length p.bits → IsListFault stop fields p f
-    → items_at stop fields of p ≡ Err f
+    → read_list stop fields of p ≡ Err f
 list_fault_is_read of stop fields p f head within t =
     all_items stop fields of p
     ∙ items_fault_is_read of t.whole (suc (length p.bits)) stop fields p t.reached f head within (omega arith) t.follow t.goes_on t.is_fault
@@ -128,7 +128,7 @@ read_stands of (suc n) stop fields p x head within enough e =
           let none : AreRead of stop fields [] p p = record { whole = []; are = refl; follow = refl; over = t.0 } in
           subst (λ y. AreRead of stop fields y.0 p y.1) (ok_is ([], p) x t.1) none
       | inr t ↦
-          let a = bind_ok (rows_at fields p) (λ first. with_first (of first.0) (at_most n stop fields of first.1)) x t.1 in
+          let a = bind_ok (read_rows fields p) (λ first. with_first (of first.0) (at_most n stop fields of first.1)) x t.1 in
           let b = bind_ok (at_most n stop fields of a.0.1) (λ more. Ok (of a.0.0 ∷ more.0, more.1)) x a.2 in
           let first = read_is_spelled fields p a.0 within a.1 in
           let rest = read_stands of n stop fields a.0.1 b.0 head (next_within a.0.0 p a.0.1 within first.spelled) (next_enough fields a.0.0 n p a.0.1 head first.whole first.spelled enough) b.1 in
@@ -143,7 +143,7 @@ read_stands of (suc n) stop fields p x head within enough e =
 
 pub read_follows : {X : Type 0} (of : List Row → X) (stop : Stop) (fields : Fields) (p : Place)
     (x : List X × Place) → IsHeaded fields → p.at ≤ length p.bits
-    → items_at stop fields of p ≡ Ok x → AreRead of stop fields x.0 p x.1
+    → read_list stop fields of p ≡ Ok x → AreRead of stop fields x.0 p x.1
 read_follows of stop fields p x head within e =
     read_stands of (suc (length p.bits)) stop fields p x head within (omega arith) (sym (all_items stop fields of p) ∙ e)
 
@@ -155,7 +155,7 @@ read_is_items_fault of (suc n) stop fields p f within e =
     elim (chosen (ends stop p) (Ok ([], p)) (then_most n stop fields of p) (Err f) (sym (at_most_more n stop fields of p) ∙ e)) [
       | inl t ↦ absurd (let h = t.1 in cc)
       | inr t ↦
-          elim (bind_err (rows_at fields p) (λ first. with_first (of first.0) (at_most n stop fields of first.1)) f t.1) [
+          elim (bind_err (read_rows fields p) (λ first. with_first (of first.0) (at_most n stop fields of first.1)) f t.1) [
             | inl h ↦ record { whole = []; reached = p; follow = refl; goes_on = t.0; is_fault = read_is_fault fields p f within h }
             | inr a ↦
                 let first = read_is_spelled fields p a.0 within a.1 in
@@ -171,7 +171,7 @@ read_is_items_fault of (suc n) stop fields p f within e =
     ]
 
 pub read_is_list_fault : {X : Type 0} (of : List Row → X) (stop : Stop) (fields : Fields) (p : Place)
-    (f : Fault) → p.at ≤ length p.bits → items_at stop fields of p ≡ Err f
+    (f : Fault) → p.at ≤ length p.bits → read_list stop fields of p ≡ Err f
     → IsListFault stop fields p f
 read_is_list_fault of stop fields p f within e =
     read_is_items_fault of (suc (length p.bits)) stop fields p f within (sym (all_items stop fields of p) ∙ e)

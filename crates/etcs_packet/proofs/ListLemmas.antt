@@ -14,7 +14,7 @@ use Rattle.etcs_bits.proofs.LayoutLemmas.{laid_out, rows_again}
 use Rattle.etcs_bits.proofs.StandLemmas.{length-join, place_in, stands_within}
 use Rattle.etcs_packet.specs.declared.stop.Stop.{Stop}
 use Rattle.etcs_packet.specs.Lists.{IsHeaded, ends, Stand, IsStep, NoStep, NoneStand, Follow, IsListFault}
-use Rattle.etcs_packet.specs.Reading.{items_at}
+use Rattle.etcs_packet.specs.Reading.{read_list}
 use Rattle.etcs_packet.proofs.EndLemmas.{headed_wide, no_end_here, settled, fault_past}
 use Rattle.etcs_packet.proofs.FollowLemmas.{follow_more, list_fault_stays}
 use Rattle.etcs_packet.proofs.ItemLemmas.{follow_is_read, read_follows, list_fault_is_read}
@@ -137,7 +137,7 @@ map_back rows of (x ∷ xs) back =
 -- A list that stands is what reading gives.
 pub stand_is_read : {X : Type 0} {fields : Fields} {rows : X → List Row} {of : List Row → X}
     → IsLayout fields rows of → (xs : List X) (stop : Stop) (p q : Place) → IsHeaded fields
-    → p.at ≤ length p.bits → Stand stop rows xs p q → items_at stop fields of p ≡ Ok (xs, q)
+    → p.at ≤ length p.bits → Stand stop rows xs p q → read_list stop fields of p ≡ Ok (xs, q)
 stand_is_read {fields = fields} {rows = rows} {of = of} laid xs stop p q head within s =
     let listed = stand_follow rows xs stop fields p q laid.are_rows s in
     follow_is_read of (map rows xs) stop fields p q head within listed.follow listed.over
@@ -154,7 +154,7 @@ follow_stands {fields = fields} {rows = rows} {of = of} laid stop (r ∷ whole) 
 -- What reading gives stands.
 pub read_stands : {X : Type 0} {fields : Fields} {rows : X → List Row} {of : List Row → X}
     → IsLayout fields rows of → (xs : List X) (stop : Stop) (p q : Place) → IsHeaded fields
-    → p.at ≤ length p.bits → items_at stop fields of p ≡ Ok (xs, q) → Stand stop rows xs p q
+    → p.at ≤ length p.bits → read_list stop fields of p ≡ Ok (xs, q) → Stand stop rows xs p q
 read_stands {fields = fields} {rows = rows} {of = of} laid xs stop p q head within e =
     let read = read_follows of stop fields p (xs, q) head within e in
     subst (λ ys. Stand stop rows ys p q) read.are (follow_stands laid stop read.whole p q read.follow read.over)
@@ -164,7 +164,7 @@ read_stands {fields = fields} {rows = rows} {of = of} laid xs stop p q head with
 -- Reading a list reports the list's fault.
 pub list_fails : {X : Type 0} (of : List Row → X) (e : DecodeError) (stop : Stop) (fields : Fields)
     (p : Place) → IsHeaded fields → p.at ≤ length p.bits
-    → OfFault e (λ f. IsListFault stop fields p f) → Fails e (items_at stop fields of p)
+    → OfFault e (λ f. IsListFault stop fields p f) → Fails e (read_list stop fields of p)
 list_fails of errors.Memory stop fields p head within t = tt
 list_fails of (errors.Fault f) stop fields p head within t =
     list_fault_is_read of stop fields p f head within t

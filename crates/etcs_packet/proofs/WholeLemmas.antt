@@ -6,7 +6,7 @@ use Rattle.etcs_bits.specs.declared.layout.fault.DecodeError.TheVariants as erro
 use Rattle.etcs_bits.specs.layout.Rows.{Row, Place, IsSpelled, join}
 use Rattle.etcs_bits.specs.layout.Fields.{Fields, AreRowsOf}
 use Rattle.etcs_bits.specs.layout.Fault.{IsFault, lack}
-use Rattle.etcs_bits.specs.layout.Reading.{◌>>=◌, rows_at}
+use Rattle.etcs_bits.specs.layout.Reading.{◌>>=◌, read_rows}
 use Rattle.etcs_bits.specs.layout.Results.{Fails, Gives, OfFault, OfMemory, Means}
 use Rattle.etcs_bits.proofs.BindLemmas.{bind_ok, bind_err, ok_is}
 use Rattle.etcs_bits.specs.layout.Laid.{IsLayout}
@@ -17,7 +17,7 @@ use Rattle.etcs_bits.proofs.FaultLemmas.{fault_is_given, fault_stays, none_stand
 use Rattle.etcs_packet.specs.declared.stop.Stop.{Stop}
 use Rattle.etcs_packet.specs.declared.stop.Stop.TheVariants as stops
 use Rattle.etcs_packet.specs.Lists.{IsHeaded, IsListFault, ends}
-use Rattle.etcs_packet.specs.Reading.{items_at, whole_at, whole_of}
+use Rattle.etcs_packet.specs.Reading.{read_list, read_whole, read_first_whole}
 use Rattle.etcs_packet.specs.Whole.{start, BeginsWith, IsFollowed, HeadAndListStand, IsWholeFault, NoHeadAndListStands}
 use Rattle.etcs_packet.proofs.EndLemmas.{fault_past, has_room, next_within}
 use Rattle.etcs_packet.proofs.FollowLemmas.{follow_forward, follow_within, list_fault_stays}
@@ -28,25 +28,25 @@ use Rattle.etcs_packet.proofs.ListLemmas.{stand_is_read, read_stands}
 abbrev then_items : {H X : Type 0} → Stop → (List Row → H) → Fields → (List Row → X)
     → List Row × Place → Result ((H × List X) × Place) Fault
 then_items stop head_of item item_of first =
-    items_at stop item item_of first.1 >>= λ more. Ok ((head_of first.0, more.0), more.1)
+    read_list stop item item_of first.1 >>= λ more. Ok ((head_of first.0, more.0), more.1)
 
 both_at : {H X : Type 0} (stop : Stop) (head : Fields) (head_of : List Row → H) (item : Fields)
-    (item_of : List Row → X) (p : Place) → whole_at stop head head_of item item_of p
-    ≡ (rows_at head p >>= λ first. then_items stop head_of item item_of first)
-unfolding whole_at
+    (item_of : List Row → X) (p : Place) → read_whole stop head head_of item item_of p
+    ≡ (read_rows head p >>= λ first. then_items stop head_of item item_of first)
+unfolding read_whole
 both_at stop head head_of item item_of p = refl
 
 of_bits : {H X : Type 0} (stop : Stop) (head : Fields) (head_of : List Row → H) (item : Fields)
-    (item_of : List Row → X) (bits : List Bool) → whole_of stop head head_of item item_of bits
-    ≡ (whole_at stop head head_of item item_of (start bits) >>= λ read. Ok read.0)
-unfolding whole_of
+    (item_of : List Row → X) (bits : List Bool) → read_first_whole stop head head_of item item_of bits
+    ≡ (read_whole stop head head_of item item_of (start bits) >>= λ read. Ok read.0)
+unfolding read_first_whole
 of_bits stop head head_of item item_of bits = refl
 
 -- What stands is read.
 pub whole_is_read : {H X : Type 0} {header item : Fields} {head : H → List Row} {head_of : List Row → H}
     {rows : X → List Row} {item_of : List Row → X} → IsLayout header head head_of → IsLayout item rows item_of
     → (stop : Stop) (h : H) (xs : List X) (p q : Place) → IsHeaded item → p.at ≤ length p.bits
-    → HeadAndListStand stop head rows h xs p q → whole_at stop header head_of item item_of p ≡ Ok ((h, xs), q)
+    → HeadAndListStand stop head rows h xs p q → read_whole stop header head_of item item_of p ≡ Ok ((h, xs), q)
 whole_is_read {header = header} {item = item} {head = head} {head_of = head_of} {item_of = item_of} head_laid laid stop h xs p q headed within w =
     let first = spelled_is_read header (head h) p w.middle within (head_laid.are_rows h) w.first in
     let more = stand_is_read laid xs stop w.middle q headed (next_within (head h) p w.middle within w.first) w.items in
@@ -57,10 +57,10 @@ whole_is_read {header = header} {item = item} {head = head} {head_of = head_of} 
 pub read_is_whole : {H X : Type 0} {header item : Fields} {head : H → List Row} {head_of : List Row → H}
     {rows : X → List Row} {item_of : List Row → X} → IsLayout header head head_of → IsLayout item rows item_of
     → (stop : Stop) (h : H) (xs : List X) (p q : Place) → IsHeaded item → p.at ≤ length p.bits
-    → whole_at stop header head_of item item_of p ≡ Ok ((h, xs), q) → HeadAndListStand stop head rows h xs p q
+    → read_whole stop header head_of item item_of p ≡ Ok ((h, xs), q) → HeadAndListStand stop head rows h xs p q
 read_is_whole {H = H} {X = X} {header = header} {item = item} {head = head} {head_of = head_of} {rows = rows} {item_of = item_of} head_laid laid stop h xs p q headed within e =
-    let a = bind_ok (rows_at header p) (then_items stop head_of item item_of) ((h, xs), q) (sym (both_at stop header head_of item item_of p) ∙ e) in
-    let b = bind_ok (items_at stop item item_of a.0.1) (λ more. Ok ((head_of a.0.0, more.0), more.1)) ((h, xs), q) a.2 in
+    let a = bind_ok (read_rows header p) (then_items stop head_of item item_of) ((h, xs), q) (sym (both_at stop header head_of item item_of p) ∙ e) in
+    let b = bind_ok (read_list stop item item_of a.0.1) (λ more. Ok ((head_of a.0.0, more.0), more.1)) ((h, xs), q) a.2 in
     let same = ok_is ((head_of a.0.0, b.0.0), b.0.1) ((h, xs), q) b.2 in
     let first = read_is_spelled header p a.0 within a.1 in
     let items = read_stands laid b.0.0 stop a.0.1 b.0.1 headed (next_within a.0.0 p a.0.1 within first.spelled) b.1 in
@@ -74,7 +74,7 @@ read_is_whole {H = H} {X = X} {header = header} {item = item} {head = head} {hea
 -- A fault of a whole is read.
 pub whole_fault_is_read : {H X : Type 0} (head_of : List Row → H) (item_of : List Row → X) (stop : Stop)
     (header item : Fields) (p : Place) (f : Fault) → IsHeaded item → p.at ≤ length p.bits
-    → IsWholeFault stop header item p f → whole_at stop header head_of item item_of p ≡ Err f
+    → IsWholeFault stop header item p f → read_whole stop header head_of item item_of p ≡ Err f
 whole_fault_is_read head_of item_of stop header item p f headed within (inl t) =
     both_at stop header head_of item item_of p ∙ rw (fault_is_given header p f within t) refl
 whole_fault_is_read head_of item_of stop header item p f headed within (inr t) =
@@ -95,13 +95,13 @@ not_after (Err c) h f e = cc
 -- A fault that is read is a fault of the whole.
 pub read_is_whole_fault : {H X : Type 0} (head_of : List Row → H) (item_of : List Row → X) (stop : Stop)
     (header item : Fields) (p : Place) (f : Fault) → p.at ≤ length p.bits
-    → whole_at stop header head_of item item_of p ≡ Err f → IsWholeFault stop header item p f
+    → read_whole stop header head_of item item_of p ≡ Err f → IsWholeFault stop header item p f
 read_is_whole_fault head_of item_of stop header item p f within e =
-    elim (bind_err (rows_at header p) (λ first. then_items stop head_of item item_of first) f (sym (both_at stop header head_of item item_of p) ∙ e)) [
+    elim (bind_err (read_rows header p) (λ first. then_items stop head_of item item_of first) f (sym (both_at stop header head_of item item_of p) ∙ e)) [
       | inl t ↦ inl (read_is_fault header p f within t)
       | inr a ↦
           let first = read_is_spelled header p a.0 within a.1 in
-          let fails = not_after (items_at stop item item_of a.0.1) (head_of a.0.0) f a.2 in
+          let fails = not_after (read_list stop item item_of a.0.1) (head_of a.0.0) f a.2 in
           inr (record {
             rows = a.0.0;
             middle = a.0.1;
@@ -168,7 +168,7 @@ later_fault (errors.Fault f) stop header item rows p m whole spelled t =
 pub whole_fails : {H X : Type 0} (head_of : List Row → H) (item_of : List Row → X) (e : DecodeError)
     (stop : Stop) (header item : Fields) (p : Place) → IsHeaded item → p.at ≤ length p.bits
     → OfFault e (λ f. IsWholeFault stop header item p f)
-    → Fails e (whole_at stop header head_of item item_of p)
+    → Fails e (read_whole stop header head_of item item_of p)
 whole_fails head_of item_of errors.Memory stop header item p headed within t = tt
 whole_fails head_of item_of (errors.Fault f) stop header item p headed within t =
     whole_fault_is_read head_of item_of stop header item p f headed within t
@@ -183,18 +183,18 @@ none_of_whole head_laid laid (errors.Fault f) stop p headed within t = none_whol
 -- What reading gives at the beginning of bits is what they mean.
 pub means_whole : {H X : Type 0} (stop : Stop) (head : Fields) (head_of : List Row → H) (item : Fields)
     (item_of : List Row → X) (bits : List Bool) (w : H × List X) (q : Place)
-    → whole_at stop head head_of item item_of (start bits) ≡ Ok (w, q)
-    → whole_of stop head head_of item item_of bits ≡ Ok w
+    → read_whole stop head head_of item item_of (start bits) ≡ Ok (w, q)
+    → read_first_whole stop head head_of item item_of bits ≡ Ok w
 means_whole stop head head_of item item_of bits w q gives =
     of_bits stop head head_of item item_of bits ∙ rw gives refl
 
 -- what bits mean is read at their beginning
 means_read : {H X : Type 0} (stop : Stop) (head : Fields) (head_of : List Row → H) (item : Fields)
     (item_of : List Row → X) (bits : List Bool) (w : H × List X)
-    → whole_of stop head head_of item item_of bits ≡ Ok w
-    → (q : Place) × (whole_at stop head head_of item item_of (start bits) ≡ Ok (w, q))
+    → read_first_whole stop head head_of item item_of bits ≡ Ok w
+    → (q : Place) × (read_whole stop head head_of item item_of (start bits) ≡ Ok (w, q))
 means_read {H = H} {X = X} stop head head_of item item_of bits w means =
-    let b = bind_ok (whole_at stop head head_of item item_of (start bits)) (λ read. Ok read.0) w
+    let b = bind_ok (read_whole stop head head_of item item_of (start bits)) (λ read. Ok read.0) w
     (sym (of_bits stop head head_of item item_of bits) ∙ means) in
     (b.0.1, b.1 ∙ ap (λ (v : H × List X). Ok (v, b.0.1)) (ok_is b.0.0 w b.2))
 
@@ -202,7 +202,7 @@ means_read {H = H} {X = X} stop head head_of item item_of bits w means =
 pub begins_means : {H X : Type 0} {header item : Fields} {head : H → List Row} {head_of : List Row → H}
     {rows : X → List Row} {item_of : List Row → X} → IsLayout header head head_of → IsLayout item rows item_of
     → (stop : Stop) (h : H) (xs : List X) (bits : List Bool) → IsHeaded item
-    → BeginsWith stop head rows h xs bits → whole_of stop header head_of item item_of bits ≡ Ok (h, xs)
+    → BeginsWith stop head rows h xs bits → read_first_whole stop header head_of item item_of bits ≡ Ok (h, xs)
 begins_means {header = header} {item = item} {head_of = head_of} {item_of = item_of} head_laid laid stop h xs bits headed begins =
     means_whole stop header head_of item item_of bits (h, xs) begins.end
     (whole_is_read head_laid laid stop h xs (start bits) begins.end headed (omega arith) begins.whole)
@@ -211,7 +211,7 @@ begins_means {header = header} {item = item} {head_of = head_of} {item_of = item
 pub means_begins : {H X : Type 0} {header item : Fields} {head : H → List Row} {head_of : List Row → H}
     {rows : X → List Row} {item_of : List Row → X} → IsLayout header head head_of → IsLayout item rows item_of
     → (stop : Stop) (h : H) (xs : List X) (bits : List Bool) → IsHeaded item
-    → whole_of stop header head_of item item_of bits ≡ Ok (h, xs) → BeginsWith stop head rows h xs bits
+    → read_first_whole stop header head_of item item_of bits ≡ Ok (h, xs) → BeginsWith stop head rows h xs bits
 means_begins {header = header} {item = item} {head_of = head_of} {item_of = item_of} head_laid laid stop h xs bits headed means =
     let read = means_read stop header head_of item item_of bits (h, xs) means in
     record {
@@ -222,8 +222,8 @@ means_begins {header = header} {item = item} {head_of = head_of} {item_of = item
 -- bits mean the fault that is read at their beginning
 pub fault_means : {H X : Type 0} (stop : Stop) (head : Fields) (head_of : List Row → H) (item : Fields)
     (item_of : List Row → X) (bits : List Bool) (f : Fault)
-    → whole_at stop head head_of item item_of (start bits) ≡ Err f
-    → whole_of stop head head_of item item_of bits ≡ Err f
+    → read_whole stop head head_of item item_of (start bits) ≡ Err f
+    → read_first_whole stop head head_of item item_of bits ≡ Err f
 fault_means stop head head_of item item_of bits f fails =
     of_bits stop head head_of item item_of bits ∙ rw fails refl
 
@@ -234,17 +234,17 @@ without_place (Err c) f e = cc
 
 pub means_fault : {H X : Type 0} (stop : Stop) (head : Fields) (head_of : List Row → H) (item : Fields)
     (item_of : List Row → X) (bits : List Bool) (f : Fault)
-    → whole_of stop head head_of item item_of bits ≡ Err f
-    → whole_at stop head head_of item item_of (start bits) ≡ Err f
+    → read_first_whole stop head head_of item item_of bits ≡ Err f
+    → read_whole stop head head_of item item_of (start bits) ≡ Err f
 means_fault stop head head_of item item_of bits f means =
-    without_place (whole_at stop head head_of item item_of (start bits)) f
+    without_place (read_whole stop head head_of item item_of (start bits)) f
     (sym (of_bits stop head head_of item item_of bits) ∙ means)
 
 pub gives_means : {H X Y : Type 0} (view : Y → H × List X) (result : Result Y DecodeError) (stop : Stop)
     (head : Fields) (head_of : List Row → H) (item : Fields) (item_of : List Row → X)
     (bits : List Bool) (q : Place)
-    → Gives view result (whole_at stop head head_of item item_of (start bits)) q
-    → Means view result (whole_of stop head head_of item item_of bits)
+    → Gives view result (read_whole stop head head_of item item_of (start bits)) q
+    → Means view result (read_first_whole stop head head_of item item_of bits)
 gives_means view (Ok y) stop head head_of item item_of bits q gives =
     means_whole stop head head_of item item_of bits (view y) q gives
 gives_means view (Err errors.Memory) stop head head_of item item_of bits q gives = tt

@@ -8,7 +8,7 @@ use Rattle.etcs_bits.specs.layout.Rows.{Row, Place, Stands, IsSpelled, AreAllowe
 use Rattle.etcs_bits.specs.layout.Fields.{Fields, nothing, field, ◌▹◌, sized, AreRowsOf}
 use Rattle.etcs_bits.proofs.NumberLemmas.{length-num, num_of_bits-small}
 use Rattle.etcs_bits.proofs.StandLemmas.{place_in, same_position, join-append, allowed-append, stands_nothing, stands_then, stands_within, number_stands, standing_number, stands_parts}
-use Rattle.etcs_bits.specs.layout.RowLemmas.{allowed_first, allowed_second}
+use Rattle.etcs_bits.specs.lemmas.RowLemmas.{allowed_first, allowed_second}
 use Rattle.etcs_packet.specs.declared.stop.Stop.{Stop}
 use Rattle.etcs_packet.specs.declared.stop.Stop.TheVariants as stops
 use Rattle.etcs_packet.specs.Lists.{IsHeaded, ends_short, ends, Stand}

@@ -4,7 +4,7 @@ use Rattle.etcs_bits.specs.layout.Rows.{Place}
 use Rattle.etcs_profile.specs.declared.track.TrackPacket.{TrackPacket}
 use Rattle.etcs_profile.specs.declared.view.PacketView.{PacketView}
 use Rattle.etcs_profile.specs.Track.{track_packet}
-use Rattle.etcs_profile.specs.View.{view_of}
+use Rattle.etcs_profile.specs.View.{packet_view}
 use Rattle.etcs_packet.specs.declared.stop.Stop.{Stop}
 use Rattle.etcs_packet.specs.Lists.{IsStep}
 
@@ -13,4 +13,4 @@ use Rattle.etcs_packet.specs.Lists.{IsStep}
 abbrev pub IsViewStep : Stop → Option PacketView → Place → Place → Type 0
 IsViewStep stop None from to = IsStep stop track_packet.rows None from to
 IsViewStep stop (Some v) from to =
-    (p : TrackPacket) × (view_of p ≡ v) × IsStep stop track_packet.rows (Some p) from to
+    (p : TrackPacket) × (packet_view p ≡ v) × IsStep stop track_packet.rows (Some p) from to

@@ -10,7 +10,7 @@ ghost use Rattle.etcs_bits.specs.bits.Number.{num};
 ghost use Rattle.etcs_bits.specs.layout.Rows.{Place, AreAllowed, join, IsSpelled};
 ghost use Rattle.etcs_packet.specs.Laws.{HasNoMark};
 ghost use Rattle.etcs_packet.specs.Lists.{IsHeaded, IsListFault, NoneStand, Stand, ends};
-ghost use Rattle.etcs_packet.specs.Reading.{items_at, whole_at, whole_of};
+ghost use Rattle.etcs_packet.specs.Reading.{read_list, read_whole, read_first_whole};
 ghost use Rattle.etcs_profile.specs.Track.{own_rows, track_packet};
 ghost use Rattle.etcs_profile.specs.declared.track.TrackPacket.{TrackPacket};
 ghost use Rattle.etcs_packet.specs.Whole.{AreSpelled, BeginsWith, HeadAndListStand, IsWholeFault, NoHeadAndListStands, start};
@@ -38,7 +38,7 @@ pub fn a_list_is_read<T: Layout>()
     requires { IsHeaded T.format.fields }
     ensures { (stop : Stop) (xs : List T) (p q : Place) → p.at ≤ length p.bits
         → Stand stop T.format.rows xs p q
-        ↔ (items_at stop T.format.fields T.format.of p ≡ Ok (xs, q)) }
+        ↔ (read_list stop T.format.fields T.format.of p ≡ Ok (xs, q)) }
 {}
 
 /// A place has at most one list, and that list has one end.
@@ -61,7 +61,7 @@ pub fn a_list_fault_is_read<T: Layout>()
     requires { IsHeaded T.format.fields }
     ensures { (stop : Stop) (p : Place) (f : Fault) → p.at ≤ length p.bits
         → IsListFault stop T.format.fields p f
-        ↔ (items_at stop T.format.fields T.format.of p ≡ Err f) }
+        ↔ (read_list stop T.format.fields T.format.of p ≡ Err f) }
 {}
 
 /// A telegram's list that begins where fewer than eight bits are left has the fault NoEnd at that
@@ -99,7 +99,7 @@ pub fn a_whole_is_read<H: Layout, T: Layout>()
     requires { IsHeaded T.format.fields }
     ensures { (stop : Stop) (h : H) (xs : List T) (p q : Place) → p.at ≤ length p.bits
         → HeadAndListStand stop H.format.rows T.format.rows h xs p q
-        ↔ (whole_at stop H.format.fields H.format.of T.format.fields T.format.of p ≡ Ok ((h, xs), q)) }
+        ↔ (read_whole stop H.format.fields H.format.of T.format.fields T.format.of p ≡ Ok ((h, xs), q)) }
 {}
 
 /// Bits begin with at most one head and list.
@@ -115,7 +115,7 @@ pub fn a_whole_fault_is_read<H: Layout, T: Layout>()
     requires { IsHeaded T.format.fields }
     ensures { (stop : Stop) (p : Place) (f : Fault) → p.at ≤ length p.bits
         → IsWholeFault stop H.format.fields T.format.fields p f
-        ↔ (whole_at stop H.format.fields H.format.of T.format.fields T.format.of p ≡ Err f) }
+        ↔ (read_whole stop H.format.fields H.format.of T.format.fields T.format.of p ≡ Err f) }
 {}
 
 /// Bits begin with a head and a list exactly if that is what they mean, as a function of them. They
@@ -124,10 +124,10 @@ pub fn bits_are_read_as_they_begin<H: Layout, T: Layout>()
     requires { IsHeaded T.format.fields }
     ensures whole { (stop : Stop) (h : H) (xs : List T) (bits : List Bool)
         → BeginsWith stop H.format.rows T.format.rows h xs bits
-        ↔ (whole_of stop H.format.fields H.format.of T.format.fields T.format.of bits ≡ Ok (h, xs)) }
+        ↔ (read_first_whole stop H.format.fields H.format.of T.format.fields T.format.of bits ≡ Ok (h, xs)) }
     ensures fault { (stop : Stop) (bits : List Bool) (f : Fault)
         → IsWholeFault stop H.format.fields T.format.fields (start bits) f
-        ↔ (whole_of stop H.format.fields H.format.of T.format.fields T.format.of bits ≡ Err f) }
+        ↔ (read_first_whole stop H.format.fields H.format.of T.format.fields T.format.of bits ≡ Err f) }
 {}
 
 /// A place with the fault of a head and its list has none. This holds in every input of the same length with the
@@ -158,7 +158,7 @@ pub fn what_is_written_is_read_back<H: Layout, T: Layout>()
     ensures means { HasNoMark T.format.fields
         → (stop : Stop) (h : H) (xs : List T) (bits : List Bool)
         → AreSpelled stop H.format.rows T.format.rows h xs bits
-        → whole_of stop H.format.fields H.format.of T.format.fields T.format.of bits ≡ Ok (h, xs) }
+        → read_first_whole stop H.format.fields H.format.of T.format.fields T.format.of bits ≡ Ok (h, xs) }
 {}
 
 /// A packet from track to train has the same bits in a list and by its own layout.

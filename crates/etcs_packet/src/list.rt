@@ -1,4 +1,4 @@
-//! Lists of packets, as telegrams and messages have them.
+//! `read_items` and `write_items`: lists of packets of any kind, as telegrams and messages have them.
 
 ghost use Rattle.std.specs.Prelude.{◌≡◌, ◌+◌, ◌<◌, ◌≤◌, ◌++◌, ◌∷◌, [], length, true, false, Err, IfOk, OnOk, OnErr};
 ghost use Rattle.std.specs.List.{flat_map};
@@ -6,7 +6,7 @@ ghost use Rattle.etcs_bits.specs.layout.Rows.{AreAllowed, join};
 ghost use Rattle.etcs_bits.specs.layout.Fault.{IsFault, lack};
 ghost use Rattle.etcs_bits.specs.layout.Results.{Gives, IfFault, IfMemory};
 ghost use Rattle.etcs_packet.specs.Lists.{IsHeaded, IsListFault, IsStep, NoStep, NoneStand, Stand, ends};
-ghost use Rattle.etcs_packet.specs.Reading.{items_at};
+ghost use Rattle.etcs_packet.specs.Reading.{read_list};
 
 use crate::stop::Stop;
 use etcs_bits::{Bits, Cursor, DecodeError, FaultKind, Layout, Memory, refused};
@@ -97,7 +97,7 @@ pub fn read_items<T: Layout>(
 
     // The result, as a function of the bits.
     ensures exact { Gives (λ v. v.items) result
-        (items_at stop T.format.fields T.format.of cur.old) cur.new }
+        (read_list stop T.format.fields T.format.of cur.old) cur.new }
 
     // This NoEnd fault is always answered: finding it takes no memory.
     ensures no_end { stop ≡ Stop.Telegram → length cur.old.bits < cur.old.at + 8

@@ -1,14 +1,15 @@
-//! The packets of a telegram or of a message.
+//! `read_packets` and `write_packets`: the packets from track to train of a telegram or of a message. `next_view`
+//! reads one of them as a `PacketView`.
 
 ghost use Rattle.std.specs.Prelude.{◌≡◌, ◌+◌, ◌<◌, ◌++◌, length, true, false, Err, IfOk, IsOk, OnOk, OnErr};
 ghost use Rattle.std.specs.List.{flat_map};
 ghost use Rattle.etcs_bits.specs.layout.Rows.{AreAllowed, join};
 ghost use Rattle.etcs_bits.specs.layout.Fault.{IsFault, lack};
-ghost use Rattle.etcs_bits.specs.layout.Reading.{forward, rows_at};
+ghost use Rattle.etcs_bits.specs.layout.Reading.{forward, read_rows};
 ghost use Rattle.etcs_bits.specs.layout.Results.{Gives, IfFault, IfMemory};
 ghost use Rattle.etcs_bits.specs.variables.VariableFormats.{q_dir};
 ghost use Rattle.etcs_packet.specs.Lists.{IsListFault, NoStep, NoneStand, Stand, ends};
-ghost use Rattle.etcs_packet.specs.Reading.{items_at};
+ghost use Rattle.etcs_packet.specs.Reading.{read_list};
 ghost use Rattle.etcs_profile.specs.Track.{track_packet};
 ghost use Rattle.etcs_profile.specs.View.{grows_at};
 ghost use Rattle.etcs_packet.specs.View.{IsViewStep};
@@ -45,7 +46,7 @@ pub fn next_view<'a>(
     ensures memory { IfMemory result (grows_at cur.old ≡ true) }
 
     // Memory is asked for only where Q_DIR, which follows NID_PACKET, has no fault.
-    ensures direction { IfMemory result (IsOk (rows_at q_dir.fields (forward cur.old 8))) }
+    ensures direction { IfMemory result (IsOk (read_rows q_dir.fields (forward cur.old 8))) }
 {
     if is_end(cur, stop) {
         return Ok(None);
@@ -74,7 +75,7 @@ pub fn read_packets(
     ensures err { OnErr result (cur.new ≡ cur.old) }
 
     // The result, as a function of the bits.
-    ensures exact { Gives (λ v. v.items) result (items_at stop track_packet.fields track_packet.of cur.old) cur.new }
+    ensures exact { Gives (λ v. v.items) result (read_list stop track_packet.fields track_packet.of cur.old) cur.new }
 
     // This NoEnd fault is always answered: finding it takes no memory.
     ensures no_end { stop ≡ Stop.Telegram → length cur.old.bits < cur.old.at + 8

@@ -1,4 +1,4 @@
-//! Where a list of packets ends.
+//! `Stop`: whether a list of packets ends as in a telegram or as in a message.
 
 /// What a list of packets is part of. This decides where the list ends (SUBSET-026, 7.4 and 8.4).
 #[derive(Clone, Copy, Debug, PartialEq, Eq)]

@@ -1,4 +1,4 @@
-//! A head and the packets after it, as telegrams and messages have them.
+//! `next_whole`: reads a head and the packets after it, as telegrams and messages have them.
 
 ghost use Rattle.std.specs.Prelude.{◌≡◌, Err, IfOk, OnErr};
 ghost use Rattle.etcs_bits.specs.declared.layout.fault.Fault.{Fault};
@@ -6,7 +6,7 @@ ghost use Rattle.etcs_bits.specs.layout.Fault.{IsFault};
 ghost use Rattle.etcs_bits.specs.layout.Results.{Gives, IfFault, IfMemory};
 ghost use Rattle.etcs_packet.specs.Lists.{IsHeaded};
 ghost use Rattle.etcs_packet.specs.Whole.{IsFollowed, HeadAndListStand, IsWholeFault, NoHeadAndListStands};
-ghost use Rattle.etcs_packet.specs.Reading.{whole_at};
+ghost use Rattle.etcs_packet.specs.Reading.{read_whole};
 
 use crate::list::read_items;
 use crate::stop::Stop;
@@ -33,7 +33,7 @@ pub fn next_whole<H: Layout, T: Layout>(
 
     // The result, as a function of the bits.
     ensures exact { Gives (λ w. (w.0, w.1.items)) result
-        (whole_at stop H.format.fields H.format.of T.format.fields T.format.of cur.old) cur.new }
+        (read_whole stop H.format.fields H.format.of T.format.fields T.format.of cur.old) cur.new }
 
     // A fault of a head that holds no list is always answered: reading such a head takes no memory.
     ensures head { (H.grows → ⊥) → (f : Fault) → IsFault H.format.fields cur.old f

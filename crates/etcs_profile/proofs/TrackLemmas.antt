@@ -2,21 +2,21 @@
 use Rattle.std.proofs.Common.{◌≡◌, ◌∙◌, ℕ, ◌+◌, Bool, true, false, List, ◌++◌, Option, Some, None, Ok, ap, arith, length, refl}
 use Rattle.std.specs.Prelude.{◌==◌, ◌||◌, not}
 use Rattle.etcs_bits.specs.layout.Rows.{Row, Variable, Place, alone, AreAllowed, join, width}
-use Rattle.etcs_bits.specs.layout.Reading.{forward, field_at}
+use Rattle.etcs_bits.specs.layout.Reading.{forward, read_field}
 use Rattle.etcs_bits.proofs.NumberLemmas.{length-num}
 use Rattle.etcs_bits.proofs.ReadingLemmas.{field_ok}
 use Rattle.etcs_bits.proofs.StandLemmas.{same_position}
-use Rattle.etcs_profile.specs.Authority.{AuthorityValue, authority_value, numbered_by, authority}
+use Rattle.etcs_profile.specs.Authority.{AuthorityValue, authority_value, parts_by_main, authority}
 use Rattle.etcs_profile.specs.declared.track.TrackPacket.{TrackPacket}
 use Rattle.etcs_profile.specs.declared.track.TrackPacket.TheVariants as packets
 use Rattle.etcs_profile.specs.PacketNumbers.{is_known, is_kept_number, nid_track}
 use Rattle.etcs_profile.specs.Raw.{raw_rest, other_of}
-use Rattle.etcs_profile.specs.Track.{track_numbered, authority_in, track_packet, own_rows}
+use Rattle.etcs_profile.specs.Track.{track_numbered, numbered_authority, track_packet, own_rows}
 
 -- the rows of an authority that has this V_MAIN or none, as one of a list and by itself
 abbrev listed : Option ℕ → AuthorityValue → List Row
 listed main a =
-    let p = authority_in (numbered_by main a) in
+    let p = numbered_authority (parts_by_main main a) in
     alone nid_track (track_numbered.number p) ++ track_numbered.rows p
 
 abbrev own : Option ℕ → AuthorityValue → List Row
@@ -65,7 +65,7 @@ pub other_next : (n : ℕ) → is_kept_number n ≡ true → track_numbered.next
 other_next n other = grind (arith, other)
 
 -- a field is passed by its width
-pub field_forward : (x : Variable) (p q : Place) (n : ℕ) → field_at x p ≡ Ok (n, q) → q ≡ forward p x.width
+pub field_forward : (x : Variable) (p q : Place) (n : ℕ) → read_field x p ≡ Ok (n, q) → q ≡ forward p x.width
 field_forward x p q n read =
     let took = (field_ok x p (n, q) read).took in
     same_position q (forward p x.width) took.stands.same (took.stands.past ∙ ap (λ (k : ℕ). p.at + k) (length-num x.width n))

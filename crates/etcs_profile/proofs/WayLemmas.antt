@@ -7,20 +7,20 @@ use Rattle.etcs_bits.proofs.ListLemmas.{IsItem}
 use Rattle.etcs_bits.specs.declared.variables.scale.Scale.{Scale}
 use Rattle.etcs_profile.specs.declared.reach.Reach.TheVariants.{Ends, Open}
 use Rattle.etcs_profile.specs.Laws.{IsWayToMark}
-use Rattle.etcs_profile.specs.Reach.{further_on, reach_of, scale_factor, way_to_mark}
+use Rattle.etcs_profile.specs.Reach.{add_distance, scaled_reach, scale_factor, way_to_mark}
 
-pub way_starts : (way : Option ℕ) → way ≡ further_on 0 way
+pub way_starts : (way : Option ℕ) → way ≡ add_distance 0 way
 way_starts (Some n) = ap Some (omega arith)
 way_starts None = refl
 
-twice : (a b : ℕ) (way : Option ℕ) → further_on a (further_on b way) ≡ further_on (a + b) way
+twice : (a b : ℕ) (way : Option ℕ) → add_distance a (add_distance b way) ≡ add_distance (a + b) way
 twice a b (Some n) = ap Some (omega arith)
 twice a b None = refl
 
 pub way_goes_on : {X : Type 0} (distance : X → ℕ) (marked : X → Bool) (xs : List X) (i : ℕ) (x : X)
     (sum : ℕ) → IsItem xs i x → marked x ≡ false
-    → further_on sum (way_to_mark distance marked (drop i xs))
-    ≡ further_on (sum + distance x) (way_to_mark distance marked (drop (i + 1) xs))
+    → add_distance sum (way_to_mark distance marked (drop i xs))
+    ≡ add_distance (sum + distance x) (way_to_mark distance marked (drop (i + 1) xs))
 unfolding way_to_mark
 way_goes_on distance marked xs i x sum item off =
     rw (drop_more xs i x item.inside, ← item.is, off)
@@ -28,7 +28,7 @@ way_goes_on distance marked xs i x sum item off =
 
 pub way_ends : {X : Type 0} (distance : X → ℕ) (marked : X → Bool) (xs : List X) (i : ℕ) (x : X)
     (sum : ℕ) → IsItem xs i x → marked x ≡ true
-    → further_on sum (way_to_mark distance marked (drop i xs)) ≡ Some (sum + distance x)
+    → add_distance sum (way_to_mark distance marked (drop i xs)) ≡ Some (sum + distance x)
 unfolding way_to_mark
 way_ends distance marked xs i x sum item on =
     rw (drop_more xs i x item.inside, ← item.is, on) refl
@@ -40,14 +40,14 @@ way_first distance marked x xs on = rw on refl
 
 pub way_further : {X : Type 0} (distance : X → ℕ) (marked : X → Bool) (x : X) (xs : List X)
     → marked x ≡ false
-    → way_to_mark distance marked (x ∷ xs) ≡ further_on (distance x) (way_to_mark distance marked xs)
+    → way_to_mark distance marked (x ∷ xs) ≡ add_distance (distance x) (way_to_mark distance marked xs)
 unfolding way_to_mark
 way_further distance marked x xs off = rw off refl
 
 -- ---- the law of the reach
 
 -- a way that goes on behind a distance
-longer : (a way : ℕ) (o : Option ℕ) → further_on a o ≡ Some way → (m : ℕ) × (o ≡ Some m) × (way ≡ a + m)
+longer : (a way : ℕ) (o : Option ℕ) → add_distance a o ≡ Some way → (m : ℕ) × (o ≡ Some m) × (way ≡ a + m)
 longer a way (Some m) is = let same : a + m ≡ way = cc in (m, refl, sym same)
 longer a way None is = absurd cc
 
@@ -94,7 +94,7 @@ marked_way distance marked (y ∷ before) after x off on =
     let more : distance y + (sum_by distance before + distance x) ≡ sum_by distance (y ∷ before) + distance x =
     omega (arith, sum_by-cons distance y before) in
     way_further distance marked y (before ++ x ∷ after) off.0
-    ∙ ap (further_on (distance y)) (marked_way distance marked before after x off.1 on)
+    ∙ ap (add_distance (distance y)) (marked_way distance marked before after x off.1 on)
     ∙ ap Some more
 
 pub way_of : {X : Type 0} (distance : X → ℕ) (marked : X → Bool) (xs : List X) (way : ℕ)
@@ -103,7 +103,7 @@ way_of distance marked xs way w =
     ap (way_to_mark distance marked) w.are ∙ marked_way distance marked w.before w.after w.first w.unmarked w.mark
     ∙ ap Some (sym w.sum)
 
-shorter : (a : ℕ) (o : Option ℕ) → further_on a o ≡ None → o ≡ None
+shorter : (a : ℕ) (o : Option ℕ) → add_distance a o ≡ None → o ≡ None
 shorter a (Some m) is = absurd cc
 shorter a None is = refl
 
@@ -127,14 +127,14 @@ pub no_way : {X : Type 0} (distance : X → ℕ) (marked : X → Bool) (xs : Lis
 unfolding way_to_mark
 no_way distance marked [] off = refl
 no_way distance marked (x ∷ xs) off =
-    way_further distance marked x xs off.0 ∙ ap (further_on (distance x)) (no_way distance marked xs off.1)
+    way_further distance marked x xs off.0 ∙ ap (add_distance (distance x)) (no_way distance marked xs off.1)
 
 -- a reach is that of a way
-pub reach_ends : (scale : Scale) (o : Option ℕ) (n : ℕ) → reach_of scale o ≡ Ends n
+pub reach_ends : (scale : Scale) (o : Option ℕ) (n : ℕ) → scaled_reach scale o ≡ Ends n
     → (way : ℕ) × (o ≡ Some way) × (n ≡ scale_factor scale * way)
 reach_ends scale (Some way) n is = let same : scale_factor scale * way ≡ n = cc in (way, refl, sym same)
 reach_ends scale None n is = absurd cc
 
-pub reach_open : (scale : Scale) (o : Option ℕ) → reach_of scale o ≡ Open → o ≡ None
+pub reach_open : (scale : Scale) (o : Option ℕ) → scaled_reach scale o ≡ Open → o ≡ None
 reach_open scale (Some way) is = absurd cc
 reach_open scale None is = refl

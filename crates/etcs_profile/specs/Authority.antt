@@ -61,29 +61,29 @@ of_packet_12 p = authority_value p.0 p.1.0 (Some p.1.1.0) p.1.1.1
 abbrev pub of_packet_15 : WithoutMain → AuthorityValue
 of_packet_15 p = authority_value p.0 p.1.0 None p.1.1
 
-abbrev pub numbered_by : Option ℕ → AuthorityValue → WithMain ⊎ WithoutMain
-numbered_by (Some v) a = inl (a.dir, (a.scale, (v, a.terms)))
-numbered_by None a = inr (a.dir, (a.scale, a.terms))
+abbrev pub parts_by_main : Option ℕ → AuthorityValue → WithMain ⊎ WithoutMain
+parts_by_main (Some v) a = inl (a.dir, (a.scale, (v, a.terms)))
+parts_by_main None a = inr (a.dir, (a.scale, a.terms))
 
-abbrev pub numbered_of : AuthorityValue → WithMain ⊎ WithoutMain
-numbered_of a = numbered_by a.main a
+abbrev pub authority_parts : AuthorityValue → WithMain ⊎ WithoutMain
+authority_parts a = parts_by_main a.main a
 
 -- ---- an authority of either packet
 -- Pinned by the law a_record_is_read_as_it_is_spelled.
 
-abbrev pub authority_of_parts : WithMain ⊎ WithoutMain → AuthorityValue
-authority_of_parts (inl p) = of_packet_12 p
-authority_of_parts (inr p) = of_packet_15 p
+abbrev pub make_authority : WithMain ⊎ WithoutMain → AuthorityValue
+make_authority (inl p) = of_packet_12 p
+make_authority (inr p) = of_packet_15 p
 
-pub back : (p : WithMain ⊎ WithoutMain) → numbered_of (authority_of_parts p) ≡ p
+pub back : (p : WithMain ⊎ WithoutMain) → authority_parts (make_authority p) ≡ p
 back (inl p) = refl
 back (inr p) = refl
 
-pub again_by : (main : Option ℕ) (a : AuthorityValue) → authority_of_parts (numbered_by main a) ≡ authority_value a.dir a.scale main a.terms
+pub again_by : (main : Option ℕ) (a : AuthorityValue) → make_authority (parts_by_main main a) ≡ authority_value a.dir a.scale main a.terms
 again_by (Some v) a = refl
 again_by None a = refl
 
-pub again : (a : AuthorityValue) → authority_of_parts (numbered_of a) ≡ a
+pub again : (a : AuthorityValue) → make_authority (authority_parts a) ≡ a
 again a = again_by a.main a
 
 -- ---- the record
@@ -91,11 +91,11 @@ again a = again_by a.main a
 -- a movement authority
 abbrev pub authority : Format AuthorityValue
 authority =
-    named (chosen authority_variable authority_numbered (λ _. refl)) authority_of_parts numbered_of back again
+    named (chosen authority_variable authority_numbered (λ _. refl)) make_authority authority_parts back again
 
 -- NID_PACKET: 12 if the packet has V_MAIN, else 15
 abbrev pub authority_number : AuthorityValue → ℕ
-authority_number a = authority_numbered.number (numbered_of a)
+authority_number a = authority_numbered.number (authority_parts a)
 
 -- ---- how far the train may run
 

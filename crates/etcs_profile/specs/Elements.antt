@@ -7,7 +7,7 @@ use Rattle.etcs_bits.specs.layout.Struct.{Struct, two_ways}
 use Rattle.etcs_bits.specs.variables.VariableFormats.{q_scale}
 use Rattle.etcs_profile.specs.Profile.{Profile}
 use Rattle.etcs_profile.specs.declared.reach.Reach.{Reach}
-use Rattle.etcs_profile.specs.Reach.{way_to_mark, reach_of}
+use Rattle.etcs_profile.specs.Reach.{way_to_mark, scaled_reach}
 
 -- a profile made of these parts
 abbrev pub profile : {X : Type 0} → Scale → X → List X → Profile X
@@ -29,4 +29,4 @@ elements element = struct profile_struct (q_scale then element then several elem
 -- how far the profile reaches
 abbrev pub elements_reach : {X : Type 0} → (X → ℕ) → (X → Bool) → Profile X → Reach
 elements_reach distance marked e =
-    reach_of e.scale (way_to_mark distance marked (e.first ∷ e.further))
+    scaled_reach e.scale (way_to_mark distance marked (e.first ∷ e.further))

@@ -9,9 +9,9 @@ use Rattle.etcs_profile.specs.PacketNumbers.{is_kept}
 abbrev pub raw : (n : ℕ) → Dir → (body : List Bool) → is_kept n (length body) ≡ true → RawPacket
 raw n dir body kept = record { number = n; dir = dir; body = body; kept = kept }
 
-abbrev pub raw_by : (n : ℕ) → Dir → (body : List Bool) → (b : Bool) → is_kept n (length body) ≡ b → RawPacket
-raw_by n dir body true kept = raw n dir body kept
-raw_by n dir body false other = raw 1 dir [] refl
+abbrev pub raw_if_kept : (n : ℕ) → Dir → (body : List Bool) → (b : Bool) → is_kept n (length body) ≡ b → RawPacket
+raw_if_kept n dir body true kept = raw n dir body kept
+raw_if_kept n dir body false other = raw 1 dir [] refl
 
-abbrev pub raw_with : ℕ → Dir × List Bool → RawPacket
-raw_with n p = raw_by n p.0 p.1 (is_kept n (length p.1)) refl
+abbrev pub make_raw : ℕ → Dir × List Bool → RawPacket
+make_raw n p = raw_if_kept n p.0 p.1 (is_kept n (length p.1)) refl

@@ -15,17 +15,17 @@ scale_factor scales.TenMetres = 100
 -- Pinned by the law a_profile_reaches_its_first_mark.
 
 -- a distance, and the way after it
-abbrev pub further_on : ℕ → Option ℕ → Option ℕ
-further_on n (Some m) = Some (n + m)
-further_on n None = None
+abbrev pub add_distance : ℕ → Option ℕ → Option ℕ
+add_distance n (Some m) = Some (n + m)
+add_distance n None = None
 
 -- the sum of the distances up to and including the first element that is marked; None if none is
 unfoldable pub way_to_mark : {X : Type 0} → (X → ℕ) → (X → Bool) → List X → Option ℕ
 way_to_mark distance marked [] = None
 way_to_mark distance marked (x ∷ xs) =
-    if marked x then Some (distance x) else further_on (distance x) (way_to_mark distance marked xs)
+    if marked x then Some (distance x) else add_distance (distance x) (way_to_mark distance marked xs)
 
 -- the reach of a way that is given in steps of a scale
-abbrev pub reach_of : Scale → Option ℕ → Reach
-reach_of scale (Some n) = Ends (scale_factor scale * n)
-reach_of scale None = Open
+abbrev pub scaled_reach : Scale → Option ℕ → Reach
+scaled_reach scale (Some n) = Ends (scale_factor scale * n)
+scaled_reach scale None = Open

@@ -22,7 +22,7 @@ use Rattle.etcs_profile.specs.declared.track.TrackPacket.TheVariants as packets
 use Rattle.etcs_profile.specs.Profile.{Profile}
 use Rattle.etcs_profile.specs.Packet.{rest, packet}
 use Rattle.etcs_profile.specs.Elements.{elements}
-use Rattle.etcs_profile.specs.Authority.{AuthorityValue, authority_value, WithMain, WithoutMain, with_main, without_main, of_packet_12, of_packet_15, numbered_by, authority}
+use Rattle.etcs_profile.specs.Authority.{AuthorityValue, authority_value, WithMain, WithoutMain, with_main, without_main, of_packet_12, of_packet_15, parts_by_main, authority}
 use Rattle.etcs_profile.specs.Transition.{Orders, level_orders}
 use Rattle.etcs_profile.specs.Cover.{nid_vbcmk, cover_marker}
 use Rattle.etcs_profile.specs.Raw.{others, raw_packet}
@@ -157,42 +157,42 @@ track_numbered =
 -- ---- the packet of a number with what follows
 -- Pinned by the law a_record_is_read_as_it_is_spelled.
 
-abbrev pub track_of : NumberedTrackPacket → TrackPacket
-track_of (inl marker) = packets.Cover (record { marker = marker })
-track_of (inr (inl p)) = packets.Linking p
-track_of (inr (inr (inl p))) = packets.Authority (of_packet_12 p)
-track_of (inr (inr (inr (inl p)))) = packets.Authority (of_packet_15 p)
-track_of (inr (inr (inr (inr (inl p))))) = packets.Gradient p
-track_of (inr (inr (inr (inr (inr (inl p)))))) = packets.Speed p
-track_of (inr (inr (inr (inr (inr (inr (inl p))))))) = packets.Transition p
-track_of (inr (inr (inr (inr (inr (inr (inr p))))))) = packets.Raw p
+abbrev pub make_track_packet : NumberedTrackPacket → TrackPacket
+make_track_packet (inl marker) = packets.Cover (record { marker = marker })
+make_track_packet (inr (inl p)) = packets.Linking p
+make_track_packet (inr (inr (inl p))) = packets.Authority (of_packet_12 p)
+make_track_packet (inr (inr (inr (inl p)))) = packets.Authority (of_packet_15 p)
+make_track_packet (inr (inr (inr (inr (inl p))))) = packets.Gradient p
+make_track_packet (inr (inr (inr (inr (inr (inl p)))))) = packets.Speed p
+make_track_packet (inr (inr (inr (inr (inr (inr (inl p))))))) = packets.Transition p
+make_track_packet (inr (inr (inr (inr (inr (inr (inr p))))))) = packets.Raw p
 
 -- ---- the number of a packet with what follows
 
 -- an authority's packet as one of them all
-abbrev pub authority_in : WithMain ⊎ WithoutMain → NumberedTrackPacket
-authority_in (inl p) = inr (inr (inl p))
-authority_in (inr p) = inr (inr (inr (inl p)))
+abbrev pub numbered_authority : WithMain ⊎ WithoutMain → NumberedTrackPacket
+numbered_authority (inl p) = inr (inr (inl p))
+numbered_authority (inr p) = inr (inr (inr (inl p)))
 
-abbrev pub parts_of : TrackPacket → NumberedTrackPacket
-parts_of (packets.Cover p) = inl p.marker
-parts_of (packets.Linking p) = inr (inl p)
-parts_of (packets.Authority p) = authority_in (numbered_by p.main p)
-parts_of (packets.Gradient p) = inr (inr (inr (inr (inl p))))
-parts_of (packets.Speed p) = inr (inr (inr (inr (inr (inl p)))))
-parts_of (packets.Transition p) = inr (inr (inr (inr (inr (inr (inl p))))))
-parts_of (packets.Raw p) = inr (inr (inr (inr (inr (inr (inr p))))))
+abbrev pub track_parts : TrackPacket → NumberedTrackPacket
+track_parts (packets.Cover p) = inl p.marker
+track_parts (packets.Linking p) = inr (inl p)
+track_parts (packets.Authority p) = numbered_authority (parts_by_main p.main p)
+track_parts (packets.Gradient p) = inr (inr (inr (inr (inl p))))
+track_parts (packets.Speed p) = inr (inr (inr (inr (inr (inl p)))))
+track_parts (packets.Transition p) = inr (inr (inr (inr (inr (inr (inl p))))))
+track_parts (packets.Raw p) = inr (inr (inr (inr (inr (inr (inr p))))))
 
-pub back : (n : NumberedTrackPacket) → parts_of (track_of n) ≡ n
+pub back : (n : NumberedTrackPacket) → track_parts (make_track_packet n) ≡ n
 back (inr (inr (inr (inr (inr (inr (inr p))))))) = refl
 back n = refl
 
 pub authority_again : (main : Option ℕ) (a : AuthorityValue)
-    → track_of (authority_in (numbered_by main a)) ≡ packets.Authority (authority_value a.dir a.scale main a.terms)
+    → make_track_packet (numbered_authority (parts_by_main main a)) ≡ packets.Authority (authority_value a.dir a.scale main a.terms)
 authority_again (Some v) a = refl
 authority_again None a = refl
 
-pub again : (p : TrackPacket) → track_of (parts_of p) ≡ p
+pub again : (p : TrackPacket) → make_track_packet (track_parts p) ≡ p
 again (packets.Authority p) = authority_again p.main p
 again p = refl
 
@@ -230,7 +230,7 @@ all_but_the_end n =
 
 -- a packet of a list
 abbrev pub track_packet : Format TrackPacket
-track_packet = named (chosen nid_track track_numbered all_but_the_end) track_of parts_of back again
+track_packet = named (chosen nid_track track_numbered all_but_the_end) make_track_packet track_parts back again
 
 -- the rows of a packet by itself, which have the bits that it has in a list
 abbrev pub own_rows : TrackPacket → List Row
@@ -246,7 +246,7 @@ own_rows (packets.Raw p) = raw_packet.rows p
 
 -- NID_PACKET
 abbrev pub track_number : TrackPacket → ℕ
-track_number p = track_numbered.number (parts_of p)
+track_number p = track_numbered.number (track_parts p)
 
 -- a packet whose layout is known
 abbrev pub IsKnown : TrackPacket → Type 0

@@ -14,9 +14,9 @@ use Rattle.etcs_profile.specs.PacketNumbers.{is_known}
 use Rattle.etcs_profile.specs.Track.{track_packet}
 
 -- the view of a packet
-abbrev pub view_of : TrackPacket → PacketView
-view_of (packets.Raw r) = views.Raw r.number r.dir r.body
-view_of p = views.Known p
+abbrev pub packet_view : TrackPacket → PacketView
+packet_view (packets.Raw r) = views.Raw r.number r.dir r.body
+packet_view p = views.Known p
 
 -- Whether reading a packet of this number may take memory. Each packet whose layout is known holds
 -- a list, but packet 0.
@@ -31,5 +31,5 @@ grows_at p =
 -- The view that a function returns is that of the packet that reading gives, and so is the place
 -- after it, unless memory ran out.
 abbrev pub Shows : Result PacketView DecodeError → Result (List Row × Place) Fault → Place → Type 0
-Shows (Ok v) read after = (p : TrackPacket) × (view_of p ≡ v) × (read ≡ Ok (track_packet.rows p, after))
+Shows (Ok v) read after = (p : TrackPacket) × (packet_view p ≡ v) × (read ≡ Ok (track_packet.rows p, after))
 Shows (Err e) read after = Fails e read

@@ -1,8 +1,8 @@
-//! The movement authorities, packets 12 and 15.
+//! `Authority`: the movement authorities, packets 12 and 15.
 
 ghost use Rattle.std.specs.Prelude.{◌≡◌, ◌↔◌, ◌<◌, ◌≤◌, ◌*◌, length, sum_by, IsOk, IsSome, IfSome};
 ghost use Rattle.etcs_bits.specs.layout.Format.{◌then◌};
-ghost use Rattle.etcs_bits.specs.layout.Reading.{rows_at};
+ghost use Rattle.etcs_bits.specs.layout.Reading.{read_rows};
 ghost use Rattle.etcs_bits.specs.layout.Results.{Gives, IfMemory};
 ghost use Rattle.etcs_bits.specs.variables.VariableFormats.{q_dir};
 
@@ -49,10 +49,10 @@ impl Model for Authority {
 // Reads Q_DIR, and what follows it. After an error the cursor may stand anywhere.
 #[inline]
 fn scan_directed<B: Layout>(alloc: Global, cur: &mut Cursor<'_>) -> Result<(Dir, B), DecodeError>
-    ensures gives { Gives (q_dir then B.format).rows result (rows_at (q_dir then B.format).fields cur.old) cur.new }
+    ensures gives { Gives (q_dir then B.format).rows result (read_rows (q_dir then B.format).fields cur.old) cur.new }
 
     // At a fault of Q_DIR no memory is asked for.
-    ensures direction { IfMemory result (IsOk (rows_at q_dir.fields cur.old)) }
+    ensures direction { IfMemory result (IsOk (read_rows q_dir.fields cur.old)) }
 {
     let dir = Dir::scan(alloc, cur)?;
     let body = B::scan(alloc, cur)?;
@@ -265,18 +265,18 @@ impl Authority {
 
 impl Authority {
     ghost use Rattle.std.specs.Prelude.{IsTrue};
-    ghost use Rattle.etcs_bits.specs.layout.Choice.{chosen_at, numbered_rows};
-    ghost use Rattle.etcs_profile.specs.Authority.{authority_numbered, numbered_of};
+    ghost use Rattle.etcs_bits.specs.layout.Choice.{read_chosen, numbered_rows};
+    ghost use Rattle.etcs_profile.specs.Authority.{authority_numbered, authority_parts};
 
     /// Reads what follows NID_PACKET, whose number is 12 or 15. After an error the cursor may stand
     /// anywhere.
     pub fn scan_rest(alloc: Global, number: u64, cur: &mut Cursor<'_>) -> Result<Self, DecodeError>
         requires { IsTrue (authority_numbered.allows number) }
-        ensures gives { Gives (λ a. numbered_rows authority_numbered (numbered_of a)) result
-            (chosen_at authority_numbered number cur.old) cur.new }
+        ensures gives { Gives (λ a. numbered_rows authority_numbered (authority_parts a)) result
+            (read_chosen authority_numbered number cur.old) cur.new }
 
         // Q_DIR is read first. At its fault no memory is asked for.
-        ensures direction { IfMemory result (IsOk (rows_at q_dir.fields cur.old)) }
+        ensures direction { IfMemory result (IsOk (read_rows q_dir.fields cur.old)) }
     {
         let packet = if number == 12 {
             ByLevel::Level1(scan_directed(alloc, cur)?)

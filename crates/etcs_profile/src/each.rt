@@ -1,4 +1,5 @@
-//! What a record does field by field, in the order of the fields named.
+//! The macros `each_allowed!`, `put_each!`, `scan_each!` and `each_same!`: what a record does field by field, in the
+//! order of the fields named.
 
 // Whether the number of each field is allowed.
 macro_rules! each_allowed {

@@ -1,4 +1,4 @@
-//! An element of a profile.
+//! The trait `Element`: an element of a profile, with its distance and perhaps an end mark.
 
 ghost use Rattle.std.specs.Prelude.{◌≡◌, ◌<◌, ℕ, Bool};
 

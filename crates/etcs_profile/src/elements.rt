@@ -1,4 +1,4 @@
-//! The body of a packet that describes the track.
+//! `Elements`: the body of a packet that describes the track, its scale and its elements.
 
 ghost use Rattle.std.specs.Prelude.{◌≡◌, ◌<◌, ◌≤◌, ◌*◌, length, IfSome};
 ghost use Rattle.etcs_profile.specs.Reach.{way_to_mark};

@@ -1,4 +1,4 @@
-//! The timer of a movement authority's end section.
+//! `EndTimer`: the timer of a movement authority's end section.
 
 use crate::each::{each_allowed, each_same, put_each, scan_each};
 use etcs_bits::{Bits, Cursor, DecodeError, Distance, Layout, Memory, Plain, Same, Time};

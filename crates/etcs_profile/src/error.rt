@@ -1,4 +1,4 @@
-//! Why a packet cannot be built.
+//! `BuildError`: why a packet cannot be built.
 
 use thiserror::Error;
 

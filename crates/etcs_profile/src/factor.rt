@@ -1,4 +1,4 @@
-//! The unit of a packet's distances.
+//! `factor`: how many decimetres one step of a `Scale` is.
 
 ghost use Rattle.std.specs.Prelude.{◌≡◌};
 ghost use Rattle.etcs_profile.specs.Reach.{scale_factor};

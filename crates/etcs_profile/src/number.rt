@@ -1,7 +1,7 @@
-//! The number of a packet.
+//! `Number`: NID_PACKET of a packet whose number is fixed. `scan_number` reads any packet's number.
 
 ghost use Rattle.std.specs.Prelude.{◌≡◌, ◌==◌, ◌<◌, true, not, IfOk};
-ghost use Rattle.etcs_bits.specs.layout.Reading.{field_at};
+ghost use Rattle.etcs_bits.specs.layout.Reading.{read_field};
 ghost use Rattle.etcs_bits.specs.layout.Results.{Gives, IfMemory};
 ghost use Rattle.etcs_profile.specs.PacketNumbers.{nid_track};
 
@@ -61,7 +61,7 @@ impl<const N: u32> Layout for Number<N> {
 /// a NoEnd fault. After an error the cursor may stand anywhere.
 #[inline]
 pub fn scan_number(cur: &mut Cursor<'_>) -> Result<u64, DecodeError>
-    ensures gives { Gives (λ n. n) result (field_at nid_track cur.old) cur.new }
+    ensures gives { Gives (λ n. n) result (read_field nid_track cur.old) cur.new }
     ensures number { IfOk result (λ n. (n < 256) × (not (n == 255) ≡ true)) }
 
     // Looking at the number takes no memory.

@@ -1,4 +1,4 @@
-//! The overlap beyond a movement authority's end.
+//! `Overlap`: the overlap beyond a movement authority's end.
 
 use crate::each::{each_allowed, each_same, put_each, scan_each};
 use etcs_bits::{

@@ -1,4 +1,4 @@
-//! A packet: its number, its direction and its body.
+//! `Packet`: its number, its direction and its body, which is any `Layout`.
 
 ghost use Rattle.std.specs.Prelude.{◌≡◌};
 
@@ -26,7 +26,7 @@ impl<const N: u32, T: Layout> Model for Packet<N, T> {
 impl<const N: u32, T: Layout> Packet<N, T> {
     ghost use Rattle.std.specs.Prelude.{◌↔◌, ◌≤◌, ◌+◌, IsOk, IsSome, IfSome};
     ghost use Rattle.etcs_bits.specs.layout.Rows.{width};
-    ghost use Rattle.etcs_bits.specs.layout.Reading.{rows_at};
+    ghost use Rattle.etcs_bits.specs.layout.Reading.{read_rows};
     ghost use Rattle.etcs_bits.specs.layout.Results.{Gives, IfMemory};
     ghost use Rattle.etcs_bits.specs.variables.VariableFormats.{q_dir};
     ghost use Rattle.etcs_profile.specs.Packet.{rest};
@@ -61,11 +61,11 @@ impl<const N: u32, T: Layout> Packet<N, T> {
     /// Reads what follows NID_PACKET: Q_DIR, L_PACKET and the record. After an error the cursor may
     /// stand anywhere.
     pub fn scan_rest(alloc: Global, cur: &mut Cursor<'_>) -> Result<Self, DecodeError>
-        ensures gives { Gives (rest T.format).rows result (rows_at (rest T.format).fields cur.old) cur.new }
+        ensures gives { Gives (rest T.format).rows result (read_rows (rest T.format).fields cur.old) cur.new }
         ensures memory { IfMemory result T.grows }
 
         // Q_DIR is read first. At its fault no memory is asked for.
-        ensures direction { IfMemory result (IsOk (rows_at q_dir.fields cur.old)) }
+        ensures direction { IfMemory result (IsOk (read_rows q_dir.fields cur.old)) }
     {
         let dir = Dir::scan(alloc, cur)?;
         let body = Layout::scan(alloc, cur)?;

@@ -1,4 +1,4 @@
-//! A packet of elements: a profile of the track, or linking.
+//! Methods of `Packet` for a body of `Elements`: a profile of the track, or linking. No types.
 
 ghost use Rattle.std.specs.Prelude.{◌≡◌, ◌<◌, length};
 

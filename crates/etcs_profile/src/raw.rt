@@ -1,8 +1,8 @@
-//! Packets whose layout is not known here.
+//! `RawPacket`: a packet whose layout is not known here. Its body is kept as bits.
 
 ghost use Rattle.std.specs.Prelude.{◌≡◌, ◌<◌, ◌≤◌, length, true, IfOk, IfErr, IsOk, IsTrue, ◌↔◌};
 ghost use Rattle.etcs_bits.specs.layout.Combined.{is_countable};
-ghost use Rattle.etcs_bits.specs.layout.Reading.{rows_at};
+ghost use Rattle.etcs_bits.specs.layout.Reading.{read_rows};
 ghost use Rattle.etcs_bits.specs.layout.Results.{Gives, IfMemory};
 ghost use Rattle.etcs_profile.specs.PacketNumbers.{is_kept, is_kept_number};
 
@@ -87,7 +87,7 @@ impl RawPacket {
         alloc: Global,
         cur: &mut Cursor<'a>,
     ) -> Result<(Dir, BitSlice<'a>), DecodeError>
-        ensures gives { Gives raw_rest.rows result (rows_at raw_rest.fields cur.old) cur.new }
+        ensures gives { Gives raw_rest.rows result (read_rows raw_rest.fields cur.old) cur.new }
         ensures few { IfOk result (λ rest. is_countable 10 (length rest.1) ≡ true) }
         ensures memory { IfMemory result ⊥ }
     {

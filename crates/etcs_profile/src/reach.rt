@@ -1,4 +1,4 @@
-//! How far along the track a profile reaches.
+//! `Reach`: how far along the track a profile reaches.
 
 /// How far along the track a profile reaches, from the balise group that sends it.
 #[derive(Clone, Copy, Debug, PartialEq, Eq)]

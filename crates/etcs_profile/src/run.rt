@@ -1,4 +1,4 @@
-//! The direction in which a train runs.
+//! `Run`: the direction in which a train runs.
 
 /// The direction in which a train runs over a balise group: in the order of its balises, or against
 /// that order (SUBSET-026, 3.4.2).

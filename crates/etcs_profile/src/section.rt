@@ -1,4 +1,4 @@
-//! A section of a movement authority.
+//! `Section`: a section of a movement authority, perhaps with a `SectionTimer`.
 
 use crate::each::{each_allowed, each_same, put_each, scan_each};
 use etcs_bits::{Bits, Cursor, DecodeError, Distance, Layout, Memory, Plain, Same, Time};

@@ -1,4 +1,4 @@
-//! What the two movement authority packets have in common.
+//! `Terms`: what the two movement authority packets have in common.
 
 use crate::danger_point::DangerPoint;
 use crate::each::{each_allowed, each_same, put_each, scan_each};

@@ -1,7 +1,7 @@
-//! The packets from track to train.
+//! `TrackPacket`: any of the packets from track to train.
 
 ghost use Rattle.std.specs.Prelude.{◌≡◌, ◌==◌, true, min, not, IfOk, IsOk};
-ghost use Rattle.etcs_bits.specs.layout.Reading.{rows_at};
+ghost use Rattle.etcs_bits.specs.layout.Reading.{read_rows};
 ghost use Rattle.etcs_bits.specs.layout.Results.{Gives, IfMemory, Puts};
 ghost use Rattle.etcs_bits.specs.layout.Rows.{AreAllowed, join, width};
 ghost use Rattle.etcs_profile.specs.RunningDirection.{is_for_run};
@@ -154,9 +154,9 @@ impl TrackPacket {
 }
 
 impl TrackPacket {
-    ghost use Rattle.etcs_bits.specs.layout.Choice.{chosen_at, numbered_rows};
+    ghost use Rattle.etcs_bits.specs.layout.Choice.{read_chosen, numbered_rows};
     ghost use Rattle.etcs_bits.specs.variables.VariableFormats.{q_dir};
-    ghost use Rattle.etcs_profile.specs.Track.{IsKnown, parts_of, track_numbered};
+    ghost use Rattle.etcs_profile.specs.Track.{IsKnown, track_parts, track_numbered};
 
     /// Reads what follows the number of a packet whose layout is known. After an error the cursor
     /// may stand anywhere.
@@ -167,15 +167,15 @@ impl TrackPacket {
         cur: &mut Cursor<'_>,
     ) -> Result<Self, DecodeError>
         requires { is_known number ≡ true }
-        ensures gives { Gives (λ p. numbered_rows track_numbered (parts_of p)) result
-            (chosen_at track_numbered number cur.old) cur.new }
+        ensures gives { Gives (λ p. numbered_rows track_numbered (track_parts p)) result
+            (read_chosen track_numbered number cur.old) cur.new }
         ensures known { IfOk result IsKnown }
 
         // Packet 0 has no list, and reading it takes no memory.
         ensures memory { IfMemory result (not (number == 0) ≡ true) }
 
         // Nor does a fault of Q_DIR, which all others have next.
-        ensures direction { IfMemory result (IsOk (rows_at q_dir.fields cur.old)) }
+        ensures direction { IfMemory result (IsOk (read_rows q_dir.fields cur.old)) }
     {
         Ok(match number {
             0 => TrackPacket::Cover(CoverMarker {

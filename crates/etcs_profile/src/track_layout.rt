@@ -1,4 +1,4 @@
-//! How a packet from track to train stands in bits.
+//! `Layout` for `TrackPacket`: how a packet from track to train is written as bits, and read.
 
 use crate::number::scan_number;
 use crate::raw::RawPacket;

@@ -1,4 +1,4 @@
-//! Packets as views: a packet that is kept as bits borrows its body.
+//! `PacketView`: a packet from track to train that borrows its body if it is kept as bits.
 
 ghost use Rattle.std.specs.Prelude.{◌≡◌, true, IsOk};
 ghost use Rattle.etcs_bits.specs.layout.Results.{IfMemory};
@@ -26,7 +26,7 @@ pub enum PacketView<'a> {
 }
 
 impl<'a> PacketView<'a> {
-    ghost use Rattle.etcs_bits.specs.layout.Reading.{forward, rows_at};
+    ghost use Rattle.etcs_bits.specs.layout.Reading.{forward, read_rows};
     ghost use Rattle.etcs_bits.specs.variables.VariableFormats.{q_dir};
     ghost use Rattle.etcs_profile.specs.Track.{track_packet};
     ghost use Rattle.etcs_profile.specs.View.{Shows, grows_at};
@@ -34,9 +34,9 @@ impl<'a> PacketView<'a> {
     /// Reads a view of the packet at the cursor. After an error the cursor may stand anywhere.
     #[inline]
     pub fn scan(alloc: Global, cur: &mut Cursor<'a>) -> Result<PacketView<'a>, DecodeError>
-        ensures gives { Shows result (rows_at track_packet.fields cur.old) cur.new }
+        ensures gives { Shows result (read_rows track_packet.fields cur.old) cur.new }
         ensures memory { IfMemory result (grows_at cur.old ≡ true) }
-        ensures direction { IfMemory result (IsOk (rows_at q_dir.fields (forward cur.old 8))) }
+        ensures direction { IfMemory result (IsOk (read_rows q_dir.fields (forward cur.old 8))) }
     {
         let number = scan_number(cur)?;
         if RawPacket::has_number(number) {

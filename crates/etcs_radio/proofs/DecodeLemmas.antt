@@ -10,7 +10,7 @@ use Rattle.etcs_bits.specs.declared.layout.fault.FaultKind.TheVariants.{Length, 
 use Rattle.etcs_bits.specs.bits.Number.{num_of_bits, bits_of_bytes}
 use Rattle.etcs_bits.specs.layout.Rows.{Row, Place}
 use Rattle.etcs_bits.specs.layout.Fields.{Fields, one, ◌▹◌}
-use Rattle.etcs_bits.specs.layout.Reading.{◌>>=◌, forward, taken, rows_at}
+use Rattle.etcs_bits.specs.layout.Reading.{◌>>=◌, forward, taken, read_rows}
 use Rattle.etcs_bits.specs.layout.Results.{Fails, Means, OfMemory, IfFault, IfMemory}
 use Rattle.etcs_bits.specs.layout.Fault.{IsFault}
 use Rattle.etcs_bits.specs.variables.Variables.{only}
@@ -26,7 +26,7 @@ use Rattle.etcs_packet.specs.Whole.{IsFollowed, start}
 use Rattle.etcs_packet.proofs.EndLemmas.{has_room}
 use Rattle.etcs_radio.specs.declared.message.Message.{Message}
 use Rattle.etcs_radio.specs.Head.{Head, head, head_numbered, nid_message, movement_head, position_head}
-use Rattle.etcs_radio.specs.Meaning.{packets_of, message_of}
+use Rattle.etcs_radio.specs.Meaning.{read_message_packets, read_message}
 use Rattle.etcs_radio.specs.Message.{beginning, IsMessage, IsMessageFault, IsNoMessage}
 use Rattle.etcs_radio.proofs.MessageLemmas.{then_packets, meant, means_message, meant_fault}
 use Rattle.etcs_radio.proofs.NoMessageLemmas.{fault_none}
@@ -40,7 +40,7 @@ taken_there w p fits = rw (le-ltb (length p.bits) (p.at + w) fits) refl
 
 -- L_MESSAGE is no number that does not fit in its ten bits
 length_refused : (n : ℕ) (rest : Fields) (q : Place) → 1024 ≤ n → q.at + 10 ≤ length q.bits
-    → rows_at (one (only 10 n Length) ▹ rest) q ≡ Err (record { at = q.at; end = q.at + 10; why = Length })
+    → read_rows (one (only 10 n Length) ▹ rest) q ≡ Err (record { at = q.at; end = q.at + 10; why = Length })
 length_refused n rest q many fits =
     let j = num_of_bits (take 10 (drop q.at q.bits)) in
     let read = taken_there 10 q fits in
@@ -53,10 +53,10 @@ abbrev after : ℕ → ℕ → Fields
 after n k = (head_numbered n).next k
 
 after_refused : (n k : ℕ) (q : Place) → 1024 ≤ n → q.at + 10 ≤ length q.bits
-    → rows_at (after n k) q ≡ Err (record { at = q.at; end = q.at + 10; why = Length })
+    → read_rows (after n k) q ≡ Err (record { at = q.at; end = q.at + 10; why = Length })
 after_refused n k q many fits = by_kind (k == 3) refl
   where
-    by_kind : (b : Bool) → (k == 3) ≡ b → rows_at (after n k) q ≡ Err (record { at = q.at; end = q.at + 10; why = Length })
+    by_kind : (b : Bool) → (k == 3) ≡ b → read_rows (after n k) q ≡ Err (record { at = q.at; end = q.at + 10; why = Length })
     by_kind true is = rw is (length_refused n movement_head.fields q many fits)
     by_kind false is = rw is (length_refused n position_head.fields q many fits)
 
@@ -67,7 +67,7 @@ long_fault false = record { at = 0; end = 8; why = MessageKind }
 
 long_by : (n k : ℕ) (b : Bool) (p : Place) → 1024 ≤ n → p.at ≡ 0 → 18 ≤ length p.bits
     → taken 8 p ≡ Ok (k, forward p 8) → nid_message.allows k ≡ b
-    → rows_at (head n).fields p ≡ Err (long_fault b)
+    → read_rows (head n).fields p ≡ Err (long_fault b)
 long_by n k true p many at fits read is =
     let refused = after_refused n k (forward p 8) many (omega (arith, fits, at)) in
     let place : record { at = p.at + 8; end = p.at + 8 + 10; why = Length } ≡ long_fault true = rw at refl in
@@ -75,7 +75,7 @@ long_by n k true p many at fits read is =
 long_by n k false p many at fits read is = rw (read, is, at) refl
 
 long_head : (n : ℕ) (bits : List Bool) → 1024 ≤ n → 18 ≤ length bits
-    → rows_at (head n).fields (start bits) ≡ Err (long_fault (nid_message.allows (num_of_bits (take 8 bits))))
+    → read_rows (head n).fields (start bits) ≡ Err (long_fault (nid_message.allows (num_of_bits (take 8 bits))))
 long_head n bits many fits =
     long_by n (num_of_bits (take 8 bits)) (nid_message.allows (num_of_bits (take 8 bits))) (start bits) many refl fits
     (taken_there 8 (start bits) (omega (arith, fits))) refl
@@ -83,11 +83,11 @@ long_head n bits many fits =
 -- the first 1,024 bytes have the same head as all
 pub same_head : (bytes : List ℕ) (few : ℕ) (bits : List Bool) → few ≡ min (length bytes) 1024
     → bits ≡ take (8 * few) (bits_of_bytes bytes)
-    → rows_at (head (length bytes)).fields (start bits) ≡ rows_at (head (length bytes)).fields (beginning bytes)
+    → read_rows (head (length bytes)).fields (start bits) ≡ read_rows (head (length bytes)).fields (beginning bytes)
 same_head bytes few bits least is = by_size (ltb 1024 (length bytes)) refl
   where
     by_size : (b : Bool) → ltb 1024 (length bytes) ≡ b
-        → rows_at (head (length bytes)).fields (start bits) ≡ rows_at (head (length bytes)).fields (beginning bytes)
+        → read_rows (head (length bytes)).fields (start bits) ≡ read_rows (head (length bytes)).fields (beginning bytes)
     by_size true more =
         let many : 1024 ≤ length bytes = omega (arith, ltb-true 1024 (length bytes) more) in
         let all = bits_of_bytes bytes in
@@ -100,7 +100,7 @@ same_head bytes few bits least is = by_size (ltb 1024 (length bytes)) refl
     by_size false not_more =
         let least_too : length bytes ≤ 1024 = ltb-false 1024 (length bytes) not_more in
         let whole = take_all (8 * few) (bits_of_bytes bytes) (omega (arith, length-bits_of_bytes bytes, least, least_too)) in
-        ap (λ (xs : List Bool). rows_at (head (length bytes)).fields (start xs)) (is ∙ whole)
+        ap (λ (xs : List Bool). read_rows (head (length bytes)).fields (start xs)) (is ∙ whole)
 
 -- ---- what the calls return
 
@@ -113,32 +113,32 @@ pub record AreSeen (bytes : List ℕ) (p : Place) : Type 0 where
   pub here : p ≡ start bits
 
 seen_head : (bytes : List ℕ) (p : Place) → AreSeen bytes p
-    → rows_at (head (length bytes)).fields p ≡ rows_at (head (length bytes)).fields (beginning bytes)
+    → read_rows (head (length bytes)).fields p ≡ read_rows (head (length bytes)).fields (beginning bytes)
 seen_head bytes p s =
-    ap (λ (q : Place). rows_at (head (length bytes)).fields q) s.here ∙ same_head bytes s.few s.bits s.least s.are
+    ap (λ (q : Place). read_rows (head (length bytes)).fields q) s.here ∙ same_head bytes s.few s.bits s.least s.are
 
 pub head_fails : (e : DecodeError) (bytes : List ℕ) (p : Place) → AreSeen bytes p
-    → Fails e (rows_at (head (length bytes)).fields p) → Fails e (message_of bytes)
+    → Fails e (read_rows (head (length bytes)).fields p) → Fails e (read_message bytes)
 head_fails errors.Memory bytes p s fails = tt
 head_fails (errors.Fault f) bytes p s fails =
     meant bytes ∙ ap (λ (r : Result (List Row × Place) Fault). r >>= then_packets (length bytes)) (sym (seen_head bytes p s) ∙ fails)
 
 head_is : (bytes : List ℕ) (p q : Place) (h : Head) → AreSeen bytes p
-    → rows_at (head (length bytes)).fields p ≡ Ok ((head (length bytes)).rows h, q)
-    → message_of bytes ≡ packets_of h q
+    → read_rows (head (length bytes)).fields p ≡ Ok ((head (length bytes)).rows h, q)
+    → read_message bytes ≡ read_message_packets h q
 head_is bytes p q h s read =
     meant bytes ∙ ap (λ (r : Result (List Row × Place) Fault). r >>= then_packets (length bytes)) (sym (seen_head bytes p s) ∙ read)
-    ∙ ap (λ (k : Head). packets_of k q) ((head (length bytes)).laid.is_record h)
+    ∙ ap (λ (k : Head). read_message_packets k q) ((head (length bytes)).laid.is_record h)
 
 pub message_means : (r : Result Message DecodeError) (bytes : List ℕ) (p q : Place) (h : Head) → AreSeen bytes p
-    → rows_at (head (length bytes)).fields p ≡ Ok ((head (length bytes)).rows h, q)
-    → Means (λ m. m) r (packets_of h q) → Means (λ m. m) r (message_of bytes)
+    → read_rows (head (length bytes)).fields p ≡ Ok ((head (length bytes)).rows h, q)
+    → Means (λ m. m) r (read_message_packets h q) → Means (λ m. m) r (read_message bytes)
 message_means r bytes p q h s read means =
     subst (λ (x : Result Message Fault). Means (λ m. m) r x) (sym (head_is bytes p q h s read)) means
 
 -- the head's fault is the one that is returned
 pub head_reported : (e : DecodeError) (bytes : List ℕ) (p : Place) (f : Fault) → AreSeen bytes p → OfMemory e ⊥
-    → Fails e (rows_at (head (length bytes)).fields p)
+    → Fails e (read_rows (head (length bytes)).fields p)
     → IsFault (head (length bytes)).fields (beginning bytes) f → e ≡ errors.Fault f
 head_reported errors.Memory bytes p f s memory fails fault = absurd memory
 head_reported (errors.Fault g) bytes p f s memory fails fault =
@@ -146,25 +146,25 @@ head_reported (errors.Fault g) bytes p f s memory fails fault =
     ap errors.Fault (err_is g f (sym fails ∙ seen_head bytes p s ∙ given))
 
 pub no_head_fault : {C : Type 0} (bytes : List ℕ) (p q : Place) (h : Head) (f : Fault) → AreSeen bytes p
-    → rows_at (head (length bytes)).fields p ≡ Ok ((head (length bytes)).rows h, q)
+    → read_rows (head (length bytes)).fields p ≡ Ok ((head (length bytes)).rows h, q)
     → IsFault (head (length bytes)).fields (beginning bytes) f → C
 no_head_fault bytes p q h f s read fault =
     let given = fault_is_given (head (length bytes)).fields (beginning bytes) f (omega arith) fault in
     let both = sym read ∙ (seen_head bytes p s ∙ given) in
     absurd cc
 
-pub ok_of : (r : Result Message DecodeError) (bytes : List ℕ) → Means (λ m. m) r (message_of bytes)
+pub ok_of : (r : Result Message DecodeError) (bytes : List ℕ) → Means (λ m. m) r (read_message bytes)
     → IfOk r (λ m. IsMessage m bytes)
 ok_of (Ok m) bytes means = means_message m bytes means
 ok_of (Err e) bytes means = tt
 
-pub fault_of : (r : Result Message DecodeError) (bytes : List ℕ) → Means (λ m. m) r (message_of bytes)
+pub fault_of : (r : Result Message DecodeError) (bytes : List ℕ) → Means (λ m. m) r (read_message bytes)
     → IfFault r (λ f. IsMessageFault bytes f)
 fault_of (Ok m) bytes means = tt
 fault_of (Err errors.Memory) bytes means = tt
 fault_of (Err (errors.Fault f)) bytes means = meant_fault bytes f means
 
-pub none_of : (r : Result Message DecodeError) (bytes : List ℕ) → Means (λ m. m) r (message_of bytes)
+pub none_of : (r : Result Message DecodeError) (bytes : List ℕ) → Means (λ m. m) r (read_message bytes)
     → IfFault r (λ f. IsNoMessage bytes f)
 none_of (Ok m) bytes means = tt
 none_of (Err errors.Memory) bytes means = tt
@@ -172,7 +172,7 @@ none_of (Err (errors.Fault f)) bytes means = fault_none bytes f (meant_fault byt
 
 -- after a head that was read only the packets allocate
 pub if_followed : (r : Result Message DecodeError) (bytes : List ℕ) (p q : Place) (h : Head) → AreSeen bytes p
-    → rows_at (head (length bytes)).fields p ≡ Ok ((head (length bytes)).rows h, q)
+    → read_rows (head (length bytes)).fields p ≡ Ok ((head (length bytes)).rows h, q)
     → IfMemory r (ends stops.Message q ≡ false)
     → IfMemory r (IsFollowed stops.Message (head (length bytes)).rows (beginning bytes))
 if_followed (Ok m) bytes p q h s read goes = tt
@@ -186,12 +186,12 @@ if_followed (Err errors.Memory) bytes p q h s read goes =
 
 -- the head of more bytes than L_MESSAGE can count
 long_first : (bytes : List ℕ) → 1024 ≤ length bytes
-    → rows_at (head (length bytes)).fields (beginning bytes) ≡ Err (long_fault (nid_message.allows (num_of_bits (take 8 (bits_of_bytes bytes)))))
+    → read_rows (head (length bytes)).fields (beginning bytes) ≡ Err (long_fault (nid_message.allows (num_of_bits (take 8 (bits_of_bytes bytes)))))
 long_first bytes many =
     long_head (length bytes) (bits_of_bytes bytes) many (omega (arith, length-bits_of_bytes bytes, many))
 
 long_means : (bytes : List ℕ) → 1024 ≤ length bytes
-    → message_of bytes ≡ Err (long_fault (nid_message.allows (num_of_bits (take 8 (bits_of_bytes bytes)))))
+    → read_message bytes ≡ Err (long_fault (nid_message.allows (num_of_bits (take 8 (bits_of_bytes bytes)))))
 long_means bytes many =
     meant bytes ∙ ap (λ (r : Result (List Row × Place) Fault). r >>= then_packets (length bytes)) (long_first bytes many)
 
@@ -214,8 +214,8 @@ front_of all n least = by_size (ltb 1024 (length all)) refl
         is_all (take_all n all (omega (arith, least, ltb-false 1024 (length all) not_more)))
 
 -- such a front means what all bytes mean
-pub front_means : (all front : List ℕ) → FrontOf all front → message_of front ≡ message_of all
-front_means all front (is_all is) = ap message_of is
+pub front_means : (all front : List ℕ) → FrontOf all front → read_message front ≡ read_message all
+front_means all front (is_all is) = ap read_message is
 front_means all front (is_long many more same) =
     long_means front more
     ∙ ap (λ (xs : List Bool). Err (long_fault (nid_message.allows (num_of_bits xs)))) same
@@ -228,7 +228,7 @@ front_fault all front f (is_all is) fault =
     subst (λ (xs : List ℕ). IsFault (head (length xs)).fields (beginning xs) f) (sym is) fault
 front_fault all front f (is_long many more same) fault =
     let given = fault_is_given (head (length all)).fields (beginning all) f (omega arith) fault in
-    let reads : rows_at (head (length front)).fields (beginning front) ≡ Err f = long_first front more
+    let reads : read_rows (head (length front)).fields (beginning front) ≡ Err f = long_first front more
     ∙ ap (λ (xs : List Bool). Err (long_fault (nid_message.allows (num_of_bits xs)))) same
     ∙ sym (long_first all many) ∙ given in
     read_is_fault (head (length front)).fields (beginning front) f (omega arith) reads

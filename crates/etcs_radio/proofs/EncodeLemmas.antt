@@ -6,7 +6,7 @@ use Rattle.std.proofs.lemmas.List.{take_at, drop_at, length-replicate}
 use Rattle.hex.specs.Hex.{IsBytes}
 use Rattle.etcs_bits.specs.bits.Number.{num, num_of_bits, bits_of_bytes}
 use Rattle.etcs_bits.specs.layout.Rows.{Place, alone, AreAllowed, join, width, IsSpelled}
-use Rattle.etcs_bits.specs.layout.RowLemmas.{allowed_first, allowed_second}
+use Rattle.etcs_bits.specs.lemmas.RowLemmas.{allowed_first, allowed_second}
 use Rattle.etcs_bits.specs.layout.Format.{Format}
 use Rattle.etcs_bits.proofs.NumberLemmas.{length-num, num_of_bits-small, bits_of_bytes-cons, length-bits_of_bytes}
 use Rattle.etcs_bits.proofs.StandLemmas.{length-join, join-append, allowed-append, place_in}
@@ -22,7 +22,7 @@ use Rattle.etcs_radio.specs.declared.error.EncodeError.TheVariants as errors
 use Rattle.etcs_radio.specs.declared.message.Message.{Message}
 use Rattle.etcs_radio.specs.declared.message.Message.TheVariants as messages
 use Rattle.etcs_radio.specs.Head.{Head, MovementHead, PositionHead, head}
-use Rattle.etcs_radio.specs.Laws.{AreSpelledOut}
+use Rattle.etcs_radio.specs.Laws.{IsCompleteSpelling}
 use Rattle.etcs_radio.specs.Message.{beginning, IsMessage, message_rows, used_bits, IsTooBig, IsEncoding}
 use Rattle.etcs_radio.specs.TrainPacket.{train_packet}
 use Rattle.etcs_radio.proofs.MessageLemmas.{headed_track, headed_train, no_track_mark, no_train_mark, message_meant}
@@ -70,7 +70,7 @@ rest_ends : (rest : List Bool) → (length rest < 8) ⊎ ((fill : List Bool) × 
 rest_ends rest (inl few) = few_end rest few
 rest_ends rest (inr (fill, is)) = ap (λ (bits : List Bool). ends stops.Message (start bits)) is ∙ mark_ends stops.Message fill
 
-pub spelled_message : (m : Message) (bytes : List ℕ) → AreSpelledOut m bytes → IsMessage m bytes
+pub spelled_message : (m : Message) (bytes : List ℕ) → IsCompleteSpelling m bytes → IsMessage m bytes
 spelled_message (messages.Movement m) bytes x =
     let w = written track_packet (inl (m.time, (m.ack, m.lrbg))) m.packets bytes x.rest headed_track no_track_mark x.allowed (rest_ends x.rest x.over) x.are in
     record { middle = w.1.middle; end = w.0; first = w.1.first; packets = w.1.items; complete = x.complete }
@@ -107,7 +107,7 @@ parts_of x h xs bytes middle end first items =
       are = parts.are ∙ sym (append_assoc (join one) (join two) parts.rest) ∙ ap (λ (bits : List Bool). bits ++ parts.rest) (sym (join-append one two));
     }
 
-pub message_spelled : (m : Message) (bytes : List ℕ) → IsMessage m bytes → AreSpelledOut m bytes
+pub message_spelled : (m : Message) (bytes : List ℕ) → IsMessage m bytes → IsCompleteSpelling m bytes
 message_spelled (messages.Movement m) bytes x =
     let parts = parts_of track_packet (inl (m.time, (m.ack, m.lrbg))) m.packets bytes x.middle x.end x.first x.packets in
     record { rest = parts.rest; allowed = parts.allowed; over = parts.over; are = parts.are; complete = x.complete }
@@ -135,7 +135,7 @@ encoding_fits m bytes x =
     let k = 8 * length bytes - used_bits m in
     omega (arith, ap length x.canonical, length-append (join (message_rows (length bytes) m)) (replicate k false), length-replicate k false, message_width (length bytes) m, length-bits_of_bytes bytes)
 
-encoding_spelled : (m : Message) (bytes : List ℕ) → IsEncoding m bytes → AreSpelledOut m bytes
+encoding_spelled : (m : Message) (bytes : List ℕ) → IsEncoding m bytes → IsCompleteSpelling m bytes
 encoding_spelled m bytes x =
     let k = 8 * length bytes - used_bits m in
     record {

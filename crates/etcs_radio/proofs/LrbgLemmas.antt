@@ -5,7 +5,7 @@ use Rattle.etcs_bits.specs.declared.variables.identity.Identity.{Identity}
 use Rattle.etcs_bits.specs.bits.Number.{num}
 use Rattle.etcs_bits.specs.layout.Rows.{row, Place, join}
 use Rattle.etcs_bits.specs.layout.Results.{Puts}
-use Rattle.etcs_bits.specs.layout.Reading.{taken, rows_at}
+use Rattle.etcs_bits.specs.layout.Reading.{taken, read_rows}
 use Rattle.etcs_bits.specs.variables.Variables.{plain, free}
 use Rattle.etcs_bits.proofs.ReadingLemmas.{taken_ok, taken_again}
 use Rattle.etcs_bits.proofs.StandLemmas.{stands_nothing}
@@ -31,7 +31,7 @@ unfolding num
 nothing_read q within = taken_again 0 0 q q (omega arith) within (stands_nothing q)
 
 pub lrbg_read : (n c g : ℕ) (p q : Place) → taken 24 p ≡ Ok (n, q) → c ≡ n / 16384 → g ≡ n % 16384
-    → rows_at lrbg_fields p ≡ Ok (lrbg_rows (record { country = c; group = g }), q)
+    → read_rows lrbg_fields p ≡ Ok (lrbg_rows (record { country = c; group = g }), q)
 lrbg_read n c g p q read country group =
     let took = taken_ok 24 p (n, q) read in
     let within : q.at ≤ length q.bits = omega (arith, took.within, ap length took.stands.same) in

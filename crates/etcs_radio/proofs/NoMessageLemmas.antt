@@ -7,7 +7,7 @@ use Rattle.etcs_bits.specs.bits.Number.{bits_of_bytes}
 use Rattle.etcs_bits.specs.layout.Rows.{Row, Place, join, IsSpelled}
 use Rattle.etcs_bits.specs.layout.Fields.{Fields}
 use Rattle.etcs_bits.specs.layout.Fault.{IsFault}
-use Rattle.etcs_bits.specs.layout.Reading.{◌>>=◌, rows_at}
+use Rattle.etcs_bits.specs.layout.Reading.{◌>>=◌, read_rows}
 use Rattle.etcs_bits.proofs.NumberLemmas.{length-bits_of_bytes}
 use Rattle.etcs_bits.proofs.StandLemmas.{place_in, stands_moved}
 use Rattle.etcs_bits.proofs.FaultLemmas.{fault_stays}
@@ -19,7 +19,7 @@ use Rattle.etcs_packet.proofs.EndLemmas.{fault_past}
 use Rattle.etcs_packet.proofs.FollowLemmas.{follow_forward, follow_within, list_fault_stays}
 use Rattle.etcs_radio.specs.declared.message.Message.{Message}
 use Rattle.etcs_radio.specs.Head.{Head, head}
-use Rattle.etcs_radio.specs.Meaning.{message_of}
+use Rattle.etcs_radio.specs.Meaning.{read_message}
 use Rattle.etcs_radio.specs.Message.{beginning, IsIncomplete, IsPacketsFault, IsMessageFault, IsNoMessage}
 use Rattle.etcs_radio.specs.TrainPacket.{train_packet}
 use Rattle.etcs_radio.proofs.MessageLemmas.{headed_track, headed_train, then_packets, meant, message_meant, fault_meant, head_within}
@@ -33,14 +33,14 @@ list_past item p f headed within t =
 
 -- bytes mean what their bits and their number mean
 meaning : ℕ → List Bool → Result Message Fault
-meaning n bits = rows_at (head n).fields (start bits) >>= then_packets n
+meaning n bits = read_rows (head n).fields (start bits) >>= then_packets n
 
 same_meaning : (bytes others : List ℕ) → length others ≡ length bytes
-    → bits_of_bytes others ≡ bits_of_bytes bytes → message_of others ≡ message_of bytes
+    → bits_of_bytes others ≡ bits_of_bytes bytes → read_message others ≡ read_message bytes
 same_meaning bytes others len same =
     meant others
-    ∙ ap (λ (n : ℕ). rows_at (head n).fields (start (bits_of_bytes others)) >>= then_packets n) len
-    ∙ ap (λ (bits : List Bool). rows_at (head (length bytes)).fields (start bits) >>= then_packets (length bytes)) same
+    ∙ ap (λ (n : ℕ). read_rows (head n).fields (start (bits_of_bytes others)) >>= then_packets n) len
+    ∙ ap (λ (bits : List Bool). read_rows (head (length bytes)).fields (start bits) >>= then_packets (length bytes)) same
     ∙ sym (meant bytes)
 
 -- a list's fault after a head stays
@@ -81,7 +81,7 @@ incomplete_end rows has why p f t = ap (λ (g : Fault). g.end) t.is_fault
 later_stays : (h : Head) (bytes others : List ℕ) (middle : Place) (f : Fault) → length others ≡ length bytes
     → take f.end (bits_of_bytes others) ≡ take f.end (bits_of_bytes bytes)
     → IsSpelled ((head (length bytes)).rows h) (beginning bytes) middle → IsPacketsFault h middle f
-    → message_of bytes ≡ Err f → message_of others ≡ Err f
+    → read_message bytes ≡ Err f → read_message others ≡ Err f
 later_stays (inl h) bytes others middle f len same first (inl t) fails =
     let moved = list_stays (inl h) track_packet.fields bytes others middle f headed_track len same first t in
     fault_meant others f (inr (record { h = inl h; middle = place_in (bits_of_bytes others) middle.at; first = moved.0; is_fault = inl moved.1 }))
@@ -96,7 +96,7 @@ later_stays (inr h) bytes others middle f len same first (inr t) fails =
 -- all such bytes have the fault
 stays : (bytes others : List ℕ) (f : Fault) → length others ≡ length bytes
     → take f.end (bits_of_bytes others) ≡ take f.end (bits_of_bytes bytes)
-    → IsMessageFault bytes f → message_of others ≡ Err f
+    → IsMessageFault bytes f → read_message others ≡ Err f
 stays bytes others f len same (inl t) =
     let count : length (bits_of_bytes others) ≡ length (bits_of_bytes bytes) = omega (arith, length-bits_of_bytes bytes, length-bits_of_bytes others, len) in
     let moved = fault_stays (head (length bytes)).fields (beginning bytes) f (bits_of_bytes others) (omega arith) count same t in

@@ -10,34 +10,34 @@ use Rattle.etcs_bits.specs.layout.Format.{Format}
 use Rattle.etcs_bits.specs.layout.Results.{Fails}
 use Rattle.etcs_packet.specs.declared.stop.Stop.TheVariants as stops
 use Rattle.etcs_profile.specs.declared.track.TrackPacket.{TrackPacket}
-use Rattle.etcs_packet.specs.Reading.{items_at}
+use Rattle.etcs_packet.specs.Reading.{read_list}
 use Rattle.etcs_radio.specs.declared.message.Message.{Message}
 use Rattle.etcs_radio.specs.declared.message.Message.TheVariants as messages
 use Rattle.etcs_radio.specs.declared.train_packet.TrainPacket.{TrainPacket}
 use Rattle.etcs_radio.specs.Head.{MovementHead, PositionHead}
 use Rattle.etcs_radio.specs.Record.{Movement, Position}
-use Rattle.etcs_radio.specs.Meaning.{packets_by, movement_with, position_with}
+use Rattle.etcs_radio.specs.Meaning.{read_message_list, movement_message, position_message}
 
 -- if reading the packets fails, reading the message fails
 pub by_fails : {X : Type 0} (x : Format X) (has : List X → Bool) (why : FaultKind) (make : List X → Message)
-    (e : DecodeError) (p : Place) → Fails e (items_at stops.Message x.fields x.of p)
-    → Fails e (packets_by x has why make p)
-unfolding packets_by
+    (e : DecodeError) (p : Place) → Fails e (read_list stops.Message x.fields x.of p)
+    → Fails e (read_message_list x has why make p)
+unfolding read_message_list
 by_fails x has why make errors.Memory p fails = tt
 by_fails x has why make (errors.Fault f) p fails = rw fails refl
 
 -- packets with the required one
 pub by_ok : {X : Type 0} (x : Format X) (has : List X → Bool) (why : FaultKind) (make : List X → Message)
-    (xs : List X) (p q : Place) → items_at stops.Message x.fields x.of p ≡ Ok (xs, q) → has xs ≡ true
-    → packets_by x has why make p ≡ Ok (make xs)
-unfolding packets_by
+    (xs : List X) (p q : Place) → read_list stops.Message x.fields x.of p ≡ Ok (xs, q) → has xs ≡ true
+    → read_message_list x has why make p ≡ Ok (make xs)
+unfolding read_message_list
 by_ok x has why make xs p q read there = rw (read, there) refl
 
 -- packets without it
 pub by_err : {X : Type 0} (x : Format X) (has : List X → Bool) (why : FaultKind) (make : List X → Message)
-    (xs : List X) (p q : Place) → items_at stops.Message x.fields x.of p ≡ Ok (xs, q) → has xs ≡ false
-    → packets_by x has why make p ≡ Err (record { at = q.at; end = length q.bits; why = why })
-unfolding packets_by
+    (xs : List X) (p q : Place) → read_list stops.Message x.fields x.of p ≡ Ok (xs, q) → has xs ≡ false
+    → read_message_list x has why make p ≡ Err (record { at = q.at; end = length q.bits; why = why })
+unfolding read_message_list
 by_err x has why make xs p q read none = rw (read, none) refl
 
 -- the result of a constructor shows whether the required packet is there
@@ -51,10 +51,10 @@ not_there r e false made is = refl
 -- the message that a constructor made is the message of the head and the packets
 pub movement_made : (h : MovementHead) (packets : List TrackPacket) (lrbg : Identity) (m : Movement) → lrbg ≡ h.1.1
     → m ≡ record { time = h.0; ack = h.1.0; lrbg = lrbg; packets = packets }
-    → movement_with h packets ≡ messages.Movement m
+    → movement_message h packets ≡ messages.Movement m
 movement_made h packets lrbg m same is =
     ap messages.Movement (ap (λ (l : Identity). record { time = h.0; ack = h.1.0; lrbg = l; packets = packets }) (sym same) ∙ sym is)
 
 pub position_made : (h : PositionHead) (packets : List TrainPacket) (m : Position)
-    → m ≡ record { time = h.0; engine = h.1; packets = packets } → position_with h packets ≡ messages.Position m
+    → m ≡ record { time = h.0; engine = h.1; packets = packets } → position_message h packets ≡ messages.Position m
 position_made h packets m is = ap messages.Position (sym is)

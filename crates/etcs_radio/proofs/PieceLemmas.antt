@@ -5,7 +5,7 @@ use Rattle.std.proofs.lemmas.List.{length-take-le, take-append-le, take_all, tak
 use Rattle.std.proofs.Math.Seq.{take-append-add}
 use Rattle.etcs_radio.specs.declared.splitter.State.TheVariants.{More, Ready}
 use Rattle.etcs_radio.specs.Stream.{AreOneMessageLong, AreRest}
-use Rattle.etcs_radio.specs.Splitter.{state_of, IsTaken}
+use Rattle.etcs_radio.specs.Splitter.{splitter_state, IsTaken}
 use Rattle.etcs_radio.proofs.StreamLemmas.{message_length-take}
 use Rattle.etcs_radio.proofs.StateLemmas.{state-ready, state-short, state-below, ready-whole, ready_is_not_more}
 use Rattle.etcs_radio.proofs.SplitterLemmas.{taken_none, none_changed}
@@ -18,7 +18,7 @@ module _ (held one other : List ℕ) (m n : ℕ) (before : IsTaken held one m) (
   to_the_end some =
       ⊎_elim
       (λ (part : m < length one).
-      absurd (before.waits_no_more part (ap state_of (sym (taken_none (held ++ take m one) other)) ∙ after.waits_before 0 some)))
+      absurd (before.waits_no_more part (ap splitter_state (sym (taken_none (held ++ take m one) other)) ∙ after.waits_before 0 some)))
       (λ (all : length one ≤ m). omega (arith, before.within))
       (cases_lt m (length one))
 
@@ -46,20 +46,20 @@ module _ (held one other : List ℕ) (m n : ℕ) (before : IsTaken held one m) (
   parts_taken = record {
     within = omega (arith, length-append one other, before.within, after.within);
     waits_before = λ k less.
-        ⊎_elim (λ (first : k < m). ap state_of (in_one k (omega arith)) ∙ before.waits_before k first)
+        ⊎_elim (λ (first : k < m). ap splitter_state (in_one k (omega arith)) ∙ before.waits_before k first)
         (λ (second : m ≤ k).
         let all = to_the_end (omega arith) in
         let there : m + (k - m) ≡ k = omega arith in
-        subst (λ j. state_of (held ++ take j (one ++ other)) ≡ More) there
-        (ap state_of (in_other all (k - m)) ∙ after.waits_before (k - m) (omega arith)))
+        subst (λ j. splitter_state (held ++ take j (one ++ other)) ≡ More) there
+        (ap splitter_state (in_other all (k - m)) ∙ after.waits_before (k - m) (omega arith)))
         (cases_lt k m);
     waits_no_more = λ left more.
         ⊎_elim
-        (λ (some : n < length other). after.waits_no_more some (ap state_of (sym parts_join) ∙ more))
+        (λ (some : n < length other). after.waits_no_more some (ap splitter_state (sym parts_join) ∙ more))
         (λ (none : length other ≤ n).
         let part : m < length one = omega (arith, length-append one other, after.within) in
         let over = before.waits_no_more part in
-        over (ap state_of (sym (none_changed (held ++ take m one) other n after over)) ∙ ap state_of (sym parts_join) ∙ more))
+        over (ap splitter_state (sym (none_changed (held ++ take m one) other n after over)) ∙ ap splitter_state (sym parts_join) ∙ more))
         (cases_lt n (length other));
   }
 
@@ -72,7 +72,7 @@ message_taken message more whole = record {
   waits_before = λ n before.
       let front = take-append-le n message more (omega arith) in
       let count = length-take-le n message (omega arith) in
-      ap state_of front
+      ap splitter_state front
       ∙ ⊎_elim (λ (short : n < 3). state-short (take n message) (omega (arith, count)))
       (λ (three : 3 ≤ n).
       let says = message_length-take n message (omega (arith, count)) in
@@ -80,11 +80,11 @@ message_taken message more whole = record {
       state-below (take n message) (omega (arith, says, all)) (omega (arith, count, says, all)))
       (cases_lt n 3);
   waits_no_more = λ _ waits.
-      ready_is_not_more (sym (ap state_of (take_at message more (length message) refl) ∙ state-ready message whole) ∙ waits);
+      ready_is_not_more (sym (ap splitter_state (take_at message more (length message) refl) ∙ state-ready message whole) ∙ waits);
 }
 
 -- no front of a rest is a message
-pub rest_never_ready : (rest : List ℕ) (n : ℕ) → AreRest rest → n ≤ length rest → state_of (take n rest) ≢ Ready
+pub rest_never_ready : (rest : List ℕ) (n : ℕ) → AreRest rest → n ≤ length rest → splitter_state (take n rest) ≢ Ready
 rest_never_ready rest n cut_off within ready =
     let whole = ready-whole (take n rest) ready in
     let count = length-take-le n rest within in

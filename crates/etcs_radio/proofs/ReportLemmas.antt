@@ -18,7 +18,7 @@ use Rattle.etcs_bits.specs.declared.variables.train3.Train3.{Train3}
 use Rattle.etcs_radio.specs.Integrity.{q_length}
 use Rattle.etcs_radio.specs.Lrbg.{nid_lrbg, nid_prvlrbg}
 use Rattle.etcs_bits.specs.variables.Train3.{q_dirtrain}
-use Rattle.etcs_radio.specs.Report.{v_train, m_mode, Situation, situation, WithOne, WithTwo, with_one, with_two, report_numbered, numbered_by, numbered_of, report_variable, report, situation_of}
+use Rattle.etcs_radio.specs.Report.{v_train, m_mode, Situation, situation, WithOne, WithTwo, with_one, with_two, report_numbered, parts_by_previous, report_parts, report_variable, report, report_situation}
 
 integrity_width : (v : Integrity) → width (q_length.rows v) ≤ 17
 unfolding alone
@@ -63,25 +63,25 @@ two_width (scale, (lrbg, (previous, s))) = let few = situation_width s in omega 
 
 -- a report's rows, by what its number decides
 put_numbered : {X E : Type 0} (r : Report) (s : WithOne ⊎ WithTwo) (result : Result X E) (old new : List Bool)
-    → numbered_of r ≡ s
+    → report_parts r ≡ s
     → Puts (join (alone report_variable (report_numbered.number s) ++ report_numbered.rows s)) result old new
     → Puts (join (report.rows r)) result old new
 put_numbered r s result old new is puts =
     subst (λ (t : WithOne ⊎ WithTwo). Puts (join (alone report_variable (report_numbered.number t) ++ report_numbered.rows t)) result old new) (sym is) puts
 
 pub put_one : {X E : Type 0} (r : Report) (p : WithOne) (result : Result X E) (old mid new : List Bool)
-    → r.previous ≡ None → p ≡ (r.scale, (r.lrbg, situation_of r)) → mid ≡ old ++ num 8 0
+    → r.previous ≡ None → p ≡ (r.scale, (r.lrbg, report_situation r)) → mid ≡ old ++ num 8 0
     → Puts (join (with_one.rows p)) result mid new → Puts (join (report.rows r)) result old new
 unfolding alone
 put_one r p result old mid new none is number puts =
-    put_numbered r (inl p) result old new (ap (λ (o : Option Identity). numbered_by o r) none ∙ ap inl (sym is))
+    put_numbered r (inl p) result old new (ap (λ (o : Option Identity). parts_by_previous o r) none ∙ ap inl (sym is))
     (puts_bits (num 8 0) (join (with_one.rows p)) result old mid new number puts)
 
 pub put_two : {X E : Type 0} (r : Report) (previous : Identity) (p : WithTwo) (result : Result X E)
     (old mid new : List Bool) → r.previous ≡ Some previous
-    → p ≡ (r.scale, (r.lrbg, (previous, situation_of r))) → mid ≡ old ++ num 8 1
+    → p ≡ (r.scale, (r.lrbg, (previous, report_situation r))) → mid ≡ old ++ num 8 1
     → Puts (join (with_two.rows p)) result mid new → Puts (join (report.rows r)) result old new
 unfolding alone
 put_two r previous p result old mid new some is number puts =
-    put_numbered r (inr p) result old new (ap (λ (o : Option Identity). numbered_by o r) some ∙ ap inr (sym is))
+    put_numbered r (inr p) result old new (ap (λ (o : Option Identity). parts_by_previous o r) some ∙ ap inr (sym is))
     (puts_bits (num 8 1) (join (with_two.rows p)) result old mid new number puts)

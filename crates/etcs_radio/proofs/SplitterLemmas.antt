@@ -5,7 +5,7 @@ use Rattle.std.proofs.lemmas.List.{append-nil, length-drop, length-take-le, take
 use Rattle.std.proofs.Math.Seq.{take-add}
 use Rattle.etcs_radio.specs.declared.splitter.State.TheVariants.{More}
 use Rattle.etcs_radio.specs.Stream.{message_length}
-use Rattle.etcs_radio.specs.Splitter.{state_of, IsTaken, MayBeHeld}
+use Rattle.etcs_radio.specs.Splitter.{splitter_state, IsTaken, MayBeHeld}
 use Rattle.etcs_radio.proofs.StreamLemmas.{message_length-append}
 use Rattle.etcs_radio.proofs.StateLemmas.{state-ready, state-failed, state-short, state-below, ready_is_not_more, failed_is_not_more}
 
@@ -13,13 +13,13 @@ pub taken_none : (held piece : List ℕ) → held ++ take 0 piece ≡ held
 taken_none held piece = append-nil held
 
 -- what is ready or has failed takes nothing
-pub none_taken : (held piece : List ℕ) (used : ℕ) → IsTaken held piece used → state_of held ≢ More → used ≡ 0
+pub none_taken : (held piece : List ℕ) (used : ℕ) → IsTaken held piece used → splitter_state held ≢ More → used ≡ 0
 none_taken held piece used taken over =
-    ⊎_elim (λ (some : 0 < used). absurd (over (ap state_of (sym (taken_none held piece)) ∙ taken.waits_before 0 some)))
+    ⊎_elim (λ (some : 0 < used). absurd (over (ap splitter_state (sym (taken_none held piece)) ∙ taken.waits_before 0 some)))
     (λ (none : used ≤ 0). omega arith)
     (cases_lt 0 used)
 
-pub none_changed : (held piece : List ℕ) (used : ℕ) → IsTaken held piece used → state_of held ≢ More → held ++ take used piece ≡ held
+pub none_changed : (held piece : List ℕ) (used : ℕ) → IsTaken held piece used → splitter_state held ≢ More → held ++ take used piece ≡ held
 none_changed held piece used taken over =
     ap (λ n. held ++ take n piece) (none_taken held piece used taken over) ∙ taken_none held piece
 
@@ -53,7 +53,7 @@ module _ (held piece : List ℕ) (head wanted rest : ℕ) where
     within = omega (arith, first, rest_few)
 
     -- before three bytes are held
-    early : (n : ℕ) → n < head → state_of (held ++ take n piece) ≡ More
+    early : (n : ℕ) → n < head → splitter_state (held ++ take n piece) ≡ More
     early n before =
         let has = length-taken held piece n (omega (arith, first)) in
         state-short (held ++ take n piece) (omega (arith, first, has))
@@ -79,7 +79,7 @@ module _ (held piece : List ℕ) (head wanted rest : ℕ) where
         (cases_lt (length held) 3)
 
     -- as long as L_MESSAGE counts more bytes
-    late : (n : ℕ) → n < rest → state_of (held ++ take (head + n) piece) ≡ More
+    late : (n : ℕ) → n < rest → splitter_state (held ++ take (head + n) piece) ≡ More
     late n before =
         let enough = reached (omega arith) in
         let until = whole enough in
@@ -87,7 +87,7 @@ module _ (held piece : List ℕ) (head wanted rest : ℕ) where
         let length_is = same n enough in
         state-below (held ++ take (head + n) piece) (omega (arith, length_is, until, then_is, enough)) (omega (arith, count, length_is, until, then_is, enough))
 
-    at_end : head + rest < length piece → state_of (held ++ take (head + rest) piece) ≢ More
+    at_end : head + rest < length piece → splitter_state (held ++ take (head + rest) piece) ≢ More
     at_end left more =
         let enough : 3 ≤ length three = omega (arith, first, three_has) in
         let until = whole enough in
@@ -118,7 +118,7 @@ module _ (held piece : List ℕ) (head wanted rest : ℕ) where
           ⊎_elim (λ (in_first : n < head). early n in_first)
           (λ (in_rest : head ≤ n).
           let there : head + (n - head) ≡ n = omega arith in
-          subst (λ k. state_of (held ++ take k piece) ≡ More) there (late (n - head) (omega arith)))
+          subst (λ k. splitter_state (held ++ take k piece) ≡ More) there (late (n - head) (omega arith)))
           (cases_lt n head);
       waits_no_more = at_end;
     }

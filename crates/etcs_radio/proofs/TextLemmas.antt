@@ -10,7 +10,7 @@ use Rattle.etcs_radio.specs.Head.{head}
 use Rattle.etcs_radio.specs.declared.error.RadioTextError.{RadioTextError}
 use Rattle.etcs_radio.specs.declared.error.RadioTextError.TheVariants as errors
 use Rattle.etcs_radio.specs.declared.message.Message.{Message}
-use Rattle.etcs_radio.specs.Meaning.{message_of}
+use Rattle.etcs_radio.specs.Meaning.{read_message}
 use Rattle.etcs_radio.specs.Message.{beginning, IsEncoding}
 use Rattle.etcs_radio.specs.Text.{IsHexadecimal, IsMessageText, IsCanonicalText, HasFault, HasHeadFault, IsReason}
 use Rattle.etcs_radio.specs.TextMeaning.{of_bytes, of_decoded, message_of_text}
@@ -21,15 +21,15 @@ use Rattle.etcs_radio.proofs.EncodeLemmas.{encoding_message, one_encoding}
 -- ---- a text means what its bytes mean
 
 pub decoded_means : (text bytes : List ℕ) → decode_of text ≡ Ok bytes
-    → message_of_text text ≡ of_bytes (message_of bytes)
+    → message_of_text text ≡ of_bytes (read_message bytes)
 unfolding message_of_text
 decoded_means text bytes decoded = rw decoded refl
 
-pub text_means : (m : Message) (text bytes : List ℕ) → decode_of text ≡ Ok bytes → message_of bytes ≡ Ok m
+pub text_means : (m : Message) (text bytes : List ℕ) → decode_of text ≡ Ok bytes → read_message bytes ≡ Ok m
     → message_of_text text ≡ Ok m
 text_means m text bytes decoded means = decoded_means text bytes decoded ∙ ap of_bytes means
 
-pub fault_means : (f : Fault) (text bytes : List ℕ) → decode_of text ≡ Ok bytes → message_of bytes ≡ Err f
+pub fault_means : (f : Fault) (text bytes : List ℕ) → decode_of text ≡ Ok bytes → read_message bytes ≡ Err f
     → message_of_text text ≡ Err (errors.Fault f)
 fault_means f text bytes decoded means = decoded_means text bytes decoded ∙ ap of_bytes means
 
@@ -57,7 +57,7 @@ of_bytes_ok (Err f) m is = absurd cc
 means_decoded : (m : Message) (text : List ℕ) (d : Result (List ℕ) FromHexError) → decode_of text ≡ d
     → of_decoded d ≡ Ok m → IsMessageText m text
 means_decoded m text (Ok bytes) decoded is =
-    record { bytes = bytes; decoded = decoded; message = means_message m bytes (of_bytes_ok (message_of bytes) m is) }
+    record { bytes = bytes; decoded = decoded; message = means_message m bytes (of_bytes_ok (read_message bytes) m is) }
 means_decoded m text (Err e) decoded is = absurd cc
 
 pub means_text : (m : Message) (text : List ℕ) → message_of_text text ≡ Ok m → IsMessageText m text
@@ -83,7 +83,7 @@ read_fault : (e : RadioTextError) (r : Result Message Fault) → of_bytes r ≡ 
 read_fault e (Ok m) is = absurd cc
 read_fault e (Err f) is = let same : errors.Fault f ≡ e = cc in (f, refl, same)
 
-pub has_fault : (f : Fault) (text bytes : List ℕ) → decode_of text ≡ Ok bytes → message_of bytes ≡ Err f
+pub has_fault : (f : Fault) (text bytes : List ℕ) → decode_of text ≡ Ok bytes → read_message bytes ≡ Err f
     → HasFault text f
 has_fault f text bytes decoded means =
     let first = meant_fault bytes f means in
@@ -92,7 +92,7 @@ has_fault f text bytes decoded means =
 read_decoded : (e : RadioTextError) (text : List ℕ) (d : Result (List ℕ) FromHexError) → decode_of text ≡ d
     → of_decoded d ≡ Err e → IsReason e text
 read_decoded e text (Ok bytes) decoded is =
-    let x = read_fault e (message_of bytes) is in
+    let x = read_fault e (read_message bytes) is in
     subst (λ (y : RadioTextError). IsReason y text) x.2 (has_fault x.0 text bytes decoded x.1)
 read_decoded e text (Err x) decoded is =
     let same : errors.NotHex ≡ e = cc in

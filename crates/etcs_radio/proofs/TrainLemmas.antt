@@ -8,15 +8,15 @@ use Rattle.etcs_bits.specs.layout.Choice.{numbered_rows}
 use Rattle.etcs_radio.specs.declared.report.Report.{Report}
 use Rattle.etcs_radio.specs.declared.train_packet.TrainPacket.{TrainPacket}
 use Rattle.etcs_radio.specs.declared.train_packet.TrainPacket.TheVariants as packets
-use Rattle.etcs_radio.specs.Report.{WithOne, WithTwo, report_numbered, numbered_of, report_variable}
+use Rattle.etcs_radio.specs.Report.{WithOne, WithTwo, report_numbered, report_parts, report_variable}
 use Rattle.etcs_bits.specs.layout.Format.{kept_bits}
 use Rattle.etcs_radio.specs.RawTrain.{other_of}
 use Rattle.etcs_profile.specs.PacketNumbers.{nid_track as nid_train}
-use Rattle.etcs_radio.specs.TrainPacket.{train_numbered, report_in, train_packet, own_rows}
+use Rattle.etcs_radio.specs.TrainPacket.{train_numbered, numbered_report, train_packet, own_rows}
 
 -- the rows of a report with its number, as one of a list and by itself
 abbrev listed : WithOne ⊎ WithTwo → List Row
-listed s = alone nid_train (train_numbered.number (report_in s)) ++ train_numbered.rows (report_in s)
+listed s = alone nid_train (train_numbered.number (numbered_report s)) ++ train_numbered.rows (numbered_report s)
 
 abbrev own : WithOne ⊎ WithTwo → List Row
 own s = alone report_variable (report_numbered.number s) ++ report_numbered.rows s
@@ -38,12 +38,12 @@ report_allowed (inr p) allowed = allowed
 
 pub train_join : (p : TrainPacket) → join (train_packet.rows p) ≡ join (own_rows p)
 unfolding alone
-train_join (packets.Report r) = report_join (numbered_of r)
+train_join (packets.Report r) = report_join (report_parts r)
 train_join (packets.Raw p) = refl
 
 pub train_width : (p : TrainPacket) → width (train_packet.rows p) ≡ width (own_rows p)
 unfolding alone
-train_width (packets.Report r) = report_width (numbered_of r)
+train_width (packets.Report r) = report_width (report_parts r)
 train_width (packets.Raw p) = refl
 
 not_mark : (known mark : Bool) → not (known || mark) ≡ true → not mark ≡ true
@@ -52,7 +52,7 @@ not_mark false mark h = h
 
 pub train_allowed : (p : TrainPacket) → AreAllowed (own_rows p) → AreAllowed (train_packet.rows p)
 unfolding alone
-train_allowed (packets.Report r) allowed = report_allowed (numbered_of r) allowed
+train_allowed (packets.Report r) allowed = report_allowed (report_parts r) allowed
 train_allowed (packets.Raw p) allowed =
     ((allowed.0.0, not_mark (report_numbered.allows p.number) (p.number == 255) (other_of p.number (length p.body) p.kept)), allowed.1)
 
@@ -70,14 +70,14 @@ pub report_next : (n : ℕ) → (n ≡ 0) ⊎ ((n ≡ 0 → ⊥) × (n ≡ 1)) �
 report_next n (inl is) = rw is refl
 report_next n (inr other) = rw other.1 refl
 
-in_rows : (s : WithOne ⊎ WithTwo) → numbered_rows train_numbered (report_in s) ≡ numbered_rows report_numbered s
+in_rows : (s : WithOne ⊎ WithTwo) → numbered_rows train_numbered (numbered_report s) ≡ numbered_rows report_numbered s
 in_rows (inl p) = refl
 in_rows (inr p) = refl
 
 -- a report that was read
 pub report_here : (r : Report) {read : Result (List Row × Place) Fault} {to : Place}
-    → read ≡ Ok (row nid_train (report_numbered.number (numbered_of r)) ∷ report_numbered.rows (numbered_of r), to)
+    → read ≡ Ok (row nid_train (report_numbered.number (report_parts r)) ∷ report_numbered.rows (report_parts r), to)
     → read ≡ Ok (train_packet.rows (packets.Report r), to)
 unfolding alone
 report_here r {to = to} read =
-    read ∙ ap (λ (z : ℕ × List Row). Ok (row nid_train z.0 ∷ z.1, to)) (sym (in_rows (numbered_of r)))
+    read ∙ ap (λ (z : ℕ × List Row). Ok (row nid_train z.0 ∷ z.1, to)) (sym (in_rows (report_parts r)))

@@ -5,7 +5,7 @@ use Rattle.std.specs.Prelude.{◌≡◌, ◌≢◌, ℕ, List, [], ◌∷◌, �
 use Rattle.etcs_radio.specs.declared.splitter.State.{State}
 use Rattle.etcs_radio.specs.declared.splitter.State.TheVariants.{More, Ready, Failed}
 use Rattle.etcs_radio.specs.Stream.{AreMessages}
-use Rattle.etcs_radio.specs.Splitter.{state_of, MayBeHeld}
+use Rattle.etcs_radio.specs.Splitter.{splitter_state, MayBeHeld}
 
 -- What comes out of a splitter: the messages that were taken out of it, and the bytes that it holds
 -- at the end.
@@ -14,8 +14,8 @@ pub record Cut : Type 0 where
   pub held : List ℕ
 
 -- no message, and these bytes
-abbrev pub none_with : List ℕ → Cut
-none_with held = record { messages = []; held = held }
+abbrev pub no_message : List ℕ → Cut
+no_message held = record { messages = []; held = held }
 
 -- one message before all others
 abbrev pub after_message : List ℕ → Cut → Cut
@@ -27,10 +27,10 @@ one_then first then = record { messages = first.messages ++ then.messages; held 
 
 -- A waiting splitter continues with what it holds. A ready splitter gives its message and continues
 -- empty. A failed splitter does not continue.
-abbrev pub go_on : State → List ℕ → (List ℕ → Cut) → Cut
-go_on More held then = then held
-go_on Ready held then = after_message held (then [])
-go_on Failed held then = none_with held
+abbrev pub continue_cut : State → List ℕ → (List ℕ → Cut) → Cut
+continue_cut More held then = then held
+continue_cut Ready held then = after_message held (then [])
+continue_cut Failed held then = no_message held
 
 -- ---- what comes out
 -- Pinned by the law a_stream_is_fed_call_by_call.
@@ -38,15 +38,15 @@ go_on Failed held then = none_with held
 -- Pinned by the law streams_are_cut.
 
 -- what comes out of a splitter that holds some bytes and is fed others
-unfoldable pub cut_from : List ℕ → List ℕ → Cut
-cut_from held [] = go_on (state_of held) held none_with
-cut_from held (byte ∷ bytes) = go_on (state_of held) held (λ before. cut_from (before ++ (byte ∷ [])) bytes)
+unfoldable pub cut_stream : List ℕ → List ℕ → Cut
+cut_stream held [] = continue_cut (splitter_state held) held no_message
+cut_stream held (byte ∷ bytes) = continue_cut (splitter_state held) held (λ before. cut_stream (before ++ (byte ∷ [])) bytes)
 
 -- what comes out of a splitter that holds some bytes and is fed one piece after the other
 unfoldable pub cut_pieces : List ℕ → List (List ℕ) → Cut
-cut_pieces held [] = cut_from held []
+cut_pieces held [] = cut_stream held []
 cut_pieces held (piece ∷ pieces) =
-    one_then (cut_from held piece) (cut_pieces (cut_from held piece).held pieces)
+    one_then (cut_stream held piece) (cut_pieces (cut_stream held piece).held pieces)
 
 -- ---- a stream
 
@@ -56,5 +56,5 @@ pub record IsCut (cut : Cut) (bytes : List ℕ) : Type 0 where
   pub left : List ℕ
   pub stream : AreMessages cut.messages (cut.held ++ left) bytes
   pub may_be_held : MayBeHeld cut.held
-  pub not_ready : state_of cut.held ≢ Ready
-  pub none_left : state_of cut.held ≢ Failed → left ≡ []
+  pub not_ready : splitter_state cut.held ≢ Ready
+  pub none_left : splitter_state cut.held ≢ Failed → left ≡ []

@@ -9,9 +9,9 @@ use Rattle.etcs_radio.specs.TrainNumbers.{is_kept}
 abbrev pub raw : (n : ℕ) → (body : List Bool) → is_kept n (length body) ≡ true → RawTrainPacket
 raw n body kept = record { number = n; body = body; kept = kept }
 
-abbrev pub raw_by : (n : ℕ) → (body : List Bool) → (b : Bool) → is_kept n (length body) ≡ b → RawTrainPacket
-raw_by n body true kept = raw n body kept
-raw_by n body false other = raw 2 [] refl
+abbrev pub raw_if_kept : (n : ℕ) → (body : List Bool) → (b : Bool) → is_kept n (length body) ≡ b → RawTrainPacket
+raw_if_kept n body true kept = raw n body kept
+raw_if_kept n body false other = raw 2 [] refl
 
-abbrev pub raw_with : ℕ → List Bool → RawTrainPacket
-raw_with n body = raw_by n body (is_kept n (length body)) refl
+abbrev pub make_raw : ℕ → List Bool → RawTrainPacket
+make_raw n body = raw_if_kept n body (is_kept n (length body)) refl

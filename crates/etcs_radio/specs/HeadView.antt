@@ -4,6 +4,6 @@ use Rattle.etcs_radio.specs.declared.head.Fields.{Fields}
 use Rattle.etcs_radio.specs.declared.head.Fields.TheVariants.{OfMovement, OfPosition}
 use Rattle.etcs_radio.specs.Head.{Head}
 
-abbrev pub head_in : Fields → Head
-head_in (OfMovement h) = inl h
-head_in (OfPosition h) = inr h
+abbrev pub head_value : Fields → Head
+head_value (OfMovement h) = inl h
+head_value (OfPosition h) = inr h

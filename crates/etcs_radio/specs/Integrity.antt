@@ -26,28 +26,28 @@ length_variable = record { width = 2; allows = length_numbered.allows; refusal =
 
 -- ---- the number of a value, with what follows it
 
-abbrev pub numbered_of : Integrity → NumberedLength
-numbered_of lengths.Q0 = inl tt
-numbered_of (lengths.Q1 l) = inr (inl l)
-numbered_of (lengths.Q2 l) = inr (inr (inl l))
-numbered_of lengths.Q3 = inr (inr (inr tt))
+abbrev pub integrity_parts : Integrity → NumberedLength
+integrity_parts lengths.Q0 = inl tt
+integrity_parts (lengths.Q1 l) = inr (inl l)
+integrity_parts (lengths.Q2 l) = inr (inr (inl l))
+integrity_parts lengths.Q3 = inr (inr (inr tt))
 
 -- ---- the value of a number with what follows it
 -- Pinned by the law a_record_is_read_as_it_is_spelled.
 
-abbrev pub integrity_of : NumberedLength → Integrity
-integrity_of (inl _) = lengths.Q0
-integrity_of (inr (inl l)) = lengths.Q1 l
-integrity_of (inr (inr (inl l))) = lengths.Q2 l
-integrity_of (inr (inr (inr _))) = lengths.Q3
+abbrev pub make_integrity : NumberedLength → Integrity
+make_integrity (inl _) = lengths.Q0
+make_integrity (inr (inl l)) = lengths.Q1 l
+make_integrity (inr (inr (inl l))) = lengths.Q2 l
+make_integrity (inr (inr (inr _))) = lengths.Q3
 
-pub back : (n : NumberedLength) → numbered_of (integrity_of n) ≡ n
+pub back : (n : NumberedLength) → integrity_parts (make_integrity n) ≡ n
 back (inl _) = refl
 back (inr (inl l)) = refl
 back (inr (inr (inl l))) = refl
 back (inr (inr (inr _))) = refl
 
-pub again : (v : Integrity) → integrity_of (numbered_of v) ≡ v
+pub again : (v : Integrity) → make_integrity (integrity_parts v) ≡ v
 again lengths.Q0 = refl
 again (lengths.Q1 l) = refl
 again (lengths.Q2 l) = refl
@@ -57,8 +57,8 @@ again lengths.Q3 = refl
 
 -- Q_LENGTH, with L_TRAININT
 abbrev pub q_length : Format Integrity
-q_length = named (chosen length_variable length_numbered (λ _. refl)) integrity_of numbered_of back again
+q_length = named (chosen length_variable length_numbered (λ _. refl)) make_integrity integrity_parts back again
 
 -- Q_LENGTH
 abbrev pub length_number : Integrity → ℕ
-length_number v = length_numbered.number (numbered_of v)
+length_number v = length_numbered.number (integrity_parts v)

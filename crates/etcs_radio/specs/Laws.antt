@@ -8,7 +8,7 @@ use Rattle.etcs_radio.specs.Message.{message_rows, is_complete}
 -- The bytes are the message's head, with L_MESSAGE as their count, its packets and a rest. The rest
 -- has fewer than eight bits or begins with eight ones. None of the message's numbers is spare, and the
 -- message contains its required packet.
-pub record AreSpelledOut (m : Message) (bytes : List ℕ) : Type 0 where
+pub record IsCompleteSpelling (m : Message) (bytes : List ℕ) : Type 0 where
   pub rest : List Bool
   pub allowed : AreAllowed (message_rows (length bytes) m)
   pub over : (length rest < 8) ⊎ ((fill : List Bool) × (rest ≡ num 8 255 ++ fill))

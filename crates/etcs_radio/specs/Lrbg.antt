@@ -5,7 +5,7 @@ use Rattle.std.proofs.Common.{arith, ap₂, subst, sym, ◌∙◌}
 use Rattle.etcs_bits.specs.declared.variables.identity.Identity.{Identity}
 use Rattle.etcs_bits.specs.layout.Rows.{Row, row, AreAllowed}
 use Rattle.etcs_bits.specs.layout.Fields.{Fields, one, ◌▹◌, AreRowsOf}
-use Rattle.etcs_bits.specs.layout.Found.{number_at}
+use Rattle.etcs_bits.specs.layout.Found.{row_number}
 use Rattle.etcs_bits.specs.layout.Laid.{IsLayout}
 use Rattle.etcs_bits.specs.layout.Format.{Format}
 use Rattle.etcs_bits.specs.variables.Variables.{plain, free}
@@ -21,10 +21,10 @@ lrbg_fields = one (plain 24) ▹ one (free 0)
 -- ---- the identity that rows hold
 -- Pinned by the law a_record_is_read_as_it_is_spelled.
 
-abbrev pub lrbg_of : List Row → Identity
-lrbg_of rows = record {
-  country = number_at 0 rows / 16384 - number_at 1 rows;
-  group = number_at 0 rows % 16384 + number_at 1 rows * 16384;
+abbrev pub lrbg_value : List Row → Identity
+lrbg_value rows = record {
+  country = row_number 0 rows / 16384 - row_number 1 rows;
+  group = row_number 0 rows % 16384 + row_number 1 rows * 16384;
 }
 
 -- ---- proofs of the laws of `Layout`
@@ -38,7 +38,7 @@ lrbg_are_rows i = (
   (i.group / 16384, [], refl, refl),
 )
 
-lrbg_record : (i : Identity) → lrbg_of (lrbg_rows i) ≡ i
+lrbg_record : (i : Identity) → lrbg_value (lrbg_rows i) ≡ i
 lrbg_record i =
     let country : (i.country * 16384 + i.group) / 16384 - i.group / 16384 ≡ i.country = omega arith in
     let group : (i.country * 16384 + i.group) % 16384 + i.group / 16384 * 16384 ≡ i.group = omega arith in
@@ -52,14 +52,14 @@ lrbg_records r (first, second, e, (n, end, is, none), (m, end_too, is_too, none_
     let fits : n % 16384 / 16384 ≡ m = omega (arith, here.1.0.0) in
     (record { country = n / 16384; group = n % 16384 }, ap₂ (λ (a b : ℕ). row (plain 24) a ∷ (row (free 0) b ∷ [])) both fits ∙ sym whole)
 
-pub lrbg_laid : IsLayout lrbg_fields lrbg_rows lrbg_of
+pub lrbg_laid : IsLayout lrbg_fields lrbg_rows lrbg_value
 lrbg_laid = record { are_rows = lrbg_are_rows; is_record = lrbg_record; has_record = lrbg_records }
 
 -- ---- the record
 
 -- NID_LRBG, 24 bits
 abbrev pub nid_lrbg : Format Identity
-nid_lrbg = record { fields = lrbg_fields; rows = lrbg_rows; of = lrbg_of; laid = lrbg_laid }
+nid_lrbg = record { fields = lrbg_fields; rows = lrbg_rows; of = lrbg_value; laid = lrbg_laid }
 
 -- NID_PRVLRBG, 24 bits
 abbrev pub nid_prvlrbg : Format Identity

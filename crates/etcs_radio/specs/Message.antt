@@ -22,9 +22,9 @@ use Rattle.etcs_radio.specs.Required.{has_authority, has_report}
 use Rattle.etcs_radio.specs.TrainPacket.{train_packet}
 
 -- the head of a message
-abbrev pub head_of : Message → Head
-head_of (messages.Movement m) = inl (m.time, (m.ack, m.lrbg))
-head_of (messages.Position m) = inr (m.time, m.engine)
+abbrev pub message_head : Message → Head
+message_head (messages.Movement m) = inl (m.time, (m.ack, m.lrbg))
+message_head (messages.Position m) = inr (m.time, m.engine)
 
 -- The packets of a message are between two positions, and end at the second one.
 abbrev pub PacketsStand : Message → Place → Place → Type 0
@@ -45,7 +45,7 @@ beginning bytes = start (bits_of_bytes bytes)
 pub record IsMessage (m : Message) (bytes : List ℕ) : Type 0 where
   pub middle : Place
   pub end : Place
-  pub first : IsSpelled ((head (length bytes)).rows (head_of m)) (beginning bytes) middle
+  pub first : IsSpelled ((head (length bytes)).rows (message_head m)) (beginning bytes) middle
   pub packets : PacketsStand m middle end
   pub complete : is_complete m ≡ true
 
@@ -98,7 +98,7 @@ packet_rows (messages.Position m) = flat_map train_packet.rows m.packets
 
 -- the rows of a message of n bytes
 abbrev pub message_rows : ℕ → Message → List Row
-message_rows n m = (head n).rows (head_of m) ++ packet_rows m
+message_rows n m = (head n).rows (message_head m) ++ packet_rows m
 
 -- the number of bits of the head and the packets
 abbrev pub used_bits : Message → ℕ

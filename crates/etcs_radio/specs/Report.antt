@@ -79,8 +79,8 @@ report_variable = record { width = 8; allows = report_numbered.allows; refusal =
 
 -- ---- the parts of a position report
 
-abbrev pub situation_of : Report → Situation
-situation_of r = (
+abbrev pub report_situation : Report → Situation
+report_situation r = (
   r.distance,
   (
     r.orientation,
@@ -94,19 +94,19 @@ situation_of r = (
   ),
 )
 
-abbrev pub numbered_by : Option Identity → Report → WithOne ⊎ WithTwo
-numbered_by None r = inl (r.scale, (r.lrbg, situation_of r))
-numbered_by (Some previous) r = inr (r.scale, (r.lrbg, (previous, situation_of r)))
+abbrev pub parts_by_previous : Option Identity → Report → WithOne ⊎ WithTwo
+parts_by_previous None r = inl (r.scale, (r.lrbg, report_situation r))
+parts_by_previous (Some previous) r = inr (r.scale, (r.lrbg, (previous, report_situation r)))
 
 -- packet 1 if the position report has the group before
-abbrev pub numbered_of : Report → WithOne ⊎ WithTwo
-numbered_of r = numbered_by r.previous r
+abbrev pub report_parts : Report → WithOne ⊎ WithTwo
+report_parts r = parts_by_previous r.previous r
 
 -- ---- a position report of its parts
 -- Pinned by the law a_record_is_read_as_it_is_spelled.
 
-abbrev pub report_with : Option Identity → Scale → Identity → Situation → Report
-report_with previous scale lrbg s = record {
+abbrev pub report_value : Option Identity → Scale → Identity → Situation → Report
+report_value previous scale lrbg s = record {
   scale = scale;
   lrbg = lrbg;
   previous = previous;
@@ -122,28 +122,28 @@ report_with previous scale lrbg s = record {
   level = s.1.1.1.1.1.1.1.1.1;
 }
 
-abbrev pub report_of : WithOne ⊎ WithTwo → Report
-report_of (inl p) = report_with None p.0 p.1.0 p.1.1
-report_of (inr p) = report_with (Some p.1.1.0) p.0 p.1.0 p.1.1.1
+abbrev pub make_report : WithOne ⊎ WithTwo → Report
+make_report (inl p) = report_value None p.0 p.1.0 p.1.1
+make_report (inr p) = report_value (Some p.1.1.0) p.0 p.1.0 p.1.1.1
 
-pub back : (p : WithOne ⊎ WithTwo) → numbered_of (report_of p) ≡ p
+pub back : (p : WithOne ⊎ WithTwo) → report_parts (make_report p) ≡ p
 back (inl p) = refl
 back (inr p) = refl
 
 pub again_by : (previous : Option Identity) (r : Report)
-    → report_of (numbered_by previous r) ≡ report_with previous r.scale r.lrbg (situation_of r)
+    → make_report (parts_by_previous previous r) ≡ report_value previous r.scale r.lrbg (report_situation r)
 again_by None r = refl
 again_by (Some previous) r = refl
 
-pub again : (r : Report) → report_of (numbered_of r) ≡ r
+pub again : (r : Report) → make_report (report_parts r) ≡ r
 again r = again_by r.previous r
 
 -- ---- the record
 
 -- a position report
 abbrev pub report : Format Report
-report = named (chosen report_variable report_numbered (λ _. refl)) report_of numbered_of back again
+report = named (chosen report_variable report_numbered (λ _. refl)) make_report report_parts back again
 
 -- NID_PACKET: 1 if the position report has the group before, else 0
 abbrev pub report_number : Report → ℕ
-report_number r = report_numbered.number (numbered_of r)
+report_number r = report_numbered.number (report_parts r)

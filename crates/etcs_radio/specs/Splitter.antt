@@ -10,8 +10,8 @@ use Rattle.etcs_radio.specs.Stream.{message_length}
 
 -- The state of a splitter that holds these bytes. It is ready if they are a complete message, has
 -- failed if no message begins with them, and else waits for more.
-unfoldable pub state_of : List ℕ → State
-state_of bytes =
+unfoldable pub splitter_state : List ℕ → State
+splitter_state bytes =
     if nat_le 3 (length bytes) && (length bytes == message_length bytes) then Ready
     else (if (length bytes == 3) && nat_lt (message_length bytes) 3 then Failed else More)
 
@@ -21,8 +21,8 @@ state_of bytes =
 -- after which it no longer waits, otherwise the whole piece.
 pub record IsTaken (held piece : List ℕ) (used : ℕ) : Type 0 where
   pub within : used ≤ length piece
-  pub waits_before : (n : ℕ) → n < used → state_of (held ++ take n piece) ≡ More
-  pub waits_no_more : used < length piece → state_of (held ++ take used piece) ≢ More
+  pub waits_before : (n : ℕ) → n < used → splitter_state (held ++ take n piece) ≡ More
+  pub waits_no_more : used < length piece → splitter_state (held ++ take used piece) ≢ More
 
 -- A splitter may hold these bytes: no byte follows a complete message, or three bytes that no message
 -- begins with.

@@ -8,7 +8,7 @@ use Rattle.etcs_bits.specs.declared.layout.fault.Fault.{Fault}
 use Rattle.etcs_radio.specs.declared.error.RadioTextError.{RadioTextError}
 use Rattle.etcs_radio.specs.declared.error.RadioTextError.TheVariants as errors
 use Rattle.etcs_radio.specs.declared.message.Message.{Message}
-use Rattle.etcs_radio.specs.Meaning.{message_of}
+use Rattle.etcs_radio.specs.Meaning.{read_message}
 
 -- what the bytes mean
 abbrev pub of_bytes : Result Message Fault → Result Message RadioTextError
@@ -17,7 +17,7 @@ of_bytes (Err f) = Err (errors.Fault f)
 
 -- what digits mean, given the bytes that they spell
 abbrev pub of_decoded : Result (List ℕ) FromHexError → Result Message RadioTextError
-of_decoded (Ok bytes) = of_bytes (message_of bytes)
+of_decoded (Ok bytes) = of_bytes (read_message bytes)
 of_decoded (Err e) = Err errors.NotHex
 
 -- what a text means: its message, or the first reason to refuse it

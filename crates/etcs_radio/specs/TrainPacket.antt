@@ -8,7 +8,7 @@ use Rattle.etcs_bits.specs.layout.Format.{Format, either, chosen, named}
 use Rattle.etcs_radio.specs.declared.raw_train.RawTrainPacket.{RawTrainPacket}
 use Rattle.etcs_radio.specs.declared.train_packet.TrainPacket.{TrainPacket}
 use Rattle.etcs_radio.specs.declared.train_packet.TrainPacket.TheVariants as packets
-use Rattle.etcs_radio.specs.Report.{WithOne, WithTwo, with_one, with_two, report_of, report_numbered, numbered_of as report_parts, again as report_again, report}
+use Rattle.etcs_radio.specs.Report.{WithOne, WithTwo, with_one, with_two, make_report, report_numbered, report_parts, again as report_again, report}
 use Rattle.etcs_radio.specs.RawTrain.{others, raw_train_packet}
 use Rattle.etcs_profile.specs.PacketNumbers.{nid_track as nid_train}
 
@@ -22,32 +22,32 @@ train_numbered = either 0 with_one (either 1 with_two others refl) refl
 -- ---- the number of a packet with what follows
 
 -- a position report as one of all packets
-abbrev pub report_in : WithOne ⊎ WithTwo → NumberedTrainPacket
-report_in (inl p) = inl p
-report_in (inr p) = inr (inl p)
+abbrev pub numbered_report : WithOne ⊎ WithTwo → NumberedTrainPacket
+numbered_report (inl p) = inl p
+numbered_report (inr p) = inr (inl p)
 
-abbrev pub parts_of : TrainPacket → NumberedTrainPacket
-parts_of (packets.Report r) = report_in (report_parts r)
-parts_of (packets.Raw p) = inr (inr p)
+abbrev pub train_parts : TrainPacket → NumberedTrainPacket
+train_parts (packets.Report r) = numbered_report (report_parts r)
+train_parts (packets.Raw p) = inr (inr p)
 
 -- ---- the packet of a number with what follows
 -- Pinned by the law a_record_is_read_as_it_is_spelled.
 
-abbrev pub train_of : NumberedTrainPacket → TrainPacket
-train_of (inl p) = packets.Report (report_of (inl p))
-train_of (inr (inl p)) = packets.Report (report_of (inr p))
-train_of (inr (inr p)) = packets.Raw p
+abbrev pub make_train_packet : NumberedTrainPacket → TrainPacket
+make_train_packet (inl p) = packets.Report (make_report (inl p))
+make_train_packet (inr (inl p)) = packets.Report (make_report (inr p))
+make_train_packet (inr (inr p)) = packets.Raw p
 
-pub back : (n : NumberedTrainPacket) → parts_of (train_of n) ≡ n
+pub back : (n : NumberedTrainPacket) → train_parts (make_train_packet n) ≡ n
 back (inl p) = refl
 back (inr (inl p)) = refl
 back (inr (inr p)) = refl
 
-train_of_report : (s : WithOne ⊎ WithTwo) → train_of (report_in s) ≡ packets.Report (report_of s)
+train_of_report : (s : WithOne ⊎ WithTwo) → make_train_packet (numbered_report s) ≡ packets.Report (make_report s)
 train_of_report (inl p) = refl
 train_of_report (inr p) = refl
 
-pub again : (p : TrainPacket) → train_of (parts_of p) ≡ p
+pub again : (p : TrainPacket) → make_train_packet (train_parts p) ≡ p
 again (packets.Report r) = train_of_report (report_parts r) ∙ ap packets.Report (report_again r)
 again (packets.Raw p) = refl
 
@@ -68,7 +68,7 @@ all_but_the_end n = allowed_by (n == 0) (n == 1) (n == 255) (report_is_no_end n)
 
 -- a packet of a list
 abbrev pub train_packet : Format TrainPacket
-train_packet = named (chosen nid_train train_numbered all_but_the_end) train_of parts_of back again
+train_packet = named (chosen nid_train train_numbered all_but_the_end) make_train_packet train_parts back again
 
 -- the rows of a packet by itself; they have the same bits as in a list
 abbrev pub own_rows : TrainPacket → List Row
@@ -79,7 +79,7 @@ own_rows (packets.Raw p) = raw_train_packet.rows p
 
 -- NID_PACKET
 abbrev pub train_number : TrainPacket → ℕ
-train_number p = train_numbered.number (parts_of p)
+train_number p = train_numbered.number (train_parts p)
 
 -- whether a packet is a position report
 abbrev pub is_report : TrainPacket → Bool

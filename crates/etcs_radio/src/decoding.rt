@@ -1,4 +1,4 @@
-//! From bytes to a message.
+//! `decode`: from bytes to a message.
 
 ghost use Rattle.std.specs.Prelude.{◌≡◌, ◌≤◌, false, length, Err, IfOk};
 ghost use Rattle.std.proofs.Common.{inl, inr};
@@ -9,8 +9,8 @@ ghost use Rattle.etcs_packet.specs.Lists.{ends};
 ghost use Rattle.etcs_packet.specs.Whole.{IsFollowed};
 ghost use Rattle.etcs_radio.specs.declared.message.Message.TheVariants as messages;
 ghost use Rattle.etcs_radio.specs.Head.{head};
-ghost use Rattle.etcs_radio.specs.HeadView.{head_in};
-ghost use Rattle.etcs_radio.specs.Meaning.{message_of, packets_of};
+ghost use Rattle.etcs_radio.specs.HeadView.{head_value};
+ghost use Rattle.etcs_radio.specs.Meaning.{read_message, read_message_packets};
 ghost use Rattle.etcs_radio.specs.Message.{beginning, IsMessage, IsMessageFault, IsNoMessage};
 
 use crate::head::{Fields, MovementFields, PositionFields, scan_head};
@@ -43,7 +43,7 @@ fn movement(
     cur: &mut Cursor<'_>,
 ) -> Result<MovementMessage, DecodeError>
     requires { length cur.old.bits ≤ 8192 }
-    ensures means { Means (λ m. messages.Movement m) result (packets_of (inl fields) cur.old) }
+    ensures means { Means (λ m. messages.Movement m) result (read_message_packets (inl fields) cur.old) }
     ensures memory { IfMemory result (ends Stop.Message cur.old ≡ false) }
 {
     let packets = read_packets(alloc, cur, Stop::Message)?;
@@ -61,7 +61,7 @@ fn position(
     cur: &mut Cursor<'_>,
 ) -> Result<PositionMessage, DecodeError>
     requires { length cur.old.bits ≤ 8192 }
-    ensures means { Means (λ m. messages.Position m) result (packets_of (inr fields) cur.old) }
+    ensures means { Means (λ m. messages.Position m) result (read_message_packets (inr fields) cur.old) }
     ensures memory { IfMemory result (ends Stop.Message cur.old ≡ false) }
 {
     let packets = read_items(alloc, cur, Stop::Message)?;
@@ -75,7 +75,7 @@ fn position(
 // Reads the packets that follow the head and makes the message.
 fn message(alloc: Global, fields: Fields, cur: &mut Cursor<'_>) -> Result<Message, DecodeError>
     requires { length cur.old.bits ≤ 8192 }
-    ensures means { Means (λ m. m) result (packets_of (head_in fields) cur.old) }
+    ensures means { Means (λ m. m) result (read_message_packets (head_value fields) cur.old) }
     ensures memory { IfMemory result (ends Stop.Message cur.old ≡ false) }
 {
     match fields {
@@ -97,7 +97,7 @@ pub fn decode(alloc: Global, bytes: &[u8]) -> Result<Message, DecodeError>
     ensures none { IfFault result (λ f. IsNoMessage bytes.now f) }
 
     // The result, as a function of the bytes.
-    ensures exact { Means (λ m. m) result (message_of bytes.now) }
+    ensures exact { Means (λ m. m) result (read_message bytes.now) }
 
     // The head's fault is always reported: reading the head needs no memory.
     ensures head { (f : Fault) → IsFault (head (length bytes.now)).fields (beginning bytes.now) f

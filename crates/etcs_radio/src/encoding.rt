@@ -1,4 +1,4 @@
-//! From a message to bytes.
+//! `encode`: from a message to bytes.
 
 ghost use Rattle.std.specs.Prelude.{◌≡◌, ◌↔◌, ◌*◌, ◌+◌, ◌<◌, ◌≤◌, ◌++◌, min, true, IfOk, IsErrOf, OnOk};
 ghost use Rattle.hex.specs.Hex.{IsBytes};

@@ -1,4 +1,4 @@
-//! Why a message is not read or written.
+//! `EncodeError` and `RadioTextError`: why a message is not written, and why a text is not read.
 
 ghost use Rattle.std.specs.Prelude.{◌≡◌};
 ghost use Rattle.etcs_radio.specs.declared.error.EncodeError.TheVariants as errors;

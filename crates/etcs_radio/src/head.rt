@@ -1,11 +1,11 @@
-//! The head of a message.
+//! `Fields`, the head of a message of either kind, and `scan_head`, which reads it.
 
 ghost use Rattle.std.specs.Prelude.{◌≡◌, ◌<◌, IsTrue, OnOk};
-ghost use Rattle.etcs_bits.specs.layout.Choice.{chosen_at, numbered_rows};
-ghost use Rattle.etcs_bits.specs.layout.Reading.{rows_at};
+ghost use Rattle.etcs_bits.specs.layout.Choice.{read_chosen, numbered_rows};
+ghost use Rattle.etcs_bits.specs.layout.Reading.{read_rows};
 ghost use Rattle.etcs_bits.specs.layout.Results.{Gives, IfMemory};
 ghost use Rattle.etcs_radio.specs.Head.{head, l_message, head_numbered};
-ghost use Rattle.etcs_radio.specs.HeadView.{head_in};
+ghost use Rattle.etcs_radio.specs.HeadView.{head_value};
 
 use crate::lrbg::Lrbg;
 use etcs_bits::{Cursor, DecodeError, FaultKind, Layout, Plain, refused};
@@ -28,7 +28,7 @@ pub(crate) enum Fields {
 #[tactic(auto, unfolding(etcs_bits::specs::layout::Rows::alone))]
 fn scan_length(cur: &mut Cursor<'_>, count: usize) -> Result<(), DecodeError>
     ensures gives { Gives (λ _. (l_message count).rows tt) result
-        (rows_at (l_message count).fields cur.old) cur.new }
+        (read_rows (l_message count).fields cur.old) cur.new }
     ensures small { OnOk result (count < 1024) }
     ensures memory { IfMemory result ⊥ }
 {
@@ -49,8 +49,8 @@ fn scan_rest(
     cur: &mut Cursor<'_>,
 ) -> Result<Fields, DecodeError>
     requires { IsTrue ((head_numbered count).allows number) }
-    ensures gives { Gives (λ h. numbered_rows (head_numbered count) (head_in h)) result
-        (chosen_at (head_numbered count) number cur.old) cur.new }
+    ensures gives { Gives (λ h. numbered_rows (head_numbered count) (head_value h)) result
+        (read_chosen (head_numbered count) number cur.old) cur.new }
     ensures small { OnOk result (count < 1024) }
     ensures memory { IfMemory result ⊥ }
 {
@@ -69,8 +69,8 @@ pub(crate) fn scan_head(
     count: usize,
     cur: &mut Cursor<'_>,
 ) -> Result<Fields, DecodeError>
-    ensures gives { Gives (λ h. (head count).rows (head_in h)) result
-        (rows_at (head count).fields cur.old) cur.new }
+    ensures gives { Gives (λ h. (head count).rows (head_value h)) result
+        (read_rows (head count).fields cur.old) cur.new }
     ensures small { OnOk result (count < 1024) }
     ensures same { OnOk result (cur.new.bits ≡ cur.old.bits) }
 

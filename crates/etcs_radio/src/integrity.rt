@@ -1,4 +1,4 @@
-//! The integrity and the length of a train.
+//! `Integrity`, Q_LENGTH and L_TRAININT: the integrity and the length of a train.
 
 use etcs_bits::{Bits, Cursor, DecodeError, Distance, Layout, Memory, Same};
 use std::alloc::Global;

@@ -4,23 +4,23 @@
 
 ghost use Rattle.std.specs.Prelude.{◌≡◌, ◌≢◌, ◌↔◌, ◌+◌, ◌<◌, ◌≤◌, ◌++◌, ℕ, List, [], length, take, drop, Ok, Err};
 ghost use Rattle.std.specs.List.{concat};
-ghost use Rattle.etcs_bits.specs.Laws.{AreLaidOut};
+ghost use Rattle.etcs_bits.specs.Laws.{HasLayoutLaws};
 ghost use Rattle.etcs_bits.specs.declared.layout.fault.Fault.{Fault};
 ghost use Rattle.etcs_bits.specs.layout.Rows.{join};
 ghost use Rattle.etcs_radio.specs.declared.message.Message.{Message};
 ghost use Rattle.etcs_radio.specs.declared.train_packet.TrainPacket.{TrainPacket as AnyTrainPacket};
-ghost use Rattle.etcs_radio.specs.Laws.{AreSpelledOut};
+ghost use Rattle.etcs_radio.specs.Laws.{IsCompleteSpelling};
 ghost use Rattle.etcs_radio.specs.Lrbg.{nid_lrbg};
 ghost use Rattle.etcs_radio.specs.Integrity.{q_length};
-ghost use Rattle.etcs_radio.specs.Meaning.{message_of};
+ghost use Rattle.etcs_radio.specs.Meaning.{read_message};
 ghost use Rattle.etcs_radio.specs.Message.{IsMessage, IsMessageFault, IsNoMessage, IsEncoding, IsTooBig};
 ghost use Rattle.etcs_radio.specs.Report.{report};
 ghost use Rattle.etcs_radio.specs.Text.{IsMessageText, IsCanonicalText, IsReason};
 ghost use Rattle.etcs_radio.specs.TextMeaning.{message_of_text};
 ghost use Rattle.etcs_radio.specs.RawTrain.{raw_train_packet};
 ghost use Rattle.etcs_radio.specs.TrainPacket.{own_rows, train_packet};
-ghost use Rattle.etcs_radio.specs.Splitter.{IsTaken, state_of};
-ghost use Rattle.etcs_radio.specs.Cutting.{IsCut, after_message, cut_from, cut_pieces, none_with, one_then};
+ghost use Rattle.etcs_radio.specs.Splitter.{IsTaken, splitter_state};
+ghost use Rattle.etcs_radio.specs.Cutting.{IsCut, after_message, cut_stream, cut_pieces, no_message, one_then};
 ghost use Rattle.etcs_radio.specs.Stream.{AreBroken, AreMessages, AreRest, AreOneMessageLong, message_length};
 ghost use Rattle.etcs_radio.specs.declared.splitter.State.TheVariants.{Failed, Ready};
 
@@ -37,14 +37,14 @@ pub use etcs_bits::laws::sides_have_their_numbers;
 
 /// Q_LENGTH is laid out with L_TRAININT after 1 and 2.
 pub fn integrities_are_laid_out()
-    ensures { AreLaidOut q_length }
+    ensures { HasLayoutLaws q_length }
 {
     records_are_laid_out::<Integrity>();
 }
 
 /// NID_LRBG is laid out in 24 bits.
 pub fn references_are_laid_out()
-    ensures { AreLaidOut nid_lrbg }
+    ensures { HasLayoutLaws nid_lrbg }
 {
     records_are_laid_out::<Lrbg>();
 }
@@ -52,9 +52,9 @@ pub fn references_are_laid_out()
 /// Packets from train to track are laid out in their fields: position reports, packets that are kept
 /// as bits, and both in a list.
 pub fn train_packets_are_laid_out()
-    ensures reports { AreLaidOut report }
-    ensures raw { AreLaidOut raw_train_packet }
-    ensures listed { AreLaidOut train_packet }
+    ensures reports { HasLayoutLaws report }
+    ensures raw { HasLayoutLaws raw_train_packet }
+    ensures listed { HasLayoutLaws train_packet }
 {
     records_are_laid_out::<Report>();
     records_are_laid_out::<RawTrainPacket>();
@@ -71,7 +71,7 @@ pub fn a_train_packet_of_a_list_is_spelled_as_by_itself()
 /// Bytes are a message if and only if they mean that message. They are one message at most.
 pub fn messages_are_decoded()
     ensures meant { (m : Message) (bytes : List ℕ)
-        → IsMessage m bytes ↔ (message_of bytes ≡ Ok m) }
+        → IsMessage m bytes ↔ (read_message bytes ≡ Ok m) }
     ensures one { (m k : Message) (bytes : List ℕ)
         → IsMessage m bytes → IsMessage k bytes → m ≡ k }
 {}
@@ -80,14 +80,14 @@ pub fn messages_are_decoded()
 /// message, and no bytes of the same number with the same first `end` bits are one.
 pub fn faults_are_meant()
     ensures fault { (bytes : List ℕ) (f : Fault)
-        → IsMessageFault bytes f ↔ (message_of bytes ≡ Err f) }
+        → IsMessageFault bytes f ↔ (read_message bytes ≡ Err f) }
     ensures none { (bytes : List ℕ) (f : Fault) → IsMessageFault bytes f → IsNoMessage bytes f }
 {}
 
 /// Bytes are a message if and only if they are its head, with L_MESSAGE as their count, its packets, and
 /// a rest that has fewer than eight bits or begins with eight ones.
 pub fn messages_are_spelled_out()
-    ensures { (m : Message) (bytes : List ℕ) → IsMessage m bytes ↔ AreSpelledOut m bytes }
+    ensures { (m : Message) (bytes : List ℕ) → IsMessage m bytes ↔ IsCompleteSpelling m bytes }
 {}
 
 /// A decoded message is never too big.
@@ -97,7 +97,7 @@ pub fn what_is_decoded_is_not_too_big()
 
 /// An encoding is decoded to the message that was encoded.
 pub fn what_is_encoded_is_decoded()
-    ensures { (m : Message) (bytes : List ℕ) → IsEncoding m bytes → message_of bytes ≡ Ok m }
+    ensures { (m : Message) (bytes : List ℕ) → IsEncoding m bytes → read_message bytes ≡ Ok m }
 {}
 
 /// Two messages have equal encodings if and only if they are equal.
@@ -142,8 +142,8 @@ pub fn texts_are_one_to_one()
 /// A splitter is ready if and only if it holds as many bytes as one message has. It has failed if and only
 /// if no message begins with the bytes that it holds.
 pub fn states_are_meant()
-    ensures ready { (bytes : List ℕ) → state_of bytes ≡ Ready ↔ AreOneMessageLong bytes }
-    ensures failed { (bytes : List ℕ) → state_of bytes ≡ Failed ↔ AreBroken bytes }
+    ensures ready { (bytes : List ℕ) → splitter_state bytes ≡ Ready ↔ AreOneMessageLong bytes }
+    ensures failed { (bytes : List ℕ) → splitter_state bytes ≡ Failed ↔ AreBroken bytes }
 {}
 
 /// How many bytes of a piece are taken depends only on the bytes held and on the piece.
@@ -176,7 +176,7 @@ pub fn the_first_message_is_taken()
     ensures message { (message more : List ℕ)
         → AreOneMessageLong message → IsTaken [] (message ++ more) (length message) }
     ensures rest { (rest : List ℕ) (n : ℕ)
-        → AreRest rest → n ≤ length rest → state_of (take n rest) ≢ Ready }
+        → AreRest rest → n ≤ length rest → splitter_state (take n rest) ≢ Ready }
 {}
 
 /// What comes out of a splitter that is fed a piece, in terms of one call of `feed`. If the splitter is then
@@ -184,35 +184,35 @@ pub fn the_first_message_is_taken()
 /// comes out, and it holds the bytes that it took.
 pub fn a_stream_is_fed_call_by_call()
     ensures ready { (held piece : List ℕ) (n : ℕ)
-        → IsTaken held piece n → state_of (held ++ take n piece) ≡ Ready
-        → cut_from held piece ≡ after_message (held ++ take n piece) (cut_from [] (drop n piece)) }
+        → IsTaken held piece n → splitter_state (held ++ take n piece) ≡ Ready
+        → cut_stream held piece ≡ after_message (held ++ take n piece) (cut_stream [] (drop n piece)) }
     ensures others { (held piece : List ℕ) (n : ℕ)
-        → IsTaken held piece n → state_of (held ++ take n piece) ≢ Ready
-        → cut_from held piece ≡ none_with (held ++ take n piece) }
+        → IsTaken held piece n → splitter_state (held ++ take n piece) ≢ Ready
+        → cut_stream held piece ≡ no_message (held ++ take n piece) }
 {}
 
 /// What comes out of a splitter does not depend on the pieces in which it is fed.
 pub fn a_stream_may_come_in_pieces()
     ensures two { (held one other : List ℕ)
-        → cut_from held (one ++ other)
-        ≡ one_then (cut_from held one) (cut_from (cut_from held one).held other) }
+        → cut_stream held (one ++ other)
+        ≡ one_then (cut_stream held one) (cut_stream (cut_stream held one).held other) }
     ensures all { (held : List ℕ) (pieces : List (List ℕ))
-        → cut_pieces held pieces ≡ cut_from held (concat pieces) }
+        → cut_pieces held pieces ≡ cut_stream held (concat pieces) }
 {}
 
 /// The messages of a stream come out of a splitter that held nothing. It then holds the rest. If L_MESSAGE of
 /// the rest is below 3, it has failed, and holds the first three bytes of the rest.
 pub fn streams_are_cut()
-    ensures cut { (bytes : List ℕ) → IsCut (cut_from [] bytes) bytes }
+    ensures cut { (bytes : List ℕ) → IsCut (cut_stream [] bytes) bytes }
     ensures messages { (messages : List (List ℕ)) (rest bytes : List ℕ)
-        → AreMessages messages rest bytes → (cut_from [] bytes).messages ≡ messages }
+        → AreMessages messages rest bytes → (cut_stream [] bytes).messages ≡ messages }
     ensures cut_off { (messages : List (List ℕ)) (rest bytes : List ℕ)
         → AreMessages messages rest bytes → (3 ≤ length rest → length rest < message_length rest)
-        → (cut_from [] bytes).held ≡ rest }
+        → (cut_stream [] bytes).held ≡ rest }
     ensures failed { (messages : List (List ℕ)) (rest bytes : List ℕ)
         → AreMessages messages rest bytes → 3 ≤ length rest → message_length rest < 3
-        → state_of (cut_from [] bytes).held ≡ Failed }
+        → splitter_state (cut_stream [] bytes).held ≡ Failed }
     ensures held { (messages : List (List ℕ)) (rest bytes : List ℕ)
         → AreMessages messages rest bytes → 3 ≤ length rest → message_length rest < 3
-        → (cut_from [] bytes).held ≡ take 3 rest }
+        → (cut_stream [] bytes).held ≡ take 3 rest }
 {}

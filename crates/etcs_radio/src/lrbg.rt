@@ -1,4 +1,4 @@
-//! The group that a message or a position report refers to.
+//! `Lrbg`, NID_LRBG: the group that a message or a position report refers to.
 
 use etcs_bits::{Bits, Country, Cursor, DecodeError, GroupNumber, Identity, Layout, Memory, Same};
 use std::alloc::Global;

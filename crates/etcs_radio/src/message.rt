@@ -1,4 +1,4 @@
-//! A radio message of either kind.
+//! `Message`: a radio message of either kind.
 
 use crate::movement::MovementMessage;
 use crate::position::PositionMessage;

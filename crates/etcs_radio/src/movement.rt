@@ -1,4 +1,4 @@
-//! Message 3, the movement authority.
+//! `MovementMessage`: message 3, the movement authority.
 
 ghost use Rattle.std.specs.Prelude.{◌≡◌, ◌↔◌, true, IfOk, IfErr, IsOk};
 ghost use Rattle.etcs_radio.specs.Required.{has_authority};

@@ -1,4 +1,4 @@
-//! Message 136, the position report.
+//! `PositionMessage`: message 136, the position report.
 
 ghost use Rattle.std.specs.Prelude.{◌≡◌, ◌↔◌, true, IfOk, IfErr, IsOk};
 ghost use Rattle.etcs_radio.specs.Required.{has_report};

@@ -1,9 +1,9 @@
-//! Packets from train to track whose layout is not known here.
+//! `RawTrainPacket`: a packet from train to track whose layout is not known here. Its body is kept as bits.
 
 ghost use Rattle.std.specs.Prelude.{◌≡◌, ◌≤◌, ◌<◌, ◌+◌, length, true, IfOk, IfErr, IsOk, IsTrue, ◌↔◌};
 ghost use Rattle.etcs_bits.specs.layout.Combined.{is_countable};
 ghost use Rattle.etcs_bits.specs.layout.Format.{kept_bits};
-ghost use Rattle.etcs_bits.specs.layout.Reading.{rows_at};
+ghost use Rattle.etcs_bits.specs.layout.Reading.{read_rows};
 ghost use Rattle.etcs_bits.specs.layout.Results.{Gives, IfMemory};
 ghost use Rattle.etcs_radio.specs.TrainNumbers.{is_kept, is_kept_number};
 
@@ -18,11 +18,11 @@ const BEFORE: u32 = 8;
 
 // Reads L_PACKET, and copies the bits after it.
 fn scan_body(alloc: Global, cur: &mut Cursor<'_>) -> Result<Bits, DecodeError>
-    ensures gives { Gives (kept_bits 8).rows result (rows_at (kept_bits 8).fields cur.old) cur.new }
+    ensures gives { Gives (kept_bits 8).rows result (read_rows (kept_bits 8).fields cur.old) cur.new }
     ensures few { IfOk result (λ body. is_countable 8 (length body) ≡ true) }
 
     // Allocates only if as many bits follow as L_PACKET counts, and at least one.
-    ensures memory { IfMemory result (IsOk (rows_at (kept_bits 8).fields cur.old) × (cur.old.at + 13 < cur.new.at)) }
+    ensures memory { IfMemory result (IsOk (read_rows (kept_bits 8).fields cur.old) × (cur.old.at + 13 < cur.new.at)) }
 {
     Ok(scan_kept(BEFORE, cur)?.to_bits(alloc)?)
 }
@@ -79,7 +79,7 @@ impl RawTrainPacket {
 }
 
 impl RawTrainPacket {
-    ghost use Rattle.etcs_bits.specs.layout.Choice.{chosen_at, numbered_rows};
+    ghost use Rattle.etcs_bits.specs.layout.Choice.{read_chosen, numbered_rows};
     ghost use Rattle.etcs_radio.specs.RawTrain.{others};
 
     // Reads what follows a number that is kept as bits. After an error the cursor is at an unspecified
@@ -91,7 +91,7 @@ impl RawTrainPacket {
     ) -> Result<Self, DecodeError>
         requires small { number < 256 }
         requires other { is_kept_number number ≡ true }
-        ensures { Gives (numbered_rows others) result (chosen_at others number cur.old) cur.new }
+        ensures { Gives (numbered_rows others) result (read_chosen others number cur.old) cur.new }
     {
         let body = scan_body(alloc, cur)?;
         Ok(RawTrainPacket {

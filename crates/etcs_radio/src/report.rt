@@ -1,4 +1,4 @@
-//! Where a train is, by its own position report.
+//! `Report`, train packets 0 and 1: where a train is, by its own position report.
 
 ghost use Rattle.std.specs.Prelude.{◌≡◌, IsTrue};
 
@@ -69,11 +69,11 @@ type WithTwo = Body<8, (Scale, (Lrbg, (Lrbg, Situation)))>;
 
 impl Report {
     ghost use Rattle.etcs_bits.specs.declared.variables.identity.Identity.{Identity};
-    ghost use Rattle.etcs_radio.specs.Report.{report_with, situation_of, report_number};
+    ghost use Rattle.etcs_radio.specs.Report.{report_value, report_situation, report_number};
 
     // The position report of these parts.
     fn of(scale: Scale, lrbg: Lrbg, previous: Option<Identity>, situation: Situation) -> Report
-        ensures { result ≡ report_with previous scale lrbg situation }
+        ensures { result ≡ report_value previous scale lrbg situation }
     {
         let (distance, (orientation, (side, (doubt_over, (doubt_under, rest))))) = situation;
         let (length, (speed, (running, (mode, level)))) = rest;
@@ -96,7 +96,7 @@ impl Report {
 
     // The fields after the groups.
     fn situation(&self) -> Situation
-        ensures { result ≡ situation_of self.now }
+        ensures { result ≡ report_situation self.now }
     {
         let rest = (
             self.length,
@@ -108,14 +108,14 @@ impl Report {
 
     // What follows NID_PACKET in packet 0.
     fn with_one(&self) -> WithOne
-        ensures { result ≡ (self.now.scale, (self.now.lrbg, situation_of self.now)) }
+        ensures { result ≡ (self.now.scale, (self.now.lrbg, report_situation self.now)) }
     {
         Body::new((self.scale, (Lrbg::new(self.lrbg), self.situation()))).unwrap()
     }
 
     // What follows NID_PACKET in packet 1.
     fn with_two(&self, previous: Identity) -> WithTwo
-        ensures { result ≡ (self.now.scale, (self.now.lrbg, (previous, situation_of self.now))) }
+        ensures { result ≡ (self.now.scale, (self.now.lrbg, (previous, report_situation self.now))) }
     {
         let groups = (Lrbg::new(previous), self.situation());
         Body::new((self.scale, (Lrbg::new(self.lrbg), groups))).unwrap()
@@ -133,9 +133,9 @@ impl Report {
 }
 
 impl Report {
-    ghost use Rattle.etcs_bits.specs.layout.Choice.{chosen_at, numbered_rows};
+    ghost use Rattle.etcs_bits.specs.layout.Choice.{read_chosen, numbered_rows};
     ghost use Rattle.etcs_bits.specs.layout.Results.{Gives, IfMemory};
-    ghost use Rattle.etcs_radio.specs.Report.{report_numbered, numbered_of};
+    ghost use Rattle.etcs_radio.specs.Report.{report_numbered, report_parts};
 
     // Reads what follows NID_PACKET, whose number is 0 or 1. After an error the cursor is at an unspecified
     // position.
@@ -145,8 +145,8 @@ impl Report {
         cur: &mut Cursor<'_>,
     ) -> Result<Self, DecodeError>
         requires { IsTrue (report_numbered.allows number) }
-        ensures gives { Gives (λ r. numbered_rows report_numbered (numbered_of r)) result
-            (chosen_at report_numbered number cur.old) cur.new }
+        ensures gives { Gives (λ r. numbered_rows report_numbered (report_parts r)) result
+            (read_chosen report_numbered number cur.old) cur.new }
 
         // A position report contains no list and no raw bits.
         ensures memory { IfMemory result ⊥ }

@@ -1,7 +1,8 @@
-//! A stream of bytes, cut into messages.
+//! `Splitter`: cuts a stream of bytes into messages. `Fed` and `State`: what it did with a piece, and whether a
+//! message is complete.
 
 ghost use Rattle.std.specs.Prelude.{◌≡◌, ◌≢◌, ◌+◌, ◌-◌, ◌<◌, ◌≤◌, ◌^◌, ◌++◌, [], length, take, max, min};
-ghost use Rattle.etcs_radio.specs.Splitter.{IsTaken, state_of};
+ghost use Rattle.etcs_radio.specs.Splitter.{IsTaken, splitter_state};
 ghost use Rattle.etcs_radio.specs.Stream.{AreOneMessageLong, message_length};
 ghost use Rattle.arrayvec.specs.ArrayVec.{array_vec_len};
 
@@ -55,7 +56,7 @@ impl Splitter {
     /// A splitter that holds nothing, and waits for a message.
     pub fn new() -> Splitter
         ensures empty { result ≡ [] }
-        ensures state { state_of result ≡ State.More }
+        ensures state { splitter_state result ≡ State.More }
     {
         Splitter {
             bytes: ArrayVec::new(),
@@ -68,11 +69,11 @@ impl Splitter {
     pub fn feed(&mut self, piece: &[u8]) -> Fed
         ensures used { IsTaken self.old piece.now result.used }
         ensures held { self.new ≡ self.old ++ take result.used piece.now }
-        ensures state { result.state ≡ state_of self.new }
+        ensures state { result.state ≡ splitter_state self.new }
 
         // Once ready or failed, it stays so.
-        ensures unused { state_of self.old ≢ State.More → result.used ≡ 0 }
-        ensures unchanged { state_of self.old ≢ State.More → self.new ≡ self.old }
+        ensures unused { splitter_state self.old ≢ State.More → result.used ≡ 0 }
+        ensures unchanged { splitter_state self.old ≢ State.More → self.new ≡ self.old }
     {
         let head = fill(&mut self.bytes, 3, piece);
         let wanted = wanted(self.bytes.as_slice());
@@ -85,7 +86,7 @@ impl Splitter {
 
     /// The message. The splitter must be ready.
     pub fn message(&self) -> &[u8]
-        requires { state_of self.now ≡ State.Ready }
+        requires { splitter_state self.now ≡ State.Ready }
         ensures bytes { result.now ≡ self.now }
         ensures whole { AreOneMessageLong result.now }
     {
@@ -102,8 +103,8 @@ impl Splitter {
 
     /// Drops the message, so that the splitter holds nothing. Does nothing if the splitter is not ready.
     pub fn clear(&mut self)
-        ensures ready { state_of self.old ≡ State.Ready → self.new ≡ [] }
-        ensures others { state_of self.old ≢ State.Ready → self.new ≡ self.old }
+        ensures ready { splitter_state self.old ≡ State.Ready → self.new ≡ [] }
+        ensures others { splitter_state self.old ≢ State.Ready → self.new ≡ self.old }
     {
         if state_with(self.bytes.as_slice()) == State::Ready {
             self.bytes.clear();
@@ -135,7 +136,7 @@ fn wanted(held: &[u8]) -> usize
 // The state of a splitter that holds these bytes.
 #[tactic(auto, using(crate::proofs::StateLemmas::states))]
 fn state_with(held: &[u8]) -> State
-    ensures { result ≡ state_of held.now }
+    ensures { result ≡ splitter_state held.now }
 {
     if held.len() < 3 {
         return State::More;

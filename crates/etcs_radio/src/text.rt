@@ -1,4 +1,4 @@
-//! Messages as hexadecimal text.
+//! `from_hex` and `to_hex`: messages as hexadecimal text.
 
 ghost use Rattle.std.specs.Prelude.{◌≡◌, ◌↔◌, ◌/◌, ℕ, List, length, min, take, Ok, Err, IfOk, IfErr, IsErrOf, IsTrue, OnOk, string_bytes};
 ghost use Rattle.hex.specs.Hex.{decode_of, encode_lower, is_hex_digit, IsBytes};

@@ -1,4 +1,4 @@
-//! The packets from train to track.
+//! `TrainPacket`: any of the packets from train to track.
 
 ghost use Rattle.std.specs.Prelude.{◌≡◌, true, min};
 ghost use Rattle.etcs_bits.specs.layout.Results.{Puts};

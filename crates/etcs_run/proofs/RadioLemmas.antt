@@ -8,9 +8,9 @@ use Rattle.hex.specs.Hex.{decode_of}
 use Rattle.hex.specs.declared.error.FromHexError.{FromHexError}
 use Rattle.hex.specs.declared.error.FromHexError.TheVariants.{OutOfMemory}
 use Rattle.etcs_bits.specs.declared.layout.fault.Fault.{Fault}
-use Rattle.etcs_radio.specs.Cutting.{Cut, after_message, cut_from, none_with}
-use Rattle.etcs_radio.specs.Meaning.{message_of}
-use Rattle.etcs_radio.specs.Splitter.{IsTaken, state_of}
+use Rattle.etcs_radio.specs.Cutting.{Cut, after_message, cut_stream, no_message}
+use Rattle.etcs_radio.specs.Meaning.{read_message}
+use Rattle.etcs_radio.specs.Splitter.{IsTaken, splitter_state}
 use Rattle.etcs_radio.specs.declared.splitter.State.TheVariants.{Failed, More, Ready}
 use Rattle.etcs_radio.proofs.CuttingLemmas.{call-others, call-ready}
 use Rattle.etcs_radio.proofs.StateLemmas.{ready-whole, ready_is_not_more}
@@ -36,21 +36,21 @@ use Rattle.etcs_run.proofs.StreamLemmas.{Appends-none, Appends-then}
 
 -- a message came out
 pub fed_ready : (n : ℕ) (held piece whole rest : List ℕ)
-    → cut_from held piece ≡ after_message whole (cut_from [] rest) → (continuation : Continuation)
-    → bytes_output n held piece continuation ≡ message_output n (message_json (message_of whole)) (bytes_output (n + 1) [] rest continuation)
+    → cut_stream held piece ≡ after_message whole (cut_stream [] rest) → (continuation : Continuation)
+    → bytes_output n held piece continuation ≡ message_output n (message_json (read_message whole)) (bytes_output (n + 1) [] rest continuation)
 fed_ready n held piece whole rest is continuation = ap (λ (cut : Cut). cut_output n cut continuation) is
 
 -- the splitter waits for more bytes
-pub fed_more : (n : ℕ) (held piece after : List ℕ) → cut_from held piece ≡ none_with after
-    → state_of after ≡ More → (continuation : Continuation) → bytes_output n held piece continuation ≡ continuation n after
+pub fed_more : (n : ℕ) (held piece after : List ℕ) → cut_stream held piece ≡ no_message after
+    → splitter_state after ≡ More → (continuation : Continuation) → bytes_output n held piece continuation ≡ continuation n after
 fed_more n held piece after is waits continuation = ap (λ (cut : Cut). cut_output n cut continuation) is ∙ rw waits refl
 
 ready_is_not_failed : Ready ≢ Failed
 ready_is_not_failed e = grind arith
 
 -- no message begins with the bytes that are held
-pub fed_failed : (n : ℕ) (held piece after : List ℕ) → cut_from held piece ≡ none_with after
-    → state_of after ≡ Failed → (continuation : Continuation) → bytes_output n held piece continuation ≡ refusal_output (Message n BelowThree)
+pub fed_failed : (n : ℕ) (held piece after : List ℕ) → cut_stream held piece ≡ no_message after
+    → splitter_state after ≡ Failed → (continuation : Continuation) → bytes_output n held piece continuation ≡ refusal_output (Message n BelowThree)
 fed_failed n held piece after is failed continuation =
     ap (λ (cut : Cut). cut_output n cut continuation) is ∙ rw failed refl
 
@@ -84,36 +84,36 @@ module _ {held bytes now : List ℕ} {at used : ℕ} (call : Takes held bytes no
   )
 
   -- a complete message has at least three bytes
-  pub takes_three : state_of now ≡ Ready → 3 ≤ length now
+  pub takes_three : splitter_state now ≡ Ready → 3 ≤ length now
   takes_three ready = (ready-whole now ready).three
 
-  none_came : state_of now ≢ Ready → cut_from held (drop at bytes) ≡ none_with now
+  none_came : splitter_state now ≢ Ready → cut_stream held (drop at bytes) ≡ no_message now
   none_came other =
-      call-others held (drop at bytes) used call.taken (λ ready. other (ap state_of call.grown ∙ ready))
-      ∙ ap none_with (sym call.grown)
+      call-others held (drop at bytes) used call.taken (λ ready. other (ap splitter_state call.grown ∙ ready))
+      ∙ ap no_message (sym call.grown)
 
-  one_came : state_of now ≡ Ready
-      → cut_from held (drop at bytes) ≡ after_message now (cut_from [] (drop (at + used) bytes))
+  one_came : splitter_state now ≡ Ready
+      → cut_stream held (drop at bytes) ≡ after_message now (cut_stream [] (drop (at + used) bytes))
   one_came ready =
-      call-ready held (drop at bytes) used call.taken (ap state_of (sym call.grown) ∙ ready)
-      ∙ ap (λ whole. after_message whole (cut_from [] (drop used (drop at bytes)))) (sym call.grown)
-      ∙ ap (λ rest. after_message now (cut_from [] rest)) (drop-drop used at bytes)
+      call-ready held (drop at bytes) used call.taken (ap splitter_state (sym call.grown) ∙ ready)
+      ∙ ap (λ whole. after_message whole (cut_stream [] (drop used (drop at bytes)))) (sym call.grown)
+      ∙ ap (λ rest. after_message now (cut_stream [] rest)) (drop-drop used at bytes)
 
   -- what remains to be written after the call: all of it later, the refusal, or the message and the bytes
   -- after it
-  pub left_more : (n : ℕ) → state_of now ≡ More → (continuation : Continuation)
+  pub left_more : (n : ℕ) → splitter_state now ≡ More → (continuation : Continuation)
       → bytes_output n held (drop at bytes) continuation ≡ continuation n now
   left_more n waits =
       fed_more n held (drop at bytes) now (none_came (λ ready. ready_is_not_more (sym ready ∙ waits))) waits
 
-  pub left_failed : (n : ℕ) → state_of now ≡ Failed → (continuation : Continuation)
+  pub left_failed : (n : ℕ) → splitter_state now ≡ Failed → (continuation : Continuation)
       → bytes_output n held (drop at bytes) continuation ≡ refusal_output (Message n BelowThree)
   left_failed n failed =
       fed_failed n held (drop at bytes) now (none_came (λ ready. ready_is_not_failed (sym ready ∙ failed))) failed
 
-  pub left_ready : (n : ℕ) → state_of now ≡ Ready → (continuation : Continuation)
+  pub left_ready : (n : ℕ) → splitter_state now ≡ Ready → (continuation : Continuation)
       → bytes_output n held (drop at bytes) continuation
-      ≡ message_output n (message_json (message_of now)) (bytes_output (n + 1) [] (drop (at + used) bytes) continuation)
+      ≡ message_output n (message_json (read_message now)) (bytes_output (n + 1) [] (drop (at + used) bytes) continuation)
   left_ready n ready = fed_ready n held (drop at bytes) now (drop (at + used) bytes) (one_came ready)
 
 -- ---- what was written so far

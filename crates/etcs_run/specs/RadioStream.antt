@@ -6,9 +6,9 @@ use Rattle.hex.specs.Hex.{decode_of}
 use Rattle.hex.specs.declared.error.FromHexError.{FromHexError}
 use Rattle.etcs_bits.specs.declared.layout.fault.Fault.{Fault as FirstFault}
 use Rattle.etcs_telegram.specs.declared.error.TextError.TheVariants.{NotHex}
-use Rattle.etcs_radio.specs.Cutting.{Cut, cut_from}
-use Rattle.etcs_radio.specs.Meaning.{message_of}
-use Rattle.etcs_radio.specs.Splitter.{state_of}
+use Rattle.etcs_radio.specs.Cutting.{Cut, cut_stream}
+use Rattle.etcs_radio.specs.Meaning.{read_message}
+use Rattle.etcs_radio.specs.Splitter.{splitter_state}
 use Rattle.etcs_radio.specs.declared.message.Message.{Message as RadioMessage}
 use Rattle.etcs_radio.specs.declared.splitter.State.{State}
 use Rattle.etcs_radio.specs.declared.splitter.State.TheVariants.{Failed}
@@ -48,9 +48,9 @@ unless_failed _ number held rest = rest number held
 
 -- the messages that came out of the splitter, in order, and then what is written later
 abbrev pub messages_output : ℕ → List (List ℕ) → List ℕ → Continuation → Output
-messages_output number [] held rest = unless_failed (state_of held) number held rest
+messages_output number [] held rest = unless_failed (splitter_state held) number held rest
 messages_output number (bytes ∷ messages) held rest =
-    message_output number (message_json (message_of bytes)) (messages_output (number + 1) messages held rest)
+    message_output number (message_json (read_message bytes)) (messages_output (number + 1) messages held rest)
 
 -- what came out of the splitter, its messages in order, and then what is written later
 abbrev pub cut_output : ℕ → Cut → Continuation → Output
@@ -58,7 +58,7 @@ cut_output number cut rest = messages_output number cut.messages cut.held rest
 
 -- what is written for bytes of the stream, with these bytes held before, and then later
 abbrev pub bytes_output : ℕ → List ℕ → List ℕ → Continuation → Output
-bytes_output number held bytes rest = cut_output number (cut_from held bytes) rest
+bytes_output number held bytes rest = cut_output number (cut_stream held bytes) rest
 
 -- ---- the lines
 

@@ -1,4 +1,4 @@
-//! Runs a command over a whole input.
+//! `answer_input`: runs a command over a whole input.
 
 ghost use Rattle.std.specs.Prelude.{◌≡◌, [], false};
 ghost use Rattle.etcs_run.specs.Counted.{CanCount, FlushesNone};

@@ -1,4 +1,4 @@
-//! `check`: from the document of a railway line to the report on it.
+//! `check_input`, the command `check`: from the document of a railway line to the report on it.
 
 ghost use Rattle.std.specs.Prelude.{◌≡◌, string_bytes, IfOk, OnErr, OnOk};
 ghost use Rattle.std.specs.Io.KnownBytes.{IsAtEnd};

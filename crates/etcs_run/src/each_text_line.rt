@@ -1,4 +1,4 @@
-//! `EachTextLine`: a command that answers each line by its meaning.
+//! `EachTextLine`: a `TextLineCommand` that answers each line of the input by its `TextLineMeaning`.
 
 ghost use Rattle.std.specs.Prelude.{◌≡◌, [], Err};
 ghost use Rattle.etcs_document.specs.Refusal.{line_words};

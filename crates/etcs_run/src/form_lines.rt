@@ -1,5 +1,6 @@
-//! `Encoding`: a line of JSON, the form of a telegram or of a radio message, becomes a line of hexadecimal
-//! text. Each line is read once, into a tape of its tokens.
+//! `Encoding`, the command `encode`: a line of JSON, the form of a telegram or of a radio message, becomes a line of
+//! hexadecimal text. Each line is read once, into a tape of its tokens. The trait `Encoded`: what is written for a
+//! value.
 
 ghost use Rattle.std.specs.Prelude.{◌≡◌, ◌++◌, ℕ, List, Result, codes, IfOk};
 ghost use Rattle.serde_json.specs.View.{view};

@@ -1,10 +1,10 @@
-//! A value as a line of JSON.
+//! `json_line`: a value as a line of JSON, which reuses the buffer of an earlier line.
 
 ghost use Rattle.std.specs.Prelude.{◌≡◌, IfOk};
 ghost use Rattle.etcs_run.specs.JsonLine.{json_line_text};
 
 use etcs_bits::Memory;
-use etcs_digits::LineText;
+use etcs_digits::JsonLineWriter;
 use etcs_json::WriteJson;
 
 /// The JSON line of a value, with its `\n`, in the buffer `room`, whose content is lost. Fails only if memory
@@ -12,7 +12,7 @@ use etcs_json::WriteJson;
 pub fn json_line<T: WriteJson>(room: Vec<u8>, value: &T) -> Result<Vec<u8>, Memory>
     ensures { IfOk result (λ line. line.items ≡ json_line_text T.codec value.now) }
 {
-    let mut out = LineText::new(room);
+    let mut out = JsonLineWriter::new(room);
     value.write_json(&mut out)?;
     let line = out.into_line()?;
     Ok(line)

@@ -1,4 +1,4 @@
-//! Writing to a counted writer.
+//! Functions that write to a `Counted` writer: `put`, `write_out`, `finish`, and `refuse` for the text of a refusal.
 
 ghost use Rattle.std.specs.Prelude.{◌≡◌, IfErr};
 ghost use Rattle.std.specs.Io.KnownBytes.{Keeps};

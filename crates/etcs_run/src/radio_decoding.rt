@@ -2,8 +2,8 @@
 
 ghost use Rattle.std.specs.Prelude.{◌≡◌, ◌+◌, ◌<◌, ◌≤◌, ◌^◌, [], length, OnOk, Ok};
 ghost use Rattle.etcs_bits.specs.layout.Results.{Means};
-ghost use Rattle.etcs_radio.specs.Meaning.{message_of};
-ghost use Rattle.etcs_radio.specs.Splitter.{state_of};
+ghost use Rattle.etcs_radio.specs.Meaning.{read_message};
+ghost use Rattle.etcs_radio.specs.Splitter.{splitter_state};
 ghost use Rattle.etcs_run.specs.Counted.{CanCount, FlushesNone, wrapped};
 ghost use Rattle.etcs_run.specs.LineReading.{CountsDevice};
 ghost use Rattle.etcs_run.specs.RadioHeld.{Feeds, least_read, kept_bytes, messages_written};
@@ -29,7 +29,7 @@ use std::mem;
 
 // The JSON line of the message of these bytes. `room` is the buffer of an earlier line.
 fn message_line(alloc: Global, room: Vec<u8>, bytes: &[u8]) -> Result<Vec<u8>, DecodeError>
-    ensures { Means (λ line. line.items) result (message_json (message_of bytes.now)) }
+    ensures { Means (λ line. line.items) result (message_json (read_message bytes.now)) }
 {
     let message = decode(alloc, bytes)?;
     match json_line(room, &message) {
@@ -49,7 +49,7 @@ fn write_message<W: Write>(
 ) -> Result<ControlFlow, RunError>
     requires { CanCount writer.old }
     ensures answers_line { AnswersLine (W.contents (wrapped writer.old)) (W.contents (wrapped writer.new))
-        (message_output number (message_json (message_of bytes.now))) result }
+        (message_output number (message_json (read_message bytes.now))) result }
     ensures counts { CountsDevice result writer.old writer.new }
     ensures unflushed { FlushesNone writer.old writer.new }
 {
@@ -104,11 +104,11 @@ impl RadioDecoding {
         alloc: Global,
         writer: &mut Counted<W>,
     ) -> Result<ControlFlow, RunError>
-        requires ready { state_of (kept_bytes self.old) ≡ State.Ready }
+        requires ready { splitter_state (kept_bytes self.old) ≡ State.Ready }
         requires numbered { messages_written self.old + 1 < 2 ^ 64 }
         requires writes { CanCount writer.old }
         ensures answers_line { AnswersLine (W.contents (wrapped writer.old)) (W.contents (wrapped writer.new))
-            (message_output (messages_written self.old) (message_json (message_of (kept_bytes self.old)))) result }
+            (message_output (messages_written self.old) (message_json (read_message (kept_bytes self.old)))) result }
         ensures next { result ≡ Ok ControlFlow.Next → messages_written self.new ≡ messages_written self.old + 1 }
         ensures cleared { result ≡ Ok ControlFlow.Next → kept_bytes self.new ≡ [] }
         ensures bounded { OnOk result (least_read self.new ≤ least_read self.old) }

@@ -1,4 +1,4 @@
-//! `TextLineMeaning`: what a line of the input means to a command.
+//! `TextLineMeaning`: what a line of the input means to a command. `Unwritten`: why nothing is written for it.
 
 ghost use Rattle.std.specs.Prelude.{◌≡◌};
 ghost use Rattle.etcs_run.specs.TextLineMeaning.{Gives, Meaning};

@@ -6,7 +6,7 @@ use Rattle.std.proofs.lemmas.List.{take_all, take-append-le, drop-append-le, tak
 use Rattle.etcs_bits.specs.bits.Number.{num, num_of_bits}
 use Rattle.etcs_bits.proofs.NumberLemmas.{length-num, num_of_bits-append, num_of_bits-lt, num_of_bits-small}
 use Rattle.etcs_bits.proofs.ViewLemmas.{zeros_are}
-use Rattle.etcs_schema.specs.BodyLemmas.{padded_length}
+use Rattle.etcs_schema.specs.lemmas.BodyLemmas.{padded_length}
 use Rattle.etcs_schema.specs.BodyText.{byte_count, packed_bytes, padded_bits}
 
 -- eight of the bits

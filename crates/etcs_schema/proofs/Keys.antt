@@ -9,7 +9,7 @@ use Rattle.serde_json.specs.declared.value.Value.{Value}
 use Rattle.serde_json.specs.View.{members_view}
 use Rattle.serde_json.specs.Data.{Data, Members, member, no_members}
 use Rattle.serde_json.specs.Find.{as_object}
-use Rattle.etcs_schema.specs.Entries.{are_known, is_known, entry_keys as entry_keys}
+use Rattle.etcs_schema.specs.Entries.{are_known, is_known, entry_keys}
 use Rattle.etcs_schema.specs.Fault.{Returns, Unknown, here}
 use Rattle.etcs_schema.specs.Reading.{known_or, only_keys}
 use Rattle.etcs_schema.specs.Writing.{sorted_keys}

@@ -8,7 +8,7 @@ use Rattle.std.proofs.lemmas.Map.Text.{is_eq-slice_cmp}
 use Rattle.std.specs.Cmp.Lexicographic.{slice_cmp}
 use Rattle.std.specs.Ordering.{match_ordering, ordering_reverse}
 use Rattle.serde_json.specs.Data.{Data, Members, member, no_members, put}
-use Rattle.etcs_schema.specs.EntryLemmas.{apart_sym}
+use Rattle.etcs_schema.specs.lemmas.EntryLemmas.{apart_sym}
 use Rattle.etcs_schema.specs.Entries.{Entry, entry_keys, put_or, with_entries, is_known, are_apart}
 use Rattle.etcs_schema.specs.Writing.{insert, insert_all, sorted}
 

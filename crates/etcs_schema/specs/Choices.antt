@@ -4,7 +4,7 @@ use Rattle.std.specs.Prelude.{◌≡◌, ℕ, ◌++◌, ◌==◌, ◌⊎◌, Boo
 use Rattle.etcs_schema.specs.Prelude.{is_itself, ap, inl, inr, subst, sym, ◌∙◌, ne_eqb, true≢false, Data, Members, as_object, get, AreAllowed, IsAllowed, Row, Variable, alone, row}
 use Rattle.etcs_bits.specs.layout.Choice.{either_allows, either_number, either_rows}
 use Rattle.etcs_schema.specs.Entries.{Entry, HasEntries, are_apart, entries_object}
-use Rattle.etcs_schema.specs.EntryLemmas.{object_has_entries}
+use Rattle.etcs_schema.specs.lemmas.EntryLemmas.{object_has_entries}
 use Rattle.etcs_schema.specs.Fault.{Fault, Kind, Range, at_once, here, key as key_step}
 use Rattle.etcs_schema.specs.Reading.{◌>>=◌, as_kind, allowed_number, required_member}
 use Rattle.etcs_schema.specs.Codec.{ObjectMembers, MemberCodec, Codec, rest_allowed, fixed, key_again, named, number_again, number_data, object, ◌then◌}

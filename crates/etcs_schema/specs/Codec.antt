@@ -2,10 +2,10 @@
 -- the same value, if the rows of its bits are allowed.
 use Rattle.std.specs.Prelude.{◌≡◌, ◌≤◌, ◌+◌, ◌++◌, ◌==◌, ℕ, Bool, true, List, [], ◌∷◌, length, Option, Some, None, Result, Ok, Err, if◌then◌else◌, refl}
 use Rattle.etcs_schema.specs.Prelude.{is_itself, flat_map, ap, ◌∙◌, arith, and_from, le-leb, Data, Items, item, no_items, array, number, unsigned, body_rows, counted_rows, option_rows, pair_rows, l_packet, AreAllowed, Row, Variable, alone, width}
-use Rattle.etcs_bits.specs.layout.RowLemmas.{allowed_first, allowed_second}
+use Rattle.etcs_bits.specs.lemmas.RowLemmas.{allowed_first, allowed_second}
 use Rattle.etcs_bits.specs.layout.Struct.{Struct}
 use Rattle.etcs_schema.specs.Entries.{Entry, entry_keys, entries_object, are_apart, HasEntries}
-use Rattle.etcs_schema.specs.EntryLemmas.{object_has_entries, object_known, holds_parts, entry_keys-append}
+use Rattle.etcs_schema.specs.lemmas.EntryLemmas.{object_has_entries, object_known, holds_parts, entry_keys-append}
 use Rattle.etcs_schema.specs.Fault.{Fault, Range, key as key_step, prefixed_result, here}
 use Rattle.etcs_schema.specs.Reading.{◌>>=◌, allowed_number, indexed_items, data_list, bounded_list, only_keys, required_member, key_or, optional_member, option_or, as_kind}
 

@@ -3,7 +3,7 @@
 use Rattle.std.specs.Prelude.{◌≡◌, ◌+◌, ◌-◌, ◌^◌, ◌&&◌, ℕ, Bool, List, [], ◌∷◌, Some, Result, Ok, codes, length, ltb, nat_le, refl}
 use Rattle.etcs_schema.specs.Prelude.{arith, Data, string, l_kept, kept_bits, AreAllowed}
 use Rattle.etcs_schema.specs.BodyText.{decoded_body, body_text}
-use Rattle.etcs_schema.specs.BodyLemmas.{body_again}
+use Rattle.etcs_schema.specs.lemmas.BodyLemmas.{body_again}
 use Rattle.etcs_schema.specs.Entries.{HasEntries}
 use Rattle.etcs_schema.specs.Fault.{Fault}
 use Rattle.etcs_schema.specs.Reading.{◌>>=◌, required_member, allowed_number}

@@ -8,7 +8,7 @@ pub use Rattle.etcs_bits.specs.layout.Rows.{AreAllowed, IsAllowed, Row, Variable
 unfoldable pub use Rattle.etcs_bits.specs.layout.Rows.{alone}
 pub use Rattle.etcs_bits.specs.layout.Combined.{option_rows, pair_rows, body_rows, l_kept, counted_rows}
 pub use Rattle.etcs_bits.specs.layout.Fields.{AreRowsOf, Fields, nothing, field, ◌▹◌, sized, l_packet}
-pub use Rattle.etcs_bits.specs.layout.ChoiceLemmas.{is_itself}
+pub use Rattle.etcs_bits.specs.lemmas.ChoiceLemmas.{is_itself}
 pub use Rattle.etcs_bits.specs.layout.Format.{Format, kept_bits}
 pub use Rattle.etcs_bits.specs.variables.Variables.{ranged, only, plain, dir_number, dir_variable, dup_number, duplicate_variable, scale_number, scale_variable, version_number, version_variable}
 pub use Rattle.etcs_bits.specs.variables.VariableFormats.{q_dir, q_scale, nid_bg, nid_c}

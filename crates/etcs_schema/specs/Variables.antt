@@ -7,8 +7,9 @@ use Rattle.etcs_bits.specs.declared.variables.direction.Dir.{Dir}
 use Rattle.etcs_bits.specs.declared.variables.duplicate.Dup.{Dup}
 use Rattle.etcs_bits.specs.declared.variables.scale.Scale.{Scale}
 use Rattle.etcs_bits.specs.declared.variables.version.Version.{Version}
-use Rattle.etcs_bits.specs.variables.VariableLemmas.{AreNames, dir_names, dup_names, scale_names, version_names}
-use Rattle.etcs_bits.specs.variables.VariableValues.{dir_of, dup_of, flag_of, scale_of, version_of}
+use Rattle.etcs_bits.specs.layout.Values.{AreNames}
+use Rattle.etcs_bits.specs.lemmas.VariableLemmas.{dir_names, dup_names, scale_names, version_names}
+use Rattle.etcs_bits.specs.variables.VariableValues.{dir_value, dup_value, flag_value, scale_value, version_value}
 use Rattle.etcs_schema.specs.Reading.{allowed_number}
 use Rattle.etcs_schema.specs.Codec.{Codec, number_again, number_data, renamed}
 
@@ -42,26 +43,26 @@ abbrev pub named_numbers : {X : Type 0} (x : Variable) (tag : X → ℕ) (of : �
     → Codec X
 named_numbers x tag of are = renamed of tag (λ v. (are v).0) (variable x)
 
-pub flag_names : AreNames (plain 1) worth flag_of
+pub flag_names : AreNames (plain 1) worth flag_value
 flag_names true = (refl, refl)
 flag_names false = (refl, refl)
 
 -- a flag is the number of its bit
 abbrev pub flag : Codec Bool
-flag = named_numbers (plain 1) worth flag_of flag_names
+flag = named_numbers (plain 1) worth flag_value flag_names
 
 -- Q_DIR: the running directions that a packet is for
 abbrev pub direction : Codec Dir
-direction = named_numbers dir_variable dir_number dir_of dir_names
+direction = named_numbers dir_variable dir_number dir_value dir_names
 
 -- Q_SCALE: the unit of distances
 abbrev pub scale : Codec Scale
-scale = named_numbers scale_variable scale_number scale_of scale_names
+scale = named_numbers scale_variable scale_number scale_value scale_names
 
 -- M_DUP: which neighbour the balise duplicates
 abbrev pub duplicate : Codec Dup
-duplicate = named_numbers duplicate_variable dup_number dup_of dup_names
+duplicate = named_numbers duplicate_variable dup_number dup_value dup_names
 
 -- M_VERSION: the version of the ETCS system
 abbrev pub version : Codec Version
-version = named_numbers version_variable version_number version_of version_names
+version = named_numbers version_variable version_number version_value version_names

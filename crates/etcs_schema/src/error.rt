@@ -1,4 +1,4 @@
-//! Why a JSON value is not the form of a record, and at which path.
+//! `FormError`: why a JSON value is not the form of a record. Its `Path` of `Step`s names the place.
 
 ghost use Rattle.std.specs.Prelude.{◌≡◌, ◌∷◌, Some, IfOk, map};
 ghost use Rattle.etcs_schema.specs.Fault.{IsPrefixedError, IsFault, Kind, Missing, OfMemory, Range, Unknown, at_once, here, key, step_view};

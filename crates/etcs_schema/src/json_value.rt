@@ -1,5 +1,5 @@
-//! Read-only JSON values. Readers of forms are generic over [`JsonValue`], so that one reader serves values of
-//! `serde_json` and positions on a tape of tokens, which is made in less time. `reading` and `keys` contain
+//! The trait `JsonValue`: read-only JSON values. Readers of forms are generic over it, so that one reader serves
+//! values of `serde_json` and positions on a tape of tokens, which is made in less time. `reading` and `keys` contain
 //! what all these readers share.
 
 ghost use Rattle.std.specs.Prelude.{◌≡◌, ◌∷◌, [], List, map, option_map, option_and_then, MatchOption};

@@ -1,4 +1,4 @@
-//! Finding and reading members of an object.
+//! Functions that find and read members of an object: `member`, `check_object`, `read_fixed` and `check_absent`.
 
 ghost use Rattle.std.specs.Prelude.{◌≡◌, ◌==◌};
 ghost use Rattle.etcs_schema.specs.Choices.{any_object};

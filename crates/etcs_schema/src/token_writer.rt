@@ -1,4 +1,4 @@
-//! Receivers of the tokens of a JSON value: a writer of JSON, and a line of text.
+//! The trait `TokenWriter`: receivers of the tokens of a JSON value. They are the `Writer` of `json`, and `JsonLineWriter`.
 
 ghost use Rattle.std.specs.Prelude.{◌≡◌, ◌++◌, ◌∷◌, [], List, OnOk, decimal};
 ghost use Rattle.json.specs.Print.{IsPrintable};
@@ -6,7 +6,7 @@ ghost use Rattle.json.specs.Reads.{token_of};
 ghost use Rattle.json.specs.Token.{Token as JsonToken, key, number};
 
 use etcs_bits::Memory;
-use etcs_digits::{LineText, send_decimal};
+use etcs_digits::{JsonLineWriter, send_decimal};
 use json::{Token, Writer};
 
 /// A receiver of JSON tokens, in order, that places the commas. Its methods fail only if memory runs out.
@@ -37,7 +37,7 @@ pub trait TokenWriter {
 
 impl TokenWriter for Writer {
     ghost use Rattle.etcs_schema.specs.Writing.{Adds};
-    ghost use Rattle.etcs_schema.specs.AppendLemmas.{adds_more, adds_none};
+    ghost use Rattle.etcs_schema.specs.lemmas.AppendLemmas.{adds_more, adds_none};
 
     ghost adds = { λ ts old new. Adds ts old new };
 
@@ -59,10 +59,10 @@ impl TokenWriter for Writer {
     }
 }
 
-impl TokenWriter for LineText {
+impl TokenWriter for JsonLineWriter {
     ghost use Rattle.std.specs.Prelude.{refl};
-    ghost use Rattle.etcs_digits.specs.LineText.{puts};
-    ghost use Rattle.etcs_digits.specs.LineLemmas.{puts_then};
+    ghost use Rattle.etcs_digits.specs.JsonLineWriter.{puts};
+    ghost use Rattle.etcs_digits.specs.lemmas.LineLemmas.{puts_then};
 
     ghost adds = { λ ts old new. new ≡ puts old ts };
 
@@ -72,16 +72,16 @@ impl TokenWriter for LineText {
 
     #[inline(always)]
     fn token(&mut self, token: Token<'_>) -> Result<(), Memory> {
-        Ok(LineText::token(self, token)?)
+        Ok(JsonLineWriter::token(self, token)?)
     }
 
     #[inline(always)]
     fn number(&mut self, n: u64) -> Result<(), Memory> {
-        Ok(LineText::number(self, n)?)
+        Ok(JsonLineWriter::number(self, n)?)
     }
 
     #[inline(always)]
     fn member(&mut self, name: &str, n: u64) -> Result<(), Memory> {
-        Ok(LineText::member(self, name, n)?)
+        Ok(JsonLineWriter::member(self, name, n)?)
     }
 }

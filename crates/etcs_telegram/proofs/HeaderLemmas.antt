@@ -12,8 +12,8 @@ use Rattle.etcs_telegram.specs.declared.size.Size.{Size}
 use Rattle.etcs_telegram.specs.declared.size.Size.TheVariants.{Short, Long}
 use Rattle.etcs_telegram.specs.Header.{header}
 use Rattle.etcs_telegram.specs.Sizes.{byte_count}
-use Rattle.etcs_telegram.specs.Text.{HasHeaderFault, HaveHeaderFault, IsHexadecimal, no_pads, pad_bits_in, user_bits_in}
-use Rattle.etcs_telegram.specs.TextMeaning.{size_in, pads_with_zeros}
+use Rattle.etcs_telegram.specs.Text.{HasHeaderFault, HaveHeaderFault, IsHexadecimal, no_pads, take_pad_bits, take_user_bits}
+use Rattle.etcs_telegram.specs.TextMeaning.{size_from_bytes, pads_with_zeros}
 use Rattle.etcs_telegram.proofs.TextLemmas.{size_in_back, pads_divide}
 
 some_size : (a b : Size) → Some a ≡ Some b → a ≡ b
@@ -23,12 +23,12 @@ some_size Long Short is = absurd cc
 some_size Long Long is = refl
 
 -- bytes have one size
-one_size : (bytes : List ℕ) (size other : Size) → size_in (length bytes) ≡ Some size → length bytes ≡ byte_count other → other ≡ size
+one_size : (bytes : List ℕ) (size other : Size) → size_from_bytes (length bytes) ≡ Some size → length bytes ≡ byte_count other → other ≡ size
 one_size bytes size other sized count =
-    some_size other size (sym (size_in_back other) ∙ ap size_in (sym count) ∙ sized)
+    some_size other size (sym (size_in_back other) ∙ ap size_from_bytes (sym count) ∙ sized)
 
 -- if a pad bit is set, the header is not read
-pub no_padded_header : (size : Size) (bytes : List ℕ) (f : Fault) → size_in (length bytes) ≡ Some size
+pub no_padded_header : (size : Size) (bytes : List ℕ) (f : Fault) → size_from_bytes (length bytes) ≡ Some size
     → get_or bytes (byte_count size - 1) 0 < 256 → pads_with_zeros size bytes ≡ false → HaveHeaderFault bytes f → ⊥
 no_padded_header size bytes f sized small set x =
     let same = one_size bytes size x.size sized x.padded.count in
@@ -37,14 +37,14 @@ no_padded_header size bytes f sized small set x =
     cc
   where
     HaveAt : List ℕ → Size → Type 0
-    HaveAt bytes s = (length bytes ≡ byte_count s) × (pad_bits_in s bytes ≡ no_pads s)
+    HaveAt bytes s = (length bytes ≡ byte_count s) × (take_pad_bits s bytes ≡ no_pads s)
 
 -- the header's fault in the user bits
-pub fault_in : (size : Size) (bytes : List ℕ) (bits : List Bool) (f : Fault) → size_in (length bytes) ≡ Some size
-    → bits ≡ user_bits_in size bytes → HaveHeaderFault bytes f → IsFault header.fields (start bits) f
+pub fault_in : (size : Size) (bytes : List ℕ) (bits : List Bool) (f : Fault) → size_from_bytes (length bytes) ≡ Some size
+    → bits ≡ take_user_bits size bytes → HaveHeaderFault bytes f → IsFault header.fields (start bits) f
 fault_in size bytes bits f sized are x =
     let same = one_size bytes size x.size sized x.padded.count in
-    let first = subst (λ (s : Size). IsFault header.fields (start (user_bits_in s bytes)) f) same x.first in
+    let first = subst (λ (s : Size). IsFault header.fields (start (take_user_bits s bytes)) f) same x.first in
     subst (λ (b : List Bool). IsFault header.fields (start b) f) (sym are) first
 
 -- the fault that is reported is the fault of the header

@@ -15,7 +15,7 @@ use Rattle.etcs_packet.specs.declared.stop.Stop.TheVariants as stops
 use Rattle.etcs_profile.specs.declared.track.TrackPacket.{TrackPacket}
 use Rattle.etcs_profile.specs.Track.{track_packet}
 use Rattle.etcs_packet.specs.Whole.{start}
-use Rattle.etcs_packet.specs.Reading.{whole_at, whole_of}
+use Rattle.etcs_packet.specs.Reading.{read_whole, read_first_whole}
 use Rattle.etcs_packet.proofs.WholeLemmas.{none_whole, read_is_whole, whole_fault_is_read, read_is_whole_fault}
 use Rattle.etcs_telegram.specs.declared.header.Header.{Header}
 use Rattle.etcs_telegram.specs.Header.{header}
@@ -23,46 +23,46 @@ use Rattle.etcs_telegram.specs.declared.error.TextError.TheVariants as errors
 use Rattle.etcs_telegram.specs.declared.size.Size.{Size}
 use Rattle.etcs_telegram.specs.Record.{Telegram}
 use Rattle.etcs_telegram.specs.Sizes.{user_bits, byte_count, pad_count}
-use Rattle.etcs_telegram.specs.TextMeaning.{size_in, of_bits, of_size, of_decoded, telegram_of_text, pads_with_zeros}
+use Rattle.etcs_telegram.specs.TextMeaning.{size_from_bytes, of_bits, of_size, of_decoded, telegram_of_text, pads_with_zeros}
 use Rattle.etcs_telegram.specs.Telegram.{AreUserBits, IsTelegram, IsTelegramFault, IsNoTelegram}
-use Rattle.etcs_telegram.specs.Meaning.{size_by, telegram_by, telegram_of}
-use Rattle.etcs_telegram.specs.Text.{IsTelegramText, IsCanonicalText, ArePadded, user_bits_in, no_pads}
+use Rattle.etcs_telegram.specs.Meaning.{short_or_long, sized_telegram, read_telegram}
+use Rattle.etcs_telegram.specs.Text.{IsTelegramText, IsCanonicalText, ArePadded, take_user_bits, no_pads}
 use Rattle.etcs_telegram.proofs.TelegramLemmas.{headed, made, count_by, size_of_back, telegram_meaning, encoding_telegram, canonical_length}
 use Rattle.etcs_telegram.proofs.TextLemmas.{size_in_back, size_counts, whole_bytes, pads_divide, padded_when, of_its_size}
 
 -- bits are decoded to one telegram only
-pub one_meaning : (t u : Telegram) (bits : List Bool) → telegram_of bits ≡ Ok t → telegram_of bits ≡ Ok u → t ≡ u
+pub one_meaning : (t u : Telegram) (bits : List Bool) → read_telegram bits ≡ Ok t → read_telegram bits ≡ Ok u → t ≡ u
 one_meaning t u bits a b = let same = sym a ∙ b in cc
 
 -- ---- what is read
 
 -- reading a header and its packets
 abbrev read_at : List Bool → Result ((Header × List TrackPacket) × Place) Fault
-read_at bits = whole_at stops.Telegram header.fields header.of track_packet.fields track_packet.of (start bits)
+read_at bits = read_whole stops.Telegram header.fields header.of track_packet.fields track_packet.of (start bits)
 
 -- what reading gives, without the place
 abbrev given : ℕ → Result ((Header × List TrackPacket) × Place) Fault → Result Telegram Fault
-given n read = telegram_by n (read >>= λ r. Ok r.0)
+given n read = sized_telegram n (read >>= λ r. Ok r.0)
 
-meant : (bits : List Bool) → telegram_of bits ≡ given (length bits) (read_at bits)
-unfolding telegram_of whole_of
+meant : (bits : List Bool) → read_telegram bits ≡ given (length bits) (read_at bits)
+unfolding read_telegram read_first_whole
 meant bits = refl
 
 -- what reading gives, if that is a telegram
 record IsGivenOf (n : ℕ) (t : Telegram) (r : Result ((Header × List TrackPacket) × Place) Fault) : Type 0 where
-  pub size : size_by n ≡ t.size
+  pub size : short_or_long n ≡ t.size
   pub end : Place
   pub read : r ≡ Ok ((t.header, t.packets), end)
 
 given_of : (n : ℕ) (t : Telegram) (r : Result ((Header × List TrackPacket) × Place) Fault)
     → given n r ≡ Ok t → IsGivenOf n t r
 given_of n t (Ok read) is =
-    let same = ok_is (made (size_by n) read.0.0 read.0.1) t is in
+    let same = ok_is (made (short_or_long n) read.0.0 read.0.1) t is in
     subst (λ u. IsGivenOf n u (Ok read)) same (record { size = refl; end = read.1; read = refl })
 given_of n t (Err f) is = absurd cc
 
 -- bits that mean a telegram are that telegram, if some telegram has that many bits
-pub means_telegram : (t : Telegram) (bits : List Bool) → AreUserBits bits → telegram_of bits ≡ Ok t → IsTelegram t bits
+pub means_telegram : (t : Telegram) (bits : List Bool) → AreUserBits bits → read_telegram bits ≡ Ok t → IsTelegram t bits
 means_telegram t bits count is =
     let x = given_of (length bits) t (read_at bits) (sym (meant bits) ∙ is) in
     record {
@@ -79,12 +79,12 @@ only_fault : (n : ℕ) (r : Result ((Header × List TrackPacket) × Place) Fault
 only_fault n (Ok read) f is = absurd cc
 only_fault n (Err g) f is = let same : g ≡ f = cc in ap Err same
 
-pub fault_meant : (bits : List Bool) (f : Fault) → IsTelegramFault bits f → telegram_of bits ≡ Err f
+pub fault_meant : (bits : List Bool) (f : Fault) → IsTelegramFault bits f → read_telegram bits ≡ Err f
 fault_meant bits f x =
     let read = whole_fault_is_read header.of track_packet.of stops.Telegram header.fields track_packet.fields (start bits) f headed (omega arith) x in
     meant bits ∙ ap (given (length bits)) read
 
-pub meant_fault : (bits : List Bool) (f : Fault) → telegram_of bits ≡ Err f → IsTelegramFault bits f
+pub meant_fault : (bits : List Bool) (f : Fault) → read_telegram bits ≡ Err f → IsTelegramFault bits f
 meant_fault bits f is =
     read_is_whole_fault header.of track_packet.of stops.Telegram header.fields track_packet.fields (start bits) f (omega arith)
     (only_fault (length bits) (read_at bits) f (sym (meant bits) ∙ is))
@@ -103,38 +103,38 @@ pub text_meaning : (t : Telegram) (text : List ℕ) → IsTelegramText t text �
 unfolding telegram_of_text
 text_meaning t text x =
     let in_range = (decode_of-ok text x.bytes x.decoded).3 in
-    let size : size_in (length x.bytes) ≡ Some t.size = ap size_in x.padded.count ∙ size_in_back t.size in
+    let size : size_from_bytes (length x.bytes) ≡ Some t.size = ap size_from_bytes x.padded.count ∙ size_in_back t.size in
     let zeros : pads_with_zeros t.size x.bytes ≡ true = eq-eqb _ _ (pads_divide t.size x.bytes x.padded.count (in_range (byte_count t.size - 1)) x.padded.padding) in
-    rw (x.decoded, size, zeros, telegram_meaning t (user_bits_in t.size x.bytes) x.telegram) refl
+    rw (x.decoded, size, zeros, telegram_meaning t (take_user_bits t.size x.bytes) x.telegram) refl
 
 -- the number of user bits, in as many bytes as a telegram of this size has
-user_bits_count : (size : Size) (bytes : List ℕ) → length bytes ≡ byte_count size → length (user_bits_in size bytes) ≡ user_bits size
+user_bits_count : (size : Size) (bytes : List ℕ) → length bytes ≡ byte_count size → length (take_user_bits size bytes) ≡ user_bits size
 user_bits_count size bytes count =
     let whole = whole_bytes size in
     length-take-le (user_bits size) (bits_of_bytes bytes) (omega (arith, length-bits_of_bytes bytes))
 
 -- the pad bits were checked, and then the user bits were read
 read_in : (t : Telegram) (size : Size) (bytes : List ℕ) (zeros : Bool) → pads_with_zeros size bytes ≡ zeros
-    → (if zeros then of_bits (telegram_of (user_bits_in size bytes)) else Err errors.PadBits) ≡ Ok t
-    → (pads_with_zeros size bytes ≡ true) × (telegram_of (user_bits_in size bytes) ≡ Ok t)
-read_in t size bytes true zeros is = (zeros, of_bits_ok (telegram_of (user_bits_in size bytes)) t is)
+    → (if zeros then of_bits (read_telegram (take_user_bits size bytes)) else Err errors.PadBits) ≡ Ok t
+    → (pads_with_zeros size bytes ≡ true) × (read_telegram (take_user_bits size bytes) ≡ Ok t)
+read_in t size bytes true zeros is = (zeros, of_bits_ok (read_telegram (take_user_bits size bytes)) t is)
 read_in t size bytes false zeros is = absurd cc
 
-sized_means : (t : Telegram) (bytes : List ℕ) (o : Option Size) → IsBytes bytes → size_in (length bytes) ≡ o
-    → of_size o bytes ≡ Ok t → ArePadded t.size bytes × IsTelegram t (user_bits_in t.size bytes)
+sized_means : (t : Telegram) (bytes : List ℕ) (o : Option Size) → IsBytes bytes → size_from_bytes (length bytes) ≡ o
+    → of_size o bytes ≡ Ok t → ArePadded t.size bytes × IsTelegram t (take_user_bits t.size bytes)
 sized_means t bytes None in_range sized is = absurd cc
 sized_means t bytes (Some size) in_range sized is =
     let read = read_in t size bytes (pads_with_zeros size bytes) refl is in
     let count = size_counts (length bytes) size sized in
     let bits = user_bits_count size bytes count in
     let padded = padded_when size bytes count (in_range (byte_count size - 1)) read.0 in
-    let some : AreUserBits (user_bits_in size bytes) = rw (bits, size_of_back size) refl in
-    of_its_size t size (user_bits_in size bytes) bytes padded refl bits (means_telegram t (user_bits_in size bytes) some read.1)
+    let some : AreUserBits (take_user_bits size bytes) = rw (bits, size_of_back size) refl in
+    of_its_size t size (take_user_bits size bytes) bytes padded refl bits (means_telegram t (take_user_bits size bytes) some read.1)
 
 decoded_means : (t : Telegram) (text : List ℕ) (d : Result (List ℕ) FromHexError) → decode_of text ≡ d
     → of_decoded d ≡ Ok t → IsTelegramText t text
 decoded_means t text (Ok bytes) decoded is =
-    let parts = sized_means t bytes (size_in (length bytes)) (decode_of-ok text bytes decoded).3 refl is in
+    let parts = sized_means t bytes (size_from_bytes (length bytes)) (decode_of-ok text bytes decoded).3 refl is in
     record { bytes = bytes; decoded = decoded; padded = parts.0; telegram = parts.1 }
 decoded_means t text (Err e) decoded is = absurd cc
 
@@ -147,7 +147,7 @@ canonical_telegram_text t text x =
     let size : length x.bits ≡ user_bits t.size = ap length x.encoding.canonical ∙ canonical_length t x.encoding.fits in
     let count : 8 * length x.bytes ≡ length x.bits + pad_count t.size = sym (length-bits_of_bytes x.bytes) ∙ ap length x.padded ∙ length-append x.bits (no_pads t.size) ∙ ap (λ n. length x.bits + n) (length-replicate (pad_count t.size) false) in
     let whole = whole_bytes t.size in
-    let telegram : user_bits_in t.size x.bytes ≡ x.bits = ap (take (user_bits t.size)) x.padded ∙ take_at x.bits (no_pads t.size) (user_bits t.size) size in
+    let telegram : take_user_bits t.size x.bytes ≡ x.bits = ap (take (user_bits t.size)) x.padded ∙ take_at x.bits (no_pads t.size) (user_bits t.size) size in
     record {
       bytes = x.bytes;
       decoded = ap decode_of x.written ∙ decode_of-encode_lower x.bytes x.in_range;

@@ -11,9 +11,9 @@ use Rattle.etcs_telegram.specs.declared.size.Size.{Size}
 use Rattle.etcs_telegram.specs.declared.size.Size.TheVariants.{Short, Long}
 use Rattle.etcs_telegram.specs.Record.{Telegram}
 use Rattle.etcs_telegram.specs.Sizes.{byte_count}
-use Rattle.etcs_telegram.specs.TextMeaning.{size_in, of_bits, of_size, of_bytes, of_decoded, telegram_of_text, pads_with_zeros}
-use Rattle.etcs_telegram.specs.Meaning.{telegram_of}
-use Rattle.etcs_telegram.specs.Text.{IsHexadecimal, IsReason, IsReasonIn, HavePadSet, HaveFault, user_bits_in, IsReasonDecoded, IsTextMeaning, TextFails}
+use Rattle.etcs_telegram.specs.TextMeaning.{size_from_bytes, of_bits, of_size, of_bytes, of_decoded, telegram_of_text, pads_with_zeros}
+use Rattle.etcs_telegram.specs.Meaning.{read_telegram}
+use Rattle.etcs_telegram.specs.Text.{IsHexadecimal, IsReason, IsBytesReason, HavePadSet, HaveFault, take_user_bits, IsReasonDecoded, IsTextMeaning, TextFails}
 use Rattle.etcs_telegram.proofs.LawLemmas.{fault_meant, meant_fault, fault_none}
 use Rattle.etcs_telegram.proofs.TextLemmas.{size_in_back, size_counts, none_counts, pads_divide, padded_when, set_when, not_decoded}
 
@@ -26,7 +26,7 @@ not_hex text (Ok bytes) decoded not =
     absurd (not (record { even = digits.0; digits = digits.1 }))
 not_hex text (Err e) decoded not = refl
 
-no_size : (bytes : List ℕ) (o : Option Size) → size_in (length bytes) ≡ o
+no_size : (bytes : List ℕ) (o : Option Size) → size_from_bytes (length bytes) ≡ o
     → ((size : Size) → length bytes ≢ byte_count size) → of_size o bytes ≡ Err errors.WrongSize
 no_size bytes None sized none = refl
 no_size bytes (Some size) sized none = absurd (none size (size_counts (length bytes) size sized))
@@ -41,23 +41,23 @@ not_zeros size bytes true is in_range count x same =
 
 set_read : (bytes : List ℕ) → IsBytes bytes → HavePadSet bytes → of_bytes bytes ≡ Err errors.PadBits
 set_read bytes in_range x =
-    let size : size_in (length bytes) ≡ Some x.size = ap size_in x.count ∙ size_in_back x.size in
+    let size : size_from_bytes (length bytes) ≡ Some x.size = ap size_from_bytes x.count ∙ size_in_back x.size in
     let other = not_zeros x.size bytes (pads_with_zeros x.size bytes) refl in_range x.count x refl in
     rw (size, other) refl
 
 fault_read : (f : Fault) (bytes : List ℕ) → IsBytes bytes → HaveFault bytes f
     → of_bytes bytes ≡ Err (errors.Fault f)
 fault_read f bytes in_range x =
-    let size : size_in (length bytes) ≡ Some x.size = ap size_in x.padded.count ∙ size_in_back x.size in
+    let size : size_from_bytes (length bytes) ≡ Some x.size = ap size_from_bytes x.padded.count ∙ size_in_back x.size in
     let zeros : pads_with_zeros x.size bytes ≡ true = eq-eqb _ _ (pads_divide x.size bytes x.padded.count (in_range (byte_count x.size - 1)) x.padded.padding) in
-    rw (size, zeros, fault_meant (user_bits_in x.size bytes) f x.first) refl
+    rw (size, zeros, fault_meant (take_user_bits x.size bytes) f x.first) refl
 
 pub reason_read : (e : TextError) (text : List ℕ) → e ≢ errors.Memory → IsReason e text → telegram_of_text text ≡ Err e
 unfolding telegram_of_text
 reason_read errors.Memory text other x = absurd (other refl)
 reason_read errors.NotHex text other x = not_hex text (decode_of text) refl x
 reason_read errors.WrongSize text other x =
-    rw x.decoded (no_size x.bytes (size_in (length x.bytes)) refl x.reason)
+    rw x.decoded (no_size x.bytes (size_from_bytes (length x.bytes)) refl x.reason)
 reason_read errors.PadBits text other x =
     rw x.decoded (set_read x.bytes (decode_of-ok text x.bytes x.decoded).3 x.reason)
 reason_read (errors.Fault f) text other x =
@@ -72,32 +72,32 @@ read_fault e (Err f) is = let same : errors.Fault f ≡ e = cc in (f, refl, same
 
 read_in : (e : TextError) (size : Size) (bytes : List ℕ) (zeros : Bool) → pads_with_zeros size bytes ≡ zeros
     → IsBytes bytes → length bytes ≡ byte_count size
-    → (if zeros then of_bits (telegram_of (user_bits_in size bytes)) else Err errors.PadBits) ≡ Err e
-    → IsReasonIn e bytes
+    → (if zeros then of_bits (read_telegram (take_user_bits size bytes)) else Err errors.PadBits) ≡ Err e
+    → IsBytesReason e bytes
 read_in e size bytes true zeros in_range count is =
-    let x = read_fault e (telegram_of (user_bits_in size bytes)) is in
-    let first = meant_fault (user_bits_in size bytes) x.0 x.1 in
+    let x = read_fault e (read_telegram (take_user_bits size bytes)) is in
+    let first = meant_fault (take_user_bits size bytes) x.0 x.1 in
     let fault : HaveFault bytes x.0 = record {
       size = size;
       padded = padded_when size bytes count (in_range (byte_count size - 1)) zeros;
       first = first;
-      none = fault_none (user_bits_in size bytes) x.0 first;
+      none = fault_none (take_user_bits size bytes) x.0 first;
     } in
-    subst (λ (y : TextError). IsReasonIn y bytes) x.2 fault
+    subst (λ (y : TextError). IsBytesReason y bytes) x.2 fault
 read_in e size bytes false zeros in_range count is =
     let same : errors.PadBits ≡ e = cc in
-    subst (λ (y : TextError). IsReasonIn y bytes) same (set_when size bytes count (in_range (byte_count size - 1)) zeros)
+    subst (λ (y : TextError). IsBytesReason y bytes) same (set_when size bytes count (in_range (byte_count size - 1)) zeros)
 
-read_sized : (e : TextError) (bytes : List ℕ) (o : Option Size) → IsBytes bytes → size_in (length bytes) ≡ o
-    → of_size o bytes ≡ Err e → IsReasonIn e bytes
+read_sized : (e : TextError) (bytes : List ℕ) (o : Option Size) → IsBytes bytes → size_from_bytes (length bytes) ≡ o
+    → of_size o bytes ≡ Err e → IsBytesReason e bytes
 read_sized e bytes None in_range sized is =
     let same : errors.WrongSize ≡ e = cc in
-    subst (λ (y : TextError). IsReasonIn y bytes) same (none_counts (length bytes) sized)
+    subst (λ (y : TextError). IsBytesReason y bytes) same (none_counts (length bytes) sized)
 read_sized e bytes (Some size) in_range sized is =
     read_in e size bytes (pads_with_zeros size bytes) refl in_range (size_counts (length bytes) size sized) is
 
 -- the reason of bytes is the reason of the text that spells them
-of_text : (e : TextError) (text bytes : List ℕ) → decode_of text ≡ Ok bytes → IsReasonIn e bytes → IsReason e text
+of_text : (e : TextError) (text bytes : List ℕ) → decode_of text ≡ Ok bytes → IsBytesReason e bytes → IsReason e text
 of_text errors.Memory text bytes decoded x = tt
 of_text errors.NotHex text bytes decoded x = absurd x
 of_text errors.WrongSize text bytes decoded x = record { bytes = bytes; decoded = decoded; reason = x }
@@ -107,7 +107,7 @@ of_text (errors.Fault f) text bytes decoded x = record { bytes = bytes; decoded 
 read_decoded : (e : TextError) (text : List ℕ) (d : Result (List ℕ) FromHexError) → decode_of text ≡ d
     → of_decoded d ≡ Err e → IsReason e text
 read_decoded e text (Ok bytes) decoded is =
-    of_text e text bytes decoded (read_sized e bytes (size_in (length bytes)) (decode_of-ok text bytes decoded).3 refl is)
+    of_text e text bytes decoded (read_sized e bytes (size_from_bytes (length bytes)) (decode_of-ok text bytes decoded).3 refl is)
 read_decoded e text (Err x) decoded is =
     let same : errors.NotHex ≡ e = cc in
     subst (λ (y : TextError). IsReason y text) same (not_decoded text x decoded)
@@ -179,15 +179,15 @@ decoded_means text bytes decoded = rw decoded refl
 -- an early reason, if the text is decoded and its bytes give the result
 pub reported_in : (r : Result Telegram TextError) (e : TextError) (text bytes : List ℕ) → IsEarly e
     → decode_of text ≡ Ok bytes → IsTextMeaning r (of_bytes bytes)
-    → (r ≡ Err errors.Memory → (bits : List Bool) × (of_bytes bytes ≡ of_bits (telegram_of bits)))
+    → (r ≡ Err errors.Memory → (bits : List Bool) × (of_bytes bytes ≡ of_bits (read_telegram bits)))
     → IsErrOf r e ↔ IsReason e text
 reported_in r e text bytes early decoded exact memory =
     let means = decoded_means text bytes decoded in
-    reported_early r text e early (rw means exact) (λ none. let of = memory none in (telegram_of of.0, means ∙ of.1))
+    reported_early r text e early (rw means exact) (λ none. let of = memory none in (read_telegram of.0, means ∙ of.1))
 
 -- a text whose digits were decoded is hexadecimal
 pub not_not_hex : (r : Result Telegram TextError) (text bytes : List ℕ) → decode_of text ≡ Ok bytes
-    → IfErr r (λ e. IsReasonIn e bytes) → IsErrOf r errors.NotHex ↔ (IsHexadecimal text → ⊥)
+    → IfErr r (λ e. IsBytesReason e bytes) → IsErrOf r errors.NotHex ↔ (IsHexadecimal text → ⊥)
 not_not_hex r text bytes decoded reason = (
   λ is. absurd (rw is at reason),
   λ not.
@@ -214,10 +214,10 @@ pub other_size_means : (text : List ℕ) → IsReasonDecoded errors.WrongSize te
 other_size_means text x = reason_read errors.WrongSize text (no_memory errors.WrongSize tt) x
 
 -- the text means what its user bits mean: every check before them has passed
-pub of_user_bits : (size : Size) (bytes : List ℕ) → size_in (length bytes) ≡ Some size
+pub of_user_bits : (size : Size) (bytes : List ℕ) → size_from_bytes (length bytes) ≡ Some size
     → pads_with_zeros size bytes ≡ true
-    → (bits : List Bool) × (of_bytes bytes ≡ of_bits (telegram_of bits))
-of_user_bits size bytes sized zeros = (user_bits_in size bytes, rw (sized, zeros) refl)
+    → (bits : List Bool) × (of_bytes bytes ≡ of_bits (read_telegram bits))
+of_user_bits size bytes sized zeros = (take_user_bits size bytes, rw (sized, zeros) refl)
 
 -- a text with another number of digits
 pub other_size : (text : List ℕ) → IsHexadecimal text → length text ≢ 54 → length text ≢ 208

@@ -17,7 +17,7 @@ use Rattle.etcs_packet.specs.Laws.{HasNoMark}
 use Rattle.etcs_packet.specs.Lists.{IsHeaded, ends}
 use Rattle.etcs_profile.specs.Track.{track_packet}
 use Rattle.etcs_packet.specs.Whole.{BeginsWith, start}
-use Rattle.etcs_packet.specs.Reading.{whole_of}
+use Rattle.etcs_packet.specs.Reading.{read_first_whole}
 use Rattle.etcs_packet.proofs.WholeLemmas.{whole_is_read, means_whole}
 use Rattle.etcs_packet.proofs.WrittenLemmas.{ends_only, mark_ends, whole_spelled, whole_written}
 use Rattle.etcs_telegram.specs.declared.error.EncodeError.{EncodeError}
@@ -26,18 +26,18 @@ use Rattle.etcs_telegram.specs.declared.header.Header.{Header}
 use Rattle.etcs_telegram.specs.declared.size.Size.{Size}
 use Rattle.etcs_telegram.specs.declared.size.Size.TheVariants.{Short, Long}
 use Rattle.etcs_telegram.specs.Header.{header}
-use Rattle.etcs_telegram.specs.Laws.{AreSpelledOut}
+use Rattle.etcs_telegram.specs.Laws.{IsCompleteSpelling}
 use Rattle.etcs_telegram.specs.Record.{Telegram}
-use Rattle.etcs_telegram.specs.Sizes.{user_bits, size_of}
+use Rattle.etcs_telegram.specs.Sizes.{user_bits, size_from_bits}
 use Rattle.etcs_telegram.specs.Telegram.{AreUserBits, IsTelegram, IsEncoding, IsTooBig, front_bits, canonical_bits, used_bits}
-use Rattle.etcs_telegram.specs.Meaning.{size_by, telegram_of}
+use Rattle.etcs_telegram.specs.Meaning.{short_or_long, read_telegram}
 use Rattle.etcs_telegram.proofs.FillLemmas.{length-ones}
 
 -- ---- sizes
 
 abbrev Counts : ℕ → Option Size → Type 0
 Counts n None = Unit {0}
-Counts n (Some size) = (n ≡ user_bits size) × (size_by n ≡ size)
+Counts n (Some size) = (n ≡ user_bits size) × (short_or_long n ≡ size)
 
 counts_by : (n : ℕ) (short long : Bool) → n == 210 ≡ short → n == 830 ≡ long
     → Counts n (if short then Some Short else (if long then Some Long else None))
@@ -45,30 +45,30 @@ counts_by n true long is other = (eqb-true n 210 is, rw is refl)
 counts_by n false true other is = (eqb-true n 830 is, rw other refl)
 counts_by n false false other others = tt
 
-counts : (n : ℕ) → Counts n (size_of n)
+counts : (n : ℕ) → Counts n (size_from_bits n)
 counts n = counts_by n (n == 210) (n == 830) refl refl
 
-pub size_counts : (n : ℕ) (size : Size) → size_of n ≡ Some size → n ≡ user_bits size
+pub size_counts : (n : ℕ) (size : Size) → size_from_bits n ≡ Some size → n ≡ user_bits size
 size_counts n size is = let c = counts n in let d = rw is at c in d.0
 
-pub size_found : (n : ℕ) (size : Size) → size_of n ≡ Some size → size_by n ≡ size
+pub size_found : (n : ℕ) (size : Size) → size_from_bits n ≡ Some size → short_or_long n ≡ size
 size_found n size is = let c = counts n in let d = rw is at c in d.1
 
-pub size_back : (size : Size) → size_by (user_bits size) ≡ size
+pub size_back : (size : Size) → short_or_long (user_bits size) ≡ size
 size_back Short = refl
 size_back Long = refl
 
-pub size_of_back : (size : Size) → size_of (user_bits size) ≡ Some size
+pub size_of_back : (size : Size) → size_from_bits (user_bits size) ≡ Some size
 size_of_back Short = refl
 size_of_back Long = refl
 
 -- if some telegram has `n` bits, `n` is the number of user bits of its size
-counts_some : (n : ℕ) (o : Option Size) → size_of n ≡ o → IsSome o → n ≡ user_bits (size_by n)
+counts_some : (n : ℕ) (o : Option Size) → size_from_bits n ≡ o → IsSome o → n ≡ user_bits (short_or_long n)
 counts_some n None is none = absurd cc
 counts_some n (Some size) is some = size_counts n size is ∙ ap user_bits (sym (size_found n size is))
 
-pub count_by : (n : ℕ) → IsSome (size_of n) → n ≡ user_bits (size_by n)
-count_by n some = counts_some n (size_of n) refl some
+pub count_by : (n : ℕ) → IsSome (size_from_bits n) → n ≡ user_bits (short_or_long n)
+count_by n some = counts_some n (size_from_bits n) refl some
 
 pub few_bits : (size : Size) → user_bits size ≤ 830
 few_bits Short = omega arith
@@ -85,7 +85,7 @@ no_mark = refl
 -- a header and packets at the front are read
 pub begins_meaning : (h : Header) (packets : List TrackPacket) (bits : List Bool)
     → BeginsWith stops.Telegram header.rows track_packet.rows h packets bits
-    → whole_of stops.Telegram header.fields header.of track_packet.fields track_packet.of bits ≡ Ok (h, packets)
+    → read_first_whole stops.Telegram header.fields header.of track_packet.fields track_packet.of bits ≡ Ok (h, packets)
 begins_meaning h packets bits b =
     means_whole stops.Telegram header.fields header.of track_packet.fields track_packet.of bits (h, packets) b.end
     (whole_is_read header.laid track_packet.laid stops.Telegram h packets (start bits) b.end headed (omega arith) b.whole)
@@ -98,26 +98,26 @@ made size h packets = record { size = size; header = h; packets = packets }
 pub telegram_bits : (t : Telegram) (bits : List Bool) → IsTelegram t bits → AreUserBits bits
 telegram_bits t bits x = rw (x.count, size_of_back t.size) refl
 
-pub telegram_meaning : (t : Telegram) (bits : List Bool) → IsTelegram t bits → telegram_of bits ≡ Ok t
-unfolding telegram_of
+pub telegram_meaning : (t : Telegram) (bits : List Bool) → IsTelegram t bits → read_telegram bits ≡ Ok t
+unfolding read_telegram
 telegram_meaning t bits x =
-    let size : size_by (length bits) ≡ t.size = ap size_by x.count ∙ size_back t.size in
+    let size : short_or_long (length bits) ≡ t.size = ap short_or_long x.count ∙ size_back t.size in
     rw (begins_meaning t.header t.packets bits x.begins) (ap (λ (s : Size). Ok (made s t.header t.packets)) size)
 
 -- a header and packets that were read, with their size, are what the bits mean
 pub read_meaning : (h : Header) (packets : List TrackPacket) (size : Size) (bits : List Bool)
-    → size_of (length bits) ≡ Some size
-    → whole_of stops.Telegram header.fields header.of track_packet.fields track_packet.of bits ≡ Ok (h, packets)
-    → telegram_of bits ≡ Ok (made size h packets)
-unfolding telegram_of
+    → size_from_bits (length bits) ≡ Some size
+    → read_first_whole stops.Telegram header.fields header.of track_packet.fields track_packet.of bits ≡ Ok (h, packets)
+    → read_telegram bits ≡ Ok (made size h packets)
+unfolding read_telegram
 read_meaning h packets size bits found read =
     rw read (ap (λ (s : Size). Ok (made s h packets)) (size_found (length bits) size found))
 
 -- if reading fails, the bits mean that failure
 pub failed_meaning : (e : DecodeError) (bits : List Bool)
-    → Fails e (whole_of stops.Telegram header.fields header.of track_packet.fields track_packet.of bits)
-    → Fails e (telegram_of bits)
-unfolding telegram_of
+    → Fails e (read_first_whole stops.Telegram header.fields header.of track_packet.fields track_packet.of bits)
+    → Fails e (read_telegram bits)
+unfolding read_telegram
 failed_meaning errors.Memory bits fails = tt
 failed_meaning (errors.Fault f) bits fails = rw fails refl
 
@@ -169,7 +169,7 @@ is_encoding t front bits fits header packets is filled = record {
 }
 
 -- bits that are spelled out are the telegram
-pub spelled_telegram : (t : Telegram) (bits : List Bool) → AreSpelledOut t bits → IsTelegram t bits
+pub spelled_telegram : (t : Telegram) (bits : List Bool) → IsCompleteSpelling t bits → IsTelegram t bits
 spelled_telegram t bits x =
     let head_bits = join (header.rows t.header) in
     let packets = join (flat_map track_packet.rows t.packets) in
@@ -190,7 +190,7 @@ marked : (rest : List Bool) → ends stops.Telegram (start rest) ≡ true → (f
 marked rest over = mark_of rest (ends_only stops.Telegram rest over)
 
 -- a telegram is spelled out
-pub telegram_spelled : (t : Telegram) (bits : List Bool) → IsTelegram t bits → AreSpelledOut t bits
+pub telegram_spelled : (t : Telegram) (bits : List Bool) → IsTelegram t bits → IsCompleteSpelling t bits
 telegram_spelled t bits x =
     let head_bits = join (header.rows t.header) in
     let packets = join (flat_map track_packet.rows t.packets) in
@@ -208,7 +208,7 @@ telegram_spelled t bits x =
     }
 
 -- a telegram that is spelled out fits
-spelled_fits : (t : Telegram) (bits : List Bool) → AreSpelledOut t bits → used_bits t ≤ user_bits t.size
+spelled_fits : (t : Telegram) (bits : List Bool) → IsCompleteSpelling t bits → used_bits t ≤ user_bits t.size
 spelled_fits t bits x = omega (arith, ap length x.are, length-append (front_bits t) x.fill, front_width t, x.count)
 
 pub decoded_encoded : (t : Telegram) (bits : List Bool) → IsTelegram t bits → IsEncoding t (canonical_bits t)

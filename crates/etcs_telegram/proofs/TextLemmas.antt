@@ -14,9 +14,9 @@ use Rattle.etcs_telegram.specs.declared.size.Size.{Size}
 use Rattle.etcs_telegram.specs.declared.size.Size.TheVariants.{Short, Long}
 use Rattle.etcs_telegram.specs.Record.{Telegram}
 use Rattle.etcs_telegram.specs.Sizes.{user_bits, byte_count, pad_count}
-use Rattle.etcs_telegram.specs.TextMeaning.{size_in, pads_with_zeros}
+use Rattle.etcs_telegram.specs.TextMeaning.{size_from_bytes, pads_with_zeros}
 use Rattle.etcs_telegram.specs.Telegram.{IsEncoding, IsTelegram}
-use Rattle.etcs_telegram.specs.Text.{pad_bits_in, user_bits_in, no_pads, ArePadded, HavePadSet, IsHexadecimal, IsCanonicalText}
+use Rattle.etcs_telegram.specs.Text.{take_pad_bits, take_user_bits, no_pads, ArePadded, HavePadSet, IsHexadecimal, IsCanonicalText}
 use Rattle.etcs_telegram.proofs.TelegramLemmas.{canonical_length}
 
 -- ---- sizes
@@ -34,7 +34,7 @@ pub some_bytes : (size : Size) → 1 ≤ byte_count size
 some_bytes Short = omega arith
 some_bytes Long = omega arith
 
-pub size_in_back : (size : Size) → size_in (byte_count size) ≡ Some size
+pub size_in_back : (size : Size) → size_from_bytes (byte_count size) ≡ Some size
 size_in_back Short = refl
 size_in_back Long = refl
 
@@ -52,13 +52,13 @@ counts_by n true long is other = eqb-true n 27 is
 counts_by n false true other is = eqb-true n 104 is
 counts_by n false false other others = no_count n other others
 
-counts : (n : ℕ) → Counts n (size_in n)
+counts : (n : ℕ) → Counts n (size_from_bytes n)
 counts n = counts_by n (n == 27) (n == 104) refl refl
 
-pub size_counts : (n : ℕ) (size : Size) → size_in n ≡ Some size → n ≡ byte_count size
+pub size_counts : (n : ℕ) (size : Size) → size_from_bytes n ≡ Some size → n ≡ byte_count size
 size_counts n size is = let c = counts n in rw is at c
 
-pub none_counts : (n : ℕ) → size_in n ≡ None → (size : Size) → n ≢ byte_count size
+pub none_counts : (n : ℕ) → size_from_bytes n ≡ None → (size : Size) → n ≢ byte_count size
 none_counts n is = let c = counts n in rw is at c
 
 -- ---- pad bits
@@ -76,7 +76,7 @@ last size bytes = get_or bytes (byte_count size - 1) 0
 
 -- the pad bits are the last bits of the last byte
 pad_bits : (size : Size) (bytes : List ℕ) → length bytes ≡ byte_count size
-    → pad_bits_in size bytes ≡ drop (8 - pad_count size) (num 8 (last size bytes))
+    → take_pad_bits size bytes ≡ drop (8 - pad_count size) (num 8 (last size bytes))
 pad_bits size bytes count =
     let whole = whole_bytes size in
     let few = few_pads size in
@@ -99,7 +99,7 @@ no_number Short = refl
 no_number Long = refl
 
 pub pads_are_zeros : (size : Size) (bytes : List ℕ) → length bytes ≡ byte_count size → last size bytes < 256
-    → last size bytes % 2 ^ pad_count size ≡ 0 → pad_bits_in size bytes ≡ no_pads size
+    → last size bytes % 2 ^ pad_count size ≡ 0 → take_pad_bits size bytes ≡ no_pads size
 pads_are_zeros size bytes count small zero =
     let b = last size bytes in
     pad_bits size bytes count
@@ -107,7 +107,7 @@ pads_are_zeros size bytes count small zero =
 
 -- pad bits that are zeros end the last byte
 pub pads_divide : (size : Size) (bytes : List ℕ) → length bytes ≡ byte_count size → last size bytes < 256
-    → pad_bits_in size bytes ≡ no_pads size → last size bytes % 2 ^ pad_count size ≡ 0
+    → take_pad_bits size bytes ≡ no_pads size → last size bytes % 2 ^ pad_count size ≡ 0
 pads_divide size bytes count small zeros =
     sym (pad_number size (last size bytes) small) ∙ ap num_of_bits (sym (pad_bits size bytes count) ∙ zeros) ∙ no_number size
 
@@ -137,11 +137,11 @@ same_size Long Long e = refl
 
 -- bytes of this size hold no telegram of another size
 pub of_its_size : (t : Telegram) (size : Size) (bits : List Bool) (bytes : List ℕ) → ArePadded size bytes
-    → bits ≡ user_bits_in size bytes → length bits ≡ user_bits size → IsTelegram t bits
-    → ArePadded t.size bytes × IsTelegram t (user_bits_in t.size bytes)
+    → bits ≡ take_user_bits size bytes → length bits ≡ user_bits size → IsTelegram t bits
+    → ArePadded t.size bytes × IsTelegram t (take_user_bits t.size bytes)
 of_its_size t size bits bytes padded is count x =
     let same : size ≡ t.size = same_size size t.size (sym count ∙ x.count) in
-    subst (λ (s : Size). ArePadded s bytes × IsTelegram t (user_bits_in s bytes)) same
+    subst (λ (s : Size). ArePadded s bytes × IsTelegram t (take_user_bits s bytes)) same
     (padded, subst (λ (b : List Bool). IsTelegram t b) is x)
 
 -- ---- digits

@@ -10,7 +10,7 @@ use Rattle.etcs_telegram.specs.Telegram.{front_bits}
 
 -- The bits are the telegram's header, its packets, the end mark and a fill. There are as many of
 -- them as the telegram's size has. None of its numbers is spare.
-pub record AreSpelledOut (t : Telegram) (bits : List Bool) : Type 0 where
+pub record IsCompleteSpelling (t : Telegram) (bits : List Bool) : Type 0 where
   pub fill : List Bool
   pub count : length bits ≡ user_bits t.size
   pub header : AreAllowed (header.rows t.header)

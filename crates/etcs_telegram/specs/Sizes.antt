@@ -10,8 +10,8 @@ user_bits Short = 210
 user_bits Long = 830
 
 -- the size of a telegram with `n` user bits
-abbrev pub size_of : ℕ → Option Size
-size_of n = if n == 210 then Some Short else (if n == 830 then Some Long else None)
+abbrev pub size_from_bits : ℕ → Option Size
+size_from_bits n = if n == 210 then Some Short else (if n == 830 then Some Long else None)
 
 -- the number of bytes that hold the user bits
 abbrev pub byte_count : Size → ℕ

@@ -11,11 +11,11 @@ use Rattle.etcs_profile.specs.Track.{track_packet}
 use Rattle.etcs_packet.specs.Whole.{BeginsWith, IsWholeFault, NoHeadAndListStands, start}
 use Rattle.etcs_telegram.specs.Header.{header}
 use Rattle.etcs_telegram.specs.Record.{Telegram}
-use Rattle.etcs_telegram.specs.Sizes.{user_bits, size_of}
+use Rattle.etcs_telegram.specs.Sizes.{user_bits, size_from_bits}
 
 -- some telegram has this many bits
 abbrev pub AreUserBits : List Bool → Type 0
-AreUserBits bits = IsSome (size_of (length bits))
+AreUserBits bits = IsSome (size_from_bits (length bits))
 
 -- The bits are this telegram. There are as many as its size has. They begin with its header and its
 -- packets, up to the first end mark. The bits after that mark carry no information.

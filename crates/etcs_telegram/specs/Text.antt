@@ -23,11 +23,11 @@ pub record IsHexadecimal (text : List ℕ) : Type 0 where
   pub digits : AllPass is_hex_digit text
 
 -- the user bits of bytes, in a telegram of this size, and the pad bits after them
-abbrev pub user_bits_in : Size → List ℕ → List Bool
-user_bits_in size bytes = take (user_bits size) (bits_of_bytes bytes)
+abbrev pub take_user_bits : Size → List ℕ → List Bool
+take_user_bits size bytes = take (user_bits size) (bits_of_bytes bytes)
 
-abbrev pub pad_bits_in : Size → List ℕ → List Bool
-pad_bits_in size bytes = drop (user_bits size) (bits_of_bytes bytes)
+abbrev pub take_pad_bits : Size → List ℕ → List Bool
+take_pad_bits size bytes = drop (user_bits size) (bits_of_bytes bytes)
 
 -- zeros, as many as a telegram of this size has pad bits
 abbrev pub no_pads : Size → List Bool
@@ -36,14 +36,14 @@ no_pads size = replicate (pad_count size) false
 -- There are as many bytes as a telegram of this size has. All pad bits are zeros.
 pub record ArePadded (size : Size) (bytes : List ℕ) : Type 0 where
   pub count : length bytes ≡ byte_count size
-  pub padding : pad_bits_in size bytes ≡ no_pads size
+  pub padding : take_pad_bits size bytes ≡ no_pads size
 
 -- The text is this telegram.
 pub record IsTelegramText (t : Telegram) (text : List ℕ) : Type 0 where
   pub bytes : List ℕ
   pub decoded : decode_of text ≡ Ok bytes
   pub padded : ArePadded t.size bytes
-  pub telegram : IsTelegram t (user_bits_in t.size bytes)
+  pub telegram : IsTelegram t (take_user_bits t.size bytes)
 
 -- The text is the canonical text of this telegram: its bits filled up with ones, zeros as pad bits,
 -- in lower-case digits.
@@ -59,40 +59,40 @@ pub record IsCanonicalText (t : Telegram) (text : List ℕ) : Type 0 where
 pub record HavePadSet (bytes : List ℕ) : Type 0 where
   pub size : Size
   pub count : length bytes ≡ byte_count size
-  pub set : pad_bits_in size bytes ≢ no_pads size
+  pub set : take_pad_bits size bytes ≢ no_pads size
 
 -- the bytes would be a telegram's, but the user bits have a fault
 pub record HaveFault (bytes : List ℕ) (f : Fault) : Type 0 where
   pub size : Size
   pub padded : ArePadded size bytes
-  pub first : IsTelegramFault (user_bits_in size bytes) f
-  pub none : IsNoTelegram (user_bits_in size bytes) f
+  pub first : IsTelegramFault (take_user_bits size bytes) f
+  pub none : IsNoTelegram (take_user_bits size bytes) f
 
 -- the bytes would be a telegram's, but its header has a fault
 pub record HaveHeaderFault (bytes : List ℕ) (f : Fault) : Type 0 where
   pub size : Size
   pub padded : ArePadded size bytes
-  pub first : IsFault header.fields (start (user_bits_in size bytes)) f
+  pub first : IsFault header.fields (start (take_user_bits size bytes)) f
 
 -- the bytes are a telegram's up to its header, and a packet is due after the header
 pub record HavePackets (bytes : List ℕ) : Type 0 where
   pub size : Size
   pub padded : ArePadded size bytes
-  pub followed : IsFollowed stops.Telegram header.rows (start (user_bits_in size bytes))
+  pub followed : IsFollowed stops.Telegram header.rows (start (take_user_bits size bytes))
 
 -- the reason to refuse these bytes holds, and no reason checked earlier does
-abbrev pub IsReasonIn : TextError → List ℕ → Type 0
-IsReasonIn errors.Memory bytes = Unit {0}
-IsReasonIn errors.NotHex bytes = ⊥
-IsReasonIn errors.WrongSize bytes = (size : Size) → length bytes ≢ byte_count size
-IsReasonIn errors.PadBits bytes = HavePadSet bytes
-IsReasonIn (errors.Fault f) bytes = HaveFault bytes f
+abbrev pub IsBytesReason : TextError → List ℕ → Type 0
+IsBytesReason errors.Memory bytes = Unit {0}
+IsBytesReason errors.NotHex bytes = ⊥
+IsBytesReason errors.WrongSize bytes = (size : Size) → length bytes ≢ byte_count size
+IsBytesReason errors.PadBits bytes = HavePadSet bytes
+IsBytesReason (errors.Fault f) bytes = HaveFault bytes f
 
 -- the reason to refuse a hexadecimal text holds of its bytes
 pub record IsReasonDecoded (e : TextError) (text : List ℕ) : Type 0 where
   pub bytes : List ℕ
   pub decoded : decode_of text ≡ Ok bytes
-  pub reason : IsReasonIn e bytes
+  pub reason : IsBytesReason e bytes
 
 -- the text would be a telegram's, but its header has a fault
 pub record HasHeaderFault (text : List ℕ) (f : Fault) : Type 0 where

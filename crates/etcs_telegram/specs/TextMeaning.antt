@@ -11,12 +11,12 @@ use Rattle.etcs_telegram.specs.declared.error.TextError.{TextError}
 use Rattle.etcs_telegram.specs.declared.error.TextError.TheVariants as errors
 use Rattle.etcs_telegram.specs.Record.{Telegram}
 use Rattle.etcs_telegram.specs.Sizes.{byte_count, pad_count}
-use Rattle.etcs_telegram.specs.Text.{user_bits_in}
-use Rattle.etcs_telegram.specs.Meaning.{telegram_of}
+use Rattle.etcs_telegram.specs.Text.{take_user_bits}
+use Rattle.etcs_telegram.specs.Meaning.{read_telegram}
 
 -- the size of a telegram in `n` bytes
-abbrev pub size_in : ℕ → Option Size
-size_in n = if n == 27 then Some Short else (if n == 104 then Some Long else None)
+abbrev pub size_from_bytes : ℕ → Option Size
+size_from_bytes n = if n == 27 then Some Short else (if n == 104 then Some Long else None)
 
 -- the pad bits, the last bits of the last byte, are zeros
 abbrev pub pads_with_zeros : Size → List ℕ → Bool
@@ -31,12 +31,12 @@ of_bits (Err f) = Err (errors.Fault f)
 abbrev pub of_size : Option Size → List ℕ → Result Telegram TextError
 of_size None bytes = Err errors.WrongSize
 of_size (Some size) bytes =
-    if pads_with_zeros size bytes then of_bits (telegram_of (user_bits_in size bytes))
+    if pads_with_zeros size bytes then of_bits (read_telegram (take_user_bits size bytes))
     else Err errors.PadBits
 
 -- what bytes mean; their number is checked first
 abbrev pub of_bytes : List ℕ → Result Telegram TextError
-of_bytes bytes = of_size (size_in (length bytes)) bytes
+of_bytes bytes = of_size (size_from_bytes (length bytes)) bytes
 
 -- what digits mean, given the bytes that they spell
 abbrev pub of_decoded : Result (List ℕ) FromHexError → Result Telegram TextError

@@ -1,4 +1,4 @@
-//! From bits to a telegram.
+//! `decode`: from bits to a telegram.
 
 ghost use Rattle.std.specs.Prelude.{◌≡◌, Err, IfOk};
 ghost use Rattle.etcs_bits.specs.declared.layout.fault.Fault.{Fault};
@@ -7,7 +7,7 @@ ghost use Rattle.etcs_bits.specs.layout.Results.{IfFault, IfMemory, Means};
 ghost use Rattle.etcs_packet.specs.Whole.{IsFollowed, start};
 ghost use Rattle.etcs_telegram.specs.Header.{header};
 ghost use Rattle.etcs_telegram.specs.Telegram.{AreUserBits, IsNoTelegram, IsTelegram, IsTelegramFault};
-ghost use Rattle.etcs_telegram.specs.Meaning.{telegram_of};
+ghost use Rattle.etcs_telegram.specs.Meaning.{read_telegram};
 
 use crate::size::Size;
 use crate::telegram::Telegram;
@@ -24,7 +24,7 @@ pub(crate) fn decode_slice(alloc: Global, bits: BitSlice<'_>) -> Result<Telegram
     ensures none { IfFault result (λ f. IsNoTelegram bits.entry f) }
 
     // The result, as a function of the bits.
-    ensures exact { Means (λ t. t) result (telegram_of bits.entry) }
+    ensures exact { Means (λ t. t) result (read_telegram bits.entry) }
 
     // The header's fault is always reported: reading the header needs no memory.
     ensures header { (f : Fault) → IsFault header.fields (start bits.entry) f
@@ -57,7 +57,7 @@ pub fn decode(alloc: Global, bits: &Bits) -> Result<Telegram, DecodeError>
     ensures none { IfFault result (λ f. IsNoTelegram bits.now f) }
 
     // The result, as a function of the bits.
-    ensures exact { Means (λ t. t) result (telegram_of bits.now) }
+    ensures exact { Means (λ t. t) result (read_telegram bits.now) }
 
     // The header's fault is always reported: reading the header needs no memory.
     ensures header { (f : Fault) → IsFault header.fields (start bits.now) f

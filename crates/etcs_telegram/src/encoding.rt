@@ -1,4 +1,4 @@
-//! From a telegram to bits.
+//! `encode`: from a telegram to bits.
 
 ghost use Rattle.std.specs.Prelude.{◌≡◌, ◌↔◌, ◌-◌, ◌≤◌, ◌++◌, min, true, length, replicate, IfOk, IsErrOf, OnOk};
 ghost use Rattle.etcs_telegram.specs.Sizes.{user_bits};

@@ -1,4 +1,4 @@
-//! Why a telegram is not read or written.
+//! `EncodeError` and `TextError`: why a telegram is not written, and why a text is not read.
 
 ghost use Rattle.std.specs.Prelude.{◌≡◌};
 ghost use Rattle.etcs_telegram.specs.declared.error.EncodeError.TheVariants as errors;

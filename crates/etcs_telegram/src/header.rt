@@ -1,7 +1,7 @@
-//! The header of a telegram.
+//! `Header`: the header of a telegram, from Q_UPDOWN to Q_LINK.
 
 ghost use Rattle.std.specs.Prelude.{◌≡◌, Ok, IfSome};
-ghost use Rattle.etcs_bits.specs.layout.Reading.{rows_at};
+ghost use Rattle.etcs_bits.specs.layout.Reading.{read_rows};
 ghost use Rattle.etcs_telegram.specs.Header.{header};
 
 use etcs_bits::{
@@ -35,7 +35,7 @@ pub struct Header {
 // inconclusive, and leaves the cursor at an unspecified position.
 #[inline(always)]
 fn scan_far(cur: &mut Cursor<'_>) -> Option<Header>
-    ensures { IfSome result (λ h. rows_at header.fields cur.old ≡ Ok (header.rows h, cur.new)) }
+    ensures { IfSome result (λ h. read_rows header.fields cur.old ≡ Ok (header.rows h, cur.new)) }
 {
     let sender = cur.take_three(1, 7, 1)?;
     if sender.0 != 1 || sender.2 != 0 {

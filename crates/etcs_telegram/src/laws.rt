@@ -3,8 +3,8 @@
 
 ghost use Rattle.std.specs.Prelude.{◌≡◌, ◌≢◌, ◌↔◌, ℕ, List, Bool, Ok, Err};
 ghost use Rattle.etcs_bits.specs.declared.layout.fault.Fault.{Fault};
-ghost use Rattle.etcs_telegram.specs.Laws.{AreSpelledOut};
-ghost use Rattle.etcs_telegram.specs.Meaning.{telegram_of};
+ghost use Rattle.etcs_telegram.specs.Laws.{IsCompleteSpelling};
+ghost use Rattle.etcs_telegram.specs.Meaning.{read_telegram};
 ghost use Rattle.etcs_telegram.specs.Record.{Telegram};
 ghost use Rattle.etcs_telegram.specs.Telegram.{AreUserBits, IsTelegram, IsTelegramFault, IsNoTelegram, IsEncoding, canonical_bits};
 ghost use Rattle.etcs_telegram.specs.Text.{IsTelegramText, IsCanonicalText, IsReason};
@@ -16,21 +16,21 @@ use crate::error::TextError;
 /// telegram has. So they are one telegram at most.
 pub fn telegrams_are_decoded()
     ensures { (t : Telegram) (bits : List Bool)
-        → IsTelegram t bits ↔ (AreUserBits bits × (telegram_of bits ≡ Ok t)) }
+        → IsTelegram t bits ↔ (AreUserBits bits × (read_telegram bits ≡ Ok t)) }
 {}
 
 /// Bits have a fault if and only if they mean that fault. So they have one at most. Then they are not
 /// a telegram, and no bits of the same number with the same first `end` bits are one.
 pub fn faults_are_meant()
     ensures fault { (bits : List Bool) (f : Fault)
-        → IsTelegramFault bits f ↔ (telegram_of bits ≡ Err f) }
+        → IsTelegramFault bits f ↔ (read_telegram bits ≡ Err f) }
     ensures none { (bits : List Bool) (f : Fault) → IsTelegramFault bits f → IsNoTelegram bits f }
 {}
 
 /// Bits are a telegram if and only if they are its header, its packets, the end mark and a fill, there
 /// are as many of them as its size has, and none of its numbers is spare.
 pub fn telegrams_are_spelled_out()
-    ensures { (t : Telegram) (bits : List Bool) → IsTelegram t bits ↔ AreSpelledOut t bits }
+    ensures { (t : Telegram) (bits : List Bool) → IsTelegram t bits ↔ IsCompleteSpelling t bits }
 {}
 
 /// A decoded telegram is never too big. It has an encoding: the same bits with ones as the fill.
@@ -46,7 +46,7 @@ pub fn encodings_are_telegrams()
 
 /// An encoding is decoded to the telegram that was encoded.
 pub fn what_is_encoded_is_decoded()
-    ensures { (t : Telegram) (bits : List Bool) → IsEncoding t bits → telegram_of bits ≡ Ok t }
+    ensures { (t : Telegram) (bits : List Bool) → IsEncoding t bits → read_telegram bits ≡ Ok t }
 {}
 
 /// Two telegrams have equal encodings if and only if they are equal.

@@ -1,4 +1,4 @@
-//! How long a telegram is.
+//! `Size`: how long a telegram is, short or long.
 
 ghost use Rattle.std.specs.Prelude.{◌≡◌};
 
@@ -12,12 +12,12 @@ pub enum Size {
 }
 
 impl Size {
-    ghost use Rattle.etcs_telegram.specs.Sizes.{byte_count, pad_count, size_of, user_bits};
-    ghost use Rattle.etcs_telegram.specs.TextMeaning.{size_in};
+    ghost use Rattle.etcs_telegram.specs.Sizes.{byte_count, pad_count, size_from_bits, user_bits};
+    ghost use Rattle.etcs_telegram.specs.TextMeaning.{size_from_bytes};
 
     /// The size of a telegram with `n` user bits: 210 or 830. None for any other number.
     pub fn of_len(n: usize) -> Option<Size>
-        ensures { result ≡ size_of n }
+        ensures { result ≡ size_from_bits n }
     {
         match n {
             210 => Some(Size::Short),
@@ -28,7 +28,7 @@ impl Size {
 
     // The size of a telegram in `n` bytes.
     pub(crate) fn in_bytes(n: usize) -> Option<Size>
-        ensures { result ≡ size_in n }
+        ensures { result ≡ size_from_bytes n }
     {
         match n {
             27 => Some(Size::Short),

@@ -1,4 +1,4 @@
-//! A telegram as a record.
+//! `Telegram`: a telegram as a record of its size, header and packets.
 
 use crate::header::Header;
 use crate::size::Size;

@@ -1,12 +1,12 @@
-//! Telegrams as hexadecimal text.
+//! `from_hex` and `to_hex`: telegrams as hexadecimal text.
 
 ghost use Rattle.std.specs.Prelude.{◌≡◌, ◌↔◌, ◌*◌, Bool, false, List, length, Ok, Err, IfOk, IfErr, IsErrOf, IsTrue, OnOk, string_bytes};
 ghost use Rattle.hex.specs.Hex.{decode_of, encode_lower, is_hex_digit, IsBytes};
 ghost use Rattle.etcs_bits.specs.declared.layout.fault.Fault.{Fault};
 ghost use Rattle.etcs_telegram.specs.Sizes.{byte_count};
-ghost use Rattle.etcs_telegram.specs.Meaning.{telegram_of};
+ghost use Rattle.etcs_telegram.specs.Meaning.{read_telegram};
 ghost use Rattle.etcs_telegram.specs.Telegram.{IsTelegram, IsTooBig};
-ghost use Rattle.etcs_telegram.specs.Text.{ArePadded, HasHeaderFault, HasPackets, HaveHeaderFault, HavePackets, IsCanonicalText, IsHexadecimal, IsReason, IsReasonDecoded, IsReasonIn, IsTelegramText, IsTextMeaning, user_bits_in};
+ghost use Rattle.etcs_telegram.specs.Text.{ArePadded, HasHeaderFault, HasPackets, HaveHeaderFault, HavePackets, IsCanonicalText, IsHexadecimal, IsReason, IsReasonDecoded, IsBytesReason, IsTelegramText, IsTextMeaning, take_user_bits};
 ghost use Rattle.etcs_telegram.specs.TextMeaning.{of_bits, of_bytes, pads_with_zeros, telegram_of_text};
 
 use crate::decoding::decode_slice;
@@ -54,13 +54,13 @@ fn is_padded(size: Size, bytes: &[u8]) -> bool
 // The telegram in these bytes.
 fn telegram_in(alloc: Global, bytes: &[u8]) -> Result<Telegram, TextError>
     ensures ok { IfOk result (λ t. ArePadded t.size bytes.now
-        × IsTelegram t (user_bits_in t.size bytes.now)) }
-    ensures reason { IfErr result (λ e. IsReasonIn e bytes.now) }
+        × IsTelegram t (take_user_bits t.size bytes.now)) }
+    ensures reason { IfErr result (λ e. IsBytesReason e bytes.now) }
     ensures exact { IsTextMeaning result (of_bytes bytes.now) }
 
     // Neither the checks before the user bits nor the header need memory.
     ensures memory { result ≡ Err TextError.Memory
-        → (bits : List Bool) × (of_bytes bytes.now ≡ of_bits (telegram_of bits)) }
+        → (bits : List Bool) × (of_bytes bytes.now ≡ of_bits (read_telegram bits)) }
     ensures header { (f : Fault) → HaveHeaderFault bytes.now f
         → result ≡ Err (TextError.Fault f) }
 

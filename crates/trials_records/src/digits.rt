@@ -1,6 +1,6 @@
 //! Digits that are read and written by tables, against `hex` and `json`, which know them all.
 
-use etcs_digits::{LineText, decode, decode_to_vec, send_decimal};
+use etcs_digits::{JsonLineWriter, decode, decode_to_vec, send_decimal};
 use json::{Token, Writer};
 use std::alloc::{AllocError, Global};
 use std::test::Fail;
@@ -79,7 +79,7 @@ fn numbers_are_written_as_by_json(rt: HostRuntime) -> Result<(), Fail> {
 
 // A line of a list: of an object with a number and a text, of a number, and of tokens that `json` writes.
 fn line_of(alloc: Global, text: &str, number: u64) -> Result<Vec<u8>, AllocError> {
-    let mut out = LineText::new(Vec::new(alloc));
+    let mut out = JsonLineWriter::new(Vec::new(alloc));
     out.token(Token::BeginArray)?;
     out.token(Token::BeginObject)?;
     out.member(text, number)?;

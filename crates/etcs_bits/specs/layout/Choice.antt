@@ -5,7 +5,7 @@ use Rattle.std.proofs.Common.{inl, inr}
 use Rattle.etcs_bits.specs.declared.layout.fault.Fault.{Fault}
 use Rattle.etcs_bits.specs.layout.Rows.{Row, Place, AreAllowed}
 use Rattle.etcs_bits.specs.layout.Fields.{Fields, AreRowsOf}
-use Rattle.etcs_bits.specs.layout.Reading.{◌>>=◌, rows_at}
+use Rattle.etcs_bits.specs.layout.Reading.{◌>>=◌, read_rows}
 
 -- values of which each has a number, and behind it the record that the number decides
 pub record Choice (X : Type 0) : Type 0 where
@@ -34,8 +34,8 @@ abbrev pub numbered_rows : {X : Type 0} → Choice X → X → ℕ × List Row
 numbered_rows c x = (c.number x, c.rows x)
 
 -- what reading the record of number n gives: the number, the rows and the place after them
-abbrev pub chosen_at : {X : Type 0} → Choice X → ℕ → Place → Result ((ℕ × List Row) × Place) Fault
-chosen_at c n p = rows_at (c.next n) p >>= λ read. Ok ((n, read.0), read.1)
+abbrev pub read_chosen : {X : Type 0} → Choice X → ℕ → Place → Result ((ℕ × List Row) × Place) Fault
+read_chosen c n p = read_rows (c.next n) p >>= λ read. Ok ((n, read.0), read.1)
 
 -- ---- the number k, or another one
 

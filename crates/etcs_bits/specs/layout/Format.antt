@@ -5,19 +5,19 @@ use Rattle.std.proofs.Common.{ap, ◌∙◌}
 use Rattle.etcs_bits.specs.declared.layout.fault.FaultKind.{FaultKind}
 use Rattle.etcs_bits.specs.bits.Number.{worth, num_of_bits}
 use Rattle.etcs_bits.specs.layout.Rows.{Variable, Row, row, AreAllowed, alone}
-use Rattle.etcs_bits.specs.layout.Found.{number_at, either_of, pair_of, option_of, counted_of, body_of, kept_of}
+use Rattle.etcs_bits.specs.layout.Found.{row_number, either_value, pair_value, option_value, counted_values, body_value, kept_value}
 use Rattle.etcs_bits.specs.layout.Fields.{Fields, nothing, one, field, ◌▹◌, sized, option, counted}
 use Rattle.etcs_bits.specs.variables.Variables.{plain, free, only, ranged}
-use Rattle.etcs_bits.specs.variables.VariableValues.{flag_of}
+use Rattle.etcs_bits.specs.variables.VariableValues.{flag_value}
 use Rattle.etcs_bits.specs.layout.Values.{HasValues}
 use Rattle.etcs_bits.specs.layout.Laid.{IsLayout}
 use Rattle.etcs_bits.specs.layout.Struct.{Struct}
 use Rattle.etcs_bits.specs.layout.Choice.{Choice, either_allows, either_next, either_number, either_rows}
 use Rattle.etcs_bits.specs.layout.Combined.{qualifier, n_iter, pair_rows, option_rows, counted_rows, body_rows, l_kept}
-use Rattle.etcs_bits.specs.layout.ChoiceLemmas.{is_itself, last_value, others_value, either_is_number, either_are_rows, either_is_value, either_has_value, chosen_laid}
-use Rattle.etcs_bits.specs.variables.VariableLemmas.{flags_have_values}
-use Rattle.etcs_bits.specs.layout.CombinedLemmas.{pair_laid, option_laid, counted_laid, body_laid, kept_laid}
-use Rattle.etcs_bits.specs.layout.LaidLemmas.{alone_laid, empty_laid, only_laid, named_laid, parted_laid}
+use Rattle.etcs_bits.specs.lemmas.ChoiceLemmas.{is_itself, last_value, others_value, either_is_number, either_are_rows, either_is_value, either_has_value, chosen_laid}
+use Rattle.etcs_bits.specs.lemmas.VariableLemmas.{flags_have_values}
+use Rattle.etcs_bits.specs.lemmas.CombinedLemmas.{pair_laid, option_laid, counted_laid, body_laid, kept_laid}
+use Rattle.etcs_bits.specs.lemmas.LaidLemmas.{alone_laid, empty_laid, only_laid, named_laid, parted_laid}
 
 -- the table of fields, the rows of a record, the record of rows, and the proof that these agree
 pub record Format (X : Type 0) : Type 0 where
@@ -30,7 +30,7 @@ pub record Format (X : Type 0) : Type 0 where
 
 -- a variable, seen as its number
 abbrev pub variable : Variable → Format ℕ
-variable x = record { fields = one x; rows = alone x; of = number_at 0; laid = alone_laid x }
+variable x = record { fields = one x; rows = alone x; of = row_number 0; laid = alone_laid x }
 
 -- a number of w bits without a spare one
 abbrev pub number : ℕ → Format ℕ
@@ -47,13 +47,13 @@ abbrev pub names : {X : Type 0} (x : Variable) (w : ℕ) (number : X → ℕ) (o
 names x w number of values = record {
   fields = one x;
   rows = λ v. alone x (number v);
-  of = λ r. of (number_at 0 r);
+  of = λ r. of (row_number 0 r);
   laid = named_laid values;
 }
 
 -- a flag of one bit: 1 is true
 abbrev pub flag : Format Bool
-flag = names (plain 1) 1 worth flag_of flags_have_values
+flag = names (plain 1) 1 worth flag_value flags_have_values
 
 -- the number k of w bits, the only one that is read: it carries no information
 abbrev pub fixed : ℕ → ℕ → FaultKind → Format (Unit {0})
@@ -76,7 +76,7 @@ abbrev pub ◌then◌ : {A B : Type 0} → Format A → Format B → Format (A �
 a then b = record {
   fields = a.fields ▹ b.fields;
   rows = pair_rows a.rows b.rows;
-  of = pair_of a.fields a.of b.of;
+  of = pair_value a.fields a.of b.of;
   laid = pair_laid a.laid b.laid;
 }
 
@@ -85,7 +85,7 @@ abbrev pub if_there : {A : Type 0} → Format A → Format (Option A)
 if_there a = record {
   fields = option qualifier a.fields;
   rows = option_rows a.rows;
-  of = option_of a.of;
+  of = option_value a.of;
   laid = option_laid a.laid;
 }
 
@@ -94,7 +94,7 @@ abbrev pub several : {A : Type 0} → Format A → Format (List A)
 several a = record {
   fields = counted n_iter a.fields;
   rows = counted_rows a.rows;
-  of = counted_of a.fields a.of;
+  of = counted_values a.fields a.of;
   laid = counted_laid a.laid;
 }
 
@@ -103,7 +103,7 @@ abbrev pub behind_length : {A : Type 0} → ℕ → Format A → Format A
 behind_length before a = record {
   fields = sized before a.fields;
   rows = body_rows before a.rows;
-  of = body_of a.of;
+  of = body_value a.of;
   laid = body_laid before a.laid;
 }
 
@@ -112,7 +112,7 @@ abbrev pub kept_bits : ℕ → Format (List Bool)
 kept_bits before = record {
   fields = field (l_kept before) (λ l. one (free (l - (before + 13))));
   rows = λ bits. row (l_kept before) (before + 13 + length bits) ∷ row (free (length bits)) (num_of_bits bits) ∷ [];
-  of = kept_of before;
+  of = kept_value before;
   laid = kept_laid before;
 }
 
@@ -139,7 +139,7 @@ either k a c fresh = record {
   next = either_next k a.fields c.next;
   number = either_number k c.number;
   rows = either_rows a.rows c.rows;
-  of = either_of k a.of c.of;
+  of = either_value k a.of c.of;
   is_number = either_is_number k c fresh;
   are_rows = either_are_rows k a.laid c fresh;
   is_value = either_is_value k a.laid c fresh;
@@ -168,7 +168,7 @@ abbrev pub chosen : {X : Type 0} (x : Variable) (c : Choice X) → ((n : ℕ) �
 chosen x c same = record {
   fields = field x c.next;
   rows = λ v. alone x (c.number v) ++ c.rows v;
-  of = λ rows. c.of (number_at 0 rows) (drop 1 rows);
+  of = λ rows. c.of (row_number 0 rows) (drop 1 rows);
   laid = chosen_laid x c same;
 }
 

@@ -9,38 +9,38 @@ use Rattle.etcs_bits.specs.layout.Fields.{Fields}
 use Rattle.etcs_bits.specs.layout.Cut.{cut}
 
 -- the number of the row at this place in the list, counted from 0; 0 past the end
-abbrev pub number_at : ℕ → List Row → ℕ
-number_at n [] = 0
-number_at zero (r ∷ rows) = r.number
-number_at (suc n) (r ∷ rows) = number_at n rows
+abbrev pub row_number : ℕ → List Row → ℕ
+row_number n [] = 0
+row_number zero (r ∷ rows) = r.number
+row_number (suc n) (r ∷ rows) = row_number n rows
 
 -- the two records that the rows make; the first has these fields
-abbrev pub pair_of : {A B : Type 0}
+abbrev pub pair_value : {A B : Type 0}
     → Fields → (List Row → A) → (List Row → B) → List Row → A × B
-pair_of fields of_a of_b rows = (of_a (cut fields rows).0, of_b (cut fields rows).1)
+pair_value fields of_a of_b rows = (of_a (cut fields rows).0, of_b (cut fields rows).1)
 
 -- the record after the qualifier, if there is one
-abbrev pub option_of : {X : Type 0} → (List Row → X) → List Row → Option X
-option_of of rows = if number_at 0 rows == 1 then Some (of (drop 1 rows)) else None
+abbrev pub option_value : {X : Type 0} → (List Row → X) → List Row → Option X
+option_value of rows = if row_number 0 rows == 1 then Some (of (drop 1 rows)) else None
 
 -- that many items with these fields
-unfoldable pub items_of : {X : Type 0} → Fields → (List Row → X) → ℕ → List Row → List X
-items_of fields of zero rows = []
-items_of fields of (suc n) rows =
-    of (cut fields rows).0 ∷ items_of fields of n (cut fields rows).1
+unfoldable pub item_values : {X : Type 0} → Fields → (List Row → X) → ℕ → List Row → List X
+item_values fields of zero rows = []
+item_values fields of (suc n) rows =
+    of (cut fields rows).0 ∷ item_values fields of n (cut fields rows).1
 
 -- the items after their count
-abbrev pub counted_of : {X : Type 0} → Fields → (List Row → X) → List Row → List X
-counted_of fields of rows = items_of fields of (number_at 0 rows) (drop 1 rows)
+abbrev pub counted_values : {X : Type 0} → Fields → (List Row → X) → List Row → List X
+counted_values fields of rows = item_values fields of (row_number 0 rows) (drop 1 rows)
 
 -- the record after L_PACKET
-abbrev pub body_of : {X : Type 0} → (List Row → X) → List Row → X
-body_of of rows = of (drop 1 rows)
+abbrev pub body_value : {X : Type 0} → (List Row → X) → List Row → X
+body_value of rows = of (drop 1 rows)
 
 -- the bits that L_PACKET leaves, after `before` bits of the packet and its own 13
-abbrev pub kept_of : ℕ → List Row → List Bool
-kept_of before rows = num (number_at 0 rows - (before + 13)) (number_at 1 rows)
+abbrev pub kept_value : ℕ → List Row → List Bool
+kept_value before rows = num (row_number 0 rows - (before + 13)) (row_number 1 rows)
 
 -- the record of the number k, or of another number
-abbrev pub either_of : {A B : Type 0} → ℕ → (List Row → A) → (ℕ → List Row → B) → ℕ → List Row → A ⊎ B
-either_of k of_a of_b n rows = if n == k then inl (of_a rows) else inr (of_b n rows)
+abbrev pub either_value : {A B : Type 0} → ℕ → (List Row → A) → (ℕ → List Row → B) → ℕ → List Row → A ⊎ B
+either_value k of_a of_b n rows = if n == k then inl (of_a rows) else inr (of_b n rows)

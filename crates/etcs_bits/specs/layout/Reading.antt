@@ -34,8 +34,8 @@ taken_or_closed true w p =
 taken_or_closed false w p = taken w p
 
 -- the number of a variable, which has to be allowed
-abbrev pub field_at : Variable → Place → Result (ℕ × Place) Fault
-field_at x p = do
+abbrev pub read_field : Variable → Place → Result (ℕ × Place) Fault
+read_field x p = do
   n ← taken_or_closed x.closes x.width p
   if x.allows n.0 then Ok n else Err (refused x p)
 
@@ -44,19 +44,19 @@ field_at x p = do
 -- Pinned by the law a_fault_is_read_as_it_is_defined.
 
 -- the rows of a table of fields
-abbrev pub rows_at : Fields → Place → Result (List Row × Place) Fault
-rows_at nothing p = Ok ([], p)
-rows_at (field x next) p = do
-  n ← field_at x p
-  more ← rows_at (next n.0) n.1
+abbrev pub read_rows : Fields → Place → Result (List Row × Place) Fault
+read_rows nothing p = Ok ([], p)
+read_rows (field x next) p = do
+  n ← read_field x p
+  more ← read_rows (next n.0) n.1
   Ok (row x n.0 ∷ more.0, more.1)
-rows_at (a ▹ b) p = do
-  first ← rows_at a p
-  second ← rows_at b first.1
+read_rows (a ▹ b) p = do
+  first ← read_rows a p
+  second ← read_rows b first.1
   Ok (first.0 ++ second.0, second.1)
-rows_at (sized before body) p = do
-  l ← field_at l_packet p
-  more ← rows_at body l.1
+read_rows (sized before body) p = do
+  l ← read_field l_packet p
+  more ← read_rows body l.1
   if l.0 == before + (more.1.at - p.at)
       then Ok (row l_packet l.0 ∷ more.0, more.1)
       else Err (record { at = p.at; end = more.1.at; why = Length })

@@ -1,5 +1,6 @@
 -- Which numbers a variable has, and which values they name.
-use Rattle.std.specs.Prelude.{◌≡◌, ◌↔◌, ℕ}
+use Rattle.std.specs.Prelude.{◌≡◌, ◌↔◌, ◌&&◌, ◌^◌, ℕ, true}
+use Rattle.std.proofs.Common.{ltb}
 use Rattle.etcs_bits.specs.layout.Rows.{Variable, row, IsAllowed}
 
 -- The variable has w bits. P holds for exactly the numbers that fit in them and are allowed.
@@ -16,3 +17,8 @@ IsNumberOf {X} number n = (v : X) × (number v ≡ n)
 pub record HasValues {X : Type 0} (x : Variable) (w : ℕ) (number : X → ℕ) (of : ℕ → X) : Type 0 where
   pub numbers : HasNumbers x w (IsNumberOf number)
   pub back : (v : X) → of (number v) ≡ v
+
+-- each value has a number that fits and is allowed, and is found again by it
+abbrev pub AreNames : {X : Type 0} → Variable → (X → ℕ) → (ℕ → X) → Type 0
+AreNames {X} x number of =
+    (v : X) → (of (number v) ≡ v) × ((ltb (number v) (2 ^ x.width) && x.allows (number v)) ≡ true)

@@ -31,31 +31,31 @@ level_variable = record { width = 3; allows = level_numbered.allows; refusal = S
 
 -- ---- the number of a level, with what follows it
 
-abbrev pub numbered_of : Level → NumberedLevel
-numbered_of levels.L0 = inl tt
-numbered_of (levels.Ntc ntc) = inr (inl ntc)
-numbered_of levels.L1 = inr (inr (inl tt))
-numbered_of levels.L2 = inr (inr (inr (inl tt)))
-numbered_of levels.L3 = inr (inr (inr (inr tt)))
+abbrev pub level_parts : Level → NumberedLevel
+level_parts levels.L0 = inl tt
+level_parts (levels.Ntc ntc) = inr (inl ntc)
+level_parts levels.L1 = inr (inr (inl tt))
+level_parts levels.L2 = inr (inr (inr (inl tt)))
+level_parts levels.L3 = inr (inr (inr (inr tt)))
 
 -- ---- a level, of its number with what follows
 -- Pinned by the law a_record_is_read_as_it_is_spelled.
 
-abbrev pub level_of : NumberedLevel → Level
-level_of (inl _) = levels.L0
-level_of (inr (inl ntc)) = levels.Ntc ntc
-level_of (inr (inr (inl _))) = levels.L1
-level_of (inr (inr (inr (inl _)))) = levels.L2
-level_of (inr (inr (inr (inr _)))) = levels.L3
+abbrev pub make_level : NumberedLevel → Level
+make_level (inl _) = levels.L0
+make_level (inr (inl ntc)) = levels.Ntc ntc
+make_level (inr (inr (inl _))) = levels.L1
+make_level (inr (inr (inr (inl _)))) = levels.L2
+make_level (inr (inr (inr (inr _)))) = levels.L3
 
-pub back : (n : NumberedLevel) → numbered_of (level_of n) ≡ n
+pub back : (n : NumberedLevel) → level_parts (make_level n) ≡ n
 back (inl _) = refl
 back (inr (inl ntc)) = refl
 back (inr (inr (inl _))) = refl
 back (inr (inr (inr (inl _)))) = refl
 back (inr (inr (inr (inr _)))) = refl
 
-pub again : (v : Level) → level_of (numbered_of v) ≡ v
+pub again : (v : Level) → make_level (level_parts v) ≡ v
 again levels.L0 = refl
 again (levels.Ntc ntc) = refl
 again levels.L1 = refl
@@ -66,8 +66,8 @@ again levels.L3 = refl
 
 -- M_LEVELTR and M_LEVEL, with NID_NTC
 abbrev pub m_level : Format Level
-m_level = named (chosen level_variable level_numbered (λ _. refl)) level_of numbered_of back again
+m_level = named (chosen level_variable level_numbered (λ _. refl)) make_level level_parts back again
 
 -- the number of a level
 abbrev pub level_number : Level → ℕ
-level_number v = level_numbered.number (numbered_of v)
+level_number v = level_numbered.number (level_parts v)

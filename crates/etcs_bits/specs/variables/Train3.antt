@@ -5,7 +5,8 @@ use Rattle.etcs_bits.specs.declared.layout.fault.FaultKind.TheVariants.{Spare}
 use Rattle.etcs_bits.specs.layout.Rows.{Variable}
 use Rattle.etcs_bits.specs.layout.Format.{Format, names}
 use Rattle.etcs_bits.specs.variables.Variables.{naming}
-use Rattle.etcs_bits.specs.variables.VariableLemmas.{AreNames, names_have_values}
+use Rattle.etcs_bits.specs.layout.Values.{AreNames}
+use Rattle.etcs_bits.specs.lemmas.VariableLemmas.{names_have_values}
 use Rattle.etcs_bits.specs.declared.variables.train3.Train3.{Train3}
 use Rattle.etcs_bits.specs.declared.variables.train3.Train3.TheVariants as sides
 
@@ -18,21 +19,21 @@ train3_number sides.Unknown = 2
 -- ---- the value of each number
 -- Pinned by the law sides_have_their_numbers.
 
-abbrev pub train3_of : ℕ → Train3
-train3_of n = if n == 0 then sides.Reverse else (if n == 1 then sides.Nominal else sides.Unknown)
+abbrev pub train3_value : ℕ → Train3
+train3_value n = if n == 0 then sides.Reverse else (if n == 1 then sides.Nominal else sides.Unknown)
 
 -- ---- the variable
 
 abbrev pub train3_variable : Variable
-train3_variable = naming 2 train3_number train3_of Spare
+train3_variable = naming 2 train3_number train3_value Spare
 
-pub train3_names : AreNames train3_variable train3_number train3_of
+pub train3_names : AreNames train3_variable train3_number train3_value
 train3_names sides.Reverse = (refl, refl)
 train3_names sides.Nominal = (refl, refl)
 train3_names sides.Unknown = (refl, refl)
 
 abbrev pub train3 : Format Train3
-train3 = names train3_variable 2 train3_number train3_of (names_have_values train3_names)
+train3 = names train3_variable 2 train3_number train3_value (names_have_values train3_names)
 
 -- Q_DIRLRBG, 2 bits: how the train stands; nominal if its front looks in the group's direction
 abbrev pub q_dirlrbg : Format Train3

@@ -17,41 +17,41 @@ use Rattle.etcs_bits.specs.declared.variables.duplicate.Dup.TheVariants as dups
 -- ---- a flag: 1 is true
 -- Pinned by the law flags_have_their_numbers.
 
-abbrev pub flag_of : ℕ → Bool
-flag_of n = n == 1
+abbrev pub flag_value : ℕ → Bool
+flag_value n = n == 1
 
 -- ---- Q_UPDOWN
 -- Pinned by the law transmissions_have_their_numbers.
 
-abbrev pub transmission_of : ℕ → Transmission
-transmission_of n = transmissions.TrackToTrain
+abbrev pub transmission_value : ℕ → Transmission
+transmission_value n = transmissions.TrackToTrain
 
 -- ---- Q_MEDIA
 -- Pinned by the law media_have_their_numbers.
 
-abbrev pub medium_of : ℕ → Medium
-medium_of n = media.Balise
+abbrev pub medium_value : ℕ → Medium
+medium_value n = media.Balise
 
 -- ---- M_VERSION
 -- Pinned by the law versions_have_their_numbers.
 
-abbrev pub version_of : ℕ → Version
-version_of n = if n == 32 then versions.V2_0 else versions.V2_1
+abbrev pub version_value : ℕ → Version
+version_value n = if n == 32 then versions.V2_0 else versions.V2_1
 
 -- ---- M_DUP
 -- Pinned by the law marks_have_their_numbers.
 
-abbrev pub dup_of : ℕ → Dup
-dup_of n = if n == 0 then dups.Single else (if n == 1 then dups.Next else dups.Previous)
+abbrev pub dup_value : ℕ → Dup
+dup_value n = if n == 0 then dups.Single else (if n == 1 then dups.Next else dups.Previous)
 
 -- ---- Q_SCALE
 -- Pinned by the law scales_have_their_numbers.
 
-abbrev pub scale_of : ℕ → Scale
-scale_of n = if n == 0 then scales.TenCentimetres else (if n == 1 then scales.Metre else scales.TenMetres)
+abbrev pub scale_value : ℕ → Scale
+scale_value n = if n == 0 then scales.TenCentimetres else (if n == 1 then scales.Metre else scales.TenMetres)
 
 -- ---- Q_DIR
 -- Pinned by the law directions_have_their_numbers.
 
-abbrev pub dir_of : ℕ → Dir
-dir_of n = if n == 0 then dirs.Reverse else (if n == 1 then dirs.Nominal else dirs.Both)
+abbrev pub dir_value : ℕ → Dir
+dir_value n = if n == 0 then dirs.Reverse else (if n == 1 then dirs.Nominal else dirs.Both)

@@ -17,7 +17,7 @@ use Rattle.etcs_bits.specs.declared.variables.direction.Dir.TheVariants as dirs
 use Rattle.etcs_bits.specs.declared.variables.duplicate.Dup.{Dup}
 use Rattle.etcs_bits.specs.declared.variables.duplicate.Dup.TheVariants as dups
 use Rattle.etcs_bits.specs.layout.Rows.{Variable}
-use Rattle.etcs_bits.specs.variables.VariableValues.{transmission_of, medium_of, version_of, dup_of, scale_of, dir_of}
+use Rattle.etcs_bits.specs.variables.VariableValues.{transmission_value, medium_value, version_value, dup_value, scale_value, dir_value}
 
 -- a variable of w bits without a spare number, for w from 1 to 32; no number of any other w is
 -- allowed
@@ -61,14 +61,14 @@ abbrev pub transmission_number : Transmission → ℕ
 transmission_number transmissions.TrackToTrain = 1
 
 abbrev pub transmission_variable : Variable
-transmission_variable = naming 1 transmission_number transmission_of Downlink
+transmission_variable = naming 1 transmission_number transmission_value Downlink
 
 -- Q_MEDIA, 1 bit: 0 is a balise; 1, a loop, is not read
 abbrev pub medium_number : Medium → ℕ
 medium_number media.Balise = 0
 
 abbrev pub medium_variable : Variable
-medium_variable = naming 1 medium_number medium_of Loop
+medium_variable = naming 1 medium_number medium_value Loop
 
 -- M_VERSION, 7 bits: 32 is 2.0, 33 is 2.1; no other is read
 abbrev pub version_number : Version → ℕ
@@ -76,7 +76,7 @@ version_number versions.V2_0 = 32
 version_number versions.V2_1 = 33
 
 abbrev pub version_variable : Variable
-version_variable = naming 7 version_number version_of WrongVersion
+version_variable = naming 7 version_number version_value WrongVersion
 
 -- M_DUP, 2 bits: 0 is no duplicate, 1 duplicates the next balise, 2 the previous one; 3 is spare
 abbrev pub dup_number : Dup → ℕ
@@ -85,7 +85,7 @@ dup_number dups.Next = 1
 dup_number dups.Previous = 2
 
 abbrev pub duplicate_variable : Variable
-duplicate_variable = naming 2 dup_number dup_of Spare
+duplicate_variable = naming 2 dup_number dup_value Spare
 
 -- Q_SCALE, 2 bits: 0 is 10 cm, 1 is 1 m, 2 is 10 m; 3 is spare
 abbrev pub scale_number : Scale → ℕ
@@ -94,7 +94,7 @@ scale_number scales.Metre = 1
 scale_number scales.TenMetres = 2
 
 abbrev pub scale_variable : Variable
-scale_variable = naming 2 scale_number scale_of Spare
+scale_variable = naming 2 scale_number scale_value Spare
 
 -- Q_DIR, 2 bits: 0 is reverse, 1 is nominal, 2 is both; 3 is spare
 abbrev pub dir_number : Dir → ℕ
@@ -103,4 +103,4 @@ dir_number dirs.Nominal = 1
 dir_number dirs.Both = 2
 
 abbrev pub dir_variable : Variable
-dir_variable = naming 2 dir_number dir_of Spare
+dir_variable = naming 2 dir_number dir_value Spare

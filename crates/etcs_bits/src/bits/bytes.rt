@@ -1,4 +1,5 @@
-//! Bits that are kept in bytes, eight in each, most significant first.
+//! Functions for bits in a byte slice, eight in each byte, most significant first: reading a number or a bit,
+//! appending bits, cutting. `Bits` and `BitSlice` are made of them. No types.
 
 ghost use Rattle.std.specs.Prelude.{◌≡◌, ◌+◌, ◌-◌, ◌*◌, ◌/◌, ◌%◌, ◌^◌, ◌<◌, ◌≤◌, ◌++◌, length, take, drop, slice_get, slice_index, vec_len, Some, IfOk, OnOk, OnErr};
 ghost use Rattle.etcs_bits.specs.bits.Number.{num, num_of_bits, bits_of_bytes};

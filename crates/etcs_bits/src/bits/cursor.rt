@@ -1,4 +1,4 @@
-//! A place among bits, from which fields are read.
+//! `Cursor`: a position among bits, from which fields are read one after the other.
 
 ghost use Rattle.std.specs.Prelude.{◌≡◌, ◌↔◌, ◌+◌, ◌/◌, ◌%◌, ◌<◌, ◌≤◌, ◌^◌, length, take, drop, Ok, Err, Some, None, IfSome, IsSome, IsOk, IfOk, IfErr, MatchResult, OnOk, OnErr};
 ghost use Rattle.etcs_bits.specs.layout.Fault.{short};

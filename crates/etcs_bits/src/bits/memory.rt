@@ -1,4 +1,4 @@
-//! The error when memory runs out.
+//! `Memory`: the error if memory runs out.
 
 use std::alloc::{AllocError, AllocFailed};
 use thiserror::Error;

@@ -1,4 +1,4 @@
-//! Borrowed bits.
+//! `BitSlice`: a borrowed part of a list of bits.
 
 ghost use Rattle.std.specs.Prelude.{◌≡◌, ◌↔◌, ◌+◌, ◌-◌, ◌*◌, ◌<◌, ◌≤◌, ◌^◌, length, take, drop, slice_get, Some, IfOk, OnErr, IsTrue};
 ghost use Rattle.etcs_bits.specs.bits.Number.{num_of_bits, bits_of_bytes};

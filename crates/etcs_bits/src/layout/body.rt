@@ -1,4 +1,4 @@
-//! A packet's body, after the packet's own length.
+//! `Body`: a packet's content after L_PACKET, its length.
 
 use crate::bits::Bits;
 use crate::bits::cursor::Cursor;
@@ -59,13 +59,14 @@ impl<const BEFORE: u32, T: Layout> Body<BEFORE, T> {
     }
 }
 
-#[tactic(auto, using(crate::proofs::PutLemmas::puts_bits), unfolding(crate::specs::layout::Rows::alone))]
+#[tactic(auto, using(crate::proofs::PutLemmas::puts_bits, crate::proofs::GrowthLemmas::body_grows), unfolding(crate::specs::layout::Rows::alone))]
 impl<const BEFORE: u32, T: Layout> Layout for Body<BEFORE, T> {
     ghost use Rattle.etcs_bits.specs.layout.Format.{behind_length};
+    ghost use Rattle.etcs_bits.specs.layout.Growth.{GrowsBehindLength};
 
     ghost format = { behind_length BEFORE T.format };
 
-    ghost grows = { T.grows };
+    ghost grows = { GrowsBehindLength T.grows };
 
     fn is_allowed(&self) -> bool {
         // For the proof alone: the type keeps its record allowed and short enough.

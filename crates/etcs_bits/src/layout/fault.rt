@@ -1,4 +1,4 @@
-//! Why bits spell no record.
+//! `FaultKind`, `Fault` and `DecodeError`: why bits spell no record, and the texts of these errors.
 
 ghost use Rattle.std.specs.Prelude.{◌≡◌, Some};
 ghost use Rattle.etcs_bits.specs.declared.layout.fault.DecodeError.TheVariants as errors;

@@ -1,10 +1,10 @@
-//! A list after its count.
+//! `Items`: a list of at most 31 records after N_ITER, its count.
 
 ghost use Rattle.std.specs.Prelude.{◌≡◌, ◌↔◌, ◌<◌, ◌≤◌, min, length, IsTrue, IfOk};
 ghost use Rattle.std.specs.List.{AllByRecursion, flat_map};
 ghost use Rattle.etcs_bits.specs.layout.Rows.{AreAllowed, join, width};
 ghost use Rattle.etcs_bits.specs.layout.Fields.{times};
-ghost use Rattle.etcs_bits.specs.layout.Reading.{rows_at};
+ghost use Rattle.etcs_bits.specs.layout.Reading.{read_rows};
 ghost use Rattle.etcs_bits.specs.layout.Results.{Gives, IfMemory, Puts};
 
 use crate::bits::Bits;
@@ -94,7 +94,7 @@ fn scan_items<T: Layout>(
     cur: &mut Cursor<'_>,
 ) -> Result<Vec<T>, DecodeError>
     ensures gives { Gives (λ v. flat_map T.format.rows v.items) result
-        (rows_at (times count T.format.fields) cur.old) cur.new }
+        (read_rows (times count T.format.fields) cur.old) cur.new }
     ensures count { IfOk result (λ v. length v.items ≡ count) }
 
     // If `count` is 0, no memory is asked for.
@@ -115,7 +115,8 @@ impl<T: Layout> Layout for Items<T> {
     ghost use Rattle.std.specs.Prelude.{◌≡◌, ◌≢◌, ◌+◌, ◌<◌, length, Ok, Err, IfOk};
     ghost use Rattle.etcs_bits.specs.layout.Fault.{short};
     ghost use Rattle.etcs_bits.specs.layout.Fields.{counted};
-    ghost use Rattle.etcs_bits.specs.layout.Reading.{forward, rows_at, taken};
+    ghost use Rattle.etcs_bits.specs.layout.Growth.{HasItems};
+    ghost use Rattle.etcs_bits.specs.layout.Reading.{forward, read_rows, taken};
     ghost use Rattle.etcs_bits.specs.layout.Results.{Gives, IfMemory};
     ghost use Rattle.etcs_bits.specs.layout.Combined.{n_iter, counted_rows};
     ghost use Rattle.etcs_bits.specs.layout.Format.{several};
@@ -124,7 +125,7 @@ impl<T: Layout> Layout for Items<T> {
 
     ghost fit = { λ l. (length l ≤ 31) × AllByRecursion T.fit l };
 
-    ghost grows = { Unit {0} };
+    ghost grows = { HasItems };
 
     fn is_allowed(&self) -> bool {
         self.items.len() < 32 && are_allowed(self.items.as_slice())
@@ -142,7 +143,7 @@ impl<T: Layout> Layout for Items<T> {
     #[inline(always)]
     fn scan(alloc: Global, cur: &mut Cursor<'_>) -> Result<Self, DecodeError>
         ensures gives { Gives (several T.format).rows result
-            (rows_at (several T.format).fields cur.old) cur.new }
+            (read_rows (several T.format).fields cur.old) cur.new }
 
         // The count has five bits.
         ensures few { IfOk result (λ l. length l < 32) }
@@ -150,7 +151,7 @@ impl<T: Layout> Layout for Items<T> {
         // Memory is asked for only after the count, and not if the count is 0.
         ensures short { length cur.old.bits < cur.old.at + 5
             → result ≡ Err (DecodeError.Fault (short cur.old)) }
-        ensures memory { IfMemory result (taken 5 cur.old ≢ Ok (0, forward cur.old 5)) }
+        ensures memory { IfMemory result (HasItems cur.old) }
     {
         let count = cur.take(5)?;
         let items = scan_items(alloc, count, cur)?;

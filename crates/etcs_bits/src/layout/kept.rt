@@ -1,10 +1,10 @@
-//! Bits that are kept as they are, after the length of their packet.
+//! Functions that read and write bits that are kept as they are, after L_PACKET: `scan_kept` and `put_kept`.
 
 ghost use Rattle.std.specs.Prelude.{◌≡◌, ◌≤◌, ◌<◌, ◌+◌, ◌-◌, length, true, IfOk};
 ghost use Rattle.etcs_bits.specs.bits.Number.{num_of_bits};
 ghost use Rattle.etcs_bits.specs.layout.Format.{kept_bits};
 ghost use Rattle.etcs_bits.specs.layout.Combined.{is_countable, l_kept};
-ghost use Rattle.etcs_bits.specs.layout.Reading.{field_at, rows_at};
+ghost use Rattle.etcs_bits.specs.layout.Reading.{read_field, read_rows};
 ghost use Rattle.etcs_bits.specs.layout.Results.{Gives, IfMemory, Puts};
 ghost use Rattle.etcs_bits.specs.layout.Rows.{join};
 ghost use Rattle.etcs_bits.specs.variables.Variables.{free};
@@ -27,7 +27,7 @@ pub fn can_keep(before: u32, bits: &Bits) -> bool
 // Reads L_PACKET of bits that are kept.
 #[inline]
 fn scan_length(before: u32, cur: &mut Cursor<'_>) -> Result<u64, DecodeError>
-    ensures gives { Gives (λ n. n) result (field_at (l_kept before) cur.old) cur.new }
+    ensures gives { Gives (λ n. n) result (read_field (l_kept before) cur.old) cur.new }
     ensures least { IfOk result (λ n. before + 13 ≤ n) }
     ensures most { IfOk result (λ n. n < 8192) }
 
@@ -45,7 +45,7 @@ fn scan_length(before: u32, cur: &mut Cursor<'_>) -> Result<u64, DecodeError>
 // The next bits, borrowed.
 #[inline]
 fn scan_bits<'a>(cur: &mut Cursor<'a>, width: usize) -> Result<BitSlice<'a>, DecodeError>
-    ensures gives { Gives num_of_bits result (field_at (free width) cur.old) cur.new }
+    ensures gives { Gives num_of_bits result (read_field (free width) cur.old) cur.new }
     ensures len { IfOk result (λ bits. length bits ≡ width) }
     ensures memory { IfMemory result ⊥ }
 {
@@ -57,7 +57,7 @@ fn scan_bits<'a>(cur: &mut Cursor<'a>, width: usize) -> Result<BitSlice<'a>, Dec
 /// the cursor may stand anywhere.
 #[inline]
 pub fn scan_kept<'a>(before: u32, cur: &mut Cursor<'a>) -> Result<BitSlice<'a>, DecodeError>
-    ensures gives { Gives (kept_bits before).rows result (rows_at (kept_bits before).fields cur.old) cur.new }
+    ensures gives { Gives (kept_bits before).rows result (read_rows (kept_bits before).fields cur.old) cur.new }
     ensures few { IfOk result (λ bits. is_countable before (length bits) ≡ true) }
 
     // Reading borrowed bits takes no memory.

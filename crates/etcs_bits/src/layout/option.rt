@@ -1,4 +1,4 @@
-//! A record that is present only if the qualifier before it is 1.
+//! `Layout` and `Same` for `Option`: a record that is present only if the qualifier before it is 1.
 
 use crate::bits::Bits;
 use crate::bits::cursor::Cursor;
@@ -11,16 +11,17 @@ use std::alloc::Global;
 /// A record after a qualifier of one bit, such as Q_OVERLAP. The qualifier is 1 if the record
 /// follows, 0 if it does not. The faults are Short at the qualifier, and the faults of the record
 /// (SUBSET-026, 7.4).
-#[tactic(auto, using(crate::proofs::PutLemmas::puts_bits), unfolding(crate::specs::layout::Rows::alone))]
+#[tactic(auto, using(crate::proofs::PutLemmas::puts_bits, crate::proofs::GrowthLemmas::there_grows), unfolding(crate::specs::layout::Rows::alone))]
 impl<T: Layout> Layout for Option<T> {
     ghost use Rattle.std.specs.Prelude.{IfSome};
     ghost use Rattle.etcs_bits.specs.layout.Format.{if_there};
+    ghost use Rattle.etcs_bits.specs.layout.Growth.{GrowsIfThere};
 
     ghost format = { if_there T.format };
 
     ghost fit = { λ o. IfSome o T.fit };
 
-    ghost grows = { T.grows };
+    ghost grows = { GrowsIfThere T.grows };
 
     fn is_allowed(&self) -> bool {
         match self {

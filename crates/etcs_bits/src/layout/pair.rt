@@ -1,4 +1,4 @@
-//! Two records, one after the other.
+//! `Layout` and `Same` for pairs: two records, one after the other.
 
 use crate::bits::Bits;
 use crate::bits::cursor::Cursor;
@@ -10,16 +10,16 @@ use std::alloc::Global;
 
 /// Two records, one after the other without a gap (SUBSET-026, 7.4). A fault of the first is
 /// answered first.
-#[tactic(auto, using(crate::proofs::PutLemmas::puts_then, crate::proofs::PutLemmas::allowed_both))]
+#[tactic(auto, using(crate::proofs::PutLemmas::puts_then, crate::proofs::PutLemmas::allowed_both, crate::proofs::GrowthLemmas::first_grows, crate::proofs::GrowthLemmas::second_grows))]
 impl<A: Layout, B: Layout> Layout for (A, B) {
-    ghost use Rattle.std.specs.Prelude.{◌⊎◌};
     ghost use Rattle.etcs_bits.specs.layout.Format.{◌then◌};
+    ghost use Rattle.etcs_bits.specs.layout.Growth.{EitherGrows};
 
     ghost format = { A.format then B.format };
 
     ghost fit = { λ p. A.fit p.0 × B.fit p.1 };
 
-    ghost grows = { A.grows ⊎ B.grows };
+    ghost grows = { EitherGrows A.grows A.format.fields B.grows };
 
     fn is_allowed(&self) -> bool {
         self.0.is_allowed() && self.1.is_allowed()

@@ -1,4 +1,4 @@
-//! Equality as contracts see it.
+//! The trait `Same`: equality of two values as contracts see them.
 
 ghost use Rattle.std.specs.Prelude.{◌≡◌, ◌↔◌, IsTrue};
 

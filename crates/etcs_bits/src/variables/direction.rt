@@ -1,4 +1,4 @@
-//! The running directions that a packet is for.
+//! `Dir`, Q_DIR: the running directions that a packet is for.
 
 ghost use Rattle.std.specs.Prelude.{◌≡◌, ◌↔◌, IsTrue, IsSome, IfSome};
 

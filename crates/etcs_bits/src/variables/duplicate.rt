@@ -1,4 +1,4 @@
-//! The mark of a balise that duplicates a neighbour.
+//! `Dup`, M_DUP: whether a balise duplicates the next balise, the previous one or none.
 
 ghost use Rattle.std.specs.Prelude.{◌≡◌, ◌↔◌, IsTrue, IsSome, IfSome};
 

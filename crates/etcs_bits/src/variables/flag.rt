@@ -1,4 +1,4 @@
-//! Flags.
+//! `Layout` and `Same` for `bool`: variables of one bit.
 
 use crate::bits::Bits;
 use crate::bits::cursor::Cursor;

@@ -1,4 +1,4 @@
-//! The identity of a balise group.
+//! `Identity`, NID_C and NID_BG: the identity of a balise group.
 
 use crate::bits::Bits;
 use crate::bits::cursor::Cursor;

@@ -1,4 +1,4 @@
-//! The level in which a train runs.
+//! `Level`, M_LEVELTR and M_LEVEL with NID_NTC: the level in which a train runs.
 
 ghost use Rattle.std.specs.Prelude.{◌≡◌};
 

@@ -1,4 +1,4 @@
-//! The medium that sends a telegram.
+//! `Medium`, Q_MEDIA: the medium that sends a telegram.
 
 ghost use Rattle.std.specs.Prelude.{◌≡◌, ◌↔◌, IsTrue, IsSome, IfSome};
 

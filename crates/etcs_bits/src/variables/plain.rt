@@ -1,4 +1,4 @@
-//! Variables without a spare number.
+//! `Plain` and its names, such as `Counter` and `Distance`: variables without a spare number.
 
 ghost use Rattle.std.specs.Prelude.{◌≡◌, ◌↔◌, ◌<◌, ◌^◌, IsTrue, IsSome, IfSome};
 

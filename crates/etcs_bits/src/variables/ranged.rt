@@ -1,4 +1,4 @@
-//! Variables with spare numbers between two ranges.
+//! `Ranged` and its names, such as `Speed` and `Reaction`: variables with spare numbers between two ranges.
 
 ghost use Rattle.std.specs.Prelude.{◌≡◌, ◌↔◌, ◌<◌, ◌^◌, IsTrue, IsSome, IfSome};
 

@@ -1,4 +1,4 @@
-//! The unit of a packet's distances.
+//! `Scale`, Q_SCALE: the unit of a packet's distances.
 
 ghost use Rattle.std.specs.Prelude.{◌≡◌, ◌↔◌, IsTrue, IsSome, IfSome};
 

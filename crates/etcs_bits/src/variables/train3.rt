@@ -1,4 +1,4 @@
-//! Directions and sides in a position report.
+//! `Train3`: a direction or side in a position report (Q_DIRLRBG, Q_DLRBG, Q_DIRTRAIN), which may be unknown.
 
 ghost use Rattle.std.specs.Prelude.{◌≡◌, ◌↔◌, IsTrue, IsSome, IfSome};
 

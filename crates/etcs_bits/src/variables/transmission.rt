@@ -1,4 +1,4 @@
-//! The direction in which a telegram goes.
+//! `Transmission`, Q_UPDOWN: the direction in which a telegram goes.
 
 ghost use Rattle.std.specs.Prelude.{◌≡◌, ◌↔◌, IsTrue, IsSome, IfSome};
 

@@ -1,4 +1,4 @@
-//! The system version of a telegram.
+//! `Version`, M_VERSION: the system version of a telegram.
 
 ghost use Rattle.std.specs.Prelude.{◌≡◌, ◌↔◌, IsTrue, IsSome, IfSome};
 

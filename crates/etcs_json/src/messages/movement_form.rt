@@ -1,4 +1,4 @@
-//! The form of message 3, the movement authority.
+//! The form of `MovementMessage`, message 3.
 
 use crate::Record;
 use crate::members::{

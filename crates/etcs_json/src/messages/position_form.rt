@@ -1,4 +1,4 @@
-//! The form of message 136, the position report.
+//! The form of `PositionMessage`, message 136.
 
 use crate::Record;
 use crate::members::{

@@ -1,4 +1,4 @@
-//! The form of a telegram.
+//! The form of `Telegram`, with its `Size` and its `Header`.
 
 ghost use Rattle.std.specs.Prelude.{◌≡◌};
 ghost use Rattle.etcs_telegram.specs.Sizes.{user_bits};

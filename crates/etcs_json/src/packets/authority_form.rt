@@ -1,7 +1,7 @@
-//! The forms of movement authorities, packets 12 and 15.
+//! The form of `Authority`, packets 12 and 15.
 
 ghost use Rattle.std.specs.Prelude.{◌≡◌, OnOk};
-ghost use Rattle.etcs_profile.specs.Authority.{authority_number, authority_of_parts};
+ghost use Rattle.etcs_profile.specs.Authority.{authority_number, make_authority};
 ghost use Rattle.etcs_json.specs.Authority.{either_authority, with_main, without_main};
 ghost use Rattle.etcs_json.specs.AuthorityWriting.{written_members};
 ghost use Rattle.etcs_schema.specs.Choices.{with_number};
@@ -114,7 +114,7 @@ fn read_terms_alone<N: JsonValue>(alloc: Global, node: &N) -> Result<WithoutMain
 /// Reads packet 12.
 pub(crate) fn read_with_main<N: JsonValue>(alloc: Global, node: &N) -> Result<Authority, FormError>
     ensures { Returns (λ a. a) result
-        (as_kind authority_of_parts (either_authority.of 12 (N.value node.now))) }
+        (as_kind make_authority (either_authority.of 12 (N.value node.now))) }
 {
     #[tactic(auto, unfolding(crate::specs::Authority::with_main, crate::specs::Authority::terms, crate::specs::Authority::end_parts))]
     check_record::<WithMain, N>(alloc, node, &KEYS)?;
@@ -128,7 +128,7 @@ pub(crate) fn read_without_main<N: JsonValue>(
     node: &N,
 ) -> Result<Authority, FormError>
     ensures { Returns (λ a. a) result
-        (as_kind authority_of_parts (either_authority.of 15 (N.value node.now))) }
+        (as_kind make_authority (either_authority.of 15 (N.value node.now))) }
 {
     #[tactic(auto, unfolding(crate::specs::Authority::without_main, crate::specs::Authority::terms, crate::specs::Authority::end_parts))]
     check_record::<WithoutMain, N>(alloc, node, &KEYS[..11])?;

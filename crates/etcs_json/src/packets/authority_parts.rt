@@ -1,4 +1,5 @@
-//! The forms of the parts of movement authorities: sections and timers, danger point and overlap.
+//! The forms of the parts of movement authorities: `Section`, `SectionTimer`, `EndTimer`, `DangerPoint` and
+//! `Overlap`.
 
 ghost use Rattle.etcs_json.specs.Authority.{danger_point, end_timer, overlap, section, section_timer};
 ghost use Rattle.etcs_schema.specs.Codec.{whole};

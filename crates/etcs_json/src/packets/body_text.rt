@@ -1,4 +1,5 @@
-//! The text of a body: hexadecimal digits, with zeros after the last bit up to a whole byte.
+//! `BodyMember`: the text of a raw packet's body, hexadecimal digits, with zeros after the last bit up to a whole
+//! byte.
 
 ghost use Rattle.std.specs.Prelude.{◌≡◌, ◌+◌, ◌*◌, ◌<◌, ◌≤◌, ◌∷◌, [], codes, length, take, drop, Some, IfOk, OnOk};
 ghost use Rattle.hex.specs.Hex.{decode_of};

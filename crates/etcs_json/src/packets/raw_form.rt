@@ -1,7 +1,7 @@
-//! The form of track packets whose layout is not known. Their bodies are kept as bits.
+//! The form of `RawPacket`, a track packet whose layout is not known. Its body is kept as bits.
 
 ghost use Rattle.std.specs.Prelude.{◌≡◌, length, true};
-ghost use Rattle.etcs_profile.specs.FoundRaw.{raw_with};
+ghost use Rattle.etcs_profile.specs.FoundRaw.{make_raw};
 ghost use Rattle.etcs_profile.specs.PacketNumbers.{is_kept, nid_raw};
 ghost use Rattle.etcs_json.specs.Raw.{raw_packet};
 ghost use Rattle.etcs_schema.specs.Codec.{whole};
@@ -43,7 +43,7 @@ impl InRange for RawPacket {
 // The packet of parts that were read.
 fn packet_of(number: u8, dir: Dir, body: Bits) -> RawPacket
     requires { is_kept number (length body) ≡ true }
-    ensures { result ≡ raw_with number (dir, body) }
+    ensures { result ≡ make_raw number (dir, body) }
 {
     match RawPacket::new(number, dir, body) {
         Ok(packet) => packet,

@@ -1,7 +1,7 @@
-//! The form of packets from train to track whose layout is not known. Their bodies are kept as bits.
+//! The form of `RawTrainPacket`, a packet from train to track whose layout is not known. Its body is kept as bits.
 
 ghost use Rattle.std.specs.Prelude.{◌≡◌, length, true};
-ghost use Rattle.etcs_radio.specs.FoundRaw.{raw_with};
+ghost use Rattle.etcs_radio.specs.FoundRaw.{make_raw};
 ghost use Rattle.etcs_radio.specs.TrainNumbers.{is_kept, nid_raw};
 ghost use Rattle.etcs_json.specs.RawTrain.{raw_train_packet};
 ghost use Rattle.etcs_schema.specs.Codec.{whole};
@@ -43,7 +43,7 @@ impl InRange for RawTrainPacket {
 // The packet of parts that were read.
 fn packet_of(number: u8, body: Bits) -> RawTrainPacket
     requires { is_kept number (length body) ≡ true }
-    ensures { result ≡ raw_with number body }
+    ensures { result ≡ make_raw number body }
 {
     match RawTrainPacket::new(number, body) {
         Ok(packet) => packet,

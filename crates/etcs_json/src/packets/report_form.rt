@@ -1,7 +1,7 @@
-//! The form of position reports, train packets 0 and 1.
+//! The form of `Report`, train packets 0 and 1.
 
 ghost use Rattle.std.specs.Prelude.{◌≡◌, OnOk};
-ghost use Rattle.etcs_radio.specs.Report.{report_of, report_with as what_is_with};
+ghost use Rattle.etcs_radio.specs.Report.{make_report, report_value as what_is_with};
 ghost use Rattle.etcs_schema.specs.Choices.{with_number};
 ghost use Rattle.etcs_schema.specs.Fault.{Returns};
 ghost use Rattle.etcs_schema.specs.Reading.{as_kind};
@@ -128,7 +128,7 @@ fn read_with_two<N: JsonValue>(alloc: Global, node: &N) -> Result<WithTwo, FormE
 
 /// Reads packet 0.
 pub(crate) fn read_one<N: JsonValue>(alloc: Global, node: &N) -> Result<Report, FormError>
-    ensures { Returns (λ r. r) result (as_kind report_of (either_report.of 0 (N.value node.now))) }
+    ensures { Returns (λ r. r) result (as_kind make_report (either_report.of 0 (N.value node.now))) }
 {
     #[tactic(auto, unfolding(crate::specs::Report::with_one, crate::specs::Report::situation))]
     check_record::<WithOne, N>(alloc, node, keys_with!())?;
@@ -138,7 +138,7 @@ pub(crate) fn read_one<N: JsonValue>(alloc: Global, node: &N) -> Result<Report, 
 
 /// Reads packet 1.
 pub(crate) fn read_two<N: JsonValue>(alloc: Global, node: &N) -> Result<Report, FormError>
-    ensures { Returns (λ r. r) result (as_kind report_of (either_report.of 1 (N.value node.now))) }
+    ensures { Returns (λ r. r) result (as_kind make_report (either_report.of 1 (N.value node.now))) }
 {
     #[tactic(auto, unfolding(crate::specs::Report::with_two, crate::specs::Report::situation))]
     check_record::<WithTwo, N>(alloc, node, keys_with!("prv_nid_bg", "prv_nid_c"))?;

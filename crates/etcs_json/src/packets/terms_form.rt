@@ -1,4 +1,4 @@
-//! The members that both movement authorities have after their head.
+//! `Terms`: the members that both movement authorities have after their head.
 
 ghost use Rattle.std.specs.Prelude.{◌≡◌};
 ghost use Rattle.etcs_profile.specs.Authority.{authority_value};

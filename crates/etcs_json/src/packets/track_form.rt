@@ -1,5 +1,5 @@
-//! The forms of packets from track to train: of linking and of the profiles of the track, packets 5, 21
-//! and 27, and the form that the number decides.
+//! The form of `TrackPacket`, which its number decides, and of `Linking`, `Gradient` and `SpeedProfile`, packets 5,
+//! 21 and 27, with their elements.
 
 ghost use Rattle.std.proofs.Common.{lit<};
 ghost use Rattle.std.specs.Prelude.{◌≡◌, ◌<◌, ◌≤◌, ◌∷◌, [], codes, length, Some, Ok, OnOk, IfOk};

@@ -1,4 +1,4 @@
-//! Members as tokens.
+//! `MemberWriter` for each `TokenWriter`: the members of an object as tokens.
 
 ghost use Rattle.std.specs.Prelude.{OnOk};
 ghost use Rattle.etcs_schema.specs.Writing.{each_tokens, entries_tokens};
@@ -20,7 +20,7 @@ fn write_items<M: TokenWriter, T: WriteJson>(out: &mut M, items: &[T]) -> Result
 }
 
 impl<M: TokenWriter> MemberWriter for M {
-    ghost use Rattle.etcs_schema.specs.AppendLemmas.{written_then};
+    ghost use Rattle.etcs_schema.specs.lemmas.AppendLemmas.{written_then};
 
     ghost writes = { λ es old new. M.adds (entries_tokens es) old new };
 

@@ -1,4 +1,4 @@
-//! An object in memory that is built member by member.
+//! `ObjectBuilder`: a JSON object of `serde_json` in memory that is built member by member. It is a `MemberWriter`.
 
 ghost use Rattle.std.specs.Prelude.{◌≡◌, IfOk, OnOk};
 ghost use Rattle.serde_json.specs.Data.{no_members, object, put as with_member};
@@ -61,7 +61,7 @@ fn build_items<T: Form>(alloc: Global, items: &[T]) -> Result<Vec<Value>, Memory
 
 impl MemberWriter for ObjectBuilder {
     ghost use Rattle.etcs_schema.specs.Entries.{with_entries};
-    ghost use Rattle.etcs_schema.specs.AppendLemmas.{onto_then};
+    ghost use Rattle.etcs_schema.specs.lemmas.AppendLemmas.{onto_then};
     ghost use Rattle.std.specs.Prelude.{refl};
 
     ghost writes = { λ es old new.

@@ -1,4 +1,4 @@
-//! Virtual balise cover markers, packet 0.
+//! `CoverMarker`: virtual balise cover marker, packet 0.
 
 use crate::number::Number;
 use etcs_bits::{Bits, Cursor, DecodeError, Layout, Memory, Plain, Same};

@@ -1,4 +1,4 @@
-//! The gradient profile, packet 21.
+//! `Gradient` and `GradientElement`: the gradient profile, packet 21.
 
 ghost use Rattle.std.specs.Prelude.{◌<◌, ◌==◌};
 
@@ -52,7 +52,7 @@ pub struct GradientElement {
 }
 
 impl GradientElement {
-    ghost use Rattle.etcs_bits.specs.layout.Reading.{rows_at};
+    ghost use Rattle.etcs_bits.specs.layout.Reading.{read_rows};
     ghost use Rattle.etcs_bits.specs.layout.Results.{Gives, IfMemory};
     ghost use Rattle.etcs_profile.specs.Track.{gradient_element};
 
@@ -60,7 +60,7 @@ impl GradientElement {
     // from the end saves fewer registers.
     #[inline(never)]
     fn scan_fields(alloc: Global, cur: &mut Cursor<'_>) -> Result<Self, DecodeError>
-        ensures gives { Gives gradient_element.rows result (rows_at gradient_element.fields cur.old) cur.new }
+        ensures gives { Gives gradient_element.rows result (read_rows gradient_element.fields cur.old) cur.new }
         ensures memory { IfMemory result ⊥ }
     {
         scan_each!(GradientElement, alloc, cur; distance, uphill, gradient)

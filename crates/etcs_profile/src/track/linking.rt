@@ -1,4 +1,4 @@
-//! Linking, packet 5.
+//! `Linking` and `Link`: packet 5.
 
 ghost use Rattle.std.specs.Prelude.{◌<◌, length};
 
@@ -57,7 +57,7 @@ pub struct Link {
 }
 
 impl Link {
-    ghost use Rattle.etcs_bits.specs.layout.Reading.{rows_at};
+    ghost use Rattle.etcs_bits.specs.layout.Reading.{read_rows};
     ghost use Rattle.etcs_bits.specs.layout.Results.{Gives, IfMemory};
     ghost use Rattle.etcs_profile.specs.Track.{link};
 
@@ -65,7 +65,7 @@ impl Link {
     // from the end saves fewer registers.
     #[inline(never)]
     fn scan_fields(alloc: Global, cur: &mut Cursor<'_>) -> Result<Self, DecodeError>
-        ensures gives { Gives link.rows result (rows_at link.fields cur.old) cur.new }
+        ensures gives { Gives link.rows result (read_rows link.fields cur.old) cur.new }
         ensures memory { IfMemory result ⊥ }
     {
         scan_each!(Link, alloc, cur; distance, country, group, nominal, reaction, accuracy)

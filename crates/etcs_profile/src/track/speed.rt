@@ -1,4 +1,4 @@
-//! The static speed profile, packet 27.
+//! `SpeedProfile`, `SpeedElement` and `Difference`: the static speed profile, packet 27.
 
 ghost use Rattle.std.specs.Prelude.{◌==◌, ◌≤◌, length};
 
@@ -54,7 +54,7 @@ pub struct Difference {
 }
 
 impl Difference {
-    ghost use Rattle.etcs_bits.specs.layout.Reading.{rows_at};
+    ghost use Rattle.etcs_bits.specs.layout.Reading.{read_rows};
     ghost use Rattle.etcs_bits.specs.layout.Results.{Gives, IfMemory};
     ghost use Rattle.etcs_profile.specs.Track.{difference};
 
@@ -62,7 +62,7 @@ impl Difference {
     // from the end saves fewer registers.
     #[inline(never)]
     fn scan_fields(alloc: Global, cur: &mut Cursor<'_>) -> Result<Self, DecodeError>
-        ensures gives { Gives difference.rows result (rows_at difference.fields cur.old) cur.new }
+        ensures gives { Gives difference.rows result (read_rows difference.fields cur.old) cur.new }
         ensures memory { IfMemory result ⊥ }
     {
         scan_each!(Difference, alloc, cur; kind, category, speed)
@@ -132,7 +132,7 @@ pub struct SpeedElement {
 }
 
 impl SpeedElement {
-    ghost use Rattle.etcs_bits.specs.layout.Reading.{rows_at};
+    ghost use Rattle.etcs_bits.specs.layout.Reading.{read_rows};
     ghost use Rattle.etcs_bits.specs.layout.Results.{Gives};
     ghost use Rattle.etcs_profile.specs.Track.{speed_element};
 
@@ -140,7 +140,7 @@ impl SpeedElement {
     // from the end saves fewer registers.
     #[inline(never)]
     fn scan_fields(alloc: Global, cur: &mut Cursor<'_>) -> Result<Self, DecodeError>
-        ensures gives { Gives speed_element.rows result (rows_at speed_element.fields cur.old) cur.new }
+        ensures gives { Gives speed_element.rows result (read_rows speed_element.fields cur.old) cur.new }
     {
         scan_each!(SpeedElement, alloc, cur; distance, speed, front, differences)
     }

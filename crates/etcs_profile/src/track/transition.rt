@@ -1,7 +1,7 @@
-//! Level transition orders, packet 41.
+//! `Transition`, `LevelOrders` and `LevelOrder`: level transition orders, packet 41.
 
 ghost use Rattle.std.specs.Prelude.{◌≡◌, ◌<◌, length, Ok, IfSome};
-ghost use Rattle.etcs_bits.specs.layout.Reading.{forward, rows_at, taken};
+ghost use Rattle.etcs_bits.specs.layout.Reading.{forward, read_rows, taken};
 ghost use Rattle.etcs_bits.specs.layout.Results.{Gives, IfMemory};
 ghost use Rattle.etcs_bits.specs.layout.Rows.{Place};
 ghost use Rattle.etcs_bits.specs.variables.Level.{m_level};
@@ -152,7 +152,7 @@ pub struct LevelOrder {
 #[inline(always)]
 fn level_alone(number: u64) -> Option<Level>
     ensures { (p : Place) → taken 3 p ≡ Ok (number, forward p 3)
-        → IfSome result (λ v. rows_at m_level.fields p ≡ Ok (m_level.rows v, forward p 3)) }
+        → IfSome result (λ v. read_rows m_level.fields p ≡ Ok (m_level.rows v, forward p 3)) }
 {
     match number {
         0 => Some(Level::L0),
@@ -170,7 +170,7 @@ impl LevelOrder {
     // from the end saves fewer registers.
     #[inline(never)]
     fn scan_fields(alloc: Global, cur: &mut Cursor<'_>) -> Result<Self, DecodeError>
-        ensures gives { Gives level_order.rows result (rows_at level_order.fields cur.old) cur.new }
+        ensures gives { Gives level_order.rows result (read_rows level_order.fields cur.old) cur.new }
         ensures memory { IfMemory result ⊥ }
     {
         scan_each!(LevelOrder, alloc, cur; level, acknowledge)

@@ -1,4 +1,4 @@
-//! Which keys an object may have.
+//! `check_keys` and its helpers: which keys an object may have.
 
 ghost use Rattle.std.specs.Prelude.{◌≡◌, is_some, map};
 ghost use Rattle.std.specs.List.{list_any};

@@ -1,4 +1,4 @@
-//! Numbers as JSON writes them.
+//! `whole_number` and `is_in_range`: numbers as JSON writes them.
 
 ghost use Rattle.std.specs.Prelude.{◌≡◌, ◌==◌, ◌<◌, ◌^◌, length, slice_index, option_and_then, is_some, true, false, IfSome, IsTrue};
 ghost use Rattle.std.specs.Str.Parse.{IsNumeral, digits_value};

@@ -1,4 +1,4 @@
-//! JSON texts as tapes.
+//! `ParsedJson`: a JSON text as a tape of tokens. `JsonError`: why a text is refused.
 
 ghost use Rattle.std.specs.Prelude.{◌≡◌, ◌<◌, ◌+◌, ◌⊎◌, ◌↔◌, length, vec_capacity, Some, None, Err, IfOk, true};
 ghost use Rattle.json.specs.Lex.{tokens};

@@ -1,4 +1,4 @@
-//! Read-only JSON values of `serde_json`.
+//! `JsonValue` for `&Value`, the values of `serde_json`.
 
 use crate::json_value::JsonValue;
 use crate::json_value::keys::all_among;

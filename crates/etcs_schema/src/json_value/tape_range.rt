@@ -1,4 +1,4 @@
-//! One pass over a tape: whether `serde_json` would read the text.
+//! `are_in_range`: one pass over a tape, which finds whether `serde_json` would read the text.
 
 ghost use Rattle.std.specs.Prelude.{◌≡◌, map, Some};
 ghost use Rattle.json.specs.Tape.{node_token};

@@ -1,4 +1,4 @@
-//! Read-only JSON values on a tape.
+//! `TapeValue`, a read-only JSON value on a tape, and `TapeItems`, the items of an array there.
 
 ghost use Rattle.std.specs.Prelude.{◌≡◌, ◌∷◌, true};
 ghost use Rattle.json.specs.Token.{begin_array};

@@ -1,6 +1,6 @@
 use Rattle.std.proofs.Common.{ap, Err}
 use Rattle.std.proofs.lemmas.Result.{err_from_is_err_and}
-use Rattle.etcs_radio.specs.HeadView.{head_in}
+use Rattle.etcs_radio.specs.HeadView.{head_value}
 use Rattle.etcs_packet.proofs.ListLemmas.{of_memory}
 use Rattle.etcs_radio.proofs.DecodeLemmas.{AreSeen, head_fails, if_followed, message_means, head_reported, no_head_fault, ok_of, fault_of, none_of}
 use Rattle.etcs_radio.proofs.decoding.decode.Goals as goal
@@ -30,7 +30,7 @@ returns-in_err-fields-clause-head c = λ f fault.
 pub returns-clause-exact : goal.returns-clause-exact
 returns-clause-exact c =
     let seen : AreSeen c.args.bytes.now c.over-cur.result = record { few = c.min-few.result; bits = c.of_bytes.result; least = c.min-few.ensures; are = c.of_bytes.ensures.bits; here = c.over-cur.ensures } in
-    message_means c.message.result c.args.bytes.now c.over-cur.result c.scan_head.new.cur (head_in c.in_ok-fields.fields) seen c.in_ok-fields.ensures.gives c.message.ensures.means
+    message_means c.message.result c.args.bytes.now c.over-cur.result c.scan_head.new.cur (head_value c.in_ok-fields.fields) seen c.in_ok-fields.ensures.gives c.message.ensures.means
 
 pub returns-clause-ok : goal.returns-clause-ok
 returns-clause-ok c = ok_of c.message.result c.args.bytes.now (returns-clause-exact c)
@@ -45,7 +45,7 @@ returns-clause-none c = none_of c.message.result c.args.bytes.now (returns-claus
 pub returns-clause-head : goal.returns-clause-head
 returns-clause-head c = λ f fault.
     let seen : AreSeen c.args.bytes.now c.over-cur.result = record { few = c.min-few.result; bits = c.of_bytes.result; least = c.min-few.ensures; are = c.of_bytes.ensures.bits; here = c.over-cur.ensures } in
-    no_head_fault c.args.bytes.now c.over-cur.result c.scan_head.new.cur (head_in c.in_ok-fields.fields) f seen c.in_ok-fields.ensures.gives fault
+    no_head_fault c.args.bytes.now c.over-cur.result c.scan_head.new.cur (head_value c.in_ok-fields.fields) f seen c.in_ok-fields.ensures.gives fault
 
 -- the head takes no memory
 pub returns-in_err-fields-clause-memory : goal.returns-in_err-fields-clause-memory
@@ -57,4 +57,4 @@ returns-in_err-fields-clause-memory c =
 pub returns-clause-memory : goal.returns-clause-memory
 returns-clause-memory c =
     let seen : AreSeen c.args.bytes.now c.over-cur.result = record { few = c.min-few.result; bits = c.of_bytes.result; least = c.min-few.ensures; are = c.of_bytes.ensures.bits; here = c.over-cur.ensures } in
-    if_followed c.message.result c.args.bytes.now c.over-cur.result c.scan_head.new.cur (head_in c.in_ok-fields.fields) seen c.in_ok-fields.ensures.gives c.message.ensures.memory
+    if_followed c.message.result c.args.bytes.now c.over-cur.result c.scan_head.new.cur (head_value c.in_ok-fields.fields) seen c.in_ok-fields.ensures.gives c.message.ensures.memory

@@ -2,7 +2,7 @@ use Rattle.std.proofs.Common.{refl, ap, ◌∙◌, length, Ok, arith}
 use Rattle.std.proofs.lemmas.Result.{err_from_is_err_and}
 use Rattle.etcs_bits.specs.declared.layout.fault.FaultKind.TheVariants.{NoReport}
 use Rattle.etcs_radio.specs.TrainPacket.{train_packet}
-use Rattle.etcs_radio.specs.Meaning.{position_with}
+use Rattle.etcs_radio.specs.Meaning.{position_message}
 use Rattle.etcs_radio.specs.Required.{has_report}
 use Rattle.etcs_radio.proofs.MessageLemmas.{stand_bits}
 use Rattle.etcs_radio.proofs.PacketsLemmas.{by_fails, by_ok, by_err, not_there, position_made}
@@ -12,7 +12,7 @@ use Rattle.etcs_radio.proofs.decoding.position.Goals as goal
 pub returns-in_err-packets-clause-means : goal.returns-in_err-packets-clause-means
 returns-in_err-packets-clause-means c =
     let failed = err_from_is_err_and c.from_residual.result c.from_residual.ensures.1 in
-    rw (failed.1, failed.2) (by_fails train_packet has_report NoReport (position_with c.args.fields) c.in_err-packets.field-0.0 c.args.cur.now c.in_err-packets.ensures.exact)
+    rw (failed.1, failed.2) (by_fails train_packet has_report NoReport (position_message c.args.fields) c.in_err-packets.field-0.0 c.args.cur.now c.in_err-packets.ensures.exact)
 
 pub incomplete-requires : goal.incomplete-requires
 incomplete-requires c =
@@ -23,7 +23,7 @@ incomplete-requires c =
 pub returns-in-Ok-clause-means : goal.returns-in-Ok-clause-means
 returns-in-Ok-clause-means c =
     let items = c.in_ok-packets.packets.items in
-    by_ok train_packet has_report NoReport (position_with c.args.fields) items c.args.cur.now c.read_items.new.cur c.in_ok-packets.ensures.exact (c.in-Ok.ensures.made.0 refl)
+    by_ok train_packet has_report NoReport (position_message c.args.fields) items c.args.cur.now c.read_items.new.cur c.in_ok-packets.ensures.exact (c.in-Ok.ensures.made.0 refl)
     ∙ ap Ok (position_made c.args.fields items c.in-Ok.message c.in-Ok.ensures.ok)
 
 -- a report is not there
@@ -32,7 +32,7 @@ returns-in-Err-clause-means c =
     let items = c.in_ok-packets.packets.items in
     let none = not_there c.new.result _ (has_report items) c.new.ensures.made c.in-Err.is in
     rw c.incomplete.ensures
-    (by_err train_packet has_report NoReport (position_with c.args.fields) items c.args.cur.now c.read_items.new.cur c.in_ok-packets.ensures.exact none)
+    (by_err train_packet has_report NoReport (position_message c.args.fields) items c.args.cur.now c.read_items.new.cur c.in_ok-packets.ensures.exact none)
 
 -- only packets take memory
 pub returns-in_err-packets-clause-memory : goal.returns-in_err-packets-clause-memory

@@ -1,7 +1,7 @@
 use Rattle.std.proofs.Common.{◌∙◌, ◌++◌, ap}
 use Rattle.std.specs.Prelude.{codes}
 use Rattle.serde_json.proofs.Texts.{print-outline}
-use Rattle.etcs_digits.specs.LineText.{puts}
+use Rattle.etcs_digits.specs.JsonLineWriter.{puts}
 use Rattle.etcs_schema.specs.Writing.{data_tokens}
 use Rattle.etcs_run.specs.JsonLine.{json_line_text}
 use Rattle.etcs_run.proofs.json_line.json_line.Goals as goal

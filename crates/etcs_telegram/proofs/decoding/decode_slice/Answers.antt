@@ -7,7 +7,7 @@ use Rattle.etcs_packet.proofs.ListLemmas.{no_error, same_error}
 use Rattle.etcs_packet.proofs.WholeLemmas.{gives_means}
 use Rattle.etcs_telegram.specs.declared.header.Header.{Header}
 use Rattle.etcs_telegram.specs.Header.{header}
-use Rattle.etcs_telegram.specs.Sizes.{size_of}
+use Rattle.etcs_telegram.specs.Sizes.{size_from_bits}
 use Rattle.etcs_telegram.proofs.TelegramLemmas.{read_meaning, failed_meaning}
 use Rattle.etcs_telegram.proofs.decoding.decode_slice.Goals as goal
 
@@ -27,7 +27,7 @@ returns-in_err-header-clause-exact c =
 -- the header and packets that are read are the telegram, with the size that was found
 pub returns-clause-exact : goal.returns-clause-exact
 returns-clause-exact c =
-    let found : size_of (length c.args.bits) ≡ Some c.unwrap-size.result = cc (c.of_len.ensures, c.len.ensures, c.unwrap-size.ensures) in
+    let found : size_from_bits (length c.args.bits) ≡ Some c.unwrap-size.result = cc (c.of_len.ensures, c.len.ensures, c.unwrap-size.ensures) in
     let means = gives_means {Y = Header × List TrackPacket} (λ w. w) (Ok (c.in_ok-header.header, c.in_ok-header.packets.items)) stops.Telegram header.fields header.of track_packet.fields track_packet.of c.args.bits c.next_whole.new.cur (rw c.over-cur.ensures at c.in_ok-header.ensures.exact) in
     read_meaning c.in_ok-header.header c.in_ok-header.packets.items c.unwrap-size.result c.args.bits found means
 

@@ -1,7 +1,7 @@
 use Rattle.std.proofs.Common.{◌≡◌, ◌+◌, [], ◌++◌, length, ap, ◌∙◌, arith}
 use Rattle.std.proofs.lemmas.List.{append-nil}
 use Rattle.etcs_bits.specs.bits.Number.{num, num_of_bits}
-use Rattle.etcs_bits.specs.bits.NumberLemmas.{num-num_of_bits}
+use Rattle.etcs_bits.specs.lemmas.NumberLemmas.{num-num_of_bits}
 use Rattle.etcs_bits.specs.layout.Results.{Puts}
 use Rattle.etcs_bits.proofs.PutLemmas.{puts_bits}
 use Rattle.etcs_bits.proofs.layout.kept.put_kept.Goals as goal

@@ -1,6 +1,6 @@
 use Rattle.std.proofs.Common.{◌≡◌, ◌⊎◌, ℕ, true, refl, inl, inr}
 use Rattle.etcs_bits.proofs.SumLemmas.{number_read, chosen_gives}
-use Rattle.etcs_profile.specs.Authority.{authority_variable, authority_numbered, numbered_of}
+use Rattle.etcs_profile.specs.Authority.{authority_variable, authority_numbered, authority_parts}
 use Rattle.etcs_profile.proofs.authority.AuthorityLayout.scan.Goals as goal
 
 allowed : (n : ℕ) → ((n ≡ 12 → ⊥) × (n ≡ 15)) ⊎ (n ≡ 12) → authority_numbered.allows n ≡ true
@@ -12,4 +12,4 @@ pub returns-clause-gives : goal.returns-clause-gives
 returns-clause-gives c =
     let n = c.in_ok-number.number in
     let number = number_read authority_variable n c.args.cur.now c.take.new.self refl (allowed n c.else-number-ne12.either) c.in_ok-number.ensures.exact in
-    chosen_gives numbered_of authority_variable authority_numbered n c.args.cur.now c.take.new.self c.scan_rest.new.cur c.scan_rest.result number c.scan_rest.ensures.gives
+    chosen_gives authority_parts authority_variable authority_numbered n c.args.cur.now c.take.new.self c.scan_rest.new.cur c.scan_rest.result number c.scan_rest.ensures.gives

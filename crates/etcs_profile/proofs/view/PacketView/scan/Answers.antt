@@ -1,7 +1,7 @@
 use Rattle.std.proofs.Common.{◌≡◌, true, Ok, refl, sym, ◌∙◌}
 use Rattle.std.proofs.lemmas.Result.{err_from_is_err_and}
 use Rattle.etcs_bits.specs.layout.Rows.{alone}
-use Rattle.etcs_bits.specs.layout.Reading.{rows_at}
+use Rattle.etcs_bits.specs.layout.Reading.{read_rows}
 use Rattle.etcs_bits.proofs.SumLemmas.{rest_read, chosen_read}
 use Rattle.etcs_profile.specs.declared.track.TrackPacket.{TrackPacket}
 use Rattle.etcs_profile.specs.declared.track.TrackPacket.TheVariants as packets
@@ -10,11 +10,11 @@ use Rattle.etcs_profile.specs.PacketNumbers.{is_kept_number, nid_track}
 use Rattle.etcs_profile.specs.FoundRaw.{raw}
 use Rattle.etcs_profile.specs.Raw.{raw_rest}
 use Rattle.etcs_profile.specs.Track.{IsKnown, track_numbered}
-use Rattle.etcs_profile.specs.View.{view_of}
+use Rattle.etcs_profile.specs.View.{packet_view}
 use Rattle.etcs_profile.proofs.TrackLemmas.{field_forward, other_next}
 use Rattle.etcs_profile.proofs.view.PacketView.scan.Goals as goal
 
-known_view : (p : TrackPacket) → IsKnown p → view_of p ≡ views.Known p
+known_view : (p : TrackPacket) → IsKnown p → packet_view p ≡ views.Known p
 known_view (packets.Raw r) known = absurd known
 known_view p known = refl
 
@@ -28,7 +28,7 @@ returns-then-has_number-clause-gives c =
     let other : is_kept_number n ≡ true = sym (c.has_number.ensures.value c.in_ok-number.ensures.number.0) ∙ c.if-has_number.true in
     let few = c.in_ok-dir.ensures.few in
     let seen = raw n dir body (rw (other, few) refl) in
-    let rest : rows_at (track_numbered.next n) c.scan_number.new.cur ≡ Ok (raw_rest.rows (dir, body), c.scan_rest.new.cur) = rw (other_next n other) c.in_ok-dir.ensures.gives in
+    let rest : read_rows (track_numbered.next n) c.scan_number.new.cur ≡ Ok (raw_rest.rows (dir, body), c.scan_rest.new.cur) = rw (other_next n other) c.in_ok-dir.ensures.gives in
     (packets.Raw seen, refl, rest_read nid_track track_numbered.next n n c.args.cur.now c.scan_number.new.cur c.scan_rest.new.cur (raw_rest.rows (dir, body)) c.in_ok-number.ensures.gives refl rest)
 
 -- the packet that was read

@@ -3,7 +3,7 @@ use Rattle.std.proofs.lemmas.List.{take_rest}
 use Rattle.std.proofs.lemmas.Result.{err_from_is_err_and}
 use Rattle.etcs_document.specs.declared.refusal.Refusal.TheVariants.{Message}
 use Rattle.etcs_document.specs.declared.refusal.StreamFault.TheVariants.{BelowThree}
-use Rattle.etcs_radio.specs.Meaning.{message_of}
+use Rattle.etcs_radio.specs.Meaning.{read_message}
 use Rattle.etcs_run.specs.Output.{Output, refusal_output}
 use Rattle.etcs_run.specs.RadioStream.{bytes_output, message_json, message_output}
 use Rattle.etcs_run.proofs.RadioLemmas.{Feeding-message, Feeds-cut, Feeds-more, Feeds-stopped, left_failed, left_more, left_ready, takes_few, takes_of, takes_so_many, takes_three, answer_of_beginning, answer_of_output}
@@ -54,7 +54,7 @@ returns-in_err-status-in-Ready-clause-feeds g c =
     let ready = sym c.feed-fed.ensures.state ∙ c.in-Ready.is in
     let n = c.messages.self.number in
     let later = bytes_output (n + 1) [] (drop (c.messages.at + c.feed-fed.result.used) c.args.bytes.now) in
-    let after = message_output n (message_json (message_of c.feed-fed.new.self)) in
+    let after = message_output n (message_json (read_message c.feed-fed.new.self)) in
     let residual = c.from_residual-in_err-status-in-Ready in
     let passed_on = err_from_is_err_and residual.result residual.ensures.1 in
     rw passed_on.1 (Feeds-cut c.messages.invariant.feeding later after (left_ready call n ready) passed_on.0
@@ -67,7 +67,7 @@ returns-in-Stop-clause-feeds g c =
     let ready = sym c.feed-fed.ensures.state ∙ c.in-Ready.is in
     let n = c.messages.self.number in
     let later = bytes_output (n + 1) [] (drop (c.messages.at + c.feed-fed.result.used) c.args.bytes.now) in
-    let after = message_output n (message_json (message_of c.feed-fed.new.self)) in
+    let after = message_output n (message_json (read_message c.feed-fed.new.self)) in
     let line_answer = rw c.in-Stop.is at c.in_ok-status-in-Ready.ensures.answers_line in
     Feeds-stopped c.messages.invariant.feeding later after (left_ready call n ready) line_answer _ _
 
@@ -91,7 +91,7 @@ messages-preserved g c =
     let ready = sym c.feed-fed.ensures.state ∙ c.in-Ready.is in
     let n = c.messages.self.number in
     let later = bytes_output (n + 1) [] (drop (c.messages.at + c.feed-fed.result.used) c.args.bytes.now) in
-    let after = message_output n (message_json (message_of c.feed-fed.new.self)) in
+    let after = message_output n (message_json (read_message c.feed-fed.new.self)) in
     let cleared = c.in_ok-status-in-Ready.ensures.cleared (ap Ok c.in_default.is) in
     let next = c.in_ok-status-in-Ready.ensures.next (ap Ok c.in_default.is) in
     let line_answer = rw c.in_default.is at c.in_ok-status-in-Ready.ensures.answers_line in

@@ -22,17 +22,17 @@ abbrev pub quoted_text : List ℕ → ℕ → List ℕ
 quoted_text text close = 34 ∷ (text ++ 34 ∷ close ∷ [])
 
 -- a text without the comma at its end, if one is there
-abbrev pub without : Bool → List ℕ → List ℕ
-without there s = cond there (take (length s - 1) s) s
+abbrev pub drop_comma : Bool → List ℕ → List ℕ
+drop_comma there s = cond there (take (length s - 1) s) s
 
 -- the comma that may follow a value
-abbrev pub comma_after : Bool → List ℕ
-comma_after after_value = cond after_value (44 ∷ []) []
+abbrev pub value_comma : Bool → List ℕ
+value_comma after_value = cond after_value (44 ∷ []) []
 
 -- one token more; a closing bracket overwrites the comma
 abbrev pub put : Line → Token → Line
 put l t = record {
-  text = cond (begins t) l.text (without l.after_value l.text) ++ (token_text t ++ comma_after (ends t));
+  text = cond (begins t) l.text (drop_comma l.after_value l.text) ++ (token_text t ++ value_comma (ends t));
   after_value = ends t;
 }
 

@@ -4,14 +4,14 @@ use Rattle.std.specs.List.{flat_map}
 use Rattle.std.proofs.Common.{ap, ap₂, subst, sym, ◌∙◌, arith}
 use Rattle.std.proofs.lemmas.Bool.{leb-true}
 use Rattle.etcs_bits.specs.bits.Number.{num, num_of_bits}
-use Rattle.etcs_bits.specs.bits.NumberLemmas.{length-num, num_of_bits-small, num-num_of_bits}
+use Rattle.etcs_bits.specs.lemmas.NumberLemmas.{length-num, num_of_bits-small, num-num_of_bits}
 use Rattle.etcs_bits.specs.layout.Rows.{Variable, Row, row, IsAllowed, AreAllowed, alone, width}
-use Rattle.etcs_bits.specs.layout.RowLemmas.{allowed_first, allowed_second}
+use Rattle.etcs_bits.specs.lemmas.RowLemmas.{allowed_first, allowed_second}
 use Rattle.etcs_bits.specs.layout.Fields.{Fields, one, field, ◌▹◌, sized, option, times, counted, AreRowsOf}
-use Rattle.etcs_bits.specs.layout.CutLemmas.{cut_whole}
+use Rattle.etcs_bits.specs.lemmas.CutLemmas.{cut_whole}
 use Rattle.etcs_bits.specs.layout.Laid.{IsLayout}
 use Rattle.etcs_bits.specs.layout.Combined.{qualifier, n_iter, pair_rows, option_rows, counted_rows, body_rows, l_kept}
-use Rattle.etcs_bits.specs.layout.Found.{pair_of, option_of, items_of, counted_of, body_of, kept_of}
+use Rattle.etcs_bits.specs.layout.Found.{pair_value, option_value, item_values, counted_values, body_value, kept_value}
 use Rattle.etcs_bits.specs.variables.Variables.{free}
 
 -- each whole list of rows has a record, if a field's number decides what follows it
@@ -28,7 +28,7 @@ field_records next here r (n, more, e, w) allowed =
 pub pair_laid : {A B : Type 0} {a b : Fields} {rows_a : A → List Row} {rows_b : B → List Row}
     {of_a : List Row → A} {of_b : List Row → B}
     → IsLayout a rows_a of_a → IsLayout b rows_b of_b
-    → IsLayout (a ▹ b) (pair_rows rows_a rows_b) (pair_of a of_a of_b)
+    → IsLayout (a ▹ b) (pair_rows rows_a rows_b) (pair_value a of_a of_b)
 pair_laid {A = A} {B = B} {a = a} {rows_a = rows_a} {rows_b = rows_b} v w = record {
   are_rows = λ p. (rows_a p.0, rows_b p.1, refl, v.are_rows p.0, w.are_rows p.1);
   is_record = λ p.
@@ -50,7 +50,7 @@ option_are_rows v None = (0, [], refl, refl)
 option_are_rows {rows = rows} v (Some x) = (1, rows x, refl, v.are_rows x)
 
 option_record : {X : Type 0} {fields : Fields} {rows : X → List Row} {of : List Row → X}
-    → IsLayout fields rows of → (o : Option X) → option_of of (option_rows rows o) ≡ o
+    → IsLayout fields rows of → (o : Option X) → option_value of (option_rows rows o) ≡ o
 unfolding alone
 option_record v None = refl
 option_record v (Some x) = ap Some (v.is_record x)
@@ -68,7 +68,7 @@ option_records v r (suc (suc n), more, e, w) allowed =
 
 pub option_laid : {X : Type 0} {fields : Fields} {rows : X → List Row} {of : List Row → X}
     → IsLayout fields rows of
-    → IsLayout (option qualifier fields) (option_rows rows) (option_of of)
+    → IsLayout (option qualifier fields) (option_rows rows) (option_value of)
 option_laid v = record { are_rows = option_are_rows v; is_record = option_record v; has_record = option_records v }
 
 -- ---- a counted list
@@ -79,8 +79,8 @@ times_rows v [] = refl
 times_rows {rows = rows} v (x ∷ xs) = (rows x, flat_map rows xs, refl, v.are_rows x, times_rows v xs)
 
 items_are : {X : Type 0} {fields : Fields} {rows : X → List Row} {of : List Row → X}
-    → IsLayout fields rows of → (xs : List X) → items_of fields of (length xs) (flat_map rows xs) ≡ xs
-unfolding items_of
+    → IsLayout fields rows of → (xs : List X) → item_values fields of (length xs) (flat_map rows xs) ≡ xs
+unfolding item_values
 items_are v [] = refl
 items_are {X = X} {fields = fields} {rows = rows} v (x ∷ xs) =
     rw (cut_whole fields (rows x) (flat_map rows xs) (v.are_rows x))
@@ -99,7 +99,7 @@ items_with v (suc n) r (first, second, e, s, t) allowed =
 
 pub counted_laid : {X : Type 0} {fields : Fields} {rows : X → List Row} {of : List Row → X}
     → IsLayout fields rows of
-    → IsLayout (counted n_iter fields) (counted_rows rows) (counted_of fields of)
+    → IsLayout (counted n_iter fields) (counted_rows rows) (counted_values fields of)
 unfolding alone
 counted_laid {rows = rows} v = record {
   are_rows = λ xs. (length xs, flat_map rows xs, refl, times_rows v xs);
@@ -112,7 +112,7 @@ counted_laid {rows = rows} v = record {
 -- a packet's body
 pub body_laid : {X : Type 0} (before : ℕ) {fields : Fields} {rows : X → List Row} {of : List Row → X}
     → IsLayout fields rows of
-    → IsLayout (sized before fields) (body_rows before rows) (body_of of)
+    → IsLayout (sized before fields) (body_rows before rows) (body_value of)
 unfolding alone
 body_laid before {rows = rows} v = record {
   are_rows = λ x. (rows x, refl, v.are_rows x);
@@ -131,7 +131,7 @@ left head count = omega arith
 pub kept_laid : (before : ℕ)
     → IsLayout (field (l_kept before) (λ l. one (free (l - (before + 13)))))
     (λ bits. row (l_kept before) (before + 13 + length bits) ∷ row (free (length bits)) (num_of_bits bits) ∷ [])
-    (kept_of before)
+    (kept_value before)
 kept_laid before = record {
   are_rows = λ bits.
       let of_bits = row (free (length bits)) (num_of_bits bits) ∷ [] in

@@ -10,20 +10,15 @@ use Rattle.etcs_bits.specs.declared.variables.direction.Dir.TheVariants as dirs
 use Rattle.etcs_bits.specs.declared.variables.duplicate.Dup.TheVariants as dups
 use Rattle.etcs_bits.specs.bits.Number.{worth}
 use Rattle.etcs_bits.specs.layout.Rows.{Variable, row, alone, IsAllowed}
-use Rattle.etcs_bits.specs.layout.Found.{number_at}
+use Rattle.etcs_bits.specs.layout.Found.{row_number}
 use Rattle.etcs_bits.specs.variables.Variables.{plain, naming, transmission_variable, transmission_number, medium_variable, medium_number, version_variable, version_number, duplicate_variable, dup_number, scale_variable, scale_number, dir_variable, dir_number}
-use Rattle.etcs_bits.specs.variables.VariableValues.{transmission_of, medium_of, version_of, dup_of, scale_of, dir_of, flag_of}
-use Rattle.etcs_bits.specs.layout.Values.{HasValues}
+use Rattle.etcs_bits.specs.variables.VariableValues.{transmission_value, medium_value, version_value, dup_value, scale_value, dir_value, flag_value}
+use Rattle.etcs_bits.specs.layout.Values.{AreNames, HasValues}
 
 -- the number of the only row
-pub number_alone : (x : Variable) (n : ℕ) → number_at 0 (alone x n) ≡ n
+pub number_alone : (x : Variable) (n : ℕ) → row_number 0 (alone x n) ≡ n
 unfolding alone
 number_alone x n = refl
-
--- each value has a number that fits and is allowed, and is found again by it
-abbrev pub AreNames : {X : Type 0} → Variable → (X → ℕ) → (ℕ → X) → Type 0
-AreNames {X} x number of =
-    (v : X) → (of (number v) ≡ v) × ((ltb (number v) (2 ^ x.width) && x.allows (number v)) ≡ true)
 
 -- a variable has the numbers of its values if no other number is allowed
 values : {X : Type 0} {x : Variable} {number : X → ℕ} {of : ℕ → X} → AreNames x number of
@@ -50,39 +45,39 @@ pub names_have_values : {X : Type 0} {w : ℕ} {number : X → ℕ} {of : ℕ �
 names_have_values {number = number} {of = of} names =
     values names (λ n allowed. sym (eqb-true n (number (of n)) allowed.1))
 
-flag_names : AreNames (plain 1) worth flag_of
+flag_names : AreNames (plain 1) worth flag_value
 flag_names true = (refl, refl)
 flag_names false = (refl, refl)
 
-flag_numbers : (n : ℕ) → IsAllowed (row (plain 1) n) → worth (flag_of n) ≡ n
+flag_numbers : (n : ℕ) → IsAllowed (row (plain 1) n) → worth (flag_value n) ≡ n
 flag_numbers zero allowed = refl
 flag_numbers (suc zero) allowed = refl
 flag_numbers (suc (suc n)) allowed = absurd (omega (arith, allowed.0))
 
-pub flags_have_values : HasValues (plain 1) 1 worth flag_of
+pub flags_have_values : HasValues (plain 1) 1 worth flag_value
 flags_have_values = values flag_names flag_numbers
 
-pub transmission_names : AreNames transmission_variable transmission_number transmission_of
+pub transmission_names : AreNames transmission_variable transmission_number transmission_value
 transmission_names transmissions.TrackToTrain = (refl, refl)
 
-pub medium_names : AreNames medium_variable medium_number medium_of
+pub medium_names : AreNames medium_variable medium_number medium_value
 medium_names media.Balise = (refl, refl)
 
-pub version_names : AreNames version_variable version_number version_of
+pub version_names : AreNames version_variable version_number version_value
 version_names versions.V2_0 = (refl, refl)
 version_names versions.V2_1 = (refl, refl)
 
-pub dup_names : AreNames duplicate_variable dup_number dup_of
+pub dup_names : AreNames duplicate_variable dup_number dup_value
 dup_names dups.Single = (refl, refl)
 dup_names dups.Next = (refl, refl)
 dup_names dups.Previous = (refl, refl)
 
-pub scale_names : AreNames scale_variable scale_number scale_of
+pub scale_names : AreNames scale_variable scale_number scale_value
 scale_names scales.TenCentimetres = (refl, refl)
 scale_names scales.Metre = (refl, refl)
 scale_names scales.TenMetres = (refl, refl)
 
-pub dir_names : AreNames dir_variable dir_number dir_of
+pub dir_names : AreNames dir_variable dir_number dir_value
 dir_names dirs.Reverse = (refl, refl)
 dir_names dirs.Nominal = (refl, refl)
 dir_names dirs.Both = (refl, refl)

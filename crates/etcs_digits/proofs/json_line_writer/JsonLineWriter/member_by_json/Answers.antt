@@ -1,7 +1,7 @@
 use Rattle.std.proofs.Common.{refl, sym}
 use Rattle.json.specs.Token.{key}
-use Rattle.etcs_digits.proofs.LineTextLemmas.{restored}
-use Rattle.etcs_digits.proofs.line_text.LineText.member_by_json.Goals as goal
+use Rattle.etcs_digits.proofs.JsonLineWriterLemmas.{restored}
+use Rattle.etcs_digits.proofs.json_line_writer.JsonLineWriter.member_by_json.Goals as goal
 
 -- the key is removed again
 pub returns-then-is_err : goal.returns-then-is_err

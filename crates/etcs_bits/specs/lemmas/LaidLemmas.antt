@@ -4,11 +4,11 @@ use Rattle.std.proofs.Common.{ap, sym, ◌∙◌}
 use Rattle.std.proofs.lemmas.Bool.{eqb-true}
 use Rattle.etcs_bits.specs.declared.layout.fault.FaultKind.{FaultKind}
 use Rattle.etcs_bits.specs.layout.Rows.{Variable, Row, alone}
-use Rattle.etcs_bits.specs.layout.Found.{number_at}
+use Rattle.etcs_bits.specs.layout.Found.{row_number}
 use Rattle.etcs_bits.specs.layout.Fields.{Fields, nothing, one}
-use Rattle.etcs_bits.specs.layout.RowLemmas.{alone_rows}
+use Rattle.etcs_bits.specs.lemmas.RowLemmas.{alone_rows}
 use Rattle.etcs_bits.specs.variables.Variables.{only}
-use Rattle.etcs_bits.specs.variables.VariableLemmas.{number_alone}
+use Rattle.etcs_bits.specs.lemmas.VariableLemmas.{number_alone}
 use Rattle.etcs_bits.specs.layout.Values.{HasValues}
 use Rattle.etcs_bits.specs.layout.Laid.{IsLayout}
 
@@ -28,7 +28,7 @@ parted_laid {rows = rows} named parts back again v = record {
 -- ---- variables
 
 -- a variable by itself
-pub alone_laid : (x : Variable) → IsLayout (one x) (alone x) (number_at 0)
+pub alone_laid : (x : Variable) → IsLayout (one x) (alone x) (row_number 0)
 unfolding alone
 alone_laid x = record {
   are_rows = alone_rows x;
@@ -54,7 +54,7 @@ only_laid w k why x same = record {
 
 -- a variable whose numbers have names
 pub named_laid : {X : Type 0} {x : Variable} {w : ℕ} {number : X → ℕ} {of : ℕ → X} → HasValues x w number of
-    → IsLayout (one x) (λ v. alone x (number v)) (λ r. of (number_at 0 r))
+    → IsLayout (one x) (λ v. alone x (number v)) (λ r. of (row_number 0 r))
 unfolding alone
 named_laid {x = x} {number = number} v = record {
   are_rows = λ y. alone_rows x (number y);

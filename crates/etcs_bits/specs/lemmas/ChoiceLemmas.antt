@@ -3,11 +3,11 @@ use Rattle.std.specs.Prelude.{◌≡◌, ℕ, ◌==◌, ◌⊎◌, if◌then◌e
 use Rattle.std.proofs.Common.{ap, ap₂, subst, sym, ◌∙◌, inl, inr}
 use Rattle.std.proofs.lemmas.Bool.{eqb-true, ne_eqb, eq-eqb, true≢false}
 use Rattle.etcs_bits.specs.layout.Rows.{Variable, Row, row, alone, AreAllowed}
-use Rattle.etcs_bits.specs.layout.Found.{number_at, either_of}
+use Rattle.etcs_bits.specs.layout.Found.{row_number, either_value}
 use Rattle.etcs_bits.specs.layout.Fields.{Fields, field, AreRowsOf}
 use Rattle.etcs_bits.specs.layout.Laid.{IsLayout}
 use Rattle.etcs_bits.specs.layout.Choice.{Choice, either_allows, either_next, either_number, either_rows}
-use Rattle.etcs_bits.specs.layout.CombinedLemmas.{field_records}
+use Rattle.etcs_bits.specs.lemmas.CombinedLemmas.{field_records}
 
 -- only one number
 pub last_value : {A : Type 0} {a : Fields} {rows_a : A → List Row} {of_a : List Row → A}
@@ -36,7 +36,7 @@ either_are_rows k laid c fresh (inr y) = rw (apart k c fresh y) (c.are_rows y)
 
 pub either_is_value : {A B : Type 0} (k : ℕ) {a : Fields} {rows_a : A → List Row} {of_a : List Row → A}
     → IsLayout a rows_a of_a → (c : Choice B) → c.allows k ≡ false → (v : A ⊎ B)
-    → either_of k of_a c.of (either_number k c.number v) (either_rows rows_a c.rows v) ≡ v
+    → either_value k of_a c.of (either_number k c.number v) (either_rows rows_a c.rows v) ≡ v
 either_is_value k laid c fresh (inl x) = rw (is_itself k) (ap inl (laid.is_record x))
 either_is_value k laid c fresh (inr y) = rw (apart k c fresh y) (ap inr (c.is_value y))
 
@@ -68,7 +68,7 @@ others_value {rows_a = rows_a} number parts make laid back n more ok w allowed =
 
 -- the variable whose number is chosen, and what follows it
 pub chosen_laid : {X : Type 0} (x : Variable) (c : Choice X) → ((n : ℕ) → x.allows n ≡ c.allows n)
-    → IsLayout (field x c.next) (λ v. alone x (c.number v) ++ c.rows v) (λ r. c.of (number_at 0 r) (drop 1 r))
+    → IsLayout (field x c.next) (λ v. alone x (c.number v) ++ c.rows v) (λ r. c.of (row_number 0 r) (drop 1 r))
 unfolding alone
 chosen_laid x c same = record {
   are_rows = λ v. (c.number v, c.rows v, refl, c.are_rows v);

@@ -1,11 +1,11 @@
-//! A line of JSON, token by token. A value is written together with the comma that may follow it, and a
+//! `JsonLineWriter`: a line of JSON, written token by token. A value is written with the comma that may follow it, and a
 //! closing bracket overwrites that comma. So most tokens are appended as they are, a key together with its number.
 
 ghost use Rattle.std.specs.Prelude.{◌≡◌, ◌-◌, ◌++◌, ◌∷◌, [], IfOk, List, OnOk, cond, decimal, false, not, true};
 ghost use Rattle.json.specs.Print.{begins, ends, print, IsPrintable};
 ghost use Rattle.json.specs.Reads.{token_of};
 ghost use Rattle.json.specs.Token.{Token as JsonToken, key, number};
-ghost use Rattle.etcs_digits.specs.LineText.{Becomes, comma_after, empty_line, put, puts, quoted_text, without};
+ghost use Rattle.etcs_digits.specs.JsonLineWriter.{Becomes, value_comma, empty_line, put, puts, quoted_text, drop_comma};
 
 use crate::plain::is_plain;
 use crate::text_room::{make_ready, place_byte, place_number, place_quoted};
@@ -15,16 +15,16 @@ use std::marker::Model;
 
 /// A line of JSON that is being written. Contracts see its text and whether that text ends with such a comma.
 #[derive(Drop)]
-pub struct LineText {
+pub struct JsonLineWriter {
     bytes: Vec<u8>,
     len: usize,
     // Whether the text ends with a value and the comma that may follow it.
     after_value: bool,
 }
 
-impl Model for LineText {
+impl Model for JsonLineWriter {
     ghost use Rattle.std.specs.Prelude.{◌≤◌, length, take};
-    ghost use Rattle.etcs_digits.specs.LineText.{Line, line_code};
+    ghost use Rattle.etcs_digits.specs.JsonLineWriter.{Line, line_code};
 
     ghost Value = { Line };
 
@@ -49,7 +49,7 @@ fn ends_value(token: Token<'_>) -> bool
 // The comma that may follow a value.
 #[inline(always)]
 fn comma(after_value: bool) -> &'static [u8]
-    ensures { result.now ≡ comma_after after_value }
+    ensures { result.now ≡ value_comma after_value }
 {
     if after_value { b"," } else { b"" }
 }
@@ -62,12 +62,12 @@ fn end_of(len: usize, comma: bool) -> usize
     if comma { len.saturating_sub(1) } else { len }
 }
 
-impl LineText {
+impl JsonLineWriter {
     /// A line without a token, in the buffer `room`. The content of the buffer is lost.
-    pub fn new(room: Vec<u8>) -> LineText
+    pub fn new(room: Vec<u8>) -> JsonLineWriter
         ensures { result ≡ empty_line }
     {
-        LineText {
+        JsonLineWriter {
             bytes: room,
             len: 0,
             after_value: false,
@@ -79,7 +79,7 @@ impl LineText {
         ensures { IfOk result (λ line.
             (ts : List JsonToken) → self ≡ puts empty_line ts → line.items ≡ print ts ++ 10 ∷ []) }
     {
-        let LineText {
+        let JsonLineWriter {
             mut bytes,
             len,
             after_value,
@@ -105,7 +105,7 @@ impl LineText {
     #[inline(always)]
     fn close(&mut self, mark: u8) -> Result<(), AllocError>
         ensures { Becomes result self.old self.new
-            (record { text = without self.old.after_value self.old.text ++ mark ∷ 44 ∷ []; after_value = true }) }
+            (record { text = drop_comma self.old.after_value self.old.text ++ mark ∷ 44 ∷ []; after_value = true }) }
     {
         make_ready(&mut self.bytes, self.len, 2)?;
         let buf = self.bytes.as_mut_slice();

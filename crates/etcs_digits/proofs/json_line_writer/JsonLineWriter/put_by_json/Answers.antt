@@ -1,8 +1,8 @@
 use Rattle.std.proofs.Common.{◌∙◌, ap, arith, take_all}
 use Rattle.json.specs.Reads.{token_of}
-use Rattle.etcs_digits.specs.LineText.{put}
-use Rattle.etcs_digits.proofs.LineTextLemmas.{by_json}
-use Rattle.etcs_digits.proofs.line_text.LineText.put_by_json.Goals as goal
+use Rattle.etcs_digits.specs.JsonLineWriter.{put}
+use Rattle.etcs_digits.proofs.JsonLineWriterLemmas.{by_json}
+use Rattle.etcs_digits.proofs.json_line_writer.JsonLineWriter.put_by_json.Goals as goal
 
 -- the token's text and its comma follow the line's text
 pub returns : goal.returns

@@ -1,0 +1,2 @@
+-- Lemmas that definitions of this crate need. They state nothing that a contract names.
+pub mod LineLemmas

@@ -1,0 +1,4 @@
+-- Lemmas that definitions of this crate need. They state nothing that a contract names.
+pub mod EntryLemmas
+pub mod BodyLemmas
+pub mod AppendLemmas
