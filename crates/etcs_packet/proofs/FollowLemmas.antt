@@ -1,8 +1,11 @@
 -- Lists of rows that follow one another: how far they reach, and in which inputs they stand.
-use Rattle.std.proofs.Common.{◌≡◌, ℕ, ◌+◌, ◌≤◌, Bool, false, List, [], ◌∷◌, ◌++◌, length, take, refl, sym, ap, subst, ◌∙◌, arith, inl}
+use Rattle.std.proofs.Common.{◌≡◌, ℕ, ◌+◌, ◌≤◌, Bool, false, List, [], ◌∷◌, ◌++◌, length, take, refl, sym, ap, subst, ◌∙◌, arith, inl, inr, ◌⊎◌}
+use Rattle.std.specs.Prelude.{IsOk}
 use Rattle.etcs_bits.specs.declared.layout.fault.Fault.{Fault}
 use Rattle.etcs_bits.specs.layout.Rows.{Row, Place, IsSpelled, join}
 use Rattle.etcs_bits.specs.layout.Fields.{Fields, AreRowsOf}
+use Rattle.etcs_bits.specs.layout.Reading.{read_rows}
+use Rattle.etcs_bits.proofs.ReadingLemmas.{spelled_is_read}
 use Rattle.etcs_bits.proofs.StandLemmas.{place_in, length-join, stands_moved}
 use Rattle.etcs_bits.proofs.FaultLemmas.{fault_stays}
 use Rattle.etcs_packet.specs.declared.stop.Stop.{Stop}
@@ -33,6 +36,22 @@ pub follow_begins : (stop : Stop) (fields : Fields) (xs : List (List Row)) (p q 
     → Follow stop fields xs p q → ends stop q ≡ false → ends stop p ≡ false
 follow_begins stop fields [] p q there goes = subst (λ (z : Place). ends stop z ≡ false) there goes
 follow_begins stop fields (rows ∷ xs) p q (first, rest) goes = first
+
+-- Where the record after these rows grows, the first one does, or it was read.
+pub follow_grows : (Grows : Place → Type 0) (stop : Stop) (fields : Fields) (xs : List (List Row)) (p q : Place)
+    → p.at ≤ length p.bits → Follow stop fields xs p q → Grows q → Grows p ⊎ IsOk (read_rows fields p)
+follow_grows Grows stop fields [] p q within there grows = inl (subst Grows there grows)
+follow_grows Grows stop fields (rows ∷ xs) p q within (goes, (m, w, spelled, rest)) grows =
+    inr (rw (spelled_is_read fields rows p m within w spelled) refl)
+
+-- where a record stands after these rows, the first one was read
+pub follow_read : (stop : Stop) (fields : Fields) (xs : List (List Row)) (last : List Row) (p q r : Place)
+    → p.at ≤ length p.bits → Follow stop fields xs p q → AreRowsOf fields last → IsSpelled last q r
+    → IsOk (read_rows fields p)
+follow_read stop fields [] last p q r within there w spelled =
+    rw (spelled_is_read fields last p r within w (subst (λ (z : Place). IsSpelled last z r) there spelled)) refl
+follow_read stop fields (rows ∷ xs) last p q r within (goes, (m, v, here, rest)) w spelled =
+    rw (spelled_is_read fields rows p m within v here) refl
 
 -- one more list of rows at the end
 pub follow_more : (stop : Stop) (fields : Fields) (xs : List (List Row)) (rows : List Row)

@@ -1,9 +1,10 @@
 //! `read_items` and `write_items`: lists of packets of any kind, as telegrams and messages have them.
 
-ghost use Rattle.std.specs.Prelude.{◌≡◌, ◌+◌, ◌<◌, ◌≤◌, ◌++◌, ◌∷◌, [], length, true, false, Err, IfOk, OnOk, OnErr};
+ghost use Rattle.std.specs.Prelude.{◌≡◌, ◌⊎◌, ◌+◌, ◌<◌, ◌≤◌, ◌++◌, ◌∷◌, [], length, true, false, Err, IfOk, IsOk, OnOk, OnErr};
 ghost use Rattle.std.specs.List.{flat_map};
 ghost use Rattle.etcs_bits.specs.layout.Rows.{AreAllowed, join};
 ghost use Rattle.etcs_bits.specs.layout.Fault.{IsFault, lack};
+ghost use Rattle.etcs_bits.specs.layout.Reading.{read_rows};
 ghost use Rattle.etcs_bits.specs.layout.Results.{Gives, IfFault, IfMemory};
 ghost use Rattle.etcs_packet.specs.Lists.{IsHeaded, IsListFault, IsStep, NoStep, NoneStand, Stand, ends};
 ghost use Rattle.etcs_packet.specs.Reading.{read_list};
@@ -53,8 +54,8 @@ fn next_item<T: Layout>(
     ensures no_end { stop ≡ Stop.Telegram → length cur.old.bits < cur.old.at + 8
         → result ≡ Err (DecodeError.Fault (lack true cur.old)) }
 
-    // Neither the end of the list nor a record that does not grow takes memory.
-    ensures memory { IfMemory result ((ends stop cur.old ≡ false) × T.grows) }
+    // Neither the end of the list nor a record that does not grow here takes memory.
+    ensures memory { IfMemory result ((ends stop cur.old ≡ false) × T.grows cur.old) }
 {
     if is_end(cur, stop) {
         return Ok(None);
@@ -105,6 +106,9 @@ pub fn read_items<T: Layout>(
 
     // An empty list takes no memory.
     ensures memory { IfMemory result (ends stop cur.old ≡ false) }
+
+    // Nor does a fault of the first packet, if the packet does not grow here.
+    ensures first { IfMemory result (T.grows cur.old ⊎ IsOk (read_rows T.format.fields cur.old)) }
 {
     let mut ahead = cur.fork();
     let mut found = Vec::new(alloc);

@@ -35,12 +35,12 @@ pub fn next_whole<H: Layout, T: Layout>(
     ensures exact { Gives (λ w. (w.0, w.1.items)) result
         (read_whole stop H.format.fields H.format.of T.format.fields T.format.of cur.old) cur.new }
 
-    // A fault of a head that holds no list is always answered: reading such a head takes no memory.
-    ensures head { (H.grows → ⊥) → (f : Fault) → IsFault H.format.fields cur.old f
+    // A fault of a head that does not grow here is always answered: reading such a head takes no memory.
+    ensures head { (H.grows cur.old → ⊥) → (f : Fault) → IsFault H.format.fields cur.old f
         → result ≡ Err (DecodeError.Fault f) }
 
     // Behind such a head memory is asked for only where a packet is due.
-    ensures memory { (H.grows → ⊥) → IfMemory result (IsFollowed stop H.format.rows cur.old) }
+    ensures memory { (H.grows cur.old → ⊥) → IfMemory result (IsFollowed stop H.format.rows cur.old) }
 {
     let mut ahead = cur.fork();
     let head = H::read(alloc, &mut ahead)?;

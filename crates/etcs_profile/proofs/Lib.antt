@@ -3,3 +3,4 @@ pub mod BuiltLemmas
 pub mod ShortLemmas
 pub mod RawLemmas
 pub mod TrackLemmas
+pub mod GrowthLemmas

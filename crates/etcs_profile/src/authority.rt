@@ -293,7 +293,7 @@ impl Layout for Authority {
 
     ghost format = { authority };
 
-    ghost grows = { Unit {0} };
+    ghost grows = { λ _. Unit {0} };
 
     fn is_allowed(&self) -> bool {
         match &self.packet {

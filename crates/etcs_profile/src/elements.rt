@@ -124,7 +124,7 @@ impl<T: Layout> Layout for Elements<T> {
 
     ghost fit = { λ e. T.fit e.first × AllByRecursion T.fit e.further };
 
-    ghost grows = { Unit {0} };
+    ghost grows = { λ _. Unit {0} };
 
     fn is_allowed(&self) -> bool {
         each_allowed!(self; scale, first, further)

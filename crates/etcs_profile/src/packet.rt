@@ -26,6 +26,7 @@ impl<const N: u32, T: Layout> Model for Packet<N, T> {
 impl<const N: u32, T: Layout> Packet<N, T> {
     ghost use Rattle.std.specs.Prelude.{◌↔◌, ◌≤◌, ◌+◌, IsOk, IsSome, IfSome};
     ghost use Rattle.etcs_bits.specs.layout.Rows.{width};
+    ghost use Rattle.etcs_bits.specs.layout.Growth.{GrowsAfter, GrowsBehindLength};
     ghost use Rattle.etcs_bits.specs.layout.Reading.{read_rows};
     ghost use Rattle.etcs_bits.specs.layout.Results.{Gives, IfMemory};
     ghost use Rattle.etcs_bits.specs.variables.VariableFormats.{q_dir};
@@ -62,7 +63,7 @@ impl<const N: u32, T: Layout> Packet<N, T> {
     /// stand anywhere.
     pub fn scan_rest(alloc: Global, cur: &mut Cursor<'_>) -> Result<Self, DecodeError>
         ensures gives { Gives (rest T.format).rows result (read_rows (rest T.format).fields cur.old) cur.new }
-        ensures memory { IfMemory result T.grows }
+        ensures memory { IfMemory result (GrowsAfter q_dir.fields (GrowsBehindLength T.grows) cur.old) }
 
         // Q_DIR is read first. At its fault no memory is asked for.
         ensures direction { IfMemory result (IsOk (read_rows q_dir.fields cur.old)) }
@@ -76,13 +77,15 @@ impl<const N: u32, T: Layout> Packet<N, T> {
 #[tactic(auto, using(etcs_bits::proofs::PutLemmas::puts_then, etcs_bits::proofs::PutLemmas::keeps_front, etcs_bits::proofs::PutLemmas::allowed_both))]
 impl<const N: u32, T: Layout> Layout for Packet<N, T> {
     ghost use Rattle.std.specs.Prelude.{◌<◌};
-    ghost use Rattle.etcs_profile.specs.Packet.{packet};
+    ghost use Rattle.etcs_bits.specs.layout.Growth.{GrowsAfter, GrowsBehindLength};
+    ghost use Rattle.etcs_bits.specs.variables.VariableFormats.{q_dir};
+    ghost use Rattle.etcs_profile.specs.Packet.{nid_packet, packet};
 
     ghost format = { packet N T.format };
 
     ghost fit = { λ _. N < 256 };
 
-    ghost grows = { T.grows };
+    ghost grows = { GrowsAfter (nid_packet N).fields (GrowsAfter q_dir.fields (GrowsBehindLength T.grows)) };
 
     fn is_allowed(&self) -> bool {
         let number = Number::<N>;
@@ -101,6 +104,7 @@ impl<const N: u32, T: Layout> Layout for Packet<N, T> {
         self.body.put(out)
     }
 
+    #[tactic(auto, using(etcs_bits::proofs::GrowthLemmas::never_grows))]
     fn scan(alloc: Global, cur: &mut Cursor<'_>) -> Result<Self, DecodeError> {
         let _number = Number::<N>::scan(alloc, cur)?;
         Packet::scan_rest(alloc, cur)

@@ -118,7 +118,7 @@ impl Layout for RawPacket {
 
     ghost format = { raw_packet };
 
-    ghost grows = { Unit {0} };
+    ghost grows = { λ _. Unit {0} };
 
     fn is_allowed(&self) -> bool {
         // For the proof alone: the type keeps the number in range.

@@ -40,7 +40,7 @@ impl Layout for Terms {
 
     ghost format = { terms };
 
-    ghost grows = { Unit {0} };
+    ghost grows = { λ _. Unit {0} };
 
     #[tactic(auto, using(etcs_bits::proofs::PutLemmas::allowed_both, etcs_bits::proofs::FitLemmas::some_fit, etcs_bits::proofs::FitLemmas::all_fit))]
     fn is_allowed(&self) -> bool {

@@ -11,7 +11,7 @@ impl Layout for TrackPacket {
 
     ghost format = { track_packet };
 
-    ghost grows = { Unit {0} };
+    ghost grows = { λ _. Unit {0} };
 
     fn is_allowed(&self) -> bool {
         self.is_sound()

@@ -106,7 +106,7 @@ impl Layout for RawTrainPacket {
 
     ghost format = { raw_train_packet };
 
-    ghost grows = { Unit {0} };
+    ghost grows = { λ _. Unit {0} };
 
     fn is_allowed(&self) -> bool {
         // Only for the proof: the type keeps the number in range.

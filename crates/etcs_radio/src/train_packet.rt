@@ -81,7 +81,7 @@ impl Layout for TrainPacket {
 
     ghost format = { train_packet };
 
-    ghost grows = { Unit {0} };
+    ghost grows = { λ _. Unit {0} };
 
     fn is_allowed(&self) -> bool {
         self.is_sound()

@@ -154,7 +154,7 @@ impl Layout for SpeedElement {
     // The types keep the numbers in range, except the count of differences.
     ghost fit = { λ e. length e.differences ≤ 31 };
 
-    ghost grows = { Unit {0} };
+    ghost grows = { λ _. Unit {0} };
 
     #[tactic(auto, using(etcs_bits::proofs::PutLemmas::allowed_both, etcs_bits::proofs::FitLemmas::all_fit))]
     fn is_allowed(&self) -> bool {

@@ -107,7 +107,7 @@ impl Layout for LevelOrders {
 
     ghost format = { level_orders };
 
-    ghost grows = { Unit {0} };
+    ghost grows = { λ _. Unit {0} };
 
     fn is_allowed(&self) -> bool {
         each_allowed!(self; scale, d_leveltr, first, further)

@@ -37,4 +37,4 @@ pub returns-in_err-item-clause-memory : goal.returns-in_err-item-clause-memory
 returns-in_err-item-clause-memory g c =
     let failed = err_from_is_err_and c.from_residual.result c.from_residual.ensures.1 in
     let goes : ends c.args.stop c.args.cur.now ≡ false = cc (c.is_end.ensures.value, c.if-is_end.false) in
-    rw (failed.1, failed.2) (of_memory c.in_err-item.field-0.0 (λ (grows : g.T.Layout.grows). (goes, grows)) c.in_err-item.ensures.memory)
+    rw (failed.1, failed.2) (of_memory c.in_err-item.field-0.0 (λ (grows : g.T.Layout.grows c.args.cur.now). (goes, grows)) c.in_err-item.ensures.memory)

@@ -1,9 +1,9 @@
-use Rattle.std.proofs.Common.{◌≡◌, ap, map, false, Some, None, Err}
+use Rattle.std.proofs.Common.{◌≡◌, ap, map, false, Some, None, Err, inr}
 use Rattle.std.proofs.lemmas.Result.{err_from_is_err_and}
 use Rattle.etcs_bits.specs.layout.Results.{OfFault}
 use Rattle.etcs_packet.specs.Lists.{IsListFault, IsStep, Stand, ends}
 use Rattle.etcs_packet.proofs.EndLemmas.{less_left}
-use Rattle.etcs_packet.proofs.FollowLemmas.{follow_begins, follow_within}
+use Rattle.etcs_packet.proofs.FollowLemmas.{follow_begins, follow_grows, follow_read, follow_within}
 use Rattle.etcs_packet.proofs.ListLemmas.{if_memory, of_memory, goes_on, no_error, none_before, over, same_error, list_fault, list_fails, none_of, stand_is_read}
 use Rattle.etcs_packet.proofs.list.read_items.Goals as goal
 
@@ -80,10 +80,23 @@ pub returns-in_err-item-clause-memory : goal.returns-in_err-item-clause-memory
 returns-in_err-item-clause-memory g c =
     let failed = err_from_is_err_and c.from_residual.result c.from_residual.ensures.1 in
     let begins = follow_begins c.args.stop g.T.Layout.format.fields (map g.T.Layout.format.rows c.loop-found.found.items) c.args.cur.now c.loop-found.ahead c.loop-found.invariant.follow in
-    rw (failed.1, failed.2) (of_memory c.in_err-item.field-0.0 (λ (due : (ends c.args.stop c.loop-found.ahead ≡ false) × g.T.Layout.grows). begins due.0) c.in_err-item.ensures.memory)
+    rw (failed.1, failed.2) (of_memory c.in_err-item.field-0.0 (λ (due : (ends c.args.stop c.loop-found.ahead ≡ false) × g.T.Layout.grows c.loop-found.ahead). begins due.0) c.in_err-item.ensures.memory)
 
 pub returns-in_err-append-clause-memory : goal.returns-in_err-append-clause-memory
 returns-in_err-append-clause-memory g c =
     let step : IsStep c.args.stop g.T.Layout.format.rows (Some c.in-Some.item) c.loop-found.ahead c.next_item.new.cur = rw c.in-Some.is at c.in_ok-item.ensures.ok in
     let begins = follow_begins c.args.stop g.T.Layout.format.fields (map g.T.Layout.format.rows c.loop-found.found.items) c.args.cur.now c.loop-found.ahead c.loop-found.invariant.follow step.0 in
     if_memory c.from_residual-in_err-append.result begins
+
+-- the first packet grows, or was read
+pub returns-in_err-item-clause-first : goal.returns-in_err-item-clause-first
+returns-in_err-item-clause-first g c =
+    let failed = err_from_is_err_and c.from_residual.result c.from_residual.ensures.1 in
+    let grows = follow_grows g.T.Layout.grows c.args.stop g.T.Layout.format.fields (map g.T.Layout.format.rows c.loop-found.found.items) c.args.cur.now c.loop-found.ahead c.loop-found.invariant.inside c.loop-found.invariant.follow in
+    rw (failed.1, failed.2) (of_memory c.in_err-item.field-0.0 (λ (due : (ends c.args.stop c.loop-found.ahead ≡ false) × g.T.Layout.grows c.loop-found.ahead). grows due.1) c.in_err-item.ensures.memory)
+
+pub returns-in_err-append-clause-first : goal.returns-in_err-append-clause-first
+returns-in_err-append-clause-first g c =
+    let step : IsStep c.args.stop g.T.Layout.format.rows (Some c.in-Some.item) c.loop-found.ahead c.next_item.new.cur = rw c.in-Some.is at c.in_ok-item.ensures.ok in
+    let read = follow_read c.args.stop g.T.Layout.format.fields (map g.T.Layout.format.rows c.loop-found.found.items) (g.T.Layout.format.rows c.in-Some.item) c.args.cur.now c.loop-found.ahead c.next_item.new.cur c.loop-found.invariant.inside c.loop-found.invariant.follow (g.T.Layout.format.laid.are_rows c.in-Some.item) step.1 in
+    if_memory c.from_residual-in_err-append.result (inr read)

@@ -55,7 +55,7 @@ returns-in_err-head-clause-head g c = λ none f fault.
     let e = c.in_err-head.field-0.0 in
     let inside : c.args.cur.now.at ≤ length c.args.cur.now.bits = rw c.fork-ahead.ensures.same at c.fork-ahead.ensures.inside in
     let is_fault : OfFault e (λ h. IsFault g.H.Layout.format.fields c.args.cur.now h) = rw c.fork-ahead.ensures.same at c.in_err-head.ensures.fault in
-    rw (failed.1, failed.2) (ap Err (head_fault_is_reported e g.H.Layout.grows g.H.Layout.format.fields c.args.cur.now f inside is_fault c.in_err-head.ensures.memory none fault))
+    rw (failed.1, failed.2) (ap Err (head_fault_is_reported e (g.H.Layout.grows c.args.cur.now) g.H.Layout.format.fields c.args.cur.now f inside is_fault (rw c.fork-ahead.ensures.same at c.in_err-head.ensures.memory) none fault))
 
 -- where a head stands, it has no fault
 pub returns-in_err-items-clause-head : goal.returns-in_err-items-clause-head
@@ -74,7 +74,7 @@ returns-clause-head g c = λ none f fault.
 pub returns-in_err-head-clause-memory : goal.returns-in_err-head-clause-memory
 returns-in_err-head-clause-memory g c = λ none.
     let failed = err_from_is_err_and c.from_residual.result c.from_residual.ensures.1 in
-    rw (failed.1, failed.2) (of_memory c.in_err-head.field-0.0 (λ (grows : g.H.Layout.grows). absurd (none grows)) c.in_err-head.ensures.memory)
+    rw (failed.1, failed.2) (of_memory c.in_err-head.field-0.0 (λ (grows : g.H.Layout.grows c.args.cur.now). absurd (none grows)) (rw c.fork-ahead.ensures.same at c.in_err-head.ensures.memory))
 
 pub returns-in_err-items-clause-memory : goal.returns-in_err-items-clause-memory
 returns-in_err-items-clause-memory g c = λ none.
