@@ -57,9 +57,10 @@ def test_a_file_beside_the_table_that_is_not_read(table: Write, run: Run) -> Non
     beside = table(content=b"[check]\nline_speed = 200\n", name="balisekit.toml")
     other = table(content=b"group = 'group'", name="c.toml")
     note = f"note: {beside} is not read: --columns names another file"
+    options: List[List[Any]] = [["--columns", other], []]
     for command in ("check", "table"):
         words = ["--csv", path.parent / "sheet.csv", "--force"] if command == "table" else []
-        assert [note in run(command, path, *words, *more)[1] for more in (["--columns", other], [])] == [True, False]
+        assert [note in run(command, path, *words, *more)[1] for more in options] == [True, False]
     assert note not in run("check", path, "--columns", beside)[1]
     beside.unlink()
     assert note not in run("check", path, "--columns", other)[1]

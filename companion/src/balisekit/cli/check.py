@@ -68,9 +68,9 @@ def _write_for_tools(options: argparse.Namespace, outcome: Outcome) -> None:
 
         options.sarif.write([encode(sarif.document(outcome)), "\n"])
     if options.xlsx:
-        from balisekit.present import entries_sheet
+        from balisekit.present import sheets
 
-        options.xlsx.write(entries_sheet.document(outcome))
+        options.xlsx.write(sheets.entries_pieces(outcome))
     if options.json:
         from balisekit.present.check_json import as_json
 

@@ -7,7 +7,7 @@ from typing import List, Sequence
 from balisekit.cli import options as shared
 from balisekit.compare.sheet import Sheet, compare
 from balisekit.errors import TableError
-from balisekit.present import variables
+from balisekit.present import sheets
 from balisekit.present.check_text import head_line
 from balisekit.present.refusals import not_looked_at, refused_counts, refused_lines
 from balisekit.rules import checking
@@ -36,14 +36,14 @@ def run(options: argparse.Namespace) -> int:
     checked = checking.check(*shared.inputs(options), options.by_position, options.all)
     sheet = Sheet(checked)
     if options.csv:
-        options.csv.write(variables.csv_pieces(sheet))
+        options.csv.write(sheets.csv_pieces(sheet))
     if options.xlsx:
-        options.xlsx.write(variables.xlsx_pieces(sheet))
+        options.xlsx.write(sheets.xlsx_pieces(sheet))
     said = _lines(options, checked, sheet.notes)
     status = 0 if checked.whole else 2
     if wanted:
         compared = compare(checked, wanted)
-        said += variables.lines(checked, compared)
+        said += sheets.lines(checked, compared)
         status = status or (1 if compared.differences else 0)
     elif not checked.whole:
         said.append(f"INCOMPLETE: {', '.join([*refused_counts(checked), *not_looked_at(checked)])}")

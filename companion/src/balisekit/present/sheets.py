@@ -1,16 +1,21 @@
-"""The variables of a table as CSV and .xlsx, and their comparison with a sheet in words."""
+"""Sheets: the variables of a table, their comparison with a sheet in words, and the entries of `check` for a team."""
 from __future__ import annotations
 
-from typing import Iterator, Union
+from typing import Iterator, List, Union
 
 from balisekit.compare.sheet import COLUMNS, Compared, Difference, Sheet
 from balisekit.io import csv_writing, xlsx_writing
 from balisekit.present.refusals import refused_counts
 from balisekit.rules.checking import Checked
+from balisekit.rules.entries import Entry
+from balisekit.rules.families import Outcome
 from balisekit.tables.names import clean, describe_balise, quoted
 
 NUMBERS = ("balise", "raw", "value")
 """The columns whose numbers are stored as numbers in an .xlsx."""
+ENTRIES = ("rule", "urgency", "identity", "group", "rows", "values", "sentence", "owner", "state", "reason")
+WIDTHS = (6, 18, 12, 24, 12, 32, 80, 16, 10, 40)
+"""Of the columns of ENTRIES, in characters."""
 
 
 def csv_pieces(sheet: Sheet) -> Iterator[str]:
@@ -60,3 +65,27 @@ def lines(checked: Checked, compared: Compared) -> Iterator[str]:
     yield from (f"note: {clean(note)}" for note in compared.notes)
     yield from map(difference_words, compared.differences)
     yield last_line(checked, compared)
+
+
+def entries_pieces(outcome: Outcome) -> Iterator[bytes]:
+    """The workbook of entries. NoAnswer is raised if the package that writes it is absent."""
+    rows = ([clean(text) or None for text in _row(outcome, entry)] for entry in outcome.entries)
+    return xlsx_writing.pieces("entries", ENTRIES, rows, WIDTHS, "an .xlsx")
+
+
+def _row(outcome: Outcome, entry: Entry) -> List[str]:
+    """One entry. The team writes in who looks after an open one."""
+    identity, accepted = outcome.identity(entry), outcome.acceptances(entry)
+    about = entry.group.name if entry.group else entry.message.name if entry.message else ""
+    return [
+        entry.rule,
+        entry.urgency.name.lower().replace("_", " "),
+        "/".join(map(str, identity)) if identity else "",
+        about,
+        ", ".join(map(str, entry.rows)),
+        "; ".join(f"{name} {value}" for name, value in entry.values.items()),
+        entry.sentence,
+        "; ".join(dict.fromkeys(each.who for each in accepted)),
+        "accepted" if accepted else "open",
+        "; ".join(dict.fromkeys(each.reason for each in accepted)),
+    ]
