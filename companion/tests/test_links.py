@@ -691,7 +691,7 @@ SAYING: Form = {"nid_packet": 44, "q_dir": 2, "l_packet": 23, "body": ""}
 @pytest.mark.parametrize(
     "number, direction, orientation, is_named",
     [(44, 1, "rising", True), (44, 0, "rising", False), (44, 0, "falling", True), (44, 0, "", False), (44, 2, "", True)]
-    + [(number, 2, "rising", False) for number in (145, 254)],
+    + [(number, 2, "rising", False) for number in (0, 145, 254)],
 )
 def test_groups_that_say_nothing_in_that_direction_are_a_note(
     number: int, direction: int, orientation: str, is_named: bool

@@ -4,10 +4,11 @@ from __future__ import annotations
 from dataclasses import replace
 from functools import partial
 from pathlib import Path
-from typing import Any, List, Sequence, Tuple
+from typing import Any, List, Optional, Sequence, Tuple
 
 import pytest
 from meaning_line import Line, Row, change
+from meaning_mistakes import BOTH, RESTRICTED, restriction, with_packet
 from meaning_mistakes_of_groups import (
     FIXED,
     GREEN,
@@ -72,6 +73,74 @@ def test_e7_at_the_last_group(program: Program, tmp_path: Path) -> None:
     ):
         (one,) = found(program, tmp_path / "t.csv", "E7", change_)
         assert one.urgency == urgency
+
+
+MARKER = {"nid_packet": 0, "nid_vbcmk": 5}
+INHIBITION = {"nid_packet": 145, "q_dir": 2, "l_packet": 23, "body": ""}
+
+
+@pytest.mark.parametrize("packet", [MARKER, INHIBITION])
+def test_packets_that_say_nothing(program: Program, tmp_path: Path, packet: Any) -> None:
+    """With them groups of the other direction end no line for E7, and need no link for E17."""
+
+    def with_it(rows: List[Row]) -> None:
+        for row in rows:
+            row.form["packets"].append(packet)
+
+    def without_the_last(rows: List[Row]) -> None:
+        rows[:] = [row for row in rows if row.group not in ("Signal 5", "Signal 6")]
+
+    def copied(rows: List[Row]) -> None:
+        telegram(rows, 5, GREEN)["packets"] = telegram(rows, 5, YELLOW)["packets"]
+
+    (one,) = found(program, tmp_path / "t.csv", "E7", copied, with_it, line=BOTH)
+    assert one.urgency == Urgency.RULE_ONLY
+    made = remarks(program, written(program, tmp_path / "t.csv", BOTH, without_the_last, with_it), Options(), ["E17"])
+    assert not made, [each.sentence for each in made]
+
+
+@pytest.mark.parametrize("signal, urgency", [(5, Urgency.RULE_ONLY), (4, None)])
+def test_e7_of_infill(program: Program, tmp_path: Path, signal: int, urgency: Optional[Urgency]) -> None:
+    """It has the urgency of its signal, signal 5 of which leads to the last group."""
+
+    def copied(rows: List[Row]) -> None:
+        for name in (f"Signal {signal}", f"Infill of Signal {signal}"):
+            yellow, green = (next(row for row in rows if (row.group, row.aspect) == (name, each)) for each in "YG")
+            green.form["packets"] = yellow.form["packets"]
+
+    line = Line(signals=6, infill=(signal - 1,), aspects=("R", "Y", "G"))
+    made = found(program, tmp_path / "t.csv", "E7", copied, line=line)
+    assert [each.urgency for each in made] == [urgency, urgency]
+
+
+def test_lengths_of_one_group_need_no_kilometres(program: Program, tmp_path: Path) -> None:
+    """Kilometres with one decimal hide nothing there, and make no ends equal."""
+
+    def of(rule: str, *changes: Change) -> Sequence[Remark]:
+        path = written(program, tmp_path / "t.csv", SHORT, *changes)
+        head, *lines = path.read_text("utf-8").splitlines()
+        cells = [line.split(",") for line in lines]
+        coarse = [",".join([*row[:2], f"{float(row[2]):.1f}", *row[3:], "rising"]) for row in cells]
+        path.write_text("\n".join([f"{head},nominal", *coarse]) + "\n", "utf-8")
+        return remarks(program, path, Options(), [rule])
+
+    def unlinked(rows: List[Row]) -> None:
+        telegram(rows, 1, FIXED)["packets"] = []
+
+    def short(rows: List[Row]) -> None:
+        elements = change(rows, "Signal 1", YELLOW, 27)["elements"]
+        elements[1]["d_static"] -= 90
+        elements.insert(0, {**elements[0], "v_static": 24})
+        elements[1]["d_static"] = 90
+
+    ends = packet_with(1, YELLOW, 12, l_endsection=2910)
+    assert not of("E9", ends)
+    assert not of("E10", unlinked, element_with(1, GREEN, 27, 0, v_static=24), ends)
+    (one,) = of("E10", short)
+    assert [int(one.values[name]) for name in ("begin_m", "end_m", "value_1")] == [0, 90, 120]
+    assert not of("E22", RESTRICTED)
+    (one,) = of("E22", RESTRICTED, with_packet("Signal 1", FIXED, restriction(7, 4000, 590, 40)))
+    assert one.values["l_tsr_m"] == 590
 
 
 def test_e7_before_a_signal_whose_direction_is_not_known(program: Program, tmp_path: Path) -> None:

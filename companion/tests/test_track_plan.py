@@ -374,6 +374,29 @@ def test_x5_of_packets_without_a_place(program: Program, tmp_path: Path) -> None
     assert found.sentence == f"RBC 352/18 at km 20.500, and RBC 352/17 from km 16.700 on by row {row} of the plan"
 
 
+@pytest.mark.parametrize(
+    "metres, tolerance, level, is_named",
+    [(0, 0, 0, False), (0, 0, 2, True), (1, 0, 0, False), (2, 0, 0, True), (4, 5, 0, False), (4, 5, 3, True)],
+)
+def test_x5_of_a_packet_46_near_the_border(
+    program: Program, tmp_path: Path, metres: int, tolerance: int, level: int, is_named: bool
+) -> None:
+    """It may have the levels of the border that is ahead of it within the tolerance."""
+
+    def before(rows: List[Row]) -> None:
+        fixed(rows, "Border").append(conditional(level))
+        for row in rows:
+            row.place -= metres * (row.group == "Border")
+
+    line = read(program, written(program, tmp_path / "t.csv", SOUND["level-border"], before))
+    cells = dict.fromkeys(plan.COLUMNS, "")
+    places = (("5.000", "1"), ("16.700", "0"))
+    rows = [{**cells, "kind": "level", "km": km, "way": "rising", "value": value} for km, value in places]
+    found = results(line, rows, tmp_path, Options(tolerance=Decimal(tolerance)))["X5"].found
+    sentences = [each.sentence for each in found if each.location.number == 46]
+    assert len(sentences) == is_named, sentences
+
+
 def test_x5_of_the_rbc_in_whose_area_the_table_begins(program: Program, tmp_path: Path) -> None:
     """A session with it gets a remark, unless the plan has a row for it in rear of the first group."""
 

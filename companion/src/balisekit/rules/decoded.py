@@ -36,7 +36,7 @@ from balisekit.etcs.raw_packets import fields_of
 from balisekit.etcs.variables import UNITS, Form
 from balisekit.rules.chainage import Chainage, Jump
 from balisekit.rules.location import BaliseGroup, Identity, Location
-from balisekit.rules.passages import DUPLICATE, HOLDING, Content, Said, packets_of
+from balisekit.rules.passages import DUPLICATE, HOLDING, SAYS_NOTHING, Content, Said, packets_of
 from balisekit.tables.model import Message, Row
 
 LINKING, GRADIENTS, SPEEDS, LEVELS = 5, 21, 27, 41
@@ -180,6 +180,11 @@ class Passage:
     def way(self) -> Optional[int]:
         """1 if the passage goes towards greater kilometres, -1 if towards lower ones."""
         return self.group.group.along(self.direction) if self.group else None
+
+    @property
+    def speaks(self) -> bool:
+        """Whether a packet before a packet 136 says anything of the track."""
+        return any(packet.number not in SAYS_NOTHING for packet in self.said)
 
     @property
     def track(self) -> str:
@@ -349,11 +354,16 @@ class Decoded:
         return f"km {self.chainages.get(track, Chainage()).words(place)}"
 
     def tolerance(self, options_tolerance: Decimal, *parts: int) -> int:
-        """By how many decimetres places may differ: the user's tolerance, these parts and the kilometres' resolution.
+        """By how many decimetres places may differ: as lengths may, and by the kilometres' resolution."""
+        return tolerance_of_lengths(options_tolerance, *parts) + self.resolution
 
-        `allowance` has the part of a packet.
-        """
-        return int((options_tolerance * 10).to_integral_value(ROUND_CEILING)) + self.resolution + sum(parts)
+
+def tolerance_of_lengths(options_tolerance: Decimal, *parts: int) -> int:
+    """By how many decimetres lengths may differ: the user's tolerance and these parts.
+
+    `allowance` has the part of a packet.
+    """
+    return int((options_tolerance * 10).to_integral_value(ROUND_CEILING)) + sum(parts)
 
 
 def allowance(packet: Packet, lengths: int = 1) -> int:

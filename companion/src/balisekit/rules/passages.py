@@ -31,8 +31,8 @@ RECORD = re.compile(
 """The record of a telegram: the keys of its header, and NID_C with the packets as one text."""
 WITHOUT_DIRECTION = (44, 145, 254)
 """Packets whose direction is not compared: other applications, inhibition of balise reactions, default telegrams."""
-SAYS_NOTHING = (145, 254, 255)
-"""Packets by which a group says nothing of the track."""
+SAYS_NOTHING = frozenset({0, 145, 254, 255})
+"""Packets by which a group says nothing of the track. Packet 0 has no Q_DIR."""
 KEPT = 1 << 12
 """How many of these texts are kept with what they say."""
 

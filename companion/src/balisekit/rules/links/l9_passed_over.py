@@ -2,7 +2,7 @@
 
 What it says. A packet 5 does not name a group with Q_LINK 1 and data for its direction that by the kilometres is
 between two neighbours of it. The sender and the first group that it names are neighbours too. The data are for the
-direction in which the group is passed, or for both if that is not known: packets 145, 254 and 255, and refused
+direction in which the group is passed, or for both if that is not known: packets 0, 145, 254 and 255, and refused
 telegrams, do not count. A note counts the other groups that are passed over. Of several groups between the same two the
 line names up to three. Nothing is looked for beside a neighbour that is not in the table or is on another track
 (SUBSET-026, 3.4.4).

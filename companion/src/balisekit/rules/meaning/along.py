@@ -139,7 +139,7 @@ def _lasts_and_signals(decoded: Decoded) -> Dict[Lane, Tuple[int, List[int]]]:
             signals.setdefault(lane, set()).add(at)
     for passage in decoded.passages:
         place = passage.place(0)
-        speaks = place is not None and any(each.number < 254 for each in passage.said)
+        speaks = place is not None and passage.speaks
         for way in ((passage.way,) if passage.way else (1, -1)) if speaks else ():
             at, lane = (place or 0) * way, (passage.track, way)
             lasts[lane] = max(lasts.get(lane, at), at)

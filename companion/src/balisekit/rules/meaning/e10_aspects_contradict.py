@@ -102,7 +102,7 @@ def _compared(
             continue  # of a fixed balise
         apart = STEEPER if packets[0].number == GRADIENTS else 0
         differing = list(contrary(packets[0].stretches, packets[1].stretches, reach, apart))
-        least = tolerance(line, options, *((each, len(each.stretches)) for each in packets)) if differing else 0
+        least = tolerance(options, *((each, len(each.stretches)) for each in packets)) if differing else 0
         for begin, end, *values in differing:
             place = one.place(begin + least)
             if end - begin > least and (place is None or not leaves(options, line.decoded, one, place)):

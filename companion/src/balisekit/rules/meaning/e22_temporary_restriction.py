@@ -31,7 +31,7 @@ from decimal import Decimal
 from typing import Dict, Iterator, List, NamedTuple, Sequence, Tuple
 
 from balisekit.etcs.variables import Values, metres
-from balisekit.rules.decoded import Decoded, Packet, Passage
+from balisekit.rules.decoded import Decoded, Packet, Passage, tolerance_of_lengths
 from balisekit.rules.line import Line
 from balisekit.rules.meaning.along import lane_of
 from balisekit.rules.meaning.words import at_place, merged, source
@@ -123,9 +123,11 @@ def _compare(decoded: Decoded, options: Options, some: Sequence[Restriction]) ->
     counts = Counter(each.says for each in some)
     usual = max(some, key=lambda each: counts[each.says])
     for each in some:
-        tolerance = decoded.tolerance(options.tolerance_of_places, each.packet.unit, usual.packet.unit)
-        apart = max(abs(each.place - usual.place), abs(each.length - usual.length))
-        if (apart > tolerance or each.speed != usual.speed) and not _is_rest(each, usual, tolerance):
+        stated, units = options.tolerance_of_places, (each.packet.unit, usual.packet.unit)
+        tolerance = decoded.tolerance(stated, *units)
+        is_same = abs(each.place - usual.place) <= tolerance and each.speed == usual.speed
+        is_same = is_same and abs(each.length - usual.length) <= tolerance_of_lengths(stated, *units)
+        if not is_same and not _is_rest(each, usual, tolerance):
             sentence = (
                 f"the restriction with NID_TSR {each.number} is at {each.words(decoded, each.passage)}, and by "
                 f"{source(usual.passage, usual.packet)} at {usual.words(decoded, each.passage)}"

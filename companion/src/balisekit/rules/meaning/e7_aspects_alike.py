@@ -4,8 +4,9 @@ What it says. Aspects of a group have equal packets in every balise, among them 
 M_MCOUNT may differ. If no packet 12 of such aspects has a V_MAIN above 0, one note for the table counts them.
 
 How urgent. At worst wrong information. The urgency is the lowest one if the authority ends within 50 m of the last
-group of its track and way, with no other signal in between. Groups of unknown direction, or with a refused telegram,
-count for both ways.
+group of its track and way, with no other signal in between. A group is of the ways for which it has packets other than
+0, 145, 254 and 255. Groups of unknown direction, or with a refused telegram, count for both ways. Infill has the
+lowest one if its signal has it.
 
 Usual cause. The telegram of one aspect was copied and not changed.
 
@@ -27,6 +28,7 @@ from __future__ import annotations
 from decimal import Decimal
 from typing import Dict, Iterator, List, Mapping, NamedTuple, Optional, Sequence, Tuple
 
+from balisekit.etcs.geometry import INFILL
 from balisekit.rules.decoded import Decoded, GroupData, Packet, Telegram
 from balisekit.rules.line import Line
 from balisekit.rules.location import Location
@@ -65,7 +67,10 @@ def find(line: Line, options: Options) -> Result:
     ends: Dict[int, List[End]] = {}
     for end in ends_of(line.decoded) if alike else ():
         ends.setdefault(id(end.passage.group), []).append(end)
-    found = [_remark(each, _urgency(line.decoded, each, ends)) for each in alike if each.speeds]
+    moving = [(each, _ends_of(each, ends)) for each in alike if each.speeds]
+    last = [each for each, own in moving if own and all(ends_the_line(line.decoded, end) for end in own)]
+    least = [*last, *(each for each, own in moving if not own and _is_infill_of(line.decoded, each, last))]
+    found = [_remark(each, Urgency.RULE_ONLY if each in least else None) for each, _ in moving]
     return Result(found, len(several), notes=list(_note(stops)))
 
 
@@ -91,11 +96,18 @@ def _are_alike(some: Sequence[Telegram], others: Sequence[Telegram]) -> bool:
     return all(one is other or one.forms == other.forms for one, other in zip(some, others))
 
 
-def _urgency(decoded: Decoded, alike: Alike, by_group: Mapping[int, Sequence[End]]) -> Optional[Urgency]:
-    """The lowest one if all their authorities end at the last group of their way, without a signal in between."""
+def _ends_of(alike: Alike, by_group: Mapping[int, Sequence[End]]) -> Sequence[End]:
+    """Where their authorities end that count from their group."""
     own = [packet.form for packet in alike.packets]
-    ends = [end for end in by_group.get(id(alike.data), ()) if end.packet.form in own]
-    return Urgency.RULE_ONLY if ends and all(ends_the_line(decoded, end) for end in ends) else None
+    return [end for end in by_group.get(id(alike.data), ()) if end.packet.form in own]
+
+
+def _is_infill_of(decoded: Decoded, alike: Alike, signals: Sequence[Alike]) -> bool:
+    """Whether its packet 136 names one of these signals, whose aspects have these names."""
+    country = alike.data.group.identity[0] if alike.data.group.identity else 0
+    named = (packet.form for packet in alike.packets if packet.number == INFILL and "nid_bg" in packet.form)
+    targets = [decoded.by_identity.get((form.get("nid_c", country), form["nid_bg"])) for form in named][:1]
+    return any(each.data in targets and {*alike.names} <= {*each.names} for each in signals)
 
 
 def _remark(alike: Alike, urgency: Optional[Urgency]) -> Remark:

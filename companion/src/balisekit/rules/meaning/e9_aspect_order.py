@@ -43,14 +43,14 @@ NAMED = 5
 def find(line: Line, options: Options) -> Result:
     """Compares the aspects of each name over the table."""
     cases = cases_of(line)
-    return Result([*_ends(line, options, cases), *_stops(cases)], len(cases))
+    return Result([*_ends(options, cases), *_stops(cases)], len(cases))
 
 
-def _ends(line: Line, options: Options, cases: Sequence[Sequence[Case]]) -> Iterator[Remark]:
+def _ends(options: Options, cases: Sequence[Sequence[Case]]) -> Iterator[Remark]:
     """Authorities against the order that most cases show."""
     counts: Counts = {}
     wrong: Dict[Tuple[int, str], List[Pair]] = {}
-    for pair in against_the_order(pairs_of(line, options, cases), counts):
+    for pair in against_the_order(pairs_of(options, cases), counts):
         wrong.setdefault((id(pair.first.passage.group), pair.first.passage.direction), []).append(pair)
     for some in wrong.values():
         yield from _of_group(some, counts)

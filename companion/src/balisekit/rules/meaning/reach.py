@@ -57,7 +57,7 @@ def lanes_of_links(decoded: Decoded) -> Dict[Lane, Reach]:
             continue
         lane = lanes[passage.track, way]
         is_new = (data, way) not in known and not passage.message and passage.way is not None
-        if is_new and data.group.linked and any(each.number < 254 for each in passage.said):
+        if is_new and data.group.linked and passage.speaks:
             known.add((data, way))
             lane.groups.append(data.place * way)
         if named and last.get((data, way)) is not named:

@@ -6,7 +6,7 @@ from decimal import Decimal
 from typing import Callable, Dict, Iterator, List, Mapping, NamedTuple, Optional, Sequence, Tuple, TypeVar, Union
 
 from balisekit.etcs.geometry import ELEMENT_KEYS
-from balisekit.rules.decoded import Decoded, GroupData, Packet, Passage, Stretch, allowance
+from balisekit.rules.decoded import Decoded, GroupData, Packet, Passage, Stretch, allowance, tolerance_of_lengths
 from balisekit.rules.line import Line
 from balisekit.rules.location import Location
 from balisekit.rules.rule import Field, Options, Remark, Result
@@ -91,10 +91,12 @@ def field_at(packet: Packet, distance: int) -> List[Field]:
     return [(packet.row.number, packet.place, ELEMENT_KEYS[packet.number][1], place)] if packet.row else []
 
 
-def tolerance(line: Line, options: Options, *parts: Tuple[Packet, int]) -> int:
-    """By how many decimetres sums of lengths of these packets may differ. Each packet has the number of its lengths."""
-    allowed = (allowance(packet, lengths) for packet, lengths in parts)
-    return line.decoded.tolerance(options.tolerance_of_places, *allowed)
+def tolerance(options: Options, *parts: Tuple[Packet, int]) -> int:
+    """By how many decimetres sums of lengths of these packets may differ. Each packet has the number of its lengths.
+
+    They count from one group, so that the kilometres do not matter.
+    """
+    return tolerance_of_lengths(options.tolerance_of_places, *(allowance(packet, lengths) for packet, lengths in parts))
 
 
 def speed(value: int) -> str:

@@ -81,7 +81,7 @@ def common_reach(line: Line, options: Options, one: Linked, other: Linked) -> in
         return 0
     ends = [max(each.authorities, key=lambda packet: packet.end) for each in (here, there)]
     first, second = (packet.end for packet in ends)
-    is_same = abs(first - second) <= tolerance(line, options, *((packet, packet.lengths) for packet in ends))
+    is_same = abs(first - second) <= tolerance(options, *((packet, packet.lengths) for packet in ends))
     return min(first, second) if is_same else 0
 
 
@@ -135,10 +135,10 @@ def is_usual(count: int, of_how_many: int) -> bool:
     return count >= LEAST and count * 5 >= of_how_many * 4
 
 
-def pairs_of(line: Line, options: Options, cases: Sequence[Sequence[Case]]) -> Mapping[Tuple[str, str], Sequence[Pair]]:
+def pairs_of(options: Options, cases: Sequence[Sequence[Case]]) -> Mapping[Tuple[str, str], Sequence[Pair]]:
     """Each two aspects of a group with a V_MAIN above 0, by their names in the order of the alphabet."""
     pairs: Dict[Tuple[str, str], List[Pair]] = {}
-    least = tolerance(line, options)
+    least = tolerance(options)
     for own in cases:
         moving = sorted([case for case in own if case.packet.form["v_main"]], key=lambda case: case.passage.aspect)
         parts = [(case.packet.end, allowance(case.packet, case.packet.lengths)) for case in moving]

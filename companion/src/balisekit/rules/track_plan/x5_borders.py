@@ -69,8 +69,8 @@ def find(line: Line, options: Options) -> Result:
         border = border_of(saying)
         if border is None:
             continue
-        spots, place, why = _wanted(placed, border)
         tolerance = line.decoded.tolerance(options.tolerance, allowance(saying.packet))
+        spots, place, why = _wanted(placed, border, tolerance)
         if border.has_place and not why and placed.is_lost(border.kind, saying.passage, place, tolerance):
             spots, why = (), NO_PLACE
         named.update(spot.row.number for spot in spots)
@@ -87,7 +87,7 @@ def find(line: Line, options: Options) -> Result:
     return placed.result(BORDERS, remarks, counts)
 
 
-def _wanted(placed: Placed, border: Border) -> Tuple[Sequence[Spot], int, str]:
+def _wanted(placed: Placed, border: Border, tolerance: int) -> Tuple[Sequence[Spot], int, str]:
     """The rows of the plan with which a border is compared, and its place; or why it is not compared."""
     passage = border.saying.passage
     place, way = passage.place(border.distance), passage.way
@@ -106,6 +106,7 @@ def _wanted(placed: Placed, border: Border) -> Tuple[Sequence[Spot], int, str]:
     passed = [spot for spot in spots if way * spot.place <= way * place]
     asked = (ahead, passed) if border.kind == "rbc" else (passed,)
     found = [nearest(some, place) for some in asked if some]
+    found += [spot for spot in ahead if abs(spot.place - place) <= tolerance and spot.row.value == border.text]
     return found, place, "" if found else SAYS_NOTHING
 
 
