@@ -20,7 +20,8 @@ use Rattle.etcs_document.specs.declared.refusal.LineFault.TheVariants.{Form, Jso
 use Rattle.etcs_telegram.specs.Record.{Telegram}
 use Rattle.etcs_telegram.specs.Sizes.{user_bits}
 use Rattle.etcs_telegram.specs.Telegram.{IsTooBig, used_bits}
-use Rattle.etcs_telegram.specs.Text.{HasHeaderFault, IsCanonicalText, IsHexadecimal, IsReasonDecoded, TextFails}
+use Rattle.etcs_telegram.specs.Text.{HasHeaderFault, IsCanonicalText, IsReasonDecoded, TextFails}
+use Rattle.etcs_digits.specs.Hexadecimal.{IsHexadecimal}
 use Rattle.etcs_telegram.specs.declared.error.TextError.{TextError}
 use Rattle.etcs_telegram.specs.declared.error.TextError.TheVariants as texts
 use Rattle.etcs_run.specs.FormLines.{◌then◌, message_line, or_fault, or_no_json, parsed_record, telegram_line, text_unless, parsed_value}

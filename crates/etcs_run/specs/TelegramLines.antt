@@ -1,7 +1,8 @@
 -- A telegram as a line of text. A text that is accepted becomes one JSON object. A text that is
 -- refused becomes the reason, in words.
 use Rattle.std.specs.Prelude.{ℕ, List, Result, Ok, Err}
-use Rattle.etcs_telegram.specs.Text.{HasHeaderFault, IsHexadecimal, IsReasonDecoded}
+use Rattle.etcs_digits.specs.Hexadecimal.{IsHexadecimal}
+use Rattle.etcs_telegram.specs.Text.{HasHeaderFault, IsReasonDecoded}
 use Rattle.etcs_telegram.specs.TextMeaning.{telegram_of_text}
 use Rattle.etcs_telegram.specs.Record.{Telegram}
 use Rattle.etcs_telegram.specs.declared.error.TextError.{TextError}

@@ -48,6 +48,14 @@ impl<T> Counted<T> {
         }
     }
 
+    /// Unwraps the reader or writer, with what it holds. The counts are lost.
+    #[inline]
+    pub fn into_inner(self) -> T
+        ensures { result ≡ wrapped self }
+    {
+        self.inner
+    }
+
     /// The number of calls that have failed. The count stops at 2^64 - 1.
     #[inline]
     pub fn failures(&self) -> u64

@@ -23,7 +23,7 @@ use Rattle.etcs_telegram.specs.declared.error.TextError.TheVariants as errors
 use Rattle.etcs_telegram.specs.declared.size.Size.{Size}
 use Rattle.etcs_telegram.specs.Record.{Telegram}
 use Rattle.etcs_telegram.specs.Sizes.{user_bits, byte_count, pad_count}
-use Rattle.etcs_telegram.specs.TextMeaning.{size_from_bytes, of_bits, of_size, of_decoded, telegram_of_text, pads_with_zeros}
+use Rattle.etcs_telegram.specs.TextMeaning.{size_from_bytes, of_bits, of_size, of_bytes, of_decoded, telegram_of_text, pads_with_zeros}
 use Rattle.etcs_telegram.specs.Telegram.{AreUserBits, IsTelegram, IsTelegramFault, IsNoTelegram}
 use Rattle.etcs_telegram.specs.Meaning.{short_or_long, sized_telegram, read_telegram}
 use Rattle.etcs_telegram.specs.Text.{IsTelegramText, IsCanonicalText, ArePadded, take_user_bits, no_pads}
@@ -99,13 +99,19 @@ of_bits_ok : (r : Result Telegram Fault) (t : Telegram) → of_bits r ≡ Ok t �
 of_bits_ok (Ok u) t is = let same : u ≡ t = cc in ap Ok same
 of_bits_ok (Err f) t is = absurd cc
 
+-- padded bytes mean what their user bits mean
+pub padded_means : (size : Size) (bytes : List ℕ) → IsBytes bytes → ArePadded size bytes
+    → of_bytes bytes ≡ of_bits (read_telegram (take_user_bits size bytes))
+padded_means size bytes in_range x =
+    let sized : size_from_bytes (length bytes) ≡ Some size = ap size_from_bytes x.count ∙ size_in_back size in
+    let zeros : pads_with_zeros size bytes ≡ true = eq-eqb _ _ (pads_divide size bytes x.count (in_range (byte_count size - 1)) x.padding) in
+    rw (sized, zeros) refl
+
 pub text_meaning : (t : Telegram) (text : List ℕ) → IsTelegramText t text → telegram_of_text text ≡ Ok t
 unfolding telegram_of_text
 text_meaning t text x =
-    let in_range = (decode_of-ok text x.bytes x.decoded).3 in
-    let size : size_from_bytes (length x.bytes) ≡ Some t.size = ap size_from_bytes x.padded.count ∙ size_in_back t.size in
-    let zeros : pads_with_zeros t.size x.bytes ≡ true = eq-eqb _ _ (pads_divide t.size x.bytes x.padded.count (in_range (byte_count t.size - 1)) x.padded.padding) in
-    rw (x.decoded, size, zeros, telegram_meaning t (take_user_bits t.size x.bytes) x.telegram) refl
+    let means = padded_means t.size x.bytes (decode_of-ok text x.bytes x.decoded).3 x.padded in
+    rw x.decoded (means ∙ ap of_bits (telegram_meaning t (take_user_bits t.size x.bytes) x.telegram))
 
 -- the number of user bits, in as many bytes as a telegram of this size has
 user_bits_count : (size : Size) (bytes : List ℕ) → length bytes ≡ byte_count size → length (take_user_bits size bytes) ≡ user_bits size

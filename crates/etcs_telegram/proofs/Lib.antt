@@ -3,5 +3,3 @@ pub mod FillLemmas
 pub mod TextLemmas
 pub mod LawLemmas
 pub mod ReasonLemmas
-pub mod DigitLemmas
-pub mod HeaderLemmas

@@ -1,29 +1,33 @@
 -- The reason to refuse a text, and what the text means.
-use Rattle.std.proofs.Common.{◌≡◌, ◌≢◌, ◌↔◌, ℕ, ◌-◌, ◌*◌, Bool, arith, sym, IsErrOf, IfErr, true, false, List, length, if◌then◌else◌, Option, Some, None, Result, Ok, Err, refl, ap, subst, ◌∙◌}
-use Rattle.std.proofs.lemmas.Bool.{eq-eqb}
+use Rattle.std.proofs.Common.{◌≡◌, ◌≢◌, ◌↔◌, ℕ, ◌-◌, ◌*◌, Bool, arith, sym, inl, IfErr, IsErrOf, true, false, List, length, if◌then◌else◌, Option, Some, None, Result, Ok, Err, refl, ap, ap₂, subst, ◌∙◌}
+use Rattle.std.specs.Prelude.{IfOk}
 use Rattle.hex.specs.Hex.{decode_of, IsBytes}
 use Rattle.hex.specs.declared.error.FromHexError.{FromHexError}
-use Rattle.hex.proofs.HexLemmas.{decode_of-digits, decode_of-ok}
+use Rattle.hex.proofs.HexLemmas.{decode_of-digits, decode_of-ok, decode_of-same}
 use Rattle.etcs_bits.specs.declared.layout.fault.Fault.{Fault}
+use Rattle.etcs_bits.specs.layout.Fault.{IsFault}
+use Rattle.etcs_digits.specs.Hexadecimal.{IsHexadecimal}
+use Rattle.etcs_digits.proofs.DigitLemmas.{decoded_digits, not_decoded}
+use Rattle.etcs_packet.specs.Whole.{start}
+use Rattle.etcs_packet.proofs.WholeLemmas.{head_stands}
 use Rattle.etcs_telegram.specs.declared.error.TextError.{TextError}
 use Rattle.etcs_telegram.specs.declared.error.TextError.TheVariants as errors
 use Rattle.etcs_telegram.specs.declared.size.Size.{Size}
 use Rattle.etcs_telegram.specs.declared.size.Size.TheVariants.{Short, Long}
+use Rattle.etcs_telegram.specs.Header.{header}
 use Rattle.etcs_telegram.specs.Record.{Telegram}
 use Rattle.etcs_telegram.specs.Sizes.{byte_count}
 use Rattle.etcs_telegram.specs.TextMeaning.{size_from_bytes, of_bits, of_size, of_bytes, of_decoded, telegram_of_text, pads_with_zeros}
 use Rattle.etcs_telegram.specs.Meaning.{read_telegram}
-use Rattle.etcs_telegram.specs.Text.{IsHexadecimal, IsReason, IsBytesReason, HavePadSet, HaveFault, take_user_bits, IsReasonDecoded, IsTextMeaning, TextFails}
-use Rattle.etcs_telegram.proofs.LawLemmas.{fault_meant, meant_fault, fault_none}
-use Rattle.etcs_telegram.proofs.TextLemmas.{size_in_back, size_counts, none_counts, pads_divide, padded_when, set_when, not_decoded}
+use Rattle.etcs_telegram.specs.Text.{ArePadded, HasHeaderFault, HasPackets, IsReason, IsBytesReason, IsTelegramText, HavePadSet, HaveFault, take_user_bits, IsReasonDecoded, IsTextMeaning}
+use Rattle.etcs_telegram.proofs.LawLemmas.{fault_meant, fault_none, meant_fault, means_text, padded_means}
+use Rattle.etcs_telegram.proofs.TextLemmas.{size_in_back, size_counts, none_counts, padded_when, set_when}
 
 -- ---- a reason is what the text means
 
 not_hex : (text : List ℕ) (d : Result (List ℕ) FromHexError) → decode_of text ≡ d
     → (IsHexadecimal text → ⊥) → of_decoded d ≡ Err errors.NotHex
-not_hex text (Ok bytes) decoded not =
-    let digits = decode_of-ok text bytes decoded in
-    absurd (not (record { even = digits.0; digits = digits.1 }))
+not_hex text (Ok bytes) decoded not = absurd (not (decoded_digits text bytes decoded))
 not_hex text (Err e) decoded not = refl
 
 no_size : (bytes : List ℕ) (o : Option Size) → size_from_bytes (length bytes) ≡ o
@@ -48,9 +52,7 @@ set_read bytes in_range x =
 fault_read : (f : Fault) (bytes : List ℕ) → IsBytes bytes → HaveFault bytes f
     → of_bytes bytes ≡ Err (errors.Fault f)
 fault_read f bytes in_range x =
-    let size : size_from_bytes (length bytes) ≡ Some x.size = ap size_from_bytes x.padded.count ∙ size_in_back x.size in
-    let zeros : pads_with_zeros x.size bytes ≡ true = eq-eqb _ _ (pads_divide x.size bytes x.padded.count (in_range (byte_count x.size - 1)) x.padded.padding) in
-    rw (size, zeros, fault_meant (take_user_bits x.size bytes) f x.first) refl
+    padded_means x.size bytes in_range x.padded ∙ ap of_bits (fault_meant (take_user_bits x.size bytes) f x.first)
 
 pub reason_read : (e : TextError) (text : List ℕ) → e ≢ errors.Memory → IsReason e text → telegram_of_text text ≡ Err e
 unfolding telegram_of_text
@@ -133,94 +135,92 @@ no_memory errors.WrongSize early is = absurd cc
 no_memory errors.PadBits early is = absurd cc
 no_memory (errors.Fault f) early is = absurd cc
 
--- the user bits mean none of these reasons
-not_early : (meaning : Result Telegram TextError) (e : TextError) → IsEarly e → meaning ≡ Err e
-    → (read : Result Telegram Fault) × (meaning ≡ of_bits read) → ⊥
-not_early meaning e early is (read, of) =
-    let fault = read_fault e read (sym of ∙ is) in
-    subst IsEarly (sym fault.2) early
-
--- an error that is returned, other than lack of memory, is what the text means
-fails_so : (e : TextError) (meaning : Result Telegram TextError) → e ≢ errors.Memory
-    → TextFails e meaning → meaning ≡ Err e
-fails_so errors.Memory meaning other fails = absurd (other refl)
-fails_so errors.NotHex meaning other fails = fails
-fails_so errors.WrongSize meaning other fails = fails
-fails_so errors.PadBits meaning other fails = fails
-fails_so (errors.Fault f) meaning other fails = fails
-
-is_reported : (r : Result Telegram TextError) (meaning : Result Telegram TextError) (e : TextError) → IsEarly e
-    → IsTextMeaning r meaning
-    → (r ≡ Err errors.Memory → (read : Result Telegram Fault) × (meaning ≡ of_bits read))
-    → meaning ≡ Err e → r ≡ Err e
-is_reported (Ok t) meaning e early exact memory is = absurd cc
-is_reported (Err errors.Memory) meaning e early exact memory is =
-    absurd (not_early meaning e early is (memory refl))
-is_reported (Err errors.NotHex) meaning e early exact memory is = sym exact ∙ is
-is_reported (Err errors.WrongSize) meaning e early exact memory is = sym exact ∙ is
-is_reported (Err errors.PadBits) meaning e early exact memory is = sym exact ∙ is
-is_reported (Err (errors.Fault f)) meaning e early exact memory is = sym exact ∙ is
-
--- Each of these reasons is returned if and only if it holds.
-reported_early : (r : Result Telegram TextError) (text : List ℕ) (e : TextError) → IsEarly e
-    → IsTextMeaning r (telegram_of_text text)
-    → (r ≡ Err errors.Memory → (read : Result Telegram Fault) × (telegram_of_text text ≡ of_bits read))
-    → IsErrOf r e ↔ IsReason e text
-reported_early r text e early exact memory = (
-  λ is. read_reason e text (fails_so e (telegram_of_text text) (no_memory e early) (rw is at exact)),
-  λ reason. is_reported r (telegram_of_text text) e early exact memory (reason_read e text (no_memory e early) reason),
-)
-
 -- a text means what its bytes mean
 pub decoded_means : (text bytes : List ℕ) → decode_of text ≡ Ok bytes → telegram_of_text text ≡ of_bytes bytes
 unfolding telegram_of_text
 decoded_means text bytes decoded = rw decoded refl
 
--- an early reason, if the text is decoded and its bytes give the result
-pub reported_in : (r : Result Telegram TextError) (e : TextError) (text bytes : List ℕ) → IsEarly e
-    → decode_of text ≡ Ok bytes → IsTextMeaning r (of_bytes bytes)
-    → (r ≡ Err errors.Memory → (bits : List Bool) × (of_bytes bytes ≡ of_bits (read_telegram bits)))
+-- and these what their user bits mean
+user_bits_mean : (text bytes : List ℕ) (size : Size) → decode_of text ≡ Ok bytes → ArePadded size bytes
+    → telegram_of_text text ≡ of_bits (read_telegram (take_user_bits size bytes))
+user_bits_mean text bytes size decoded padded =
+    decoded_means text bytes decoded ∙ padded_means size bytes (decode_of-ok text bytes decoded).3 padded
+
+-- if a packet is due, the text has no early reason
+not_early : (text : List ℕ) (e : TextError) → IsEarly e → HasPackets text → telegram_of_text text ≡ Err e → ⊥
+not_early text e early x is =
+    let means = user_bits_mean text x.bytes x.packets.size x.decoded x.packets.padded in
+    let fault = read_fault e (read_telegram (take_user_bits x.packets.size x.bytes)) (sym means ∙ is) in
+    subst IsEarly (sym fault.2) early
+
+-- and its header has no fault
+one_size : (a b : Size) → byte_count a ≡ byte_count b → a ≡ b
+one_size a b count =
+    let both : Some a ≡ Some b = sym (size_in_back a) ∙ ap size_from_bytes count ∙ size_in_back b in
+    cc
+
+no_header_fault : (text : List ℕ) (f : Fault) → HasPackets text → HasHeaderFault text f → ⊥
+no_header_fault text f x y =
+    let bytes : y.bytes ≡ x.bytes = decode_of-same text y.bytes x.bytes y.decoded x.decoded in
+    let size : y.fault.size ≡ x.packets.size = one_size y.fault.size x.packets.size (sym y.fault.padded.count ∙ ap length bytes ∙ x.packets.padded.count) in
+    let bits : take_user_bits y.fault.size y.bytes ≡ take_user_bits x.packets.size x.bytes = ap₂ (λ s b. take_user_bits s b) size bytes in
+    let followed = x.packets.followed in
+    head_stands header.fields header.rows followed.h (start (take_user_bits x.packets.size x.bytes)) followed.middle f (omega arith)
+    header.laid.are_rows followed.first (subst (λ (b : List Bool). IsFault header.fields (start b) f) bits y.fault.first)
+
+-- ---- what is returned
+
+pub ok_of : (r : Result Telegram TextError) (text : List ℕ) → IsTextMeaning r (telegram_of_text text)
+    → IfOk r (λ t. IsTelegramText t text)
+ok_of (Ok t) text exact = means_text t text exact
+ok_of (Err e) text exact = tt
+
+pub reason_of : (r : Result Telegram TextError) (text : List ℕ) → IsTextMeaning r (telegram_of_text text)
+    → IfErr r (λ e. IsReason e text)
+reason_of (Ok t) text exact = tt
+reason_of (Err errors.Memory) text exact = tt
+reason_of (Err errors.NotHex) text exact = read_reason errors.NotHex text exact
+reason_of (Err errors.WrongSize) text exact = read_reason errors.WrongSize text exact
+reason_of (Err errors.PadBits) text exact = read_reason errors.PadBits text exact
+reason_of (Err (errors.Fault f)) text exact = read_reason (errors.Fault f) text exact
+
+-- what the text means is returned, unless memory ran out
+is_returned : (r meaning : Result Telegram TextError) (e : TextError) → IsTextMeaning r meaning
+    → (IsErrOf r errors.Memory → ⊥) → meaning ≡ Err e → IsErrOf r e
+is_returned (Ok t) meaning e exact none is = absurd cc
+is_returned (Err errors.Memory) meaning e exact none is = absurd (none refl)
+is_returned (Err errors.NotHex) meaning e exact none is = sym exact ∙ is
+is_returned (Err errors.WrongSize) meaning e exact none is = sym exact ∙ is
+is_returned (Err errors.PadBits) meaning e exact none is = sym exact ∙ is
+is_returned (Err (errors.Fault f)) meaning e exact none is = sym exact ∙ is
+
+-- an early reason is returned if and only if it holds
+pub reported : (r : Result Telegram TextError) (text : List ℕ) (e : TextError) → IsEarly e
+    → IsTextMeaning r (telegram_of_text text) → (IsErrOf r errors.Memory → HasPackets text)
     → IsErrOf r e ↔ IsReason e text
-reported_in r e text bytes early decoded exact memory =
-    let means = decoded_means text bytes decoded in
-    reported_early r text e early (rw means exact) (λ none. let of = memory none in (read_telegram of.0, means ∙ of.1))
-
--- a text whose digits were decoded is hexadecimal
-pub not_not_hex : (r : Result Telegram TextError) (text bytes : List ℕ) → decode_of text ≡ Ok bytes
-    → IfErr r (λ e. IsBytesReason e bytes) → IsErrOf r errors.NotHex ↔ (IsHexadecimal text → ⊥)
-not_not_hex r text bytes decoded reason = (
-  λ is. absurd (rw is at reason),
-  λ not.
-      let digits = decode_of-ok text bytes decoded in
-      absurd (not (record { even = digits.0; digits = digits.1 })),
+reported r text e early exact packets = (
+  λ is. rw is at (reason_of r text exact),
+  λ reason.
+      let means = reason_read e text (no_memory e early) reason in
+      is_returned r (telegram_of_text text) e exact (λ memory. not_early text e early (packets memory) means) means,
 )
 
--- one of these reasons, once found, is no other
-abbrev failing : TextError → Result Telegram TextError
-failing e = Err e
+-- and so is the fault of a header
+pub header_reported : (r : Result Telegram TextError) (text : List ℕ) (f : Fault)
+    → IsTextMeaning r (telegram_of_text text) → (IsErrOf r errors.Memory → HasPackets text)
+    → HasHeaderFault text f → r ≡ Err (errors.Fault f)
+header_reported r text f exact packets x =
+    let means = user_bits_mean text x.bytes x.fault.size x.decoded x.fault.padded in
+    let first = fault_meant (take_user_bits x.fault.size x.bytes) f (inl x.fault.first) in
+    is_returned r (telegram_of_text text) (errors.Fault f) exact (λ memory. no_header_fault text f (packets memory) x) (means ∙ ap of_bits first)
 
-pub kept_apart : (found e : TextError) (text : List ℕ) → IsEarly e
-    → telegram_of_text text ≡ failing found → IsErrOf (failing found) e ↔ IsReason e text
-kept_apart found e text early means = (
-  λ is. read_reason e text (means ∙ is),
-  λ reason. sym means ∙ reason_read e text (no_memory e early) reason,
-)
+-- ---- texts that are not decoded into a telegram's bytes
 
 pub not_hex_means : (text : List ℕ) → (IsHexadecimal text → ⊥) → telegram_of_text text ≡ Err errors.NotHex
 not_hex_means text not = reason_read errors.NotHex text (no_memory errors.NotHex tt) not
 
-pub other_size_means : (text : List ℕ) → IsReasonDecoded errors.WrongSize text
-    → telegram_of_text text ≡ Err errors.WrongSize
-other_size_means text x = reason_read errors.WrongSize text (no_memory errors.WrongSize tt) x
-
--- the text means what its user bits mean: every check before them has passed
-pub of_user_bits : (size : Size) (bytes : List ℕ) → size_from_bytes (length bytes) ≡ Some size
-    → pads_with_zeros size bytes ≡ true
-    → (bits : List Bool) × (of_bytes bytes ≡ of_bits (read_telegram bits))
-of_user_bits size bytes sized zeros = (take_user_bits size bytes, rw (sized, zeros) refl)
-
 -- a text with another number of digits
-pub other_size : (text : List ℕ) → IsHexadecimal text → length text ≢ 54 → length text ≢ 208
+other_size : (text : List ℕ) → IsHexadecimal text → length text ≢ 54 → length text ≢ 208
     → IsReasonDecoded errors.WrongSize text
 other_size text h short long =
     let d = decode_of-digits text h.even h.digits in
@@ -230,3 +230,8 @@ other_size text h short long =
     not_sized : (size : Size) (bytes : List ℕ) → length text ≡ 2 * length bytes → length bytes ≢ byte_count size
     not_sized Short bytes two count = short (omega (arith, two, count))
     not_sized Long bytes two count = long (omega (arith, two, count))
+
+pub other_size_means : (text : List ℕ) → IsHexadecimal text → length text ≢ 54 → length text ≢ 208
+    → telegram_of_text text ≡ Err errors.WrongSize
+other_size_means text h short long =
+    reason_read errors.WrongSize text (no_memory errors.WrongSize tt) (other_size text h short long)

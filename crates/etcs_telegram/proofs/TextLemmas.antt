@@ -1,12 +1,10 @@
--- Pad bits, digits, and the reasons to refuse a text.
+-- Pad bits, and canonical texts.
 use Rattle.std.proofs.Common.{◌≡◌, ◌≢◌, ℕ, ◌+◌, ◌-◌, ◌*◌, ◌%◌, ◌^◌, ◌==◌, ◌<◌, ◌≤◌, if◌then◌else◌, Bool, true, false, List, [], ◌∷◌, ◌++◌, length, get_or, drop, replicate, Option, Some, None, Result, Ok, Err, refl, sym, ap, ap₂, subst, ◌∙◌, arith, length-append, length-drop}
 use Rattle.std.proofs.Common.{String, Global, string_bytes}
 use Rattle.std.specs.Prelude.{IfOk, OnOk}
 use Rattle.std.proofs.lemmas.Bool.{eqb-true, eqb-false}
 use Rattle.std.proofs.lemmas.List.{drop-drop, drop_more, drop_all, length-replicate}
-use Rattle.hex.specs.declared.error.FromHexError.{FromHexError}
-use Rattle.hex.specs.Hex.{decode_of, encode_lower, IsBytes}
-use Rattle.hex.proofs.HexLemmas.{decode_of-digits}
+use Rattle.hex.specs.Hex.{encode_lower, IsBytes}
 use Rattle.etcs_bits.specs.bits.Number.{num, num_of_bits, bits_of_bytes}
 use Rattle.etcs_bits.proofs.NumberLemmas.{length-num, num_of_bits-small, num_of_bits-drop, same_from_num, drop-bits_of_bytes, bits_of_one, length-bits_of_bytes}
 use Rattle.etcs_telegram.specs.declared.error.EncodeError.{EncodeError}
@@ -16,7 +14,7 @@ use Rattle.etcs_telegram.specs.Record.{Telegram}
 use Rattle.etcs_telegram.specs.Sizes.{user_bits, byte_count, pad_count}
 use Rattle.etcs_telegram.specs.TextMeaning.{size_from_bytes, pads_with_zeros}
 use Rattle.etcs_telegram.specs.Telegram.{IsEncoding, IsTelegram}
-use Rattle.etcs_telegram.specs.Text.{take_pad_bits, take_user_bits, no_pads, ArePadded, HavePadSet, IsHexadecimal, IsCanonicalText}
+use Rattle.etcs_telegram.specs.Text.{take_pad_bits, take_user_bits, no_pads, ArePadded, HavePadSet, IsCanonicalText}
 use Rattle.etcs_telegram.proofs.TelegramLemmas.{canonical_length}
 
 -- ---- sizes
@@ -143,14 +141,6 @@ of_its_size t size bits bytes padded is count x =
     let same : size ≡ t.size = same_size size t.size (sym count ∙ x.count) in
     subst (λ (s : Size). ArePadded s bytes × IsTelegram t (take_user_bits s bytes)) same
     (padded, subst (λ (b : List Bool). IsTelegram t b) is x)
-
--- ---- digits
-
--- a text that is not decoded is not hexadecimal
-pub not_decoded : (text : List ℕ) (e : FromHexError) → decode_of text ≡ Err e → IsHexadecimal text → ⊥
-not_decoded text e fails h =
-    let d = decode_of-digits text h.even h.digits in
-    let g = d.1 in cc
 
 -- ---- the canonical text
 

@@ -1,9 +1,9 @@
 -- Telegrams as text: the hexadecimal digits of their bytes. The bytes hold the user bits, and then
 -- zeros, the pad bits, up to a whole byte. Digits of either case are read. Lower-case digits are
 -- written.
-use Rattle.std.specs.Prelude.{◌≡◌, ◌≢◌, ℕ, ◌%◌, Bool, false, List, ◌++◌, length, take, drop, replicate, Result, Ok, Err}
-use Rattle.std.specs.List.{AllPass}
-use Rattle.hex.specs.Hex.{decode_of, encode_lower, is_hex_digit, IsBytes}
+use Rattle.std.specs.Prelude.{◌≡◌, ◌≢◌, ℕ, Bool, false, List, ◌++◌, length, take, drop, replicate, Result, Ok, Err}
+use Rattle.hex.specs.Hex.{decode_of, encode_lower, IsBytes}
+use Rattle.etcs_digits.specs.Hexadecimal.{IsHexadecimal}
 use Rattle.etcs_bits.specs.declared.layout.fault.Fault.{Fault}
 use Rattle.etcs_bits.specs.bits.Number.{bits_of_bytes}
 use Rattle.etcs_bits.specs.layout.Fault.{IsFault}
@@ -16,11 +16,6 @@ use Rattle.etcs_telegram.specs.Header.{header}
 use Rattle.etcs_telegram.specs.Record.{Telegram}
 use Rattle.etcs_telegram.specs.Sizes.{user_bits, byte_count, pad_count}
 use Rattle.etcs_telegram.specs.Telegram.{IsTelegram, IsTelegramFault, IsNoTelegram, IsEncoding}
-
--- The text is an even number of hexadecimal digits, of either case.
-pub record IsHexadecimal (text : List ℕ) : Type 0 where
-  pub even : length text % 2 ≡ 0
-  pub digits : AllPass is_hex_digit text
 
 -- the user bits of bytes, in a telegram of this size, and the pad bits after them
 abbrev pub take_user_bits : Size → List ℕ → List Bool

@@ -1,13 +1,13 @@
 //! `from_hex` and `to_hex`: telegrams as hexadecimal text.
 
-ghost use Rattle.std.specs.Prelude.{◌≡◌, ◌↔◌, ◌*◌, Bool, false, List, length, Ok, Err, IfOk, IfErr, IsErrOf, IsTrue, OnOk, string_bytes};
-ghost use Rattle.hex.specs.Hex.{decode_of, encode_lower, is_hex_digit, IsBytes};
+ghost use Rattle.std.specs.Prelude.{◌≡◌, ◌↔◌, ◌*◌, false, length, Ok, Err, IfOk, IfErr, IsErrOf, IsTrue, OnOk, string_bytes};
+ghost use Rattle.hex.specs.Hex.{decode_of, encode_lower, IsBytes};
+ghost use Rattle.etcs_digits.specs.Hexadecimal.{IsHexadecimal};
 ghost use Rattle.etcs_bits.specs.declared.layout.fault.Fault.{Fault};
 ghost use Rattle.etcs_telegram.specs.Sizes.{byte_count};
-ghost use Rattle.etcs_telegram.specs.Meaning.{read_telegram};
-ghost use Rattle.etcs_telegram.specs.Telegram.{IsTelegram, IsTooBig};
-ghost use Rattle.etcs_telegram.specs.Text.{ArePadded, HasHeaderFault, HasPackets, HaveHeaderFault, HavePackets, IsCanonicalText, IsHexadecimal, IsReason, IsReasonDecoded, IsBytesReason, IsTelegramText, IsTextMeaning, take_user_bits};
-ghost use Rattle.etcs_telegram.specs.TextMeaning.{of_bits, of_bytes, pads_with_zeros, telegram_of_text};
+ghost use Rattle.etcs_telegram.specs.Telegram.{IsTooBig};
+ghost use Rattle.etcs_telegram.specs.Text.{HasHeaderFault, HasPackets, HavePackets, IsCanonicalText, IsReason, IsReasonDecoded, IsTelegramText, IsTextMeaning};
+ghost use Rattle.etcs_telegram.specs.TextMeaning.{of_bytes, pads_with_zeros, telegram_of_text};
 
 use crate::decoding::decode_slice;
 use crate::encoding::encode;
@@ -15,21 +15,8 @@ use crate::error::{EncodeError, TextError};
 use crate::size::Size;
 use crate::telegram::Telegram;
 use etcs_bits::{BitSlice, DecodeError};
+use etcs_digits::is_hexadecimal;
 use std::alloc::Global;
-
-// Whether a byte is a hexadecimal digit, of either case.
-fn is_digit(byte: u8) -> bool
-    ensures { result ≡ is_hex_digit byte }
-{
-    matches!(byte, b'0'..=b'9' | b'A'..=b'F' | b'a'..=b'f')
-}
-
-// Whether the text is an even number of hexadecimal digits.
-fn is_hexadecimal(text: &[u8]) -> bool
-    ensures { IsTrue result ↔ IsHexadecimal text.now }
-{
-    text.len() % 2 == 0 && text.iter().all(|&byte| is_digit(byte))
-}
 
 // Writes the bytes that the digits of a text spell, two digits for each. Returns whether each byte
 // of the text is a digit.
@@ -51,20 +38,9 @@ fn is_padded(size: Size, bytes: &[u8]) -> bool
     bytes[size.byte_count() - 1] % (1 << size.pad_count()) == 0
 }
 
-// The telegram in these bytes.
+// The telegram in these bytes. Allocates only if a packet is due.
 fn telegram_in(alloc: Global, bytes: &[u8]) -> Result<Telegram, TextError>
-    ensures ok { IfOk result (λ t. ArePadded t.size bytes.now
-        × IsTelegram t (take_user_bits t.size bytes.now)) }
-    ensures reason { IfErr result (λ e. IsBytesReason e bytes.now) }
     ensures exact { IsTextMeaning result (of_bytes bytes.now) }
-
-    // Neither the checks before the user bits nor the header need memory.
-    ensures memory { result ≡ Err TextError.Memory
-        → (bits : List Bool) × (of_bytes bytes.now ≡ of_bits (read_telegram bits)) }
-    ensures header { (f : Fault) → HaveHeaderFault bytes.now f
-        → result ≡ Err (TextError.Fault f) }
-
-    // Allocates only if a packet is due.
     ensures packets { IsErrOf result TextError.Memory → HavePackets bytes.now }
 {
     let Some(size) = Size::in_bytes(bytes.len()) else {
@@ -83,16 +59,7 @@ fn telegram_in(alloc: Global, bytes: &[u8]) -> Result<Telegram, TextError>
 // The telegram in the digits of `N` bytes.
 fn telegram_of_digits<const N: usize>(alloc: Global, text: &[u8]) -> Result<Telegram, TextError>
     requires { length text.now ≡ 2 * N }
-    ensures ok { IfOk result (λ t. IsTelegramText t text.now) }
-    ensures reason { IfErr result (λ e. IsReason e text.now) }
     ensures exact { IsTextMeaning result (telegram_of_text text.now) }
-    ensures not_hex { IsErrOf result TextError.NotHex ↔ (IsHexadecimal text.now → ⊥) }
-    ensures wrong_size { IsErrOf result TextError.WrongSize
-        ↔ IsReasonDecoded TextError.WrongSize text.now }
-    ensures pad_bits { IsErrOf result TextError.PadBits
-        ↔ IsReasonDecoded TextError.PadBits text.now }
-    ensures header { (f : Fault) → HasHeaderFault text.now f
-        → result ≡ Err (TextError.Fault f) }
     ensures packets { IsErrOf result TextError.Memory → HasPackets text.now }
 {
     let mut bytes = [0u8; N];
@@ -100,6 +67,19 @@ fn telegram_of_digits<const N: usize>(alloc: Global, text: &[u8]) -> Result<Tele
         return Err(TextError::NotHex);
     }
     telegram_in(alloc, &bytes)
+}
+
+// The telegram in a text.
+fn read(alloc: Global, text: &[u8]) -> Result<Telegram, TextError>
+    ensures exact { IsTextMeaning result (telegram_of_text text.now) }
+    ensures packets { IsErrOf result TextError.Memory → HasPackets text.now }
+{
+    match text.len() {
+        54 => telegram_of_digits::<27>(alloc, text),
+        208 => telegram_of_digits::<104>(alloc, text),
+        _ if is_hexadecimal(text) => Err(TextError::WrongSize),
+        _ => Err(TextError::NotHex),
+    }
 }
 
 /// Reads a telegram from its text: 54 or 208 hexadecimal digits of either case. The last six or two
@@ -128,12 +108,7 @@ pub fn from_hex(alloc: Global, text: &[u8]) -> Result<Telegram, TextError>
     // read.
     ensures packets { IsErrOf result TextError.Memory → HasPackets text.now }
 {
-    match text.len() {
-        54 => telegram_of_digits::<27>(alloc, text),
-        208 => telegram_of_digits::<104>(alloc, text),
-        _ if is_hexadecimal(text) => Err(TextError::WrongSize),
-        _ => Err(TextError::NotHex),
-    }
+    read(alloc, text)
 }
 
 // The lower-case digits of bytes.

@@ -1,6 +1,6 @@
 use Rattle.std.proofs.Common.{◌≡◌, ◌*◌, ◌∙◌, ap, sym, length, rules}
-use Rattle.hex.proofs.HexLemmas.{decode_of-digits, decode_sized-twice}
-use Rattle.etcs_telegram.proofs.DigitLemmas.{bytes_written, not_written}
+use Rattle.hex.proofs.HexLemmas.{decode_sized-twice}
+use Rattle.etcs_digits.proofs.DigitLemmas.{bytes_written, whole_digits}
 use Rattle.etcs_telegram.proofs.text.read_digits.Goals as goal
 
 pub returns-clause-digits : goal.returns-clause-digits
@@ -14,6 +14,5 @@ pub returns-clause-others : goal.returns-clause-others
 returns-clause-others g c = λ failed hexadecimal.
     let room : length c.args.bytes.now ≡ g.row.N = search rules in
     let twice = c.requires ∙ ap (λ n. 2 * n) (sym room) in
-    let all = decode_of-digits c.args.text.now hexadecimal.even hexadecimal.digits in
-    not_written _ c.decode.result _ all.0 c.decode.ensures failed
-    (decode_sized-twice c.args.text.now (length c.args.bytes.now) twice ∙ all.1)
+    let is = (whole_digits c.args.text.now (length c.args.bytes.now) c.decode.result c.decode.new.out twice c.decode.ensures).1 hexadecimal in
+    cc (is, failed)

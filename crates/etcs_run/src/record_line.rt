@@ -1,4 +1,4 @@
-//! `json_line`: a value as a line of JSON, which reuses the buffer of an earlier line.
+//! A value as a line of JSON.
 
 ghost use Rattle.std.specs.Prelude.{◌≡◌, IfOk};
 ghost use Rattle.etcs_run.specs.JsonLine.{json_line_text};
