@@ -15,7 +15,7 @@ use Rattle.etcs_group.proofs.PlaceLemmas.{one_at}
 use Rattle.etcs_group.proofs.MarkLemmas.{partner-says, partner-is}
 use Rattle.etcs_check.specs.Duplicates.{same_identity}
 use Rattle.etcs_check.specs.Findings.{header_differs, is_outside, is_other, is_unanswered, first_counter, counter_differs}
-use Rattle.etcs_check.proofs.NumberLemmas.{version_same, same_identity-says, same_identity-is}
+use Rattle.etcs_check.proofs.NumberLemmas.{Decides-version, Decides-same_identity}
 use Rattle.etcs_check.specs.Violation.{IsFirstCounted}
 
 -- ---- equal headers
@@ -25,15 +25,15 @@ alike-says t first h =
     let p = and_parts (eqb (version_number t.header.version) (version_number first.header.version)) _ (not-false _ h) in
     let q = and_parts (same_identity t.header.identity first.header.identity) (beq t.header.linked first.header.linked) p.1 in
     record {
-      version = version_same _ _ (eqb-true _ _ p.0);
-      identity = same_identity-says _ _ q.0;
+      version = (Decides-version _ _).0 p.0;
+      identity = (Decides-same_identity _ _).0 q.0;
       linked = (booleans_Decides t.header.linked first.header.linked).0 q.1;
     }
 
 alike-is : (t first : Telegram) → AreAlike t first → header_differs (Some first) t ≡ false
 alike-is t first a =
     not_from_true _ (and_from _ _ (eq-eqb _ _ (ap version_number a.version))
-    (and_from _ _ (same_identity-is _ _ a.identity) ((booleans_Decides t.header.linked first.header.linked).1 a.linked)))
+    (and_from _ _ ((Decides-same_identity _ _).1 a.identity) ((booleans_Decides t.header.linked first.header.linked).1 a.linked)))
 
 -- ---- duplicate flags
 

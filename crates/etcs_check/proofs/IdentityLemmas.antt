@@ -25,7 +25,7 @@ use Rattle.etcs_check.proofs.FindingLemmas.{for_each-says}
 use Rattle.etcs_check.specs.Identities.{number_of_identity, identity_number, HasIdentity, HaveIdentities, has_bit, is_marked, has_identity_number, HasNoRepeat, HasRepeat}
 use Rattle.etcs_check.specs.Soundness.{aspect_identity, group_identity}
 use Rattle.etcs_check.proofs.NoteLemmas.{each_stands}
-use Rattle.etcs_check.proofs.NumberLemmas.{identity_same, same_identity-says, same_identity-is}
+use Rattle.etcs_check.proofs.NumberLemmas.{identity_same, Decides-same_identity}
 
 -- ---- identities and their numbers
 
@@ -42,8 +42,8 @@ one_number g h a b =
   where
     test : same_identity a.0 b.0 ≡ eqb (number_of_identity a.0) (number_of_identity b.0)
     test = elim (cases_eq (number_of_identity a.0) (number_of_identity b.0)) [
-      | inl e ↦ same_identity-is a.0 b.0 (same_number a.0 b.0 a.3 b.3 e) ∙ sym (eq-eqb (number_of_identity a.0) (number_of_identity b.0) e)
-      | inr ne ↦ false_from_ne_true _ (λ same. ne (ap number_of_identity (same_identity-says a.0 b.0 same))) ∙ sym (ne_eqb (number_of_identity a.0) (number_of_identity b.0) ne)
+      | inl e ↦ (Decides-same_identity a.0 b.0).1 (same_number a.0 b.0 a.3 b.3 e) ∙ sym (eq-eqb (number_of_identity a.0) (number_of_identity b.0) e)
+      | inr ne ↦ false_from_ne_true _ (λ same. ne (ap number_of_identity ((Decides-same_identity a.0 b.0).0 same))) ∙ sym (ne_eqb (number_of_identity a.0) (number_of_identity b.0) ne)
     ]
 
 -- an earlier group has the identity if and only if one has its number
@@ -205,11 +205,11 @@ identities-say : (o p : Option Identity) → same_identity_of o p ≡ true → o
 unfolding same_identity_of
 identities-say None p h = absurd (both_ways _ refl h)
 identities-say (Some i) None h = absurd (both_ways _ refl h)
-identities-say (Some i) (Some j) h = ap Some (same_identity-says i j h)
+identities-say (Some i) (Some j) h = ap Some ((Decides-same_identity i j).0 h)
 
 identities-are : (i : Identity) (o p : Option Identity) → o ≡ Some i → o ≡ p → same_identity_of o p ≡ true
 unfolding same_identity_of
-identities-are i o p is e = rw (← e, is) (same_identity-is i i refl)
+identities-are i o p is e = rw (← e, is) ((Decides-same_identity i i).1 refl)
 
 pub identity-at : (group : List Telegram) (t : Telegram) → At group 0 t → aspect_identity group ≡ Some t.header.identity
 identity-at [] t at = absurd (none-some t at)

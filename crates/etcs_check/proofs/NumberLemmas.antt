@@ -4,16 +4,15 @@ use Rattle.std.specs.Bool.{Decides, beq}
 use Rattle.std.specs.Cmp.{booleans_Decides}
 use Rattle.std.specs.Cmp.Lexicographic.{pointwise}
 use Rattle.std.proofs.lemmas.Bool.{both_ways, eqb-true, eq-eqb, and_parts, and_from}
-use Rattle.std.proofs.lemmas.Bool.Decides.{Decides-eqb}
+use Rattle.std.proofs.lemmas.Bool.Decides.{Decides-and, Decides-eqb}
 use Rattle.std.proofs.lemmas.List.{map-append, append_assoc}
 use Rattle.std.proofs.lemmas.Slice.Eq.{slice_eq-Decides}
 use Rattle.etcs_bits.specs.declared.variables.duplicate.Dup.{Dup}
-use Rattle.etcs_bits.specs.declared.variables.duplicate.Dup.TheVariants as dups
 use Rattle.etcs_bits.specs.declared.variables.identity.Identity.{Identity}
 use Rattle.etcs_bits.specs.declared.variables.version.Version.{Version}
-use Rattle.etcs_bits.specs.variables.Variables.{version_number}
-use Rattle.etcs_bits.specs.variables.VariableValues.{version_value}
-use Rattle.etcs_bits.specs.lemmas.VariableLemmas.{version_names}
+use Rattle.etcs_bits.specs.variables.Variables.{dup_number, version_number}
+use Rattle.etcs_bits.specs.variables.VariableValues.{dup_value, version_value}
+use Rattle.etcs_bits.specs.lemmas.VariableLemmas.{dup_names, version_names}
 use Rattle.etcs_bits.specs.layout.Rows.{Row, row, width}
 use Rattle.etcs_bits.specs.layout.Fields.{Fields, nothing, field, ◌▹◌, sized, l_packet, AreRowsOf}
 use Rattle.etcs_profile.specs.Track.{track_packet}
@@ -22,7 +21,7 @@ use Rattle.etcs_telegram.specs.Record.{Telegram}
 use Rattle.etcs_telegram.specs.declared.header.Header.{Header}
 use Rattle.etcs_telegram.specs.declared.size.Size.{Size}
 use Rattle.etcs_telegram.specs.declared.size.Size.TheVariants as sizes
-use Rattle.etcs_check.specs.Duplicates.{packet_numbers, same_packet, same_identity, same_mark, same_size, same_header, same_telegram}
+use Rattle.etcs_check.specs.Duplicates.{packet_numbers, same_packet, same_identity, same_size, same_header, same_telegram}
 use Rattle.etcs_check.specs.Laws.{PacketsAreTheirNumbers, TelegramsAreTheirParts}
 
 numbers : List Row → List ℕ
@@ -98,95 +97,65 @@ packets_told r xs ys h =
     let d = Decides-same_packets xs ys in
     same_bool r (pointwise same_packet xs ys) (λ e. d.1 (h.0 e)) (λ e. h.1 (d.0 e))
 
--- ---- identities
+-- ---- identities, versions and marks
 
 pub identity_same : (x y : Identity) → x.country ≡ y.country → x.group ≡ y.group → x ≡ y
-identity_same x y e f = ap (λ c. record { country = c; group = x.group }) e ∙ ap (λ g. record { country = y.country; group = g }) f
+identity_same x y e f = λ i. record { country = e i; group = f i }
 
-pub same_identity-says : (x y : Identity) → same_identity x y ≡ true → x ≡ y
-same_identity-says x y h =
-    let p = and_parts (eqb x.country y.country) (eqb x.group y.group) h in
-    identity_same x y (eqb-true _ _ p.0) (eqb-true _ _ p.1)
+pub Decides-same_identity : (x y : Identity) → Decides (same_identity x y) (x ≡ y)
+Decides-same_identity x y =
+    let parts : Decides (same_identity x y) ((x.country ≡ y.country) × (x.group ≡ y.group)) = Decides-and (eqb x.country y.country) (eqb x.group y.group) (Decides-eqb _ _) (Decides-eqb _ _) in
+    (λ h. let p = parts.0 h in identity_same x y p.0 p.1, λ e. parts.1 (ap (λ (z : Identity). z.country) e, ap (λ (z : Identity). z.group) e))
 
-pub same_identity-is : (x y : Identity) → x ≡ y → same_identity x y ≡ true
-same_identity-is x y e =
-    and_from _ _ (eq-eqb _ _ (ap (λ (z : Identity). z.country) e)) (eq-eqb _ _ (ap (λ (z : Identity). z.group) e))
+-- two values are equal if and only if their numbers are
+Decides-number : {X : Type 0} (number : X → ℕ) (of : ℕ → X) → ((x : X) → of (number x) ≡ x) → (x y : X) → Decides (eqb (number x) (number y)) (x ≡ y)
+Decides-number number of again x y = (λ h. sym (again x) ∙ ap of (eqb-true _ _ h) ∙ again y, λ e. eq-eqb _ _ (ap number e))
+
+pub Decides-version : (v w : Version) → Decides (eqb (version_number v) (version_number w)) (v ≡ w)
+Decides-version = Decides-number version_number version_value (λ v. (version_names v).0)
+
+pub Decides-same_mark : (m n : Dup) → Decides (eqb (dup_number m) (dup_number n)) (m ≡ n)
+Decides-same_mark = Decides-number dup_number dup_value (λ m. (dup_names m).0)
 
 -- ---- telegrams
-
-mark_self : (m : Dup) → same_mark m m ≡ true
-mark_self dups.Single = refl
-mark_self dups.Next = refl
-mark_self dups.Previous = refl
-
-mark_says : (m n : Dup) → same_mark m n ≡ true → m ≡ n
-mark_says dups.Single dups.Single h = refl
-mark_says dups.Next dups.Next h = refl
-mark_says dups.Previous dups.Previous h = refl
-mark_says m n h = absurd (both_ways false refl h)
-
-pub Decides-same_mark : (m n : Dup) → Decides (same_mark m n) (m ≡ n)
-Decides-same_mark m n = (mark_says m n, λ e. subst (λ x. same_mark m x ≡ true) e (mark_self m))
-
-size_self : (s : Size) → same_size s s ≡ true
-size_self sizes.Short = refl
-size_self sizes.Long = refl
 
 size_says : (s r : Size) → same_size s r ≡ true → s ≡ r
 size_says sizes.Short sizes.Short h = refl
 size_says sizes.Long sizes.Long h = refl
 size_says s r h = absurd (both_ways false refl h)
 
--- records made of their fields
-abbrev header_of : Version → ℕ → ℕ → Dup → ℕ → Identity → Bool → Header
-header_of v p n d c i l = record { version = v; position = p; total = n; dup = d; counter = c; identity = i; linked = l }
+size_self : (s : Size) → same_size s s ≡ true
+size_self sizes.Short = refl
+size_self sizes.Long = refl
 
-abbrev telegram_of : Size → Header → List TrackPacket → Telegram
-telegram_of s h ps = record { size = s; header = h; packets = ps }
+-- two headers have equal fields
+abbrev HasSameFields : Header → Header → Type 0
+HasSameFields g h = (g.version ≡ h.version) × ((g.position ≡ h.position) × ((g.total ≡ h.total) × ((g.dup ≡ h.dup) × ((g.counter ≡ h.counter) × ((g.identity ≡ h.identity) × (g.linked ≡ h.linked))))))
 
-pub version_same : (v w : Version) → version_number v ≡ version_number w → v ≡ w
-version_same v w e = sym (version_names v).0 ∙ ap version_value e ∙ (version_names w).0
-
-header_same : (v w : Version) (p q n m : ℕ) (d e : Dup) (c k : ℕ) (i j : Identity) (l o : Bool)
-    → v ≡ w → p ≡ q → n ≡ m → d ≡ e → c ≡ k → i ≡ j → l ≡ o
-    → header_of v p n d c i l ≡ header_of w q m e k j o
-header_same v w p q n m d e c k i j l o a1 a2 a3 a4 a5 a6 a7 = rw (a1, a2, a3, a4, a5, a6, a7) refl
-
-header_says : (g h : Header) → same_header g h ≡ true → g ≡ h
-header_says g h s =
-    let a = and_parts (eqb (version_number g.version) (version_number h.version)) _ s in
-    let b = and_parts (eqb g.position h.position) _ a.1 in
-    let c = and_parts (eqb g.total h.total) _ b.1 in
-    let d = and_parts (same_mark g.dup h.dup) _ c.1 in
-    let e = and_parts (eqb g.counter h.counter) _ d.1 in
-    let f = and_parts (same_identity g.identity h.identity) (beq g.linked h.linked) e.1 in
-    header_same g.version h.version g.position h.position g.total h.total g.dup h.dup g.counter h.counter g.identity h.identity g.linked h.linked
-    (version_same _ _ (eqb-true _ _ a.0)) (eqb-true _ _ b.0) (eqb-true _ _ c.0) ((Decides-same_mark _ _).0 d.0) (eqb-true _ _ e.0) (same_identity-says _ _ f.0) ((booleans_Decides _ _).0 f.1)
-
-header_self : (g : Header) → same_header g g ≡ true
-header_self g =
-    and_from (eqb (version_number g.version) (version_number g.version)) _ (eq-eqb (version_number g.version) (version_number g.version) refl)
-    (and_from (eqb g.position g.position) _ (eq-eqb g.position g.position refl)
-    (and_from (eqb g.total g.total) _ (eq-eqb g.total g.total refl)
-    (and_from (same_mark g.dup g.dup) _ (mark_self g.dup)
-    (and_from (eqb g.counter g.counter) _ (eq-eqb g.counter g.counter refl)
-    (and_from (same_identity g.identity g.identity) (beq g.linked g.linked) (same_identity-is g.identity g.identity refl) ((booleans_Decides g.linked g.linked).1 refl))))))
-
-telegram_same : (s r : Size) (g h : Header) (xs ys : List TrackPacket) → s ≡ r → g ≡ h → xs ≡ ys → telegram_of s g xs ≡ telegram_of r h ys
-telegram_same s r g h xs ys a b c = rw (a, b, c) refl
-
-telegram_self : (t : Telegram) → same_telegram t t ≡ true
-telegram_self t =
-    and_from (same_size t.size t.size) _ (size_self t.size)
-    (and_from (same_header t.header t.header) (pointwise same_packet t.packets t.packets) (header_self t.header) ((Decides-same_packets t.packets t.packets).1 refl))
+Decides-same_header : (g h : Header) → Decides (same_header g h) (g ≡ h)
+Decides-same_header g h =
+    let parts : Decides (same_header g h) (HasSameFields g h) =
+    Decides-and (eqb (version_number g.version) (version_number h.version)) _ (Decides-version g.version h.version)
+    (Decides-and (eqb g.position h.position) _ (Decides-eqb g.position h.position)
+    (Decides-and (eqb g.total h.total) _ (Decides-eqb g.total h.total)
+    (Decides-and (eqb (dup_number g.dup) (dup_number h.dup)) _ (Decides-same_mark g.dup h.dup)
+    (Decides-and (eqb g.counter h.counter) _ (Decides-eqb g.counter h.counter)
+    (Decides-and (same_identity g.identity h.identity) (beq g.linked h.linked) (Decides-same_identity g.identity h.identity) (booleans_Decides g.linked h.linked)))))) in (
+      λ s. let p = parts.0 s in λ i. record { version = p.0 i; position = p.1.0 i; total = p.1.1.0 i; dup = p.1.1.1.0 i; counter = p.1.1.1.1.0 i; identity = p.1.1.1.1.1.0 i; linked = p.1.1.1.1.1.1 i },
+      λ e. parts.1 (subst (HasSameFields g) e (refl, (refl, (refl, (refl, (refl, (refl, refl))))))),
+    )
 
 pub Decides-same_telegram : (t u : Telegram) → Decides (same_telegram t u) (t ≡ u)
 Decides-same_telegram t u = (
   λ h.
       let a = and_parts (same_size t.size u.size) _ h in
       let b = and_parts (same_header t.header u.header) (pointwise same_packet t.packets u.packets) a.1 in
-      telegram_same t.size u.size t.header u.header t.packets u.packets (size_says t.size u.size a.0) (header_says t.header u.header b.0) ((Decides-same_packets t.packets u.packets).0 b.1),
-  λ e. subst (λ x. same_telegram t x ≡ true) e (telegram_self t),
+      let s = size_says t.size u.size a.0 in
+      let g = (Decides-same_header t.header u.header).0 b.0 in
+      let p = (Decides-same_packets t.packets u.packets).0 b.1 in
+      λ i. record { size = s i; header = g i; packets = p i },
+  λ e. subst (λ x. same_telegram t x ≡ true) e (and_from (same_size t.size t.size) _ (size_self t.size)
+      (and_from (same_header t.header t.header) (pointwise same_packet t.packets t.packets) ((Decides-same_header t.header t.header).1 refl) ((Decides-same_packets t.packets t.packets).1 refl))),
 )
 
 pub telegrams_are_their_parts : TelegramsAreTheirParts

@@ -3,10 +3,8 @@
 use Rattle.std.specs.Prelude.{ℕ, ◌==◌, ◌&&◌, Bool, true, false, List, map}
 use Rattle.std.specs.Bool.{beq}
 use Rattle.std.specs.Cmp.Lexicographic.{pointwise}
-use Rattle.etcs_bits.specs.declared.variables.duplicate.Dup.{Dup}
-use Rattle.etcs_bits.specs.declared.variables.duplicate.Dup.TheVariants as dups
 use Rattle.etcs_bits.specs.declared.variables.identity.Identity.{Identity}
-use Rattle.etcs_bits.specs.variables.Variables.{version_number}
+use Rattle.etcs_bits.specs.variables.Variables.{dup_number, version_number}
 use Rattle.etcs_profile.specs.Track.{track_packet}
 use Rattle.etcs_profile.specs.declared.run.Run.{Run}
 use Rattle.etcs_profile.specs.declared.track.TrackPacket.{TrackPacket}
@@ -39,13 +37,6 @@ same_held run t u = pointwise same_packet (held_packets run t) (held_packets run
 abbrev pub same_identity : Identity → Identity → Bool
 same_identity i j = (i.country == j.country) && (i.group == j.group)
 
--- whether two duplicate flags are equal
-abbrev pub same_mark : Dup → Dup → Bool
-same_mark dups.Single dups.Single = true
-same_mark dups.Next dups.Next = true
-same_mark dups.Previous dups.Previous = true
-same_mark m n = false
-
 -- whether two sizes are equal
 abbrev pub same_size : Size → Size → Bool
 same_size sizes.Short sizes.Short = true
@@ -56,7 +47,7 @@ same_size m n = false
 abbrev pub same_header : Header → Header → Bool
 same_header g h =
     (version_number g.version == version_number h.version) && ((g.position == h.position)
-    && ((g.total == h.total) && (same_mark g.dup h.dup && ((g.counter == h.counter)
+    && ((g.total == h.total) && ((dup_number g.dup == dup_number h.dup) && ((g.counter == h.counter)
     && (same_identity g.identity h.identity && beq g.linked h.linked)))))
 
 -- ---- equal telegrams

@@ -8,7 +8,7 @@ use Rattle.std.specs.List.{list_any, enumerate_from}
 use Rattle.std.specs.Option.{option_map_or}
 use Rattle.etcs_bits.specs.declared.variables.duplicate.Dup.{Dup}
 use Rattle.etcs_bits.specs.declared.variables.duplicate.Dup.TheVariants as dups
-use Rattle.etcs_bits.specs.variables.Variables.{version_number}
+use Rattle.etcs_bits.specs.variables.Variables.{dup_number, version_number}
 use Rattle.etcs_profile.specs.Track.{holds}
 use Rattle.etcs_profile.specs.declared.run.Run.{Run}
 use Rattle.etcs_profile.specs.declared.run.Run.TheVariants as runs
@@ -17,7 +17,7 @@ use Rattle.etcs_profile.specs.declared.reach.Reach.{Reach}
 use Rattle.etcs_profile.specs.declared.reach.Reach.TheVariants.{Ends, Open}
 use Rattle.etcs_telegram.specs.Record.{Telegram}
 use Rattle.etcs_group.specs.Group.{is_modelled, partner_place, Telegrams, Aspects}
-use Rattle.etcs_check.specs.Duplicates.{same_identity, same_mark, same_held}
+use Rattle.etcs_check.specs.Duplicates.{same_identity, same_held}
 use Rattle.etcs_check.specs.Profiles.{packet_limit}
 use Rattle.etcs_check.specs.declared.finding.Finding.{Finding}
 use Rattle.etcs_check.specs.declared.finding.Rule.{Rule}
@@ -73,7 +73,7 @@ counter_differs group t =
 -- F15: the telegram's mark is not that of the other one. It is no fact where there is no other one.
 abbrev pub mark_differs : Option Telegram → Telegram → Bool
 mark_differs None t = false
-mark_differs (Some u) t = not (same_mark t.header.dup u.header.dup)
+mark_differs (Some u) t = not (dup_number t.header.dup == dup_number u.header.dup)
 
 -- the list has a telegram with this counter
 abbrev pub has_counter : ℕ → Telegrams → Bool

@@ -105,15 +105,8 @@ pub(crate) fn push_ambiguous(
     let spot = site_spot(site);
     'places: for place in 0..first.len() {
         let fact = is_ambiguous(aspects, place, &first[place]);
-        push_if(
-            found,
-            fact,
-            Rule::NotToldApart,
-            spot,
-            None,
-            Some(place),
-            None,
-        )?;
+        let here = Some(place);
+        push_if(found, fact, Rule::NotToldApart, spot, None, here, None)?;
     }
     Ok(())
 }

@@ -3,7 +3,6 @@
 
 ghost use Rattle.std.specs.Prelude.{◌≡◌, ◌≢◌, ◌<◌, ◌≤◌, ◌++◌, [], length, slice_get, Some, IsFalse, OnOk, OnErr};
 ghost use Rattle.etcs_group.specs.Group.{partner_place};
-ghost use Rattle.etcs_check.specs.Duplicates.{same_mark};
 ghost use Rattle.etcs_check.specs.Findings.{balise_fact, counter_differs, first_counter, is_other, is_outside, is_unanswered, header_differs, is_unmodelled, mark_differs};
 ghost use Rattle.etcs_check.specs.Walk.{alone_found, balise_test, unmodelled_found};
 ghost use Rattle.etcs_check.specs.declared.finding.Spot.{Spot as SomeSpot};
@@ -54,24 +53,12 @@ fn header_differs_from_first(first: &[Telegram], telegram: &Telegram) -> bool
     }
 }
 
-// Whether two duplicate flags are the same.
-fn same_mark(this: Dup, that: Dup) -> bool
-    ensures { result ≡ same_mark this that }
-{
-    match (this, that) {
-        (Dup::Single, Dup::Single) => true,
-        (Dup::Next, Dup::Next) => true,
-        (Dup::Previous, Dup::Previous) => true,
-        _ => false,
-    }
-}
-
 // Whether the duplicate flag of a telegram differs from the flag of the same balise in aspect 0.
 fn mark_differs(first: &[Telegram], telegram: &Telegram, place: usize) -> bool
     ensures { result ≡ mark_differs (slice_get first.now place) telegram.now }
 {
     match first.get(place) {
-        Some(balise) => !same_mark(telegram.header.dup, balise.header.dup),
+        Some(balise) => telegram.header.dup.number() != balise.header.dup.number(),
         None => false,
     }
 }
@@ -254,15 +241,8 @@ pub(crate) fn push_unmodelled(
 {
     'places: for place in 0..packets.len() {
         let fact = is_unmodelled(&packets[place]);
-        push_if(
-            found,
-            fact,
-            Rule::NotModelled,
-            spot,
-            None,
-            balise,
-            Some(place),
-        )?;
+        let here = Some(place);
+        push_if(found, fact, Rule::NotModelled, spot, None, balise, here)?;
     }
     Ok(())
 }

@@ -4,12 +4,14 @@
 ghost use Rattle.etcs_check.specs.Laws.{FactsAreFindings, FindingsAreFacts, FindingsAreTheFactsInOrder, NoFindingMeansSoundGroup, NoFindingMeansSoundLine, ASoundLineHasNoViolation, PacketsAreTheirNumbers, PartsHoldUnlessFound, ProfilesAreTheirPackets, SoundGroupsAreDecided, SoundMixturesAreDecided, TelegramsAreTheirParts, UnnamedMeansSound};
 
 /// Two packets are equal if and only if the numbers in the rows of their tables are equal.
+#[tactic(auto, using(crate::proofs::NumberLemmas::packets_are_their_numbers))]
 pub fn packets_are_their_numbers()
     ensures { PacketsAreTheirNumbers }
 {}
 
 /// Two telegrams are equal if and only if their sizes, their headers and the numbers in the rows of their
 /// packets are equal.
+#[tactic(auto, using(crate::proofs::NumberLemmas::telegrams_are_their_parts))]
 pub fn telegrams_are_their_parts()
     ensures { TelegramsAreTheirParts }
 {}
@@ -26,6 +28,7 @@ pub fn no_finding_means_sound_group()
 
 /// A line has no finding if and only if it is sound: for each aspect of every group, running direction and
 /// set of missed balises whose duplicates are read, and for every message.
+#[tactic(auto, using(crate::proofs::LineLemmas::no_finding_means_sound_line))]
 pub fn no_finding_means_sound_line()
     ensures { NoFindingMeansSoundLine }
 {}
@@ -47,6 +50,7 @@ pub fn findings_are_facts()
 
 /// If a rule has no finding at a site, aspect, running direction, balise and packet, the part of soundness
 /// that the rule requires there holds.
+#[tactic(auto, using(crate::proofs::ViolationLemmas::parts_hold_unless_found))]
 pub fn parts_hold_unless_found()
     ensures { PartsHoldUnlessFound }
 {}
@@ -58,6 +62,7 @@ pub fn a_sound_line_has_no_violation()
 {}
 
 /// Each fact against a line has its finding.
+#[tactic(auto, using(crate::proofs::CellLemmas::each_fact_is_listed))]
 pub fn facts_are_findings()
     ensures { FactsAreFindings }
 {}
@@ -65,6 +70,7 @@ pub fn facts_are_findings()
 /// A line has only one list of findings: it has each fact once, and only facts, by group and then by message;
 /// within each by rule, then by aspect (facts about the whole group first), by running direction, nominal
 /// first, then by balise and packet.
+#[tactic(auto, using(crate::proofs::CellLemmas::findings_are_the_facts_in_order))]
 pub fn findings_are_the_facts_in_order()
     ensures { FindingsAreTheFactsInOrder }
 {}

@@ -72,14 +72,8 @@ fn push_groups(alloc: Global, found: &mut Vec<Finding>, groups: &[Controlled]) -
     let again = has_repeat(groups);
     let mut kept = BTreeSet::new(alloc);
     'places: for place in 0..groups.len() {
-        push_next(
-            alloc,
-            found,
-            &mut kept,
-            again,
-            place,
-            groups[place].aspects(),
-        )?;
+        let aspects = groups[place].aspects();
+        push_next(alloc, found, &mut kept, again, place, aspects)?;
     }
     Ok(())
 }

@@ -26,18 +26,10 @@ pub(crate) fn push_lacks(
     ensures ok { OnOk result (found.new.items ≡ found.old.items ++ lacks_found spot run said) }
     ensures memory { OnErr result (lacks_found spot run said ≢ []) }
 {
-    let gradient = said.limit.is_some() && !said.has_gradient;
-    push_if(
-        found,
-        gradient,
-        Rule::NoGradient,
-        spot,
-        Some(run),
-        None,
-        None,
-    )?;
-    let speed = said.limit.is_some() && !said.has_speed;
-    push_if(found, speed, Rule::NoSpeed, spot, Some(run), None, None)
+    let fact = said.limit.is_some() && !said.has_gradient;
+    push_if(found, fact, Rule::NoGradient, spot, Some(run), None, None)?;
+    let fact = said.limit.is_some() && !said.has_speed;
+    push_if(found, fact, Rule::NoSpeed, spot, Some(run), None, None)
 }
 
 // Whether a profile of this reach ends before the location.

@@ -15,8 +15,8 @@ use Rattle.etcs_check.proofs.line.push_groups.Goals as goal
 -- group.
 pub returns-in_err-push_next-clause-memory : goal.returns-in_err-push_next-clause-memory
 returns-in_err-push_next-clause-memory c =
-    let at = index_at c.args.groups.now c.places.place _ c.aspects.result.now c.places-test.true (c.aspects.ensures.value ∙ c.index-groups-place.is) in
-    on_err _ _ (next_stands c.args.groups.now c.places.place c.aspects.result.now c.has_repeat-again.result at c.in_err-push_next.ensures.numbered c.has_repeat-again.ensures.found c.has_repeat-again.ensures.none c.in_err-push_next.ensures.memory)
+    let at = index_at c.args.groups.now c.places.place _ c.aspects-aspects.result.now c.places-test.true (c.aspects-aspects.ensures.value ∙ c.index-groups-place.is) in
+    on_err _ _ (next_stands c.args.groups.now c.places.place c.aspects-aspects.result.now c.has_repeat-again.result at c.in_err-push_next.ensures.numbered c.has_repeat-again.ensures.found c.has_repeat-again.ensures.none c.in_err-push_next.ensures.memory)
 
 pub places-init : goal.places-init
 places-init c = record {
@@ -29,15 +29,15 @@ places-init c = record {
 -- The findings of this group were appended, and its identity was kept.
 pub places-preserved : goal.places-preserved
 places-preserved c =
-    let at = index_at c.args.groups.now c.places.place _ c.aspects.result.now c.places-test.true (c.aspects.ensures.value ∙ c.index-groups-place.is) in
-    let used = used_told c.args.groups.now c.places.place c.aspects.result.now c.has_repeat-again.result (contains nat_cmp c.places.kept) at c.in_ok-push_next.ensures.numbered (numbered_before c.args.groups.now c.places.place c.places.invariant.numbered) c.has_repeat-again.ensures.none c.places.invariant.kept in
+    let at = index_at c.args.groups.now c.places.place _ c.aspects-aspects.result.now c.places-test.true (c.aspects-aspects.ensures.value ∙ c.index-groups-place.is) in
+    let used = used_told c.args.groups.now c.places.place c.aspects-aspects.result.now c.has_repeat-again.result (contains nat_cmp c.places.kept) at c.in_ok-push_next.ensures.numbered (numbered_before c.args.groups.now c.places.place c.places.invariant.numbered) c.has_repeat-again.ensures.none c.places.invariant.kept in
     record {
-      all = each_pushed (line_group_findings c.args.groups.now) c.args.groups.now c.places.place c.aspects.result.now c.places.found.items _ _ at
-          (c.in_ok-push_next.ensures.ok ∙ ap (λ u. c.places.found.items ++ group_findings (sites.Group c.places.place) u c.aspects.result.now) used)
+      all = each_pushed (line_group_findings c.args.groups.now) c.args.groups.now c.places.place c.aspects-aspects.result.now c.places.found.items _ _ at
+          (c.in_ok-push_next.ensures.ok ∙ ap (λ u. c.places.found.items ++ group_findings (sites.Group c.places.place) u c.aspects-aspects.result.now) used)
           c.places.invariant.all;
-      controlled = each_more (λ _. IsControlled) c.args.groups.now c.places.place c.aspects.result.now at c.places.invariant.controlled c.aspects.ensures.controlled;
-      numbered = each_more (λ _. HasIdentity) c.args.groups.now c.places.place c.aspects.result.now at c.places.invariant.numbered c.in_ok-push_next.ensures.numbered;
-      kept = λ again. kept_more c.args.groups.now c.places.place c.aspects.result.now (contains nat_cmp c.places.kept) _ at (c.in_ok-push_next.ensures.kept again) (c.places.invariant.kept again);
+      controlled = each_more (λ _. IsControlled) c.args.groups.now c.places.place c.aspects-aspects.result.now at c.places.invariant.controlled c.aspects-aspects.ensures.controlled;
+      numbered = each_more (λ _. HasIdentity) c.args.groups.now c.places.place c.aspects-aspects.result.now at c.places.invariant.numbered c.in_ok-push_next.ensures.numbered;
+      kept = λ again. kept_more c.args.groups.now c.places.place c.aspects-aspects.result.now (contains nat_cmp c.places.kept) _ at (c.in_ok-push_next.ensures.kept again) (c.places.invariant.kept again);
     }
 
 pub returns-clause-controlled : goal.returns-clause-controlled
