@@ -283,12 +283,12 @@ def test_e5(program: Program, tmp_path: Path) -> None:
         packets_added(6, YELLOW, raw(68, f"011{0:015b}", 2)),
         packets_added(6, GREEN, raw(68, f"011{100:015b}", 2)),
     ]
-    words = "and Q_DIR 2, both directions: the place would be on both sides of the group"
+    words = "and Q_DIR 2, both directions: it would count on both sides of the group"
     assert found(program, tmp_path / "t.csv", "E5", changes) == [
         (
             row_of(1, YELLOW),
             "the packets 12 (movement authority of level 1), 21 (gradient profile), 27 (international static speed "
-            "profile) have distances, and Q_DIR 2, both directions: their places would be on both sides of the group",
+            "profile) have distances, and Q_DIR 2, both directions: they would count on both sides of the group",
         ),
         (row_of(6, RED), f"it has a distance, {words}"),
         (row_of(6, GREEN), f"it has a distance, {words}"),
@@ -312,7 +312,7 @@ PLACES: List[Tuple[int, str]] = [
 def test_e5_of_the_place_of_the_group(program: Program, tmp_path: Path, number: int, bits: str, distance: int) -> None:
     """D_RBCTR 32,767 means the place of the group too."""
     change_ = packets_added(3, RED, raw(number, f"01{bits.format(distance)}", 2))
-    words = "it has a distance, and Q_DIR 2, both directions: the place would be on both sides of the group"
+    words = "it has a distance, and Q_DIR 2, both directions: it would count on both sides of the group"
     assert (
         found(program, tmp_path / "t.csv", "E5", [change_])
         == [(row_of(3, RED), words)][: distance == 100 or distance > 0 and number != 131]
@@ -330,7 +330,7 @@ def test_e5_of_a_stop(program: Program, tmp_path: Path) -> None:
     words = "and Q_DIR 2, both directions:"
     assert found(program, tmp_path / "t.csv", "E5", [both]) == [
         (row_of(1, RED), f"it has no length, {words} it stops the trains of both"),
-        (row_of(2, RED), f"it has a distance, {words} the place would be on both sides of the group"),
+        (row_of(2, RED), f"it has a distance, {words} it would count on both sides of the group"),
     ]
 
 

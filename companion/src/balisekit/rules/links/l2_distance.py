@@ -3,8 +3,8 @@
 What it says. The distance of a linked group by D_LINK differs from the distance by the kilometres by more than
 Q_LOCACC, `--tolerance` and rounding. Both count in metres from the group that the line names. "In rear of it" means
 that by the kilometres the train has already passed the linked group. If the direction of the sending group along the
-kilometres is not known, the first link that is compared shows it. If all links over a stretch differ by one amount, one
-remark asks whether the kilometres jump there (SUBSET-026, 3.4.4, 3.16.2.3 and 7.5.1).
+kilometres is not known, the first link that is compared shows it. If all links of two groups or more over a stretch
+differ by one amount, one remark asks whether the kilometres jump there (SUBSET-026, 3.4.4, 3.16.2.3 and 7.5.1).
 
 How urgent. At worst the train brakes or is tripped, or takes a wrong position for its own.
 

@@ -1,6 +1,6 @@
 """E16: direction of a single balise.
 
-What it says. Packets 5 lead past a single balise with Q_LINK 1 and packets for one direction without naming it, or
+What it says. Packets 5 lead past a single balise with Q_LINK 1 and packets for one direction that none names, or
 disagree about the direction of a single balise. A direction other than that of the column `nominal` is named too.
 Packets 44, 145 and 254 do not count. Such a packet 5 is for that way and leads past its kilometre. Passed over is a
 balise with a packet 16 within 500 m of a link to NID_BG 16,383, or on another track than this link, or with a refused
@@ -17,11 +17,11 @@ train ignores what is for one direction; with the wrong one it takes what is for
 How to correct it. Name the balise in the packets 5 of the groups before it, and give all these links one orientation.
 
 Correct data that gets it. Any that break one of these assumptions; usual cases follow "not". The table has all links:
-not in level 2, also as an overlay of level 1, if radio sends them. Packets 5 that lead past a balise are for trains
-that pass it: not if it is on another route. Trains of one way of a track come to it from one side: not on a balloon
-loop or triangle. Kilometres and distances show the place on the track: not if they are missing, repeat, jump unstated,
-follow another axis, are rounded coarsely, or belong to signals or to tracks without names. Packets with Q_DIR 2 are for
-both directions: not on a track for one.
+not in level 2, also as an overlay of level 1, if radio sends them, and not if groups beyond the table name the balise.
+Packets 5 that lead past a balise are for trains that pass it: not if it is on another route. Trains of one way of a
+track come to it from one side: not on a balloon loop or triangle. Kilometres and distances show the place on the track:
+not if they are missing, repeat, jump unstated, follow another axis, are rounded coarsely, or belong to signals or to
+tracks without names. Packets with Q_DIR 2 are for both directions: not on a track for one.
 
 Example. Infill balise 5 has a packet 12 for the nominal direction. Signals 3 and 4 lead past it and do not name it.
 

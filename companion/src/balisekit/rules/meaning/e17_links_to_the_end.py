@@ -1,13 +1,14 @@
 """E17: links that end before the authority.
 
-What it says. A packet 12 with V_MAIN above 0 ends more than 50 m beyond the last group that packets 5 name, between two
-others with Q_LINK 1 for its direction. The packets 5 are those of all aspects of the group, and of groups before it on
-that track and way. If the direction of one is not known, its first link shows it. D_LINK shows where one without a
-kilometre is. The first of the others may be up to 50 m beyond the end of the authority. Both have packets for that
-direction other than 0, 145, 254 and 255. The rule is silent if the last link is NID_BG 16,383: the group with
-repositioning information there names the next ones. Nor does it speak if this group, or one before it at most 10 km in
-rear of the end, has a refused telegram. Packets 5 after a packet 136 do not count. A table without any packet 5 and
-without refused telegrams or messages gets one remark (SUBSET-026, 3.4.4).
+What it says. A packet 12 with V_MAIN above 0 ends more than 50 m beyond the last group that packets 5 name, at or
+between others with Q_LINK 1 for its direction. The packets 5 are those of all aspects of the group, and of groups
+before it on that track and way. If the direction of one is not known, its first link shows it. D_LINK shows where one
+without a kilometre is. The first of the others may be up to 50 m beyond the end of the authority, and is then enough.
+They have packets for that direction other than 0, 145, 254 and 255. The rule is silent if the last link is NID_BG
+16,383: the group with repositioning information there names the next ones. Nor does it speak if this group, or one
+before it at most 10 km in rear of the end, has a refused telegram. Packets 5 after a packet 136 do not count. A table
+with such an authority, without any packet 5 and without refused telegrams or messages gets one remark (SUBSET-026,
+3.4.4).
 
 How urgent. At worst a wrong position of the train.
 

@@ -1,8 +1,8 @@
 """E1: raw packet that does not fit its layout.
 
-What it says. A raw packet to trains does not fit its layout, if that is 97 % certain, or has a spare number. It has
-fewer or more bits than the layout. Spare are an M_LEVELTR from 5 to 7, a Q_SCALE 3, an M_MAMODE 3, and a speed above
-120 without a special meaning. The first place that does not fit is named. The layouts are balisekit's own and not
+What it says. A raw packet to trains misfits its layout, if 97 % certain, or has a spare scale, level, mode or speed. It
+has fewer or more bits than the layout. Spare are an M_LEVELTR from 5 to 7, a Q_SCALE 3, an M_MAMODE 3, and a speed
+above 120 without a special meaning. The first place that does not fit is named. The layouts are balisekit's own and not
 compared with a print (SUBSET-026, 7.4 and 7.5.1).
 
 How urgent. At worst wrong information.

@@ -1,7 +1,7 @@
 """E5: both directions with a distance.
 
-What it says. One of 21 packets with distances holds in both directions (Q_DIR 2), unless its only distance is the place
-of its group. These are 5, 12, 15, 16, 21, 27, 39, 40, 41, 51, 52, 65, 67 to 71, 80, 88, 131 and 138. Passed over is a
+What it says. One of 21 packets with distances holds in both directions (Q_DIR 2); nine kinds may give only their
+group's place. The 21 are 5, 12, 15, 16, 21, 27, 39, 40, 41, 51, 52, 65, 67 to 71, 80, 88, 131 and 138. Passed over is a
 packet 41 with D_LEVELTR 0 or 32,767 (now). So is a packet 39, 40, 51, 52, 68 to 70 or 131 that gives only the place of
 its group, by D_TRACTION, D_CURRENT, D_TRACKINIT, D_SUITABILITY or D_RBCTR 0, or D_RBCTR 32,767 (now). An authority
 without any length is named if no other such packet is there: it stops the trains of both directions. All such packets
@@ -88,12 +88,12 @@ def _remark(owner: Owner, packets: List[Packet]) -> Remark:
         if first.number == LEVELS:
             place = first.form["d_leveltr"] * first.unit
             values["d_leveltr_m"], at = distance(place), f", D_LEVELTR {metres(place)}"
-        words = f"it has a distance{at}, and Q_DIR 2, both directions: the place would be on both sides of the group"
+        words = f"it has a distance{at}, and Q_DIR 2, both directions: it would count on both sides of the group"
         return Remark("E5", where, words, values=values)
     names = [f"{each.number} ({packet_name(each.number)})" for each in sorted(packets, key=lambda each: each.place)]
     words = f"the packets {', '.join(names)} have distances, and Q_DIR 2, both directions"
     whole = Location(where.group, where.row, where.message, n_pig=where.n_pig)
-    return Remark("E5", whole, f"{words}: their places would be on both sides of the group", values=values)
+    return Remark("E5", whole, f"{words}: they would count on both sides of the group", values=values)
 
 
 RULE = Rule("E5", "packets with distances", __doc__ or "", find, Urgency.WRONG_INFORMATION)
