@@ -256,6 +256,18 @@ def test_outputs_never_replace_inputs(run: Run, table: Write) -> None:
     assert run("check", path, "--sarif", "-", "--json", "-")[0] == 2
 
 
+def test_outputs_never_replace_inputs_through_a_folder_that_is_not_there(run: Run, table: Write) -> None:
+    path = table("group,telegram", f"A,{ALONE}")
+    before = path.read_bytes()
+    around = path.parent / "missing" / ".." / path.name
+    for words in (("check", path, "--json"), ("table", path, "--csv"), ("report", path, "--html")):
+        status, _, err = run(*words, around, "--force")
+        assert status == 2 and "an output never replaces one" in err[0] and path.read_bytes() == before, words
+    other = table("group,telegram", f"B,{ALONE}", name="other.csv")
+    status, _, err = run("table", path, "--csv", other.parent / "missing" / ".." / "other.csv")
+    assert status == 2 and "it exists already" in err[0]
+
+
 def test_packages_are_imported_only_when_needed() -> None:
     """Neither jinja2 nor openpyxl nor jsonschema."""
     code = (

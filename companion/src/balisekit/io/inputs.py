@@ -39,7 +39,7 @@ def _identity(file: Union[str, int]) -> Optional[Tuple[int, int]]:
 @contextmanager
 def guarded(outputs: Iterable[str]) -> Iterator[None]:
     """Within this, neither these outputs nor standard output replace an input."""
-    _outputs.update((_identity(path), path) for path in outputs)
+    _outputs.update((_identity(it), path) for path in outputs for it in (path, os.path.realpath(path)))
     with suppress(OSError, ValueError):  # (a caller in Python may have another stream)
         _outputs[_identity(sys.stdout.fileno())] = "standard output"
     _outputs.pop(None, None)

@@ -46,7 +46,8 @@ class Output:
         if self.is_standard_output:
             return
         try:
-            existing = os.stat(self.path) if os.path.exists(self.path) else None
+            # A path through `missing/..` leads to no file, but its target can be one.
+            existing = next((os.stat(it) for it in (self.path, self.target) if os.path.exists(it)), None)
         except ValueError as error:  # a NUL in the path
             raise NoAnswer(f"{self.path}: {error}") from error
         if existing is None and not os.path.islink(self.target):
