@@ -341,6 +341,23 @@ def test_jumps(found: Found) -> None:
         assert not found("E14", BOTH, shifted(14_000, metres), given)
 
 
+def test_e14_asks_for_no_jump_if_links_differ_by_rounding_only(found: Found) -> None:
+    """With a Q_SCALE of 10 m both links to Signal 4 are 4 m short. Two wrong links elsewhere are named alone."""
+
+    def rounded(rows: List[Row]) -> None:
+        for row in rows:
+            row.place += 4 if row.group == "Signal 4" else 0
+            for each in row.form["packets"]:
+                if each["nid_packet"] == 5:
+                    each["q_scale"] = 2
+                    for link in each["links"]:
+                        link["d_link"] //= 10
+
+    wrong = all_of(rounded, links_of("Signal 1", 0, 2), links_of("Signal 5", 0, 2))
+    assert not found("E14", SHORT, rounded)
+    assert not [one for one in found("E14", SHORT, wrong) if "jump" in one.sentence]
+
+
 def test_links_over_a_jump_vary_by_two_metres(found: Found) -> None:
     """If they vary by more there is no jump, and each of them is a remark."""
 

@@ -49,7 +49,9 @@ def find(line: Line, options: Options) -> Result:
     steps = list(steps_of(line))
     least = line.decoded.tolerance(options.tolerance_of_places)
     differing = [each for each in steps if abs(each.difference) > least + rounding(each.link.unit, each.lengths)]
-    jumps = list(jumps_of(steps, least + 1)) if len(differing) > 1 else []
+    wrong = set(map(id, differing))
+    jumps = [each for each in jumps_of(steps, least + 1) if any(id(step) in wrong for step in each.steps)]
+    jumps = jumps if len(differing) > 1 else []
     found, notes = [_jump(line, each) for each in jumps if not _is_far(line, each, options)], []
     apart = [each for each in differing if not any(_explains(jump, each, least) for jump in jumps)]
     within = [each for each in apart if not _is_by_l2(line, each, options)]
