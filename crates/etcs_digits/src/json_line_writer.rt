@@ -2,12 +2,12 @@
 //! closing bracket overwrites that comma. So most tokens are appended as they are, a key together with its number.
 
 ghost use Rattle.std.specs.Prelude.{◌≡◌, ◌-◌, ◌++◌, ◌∷◌, [], IfOk, List, OnOk, cond, decimal, false, not, true};
-ghost use Rattle.json.specs.Print.{begins, ends, print, IsPrintable};
+ghost use Rattle.std.specs.Bool.{OnTrue};
+ghost use Rattle.json.specs.Print.{begins, ends, escape, print, IsPrintable};
 ghost use Rattle.json.specs.Reads.{token_of};
 ghost use Rattle.json.specs.Token.{Token as JsonToken, key, number};
 ghost use Rattle.etcs_digits.specs.JsonLineWriter.{Becomes, value_comma, empty_line, put, puts, quoted_text, drop_comma};
 
-use crate::plain::is_plain;
 use crate::text_room::{make_ready, place_byte, place_number, place_quoted};
 use json::{Token, Writer};
 use std::alloc::AllocError;
@@ -33,6 +33,20 @@ impl Model for JsonLineWriter {
     ghost view = { λ w. record { text = take w.len w.bytes.items; after_value = w.after_value } };
 
     ghost invariant = { λ w. w.len ≤ length w.bytes.items };
+}
+
+// Whether a text needs no escape. `false` is inconclusive. The compiler evaluates the call for a constant
+// text, such as a key.
+#[inline(always)]
+fn is_plain(text: &[u8]) -> bool
+    ensures { OnTrue result (escape text.now ≡ text.now) }
+{
+    'bytes: for &byte in text {
+        if byte == b'"' || byte == b'\\' || byte < 0x20 {
+            return false;
+        }
+    }
+    true
 }
 
 // Whether a token is the last of a value.

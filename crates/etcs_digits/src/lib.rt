@@ -11,7 +11,6 @@
 mod decimal;
 mod hexadecimal;
 mod json_line_writer;
-mod plain;
 mod text_room;
 
 pub use decimal::send_decimal;

@@ -1,4 +1,4 @@
-//! The forms of telegrams and of radio messages: `Form` for `Telegram`, `Message` and their parts.
+//! The JSON forms of telegrams and of radio messages: `Form` for `Telegram`, `Message` and their parts.
 
 pub(crate) mod message_form;
 pub(crate) mod movement_form;

@@ -1,4 +1,4 @@
-//! The forms of packets, and of the variables and parts that they are made of.
+//! The JSON forms of packets, and of the variables and parts that they are made of.
 
 pub(crate) mod authority_form;
 pub(crate) mod authority_parts;

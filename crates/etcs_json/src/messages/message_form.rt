@@ -1,4 +1,4 @@
-//! The form of `Message`, a radio message. Its number decides which kind it is.
+//! The JSON form of `Message`, a radio message. Its number decides which kind it is.
 
 ghost use Rattle.std.specs.Prelude.{IsOk};
 ghost use Rattle.etcs_json.specs.AnyMessage.{numbered};

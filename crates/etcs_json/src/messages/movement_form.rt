@@ -1,4 +1,4 @@
-//! The form of `MovementMessage`, message 3.
+//! The JSON form of `MovementMessage`, message 3.
 
 use crate::Record;
 use crate::members::{

@@ -1,4 +1,4 @@
-//! The form of `PositionMessage`, message 136.
+//! The JSON form of `PositionMessage`, message 136.
 
 use crate::Record;
 use crate::members::{

@@ -1,4 +1,4 @@
-//! The form of `Telegram`, with its `Size` and its `Header`.
+//! The JSON form of `Telegram`, with its `Size` and its `Header`.
 
 ghost use Rattle.std.specs.Prelude.{◌≡◌};
 ghost use Rattle.etcs_telegram.specs.Sizes.{user_bits};

@@ -1,4 +1,4 @@
-//! The form of `Authority`, packets 12 and 15.
+//! The JSON form of `Authority`, packets 12 and 15.
 
 ghost use Rattle.std.specs.Prelude.{◌≡◌, OnOk};
 ghost use Rattle.etcs_profile.specs.Authority.{authority_number, make_authority};

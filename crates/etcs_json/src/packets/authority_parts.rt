@@ -1,4 +1,4 @@
-//! The forms of the parts of movement authorities: `Section`, `SectionTimer`, `EndTimer`, `DangerPoint` and
+//! The JSON forms of the parts of movement authorities: `Section`, `SectionTimer`, `EndTimer`, `DangerPoint` and
 //! `Overlap`.
 
 ghost use Rattle.etcs_json.specs.Authority.{danger_point, end_timer, overlap, section, section_timer};

@@ -1,4 +1,4 @@
-//! The form of `CoverMarker`, packet 0.
+//! The JSON form of `CoverMarker`, packet 0.
 
 ghost use Rattle.etcs_json.specs.Cover.{cover_marker};
 ghost use Rattle.etcs_schema.specs.Codec.{whole};

@@ -1,4 +1,4 @@
-//! The form of `Integrity`: Q_LENGTH, with the length that is confirmed.
+//! The JSON form of `Integrity`: Q_LENGTH, with the length that is confirmed.
 
 ghost use Rattle.std.specs.Prelude.{◌≡◌};
 ghost use Rattle.etcs_radio.specs.Integrity.{length_number as number_of_length, q_length};

@@ -1,4 +1,4 @@
-//! The form of `Level`: the level, with the national system of level NTC.
+//! The JSON form of `Level`: the level, with the national system of level NTC.
 
 ghost use Rattle.std.specs.Prelude.{◌≡◌};
 ghost use Rattle.etcs_bits.specs.variables.Level.{m_level};

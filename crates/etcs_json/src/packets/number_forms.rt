@@ -1,4 +1,4 @@
-//! The forms of variables, whole numbers in JSON: `Plain`, `Ranged`, `bool`, `Dir`, `Scale`, `Dup` and `Version`.
+//! The JSON forms of variables, whole numbers in JSON: `Plain`, `Ranged`, `bool`, `Dir`, `Scale`, `Dup` and `Version`.
 #![tactic(auto, unfolding(etcs_schema::specs::Reading::allowed_number))]
 
 ghost use Rattle.etcs_bits.specs.variables.Variables.{plain, ranged};

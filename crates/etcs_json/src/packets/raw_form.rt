@@ -1,4 +1,4 @@
-//! The form of `RawPacket`, a track packet whose layout is not known. Its body is kept as bits.
+//! The JSON form of `RawPacket`, a track packet whose layout is not known. Its body is kept as bits.
 
 ghost use Rattle.std.specs.Prelude.{◌≡◌, length, true};
 ghost use Rattle.etcs_profile.specs.FoundRaw.{make_raw};

@@ -1,4 +1,4 @@
-//! The form of `RawTrainPacket`, a packet from train to track whose layout is not known. Its body is kept as bits.
+//! The JSON form of `RawTrainPacket`, a packet from train to track whose layout is not known. Its body is kept as bits.
 
 ghost use Rattle.std.specs.Prelude.{◌≡◌, length, true};
 ghost use Rattle.etcs_radio.specs.FoundRaw.{make_raw};

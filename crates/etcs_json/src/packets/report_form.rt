@@ -1,4 +1,4 @@
-//! The form of `Report`, train packets 0 and 1.
+//! The JSON form of `Report`, train packets 0 and 1: its members as nested pairs, read and written.
 
 ghost use Rattle.std.specs.Prelude.{◌≡◌, OnOk};
 ghost use Rattle.etcs_radio.specs.Report.{make_report, report_value as what_is_with};

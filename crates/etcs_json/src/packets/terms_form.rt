@@ -1,4 +1,4 @@
-//! `Terms`: the members that both movement authorities have after their head.
+//! The JSON form of `Terms`, the members that both movement authorities have after their head.
 
 ghost use Rattle.std.specs.Prelude.{◌≡◌};
 ghost use Rattle.etcs_profile.specs.Authority.{authority_value};

@@ -1,4 +1,4 @@
-//! The form of `TrackPacket`, which its number decides, and of `Linking`, `Gradient` and `SpeedProfile`, packets 5,
+//! The JSON form of `TrackPacket`, which its number decides, and of `Linking`, `Gradient` and `SpeedProfile`, packets 5,
 //! 21 and 27, with their elements.
 
 ghost use Rattle.std.proofs.Common.{lit<};

@@ -1,4 +1,4 @@
-//! The form of `TrainPacket`, a packet from train to track, which its number decides.
+//! The JSON form of `TrainPacket`, a packet from train to track, which its number decides.
 
 ghost use Rattle.std.specs.Prelude.{◌≡◌, IfOk};
 ghost use Rattle.serde_json.specs.View.{view};

@@ -1,4 +1,4 @@
-//! The form of `Transition`, packet 41, and of `LevelOrder`.
+//! The JSON form of `Transition`, packet 41, and of `LevelOrder`.
 
 ghost use Rattle.std.proofs.Common.{lit<};
 ghost use Rattle.etcs_schema.specs.Head.{packet};

@@ -1,5 +1,5 @@
 use Rattle.json.specs.Written.{PlainBetween}
-use Rattle.etcs_digits.proofs.plain.is_plain.Given as goal
+use Rattle.etcs_digits.proofs.json_line_writer.is_plain.Given as goal
 
 -- the bytes so far need no escape
 abbrev pub invariant-bytes : goal.invariant-bytes
