@@ -30,12 +30,6 @@ part_of_part xs a n f w h =
 
 -- ---- one bit
 
-pub slice_get_of_part : (xs : List Bool) (a n i : ℕ) → i < n → a + n ≤ length xs → slice_get (take n (drop a xs)) i ≡ slice_get xs (a + i)
-slice_get_of_part xs a n i h within =
-    slice_get-get_or (take n (drop a xs)) i false (rw (length-take, length-drop) (omega arith))
-    ∙ ap Some (get_or-take n (drop a xs) i false h ∙ get_or-drop a xs i false)
-    ∙ sym (slice_get-get_or xs (a + i) false (omega arith))
-
 one_bit : (b : Bool) → b ≡ eqb (num_of_bits (b ∷ [])) 1
 unfolding num_of_bits
 one_bit true = refl

@@ -9,10 +9,6 @@ use Rattle.etcs_profile.specs.declared.reach.Reach.TheVariants.{Ends, Open}
 use Rattle.etcs_profile.specs.Laws.{IsWayToMark}
 use Rattle.etcs_profile.specs.Reach.{add_distance, scaled_reach, scale_factor, way_to_mark}
 
-pub way_starts : (way : Option ℕ) → way ≡ add_distance 0 way
-way_starts (Some n) = ap Some (omega arith)
-way_starts None = refl
-
 twice : (a b : ℕ) (way : Option ℕ) → add_distance a (add_distance b way) ≡ add_distance (a + b) way
 twice a b (Some n) = ap Some (omega arith)
 twice a b None = refl
