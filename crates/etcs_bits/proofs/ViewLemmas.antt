@@ -1,8 +1,8 @@
 -- Parts of a list of bits, and of packed bits.
-use Rattle.std.proofs.Common.{◌≡◌, ℕ, zero, suc, ◌+◌, ◌-◌, ◌*◌, ◌/◌, ◌%◌, ◌^◌, ◌<◌, ◌≤◌, Bool, true, false, List, [], ◌∷◌, ◌++◌, length, get_or, take, drop, replicate, slice_get, Some, refl, sym, ap, ap₂, ◌∙◌, arith, length-append, length-drop, length-take, length-take-le, bit_and, eqb}
+use Rattle.std.proofs.Common.{◌≡◌, ℕ, zero, suc, ◌+◌, ◌-◌, ◌*◌, ◌/◌, ◌%◌, ◌^◌, ◌<◌, ◌≤◌, Bool, true, false, List, [], ◌∷◌, ◌++◌, length, get_or, take, drop, replicate, slice_get, Some, refl, sym, ap, ap₂, ◌∙◌, arith, length-append, length-drop, length-take-le, bit_and, eqb}
 use Rattle.std.proofs.Math.Nat.{zero-mod, zero-div}
 use Rattle.std.proofs.lemmas.Nat.Bits.{shr_and_one}
-use Rattle.std.proofs.lemmas.List.{take-append-drop, drop-drop, drop-take, take-take, take_at, drop_at, drop_more, get_or-take, get_or-drop}
+use Rattle.std.proofs.lemmas.List.{take-append-drop, drop-drop, drop-take, take-take, take_at, drop_at, drop_more}
 use Rattle.std.proofs.lemmas.Option.{slice_get-get_or}
 use Rattle.etcs_bits.specs.bits.Number.{num_of_bits, num, bits_of_bytes}
 use Rattle.etcs_bits.specs.bits.Packed.{IsPacked}
