@@ -1,4 +1,4 @@
-//! `Authority`: the movement authorities, packets 12 and 15.
+//! `Authority`: the movement authorities, packets 12 and 15, and `Authority::end`, how far they let a train run.
 
 ghost use Rattle.std.specs.Prelude.{◌≡◌, ◌↔◌, ◌<◌, ◌≤◌, ◌*◌, length, sum_by, IsOk, IsSome, IfSome};
 ghost use Rattle.etcs_bits.specs.layout.Format.{◌then◌};
