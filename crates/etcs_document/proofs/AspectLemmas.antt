@@ -53,10 +53,3 @@ controlled_first g first ds aspects some is =
       counts = as_first first rest.0 (each_counted g (length first) 1 ds rest.0 rest.1);
     } in
     subst IsControlled rest.2 controlled
-
--- what was read of the aspects of a group is a controlled group
-pub are_controlled : (g : ℕ) (first same : List Telegram) (ds : List Data) (aspects : List (List Telegram)) → same ≡ first → 0 < length same
-    → with_first first (other_aspects g (length same) ds) ≡ Ok aspects → IsControlled aspects
-are_controlled g first same ds aspects is some read =
-    controlled_first g first ds aspects (subst (λ (l : List Telegram). 0 < length l) is some)
-    (subst (λ (l : List Telegram). with_first first (other_aspects g (length l) ds) ≡ Ok aspects) is read)

@@ -11,10 +11,10 @@ use Rattle.json.specs.Token.{Token}
 use Rattle.serde_json.specs.Data.{Data, array, no_items, no_members, object, string}
 use Rattle.serde_json.specs.Find.{as_array}
 use Rattle.serde_json.specs.Read.{converted, of_json, of_members}
-use Rattle.etcs_document.proofs.TokenLemmas.{converted-object, converted_some, item_more, key_stands, list_stands, no_items_yet, same_list, value_shorter}
+use Rattle.etcs_document.proofs.TokenLemmas.{HasItems, converted-object, converted_some, item_more, key_stands, list_stands, no_items_yet, same_list, value_shorter}
 use Rattle.etcs_document.specs.Document.{◌then◌, as_values, aspect_telegrams, balise_telegram, controlled_group, document_group, document_message, group_aspect, group_path, has_count, in_form, listed_aspects, only_aspect, only_values, read_indexed}
 use Rattle.etcs_document.specs.DocumentFault.{DocumentFault, bad_message, bad_telegram}
-use Rattle.etcs_document.specs.DocumentTokens.{AreBalises, AreEach, AreFirst, HasGroup, IsAspect, IsAspects, IsBalises, IsFirst, IsGroup, IsList, IsMessage, IsOnlyAspect, IsTelegram}
+use Rattle.etcs_document.specs.DocumentTokens.{AreBalises, AreEach, HasGroup, IsAspect, IsBalises, IsFirst, IsGroup, IsList, IsMessage, IsTelegram}
 use Rattle.etcs_schema.specs.Entries.{Entry, with_entries, entries_object}
 use Rattle.etcs_schema.specs.Fault.{Kind, here, key as key_step, prefixed_result}
 use Rattle.etcs_schema.specs.Reading.{required_member, data_list, only_keys}
@@ -61,6 +61,12 @@ value_goes depth old found is = refl
 first_goes : {X : Type 0} (Is : Data → X → Type 0) (depth : ℕ) (old : List Token) (x : X) (new : List Token) → IsFirst Is depth old x new → after_end_array old ≡ None
 first_goes Is depth old x new one =
     let j = converted_some of_json (value depth old) one.found new one.stands in value_goes depth old (j.0, new) j.1
+
+-- the first items of the tokens are the items of xs
+pub record AreFirst {X : Type 0} (Is : Data → X → Type 0) (depth : ℕ) (old : List Token) (xs : List X) (new : List Token) : Type 0 where
+  pub found : List Data
+  pub stand : HasItems depth found old new
+  pub are : AreEach Is found xs
 
 pub none_first : {X : Type 0} (Is : Data → X → Type 0) (depth : ℕ) (old : List Token) → AreFirst Is depth old [] old
 none_first Is depth old = record { found = []; stand = no_items_yet depth old; are = tt }
@@ -172,43 +178,39 @@ aspects_read (d ∷ ds) [] are is g = absurd are
 aspects_read (d ∷ ds) (x ∷ xs) are is g =
     rw (aspect_reads d x are.0 g None (Some 0) refl, others_read g (length x) 1 ds xs are.1 (λ k y at. is.counts (suc k) y at)) refl
 
--- aspects that are a controlled group
-pub aspects_taken : (depth : ℕ) (old : List Token) (xs : List (List Telegram)) (new : List Token) → IsFirst (IsList IsAspect) depth old xs new → IsControlled xs → IsFirst IsAspects depth old xs new
-aspects_taken depth old xs new one is = record {
-  found = one.found;
-  stands = one.stands;
-  is = (one.is.0, list_values one.is.0 one.found one.is.1, aspects_read one.is.0 xs one.is.2 is);
-}
-
 -- ---- groups
 
-only_read : (d : Data) (aspects : List (List Telegram)) → IsOnlyAspect d aspects → IsGroup (with_key (codes "balises") d) aspects
+only_read : (d : Data) (group : List Telegram) → IsBalises d group → IsGroup (with_key (codes "balises") d) (group ∷ [])
 unfolding document_group only_aspect
-only_read d aspects is = λ g.
-    let one = aspect_reads (with_key (codes "balises") d) is.0 (is.2.0, balises_key d is.2.0 is.2.1, is.2.2) g None None refl in
-    ap (λ r. r then λ only. Ok (only ∷ [])) one ∙ ap (λ l. Ok l) (sym is.1)
+only_read d group is = λ g.
+    let one = aspect_reads (with_key (codes "balises") d) group (is.0, balises_key d is.0 is.1, is.2) g None None refl in
+    ap (λ r. r then λ only. Ok (only ∷ [])) one
 
-controlled_read : (d : Data) (aspects : List (List Telegram)) → IsAspects d aspects → IsGroup (with_key (codes "aspects") d) aspects
+controlled_read : (d : Data) (ds : List Data) (xs : List (List Telegram)) → as_values d ≡ Ok ds → AreEach IsAspect ds xs → IsControlled xs → IsGroup (with_key (codes "aspects") d) xs
 unfolding document_group controlled_group
-controlled_read d aspects is = λ g. ap (λ r. in_form (group_path g None) r then listed_aspects g) (aspects_key d is.0 is.1) ∙ is.2 g
+controlled_read d ds xs values are is = λ g. ap (λ r. in_form (group_path g None) r then listed_aspects g) (aspects_key d ds values) ∙ aspects_read ds xs are is g
 
-pub only_member : (depth : ℕ) (old mid : List Token) (k : List ℕ) (aspects : List (List Telegram)) (new : List Token) → read_key old ≡ Some (Some k, mid) → k ≡ codes "balises" → IsFirst IsOnlyAspect depth mid aspects new
-    → HasGroup depth old aspects new
-only_member depth old mid k aspects new named is one = record {
-  name = codes "balises";
-  found = one.found;
-  stand = key_stands depth (codes "balises") one.found old mid new (named ∙ ap (λ n. Some (Some n, mid)) is) one.stands;
-  is = only_read one.found aspects one.is;
+-- the one member of a group, which has this key
+member_taken : (depth : ℕ) (old mid : List Token) (k name : List ℕ) (found : Data) (aspects : List (List Telegram)) (new : List Token) → read_key old ≡ Some (Some k, mid) → k ≡ name
+    → first_value depth mid ≡ Some (found, new) → IsGroup (with_key name found) aspects → HasGroup depth old aspects new
+member_taken depth old mid k name found aspects new named same stands is = record {
+  name = name;
+  found = found;
+  stand = key_stands depth name found old mid new (named ∙ ap (λ n. Some (Some n, mid)) same) stands;
+  is = is;
 }
 
-pub aspects_member : (depth : ℕ) (old mid : List Token) (k : List ℕ) (aspects : List (List Telegram)) (new : List Token) → read_key old ≡ Some (Some k, mid) → k ≡ codes "aspects" → IsFirst IsAspects depth mid aspects new
-    → HasGroup depth old aspects new
-aspects_member depth old mid k aspects new named is one = record {
-  name = codes "aspects";
-  found = one.found;
-  stand = key_stands depth (codes "aspects") one.found old mid new (named ∙ ap (λ n. Some (Some n, mid)) is) one.stands;
-  is = controlled_read one.found aspects one.is;
-}
+-- the balises of the one aspect
+pub only_member : (depth : ℕ) (old mid : List Token) (k : List ℕ) (group : List Telegram) (aspects : List (List Telegram)) (new : List Token) → read_key old ≡ Some (Some k, mid) → k ≡ codes "balises"
+    → IsFirst IsBalises depth mid group new → aspects ≡ group ∷ [] → HasGroup depth old aspects new
+only_member depth old mid k group aspects new named same one is = rw is (member_taken depth old mid k (codes "balises") one.found (group ∷ []) new named same one.stands (only_read one.found group one.is))
+
+-- aspects that are a controlled group
+pub aspects_member : (depth : ℕ) (old mid : List Token) (k : List ℕ) (xs aspects : List (List Telegram)) (new : List Token) → read_key old ≡ Some (Some k, mid) → k ≡ codes "aspects"
+    → IsFirst (IsList IsAspect) depth mid xs new → aspects ≡ xs → IsControlled xs → HasGroup depth old aspects new
+aspects_member depth old mid k xs aspects new named same one is controlled =
+    let values = list_values one.is.0 one.found one.is.1 in
+    rw is (member_taken depth old mid k (codes "aspects") one.found xs new named same one.stands (controlled_read one.found one.is.0 xs values one.is.2 controlled))
 
 pub group_taken : (depth : ℕ) (old begun ended : List Token) (aspects : List (List Telegram)) (new : List Token) → 0 < depth → old ≡ Token.begin_object ∷ begun → HasGroup (depth - 1) begun aspects ended
     → read_key ended ≡ Some (None, new) → IsFirst IsGroup depth old aspects new

@@ -1,8 +1,8 @@
 -- A document that was read has controlled groups. So it has no finding if and only if its line is sound.
-use Rattle.std.proofs.Common.{◌≡◌, ◌+◌, ◌<◌, ◌&&◌, arith, ℕ, List, [], ◌∷◌, length, Option, Some, None, Result, Ok, Err, refl, subst}
+use Rattle.std.proofs.Common.{◌≡◌, ◌+◌, ◌<◌, ◌≤◌, ◌&&◌, arith, ℕ, List, [], ◌∷◌, length, Option, Some, None, Result, Ok, Err, refl, subst}
 use Rattle.std.specs.Option.{is_some}
 use Rattle.std.specs.Prelude.{◌↔◌, IsOkAnd, codes, if◌then◌else◌, nat_le, nat_lt}
-use Rattle.std.proofs.lemmas.Bool.{and_parts, ltb-true}
+use Rattle.std.proofs.lemmas.Bool.{and_parts, leb-true, ltb-true}
 use Rattle.std.proofs.lemmas.Option.{none-some}
 use Rattle.serde_json.specs.Data.{Data}
 use Rattle.serde_json.specs.Find.{get}
@@ -22,19 +22,20 @@ use Rattle.etcs_telegram.specs.Record.{Telegram}
 
 -- ---- groups
 
--- an aspect that was read has a balise
-some_balises : (g : ℕ) (a first : Option ℕ) (ds : List Data) (group : List Telegram) → aspect_telegrams g a first ds ≡ Ok group → 0 < length group
+-- an aspect that was read has one to eight balises
+pub few_balises : (g : ℕ) (a first : Option ℕ) (ds : List Data) (group : List Telegram) → aspect_telegrams g a first ds ≡ Ok group → (0 < length group) × (length group ≤ 8)
 unfolding aspect_telegrams
-some_balises g a first ds group is =
+few_balises g a first ds group is =
     let few = if_ok (nat_lt 0 (length ds) && nat_le (length ds) 8) _ (bad_count g) group is in
     let same = if_ok (has_count first (length ds)) (read_indexed (balise_telegram g a) 0 ds) (bad_aspects g) group few.1 in
-    rw (read_count (balise_telegram g a) 0 ds group same.1) (ltb-true 0 (length ds) (and_parts _ _ few.0).0)
+    let bounds = and_parts _ _ few.0 in
+    rw (read_count (balise_telegram g a) 0 ds group same.1) (ltb-true 0 (length ds) bounds.0, leb-true (length ds) 8 bounds.1)
 
 first_balises : (g : ℕ) (a : Option ℕ) (d : Data) (group : List Telegram) → group_aspect g None a d ≡ Ok group → 0 < length group
 unfolding group_aspect
 first_balises g a d group is =
     let form = then_ok (in_form (group_path g a) (only_values (codes "balises") d)) (aspect_telegrams g a None) group is in
-    some_balises g a None form.0 group form.2
+    (few_balises g a None form.0 group form.2).0
 
 only_is_controlled : (only : List Telegram) → 0 < length only → IsControlled (only ∷ [])
 only_is_controlled only some = record {
@@ -50,7 +51,7 @@ only_controlled g d aspects is =
     let one : IsControlled (read.0 ∷ []) = only_is_controlled read.0 (first_balises g None d read.0 read.1) in
     subst IsControlled (same_ok (read.0 ∷ []) aspects (Ok (read.0 ∷ [])) refl read.2) one
 
-list_controlled : (g : ℕ) (ds : List Data) (aspects : List (List Telegram)) → listed_aspects g ds ≡ Ok aspects → IsControlled aspects
+pub list_controlled : (g : ℕ) (ds : List Data) (aspects : List (List Telegram)) → listed_aspects g ds ≡ Ok aspects → IsControlled aspects
 unfolding listed_aspects
 list_controlled g [] aspects is = absurd (not_ok (bad_aspects g) aspects (Err (bad_aspects g)) refl is)
 list_controlled g (d ∷ ds) aspects is =

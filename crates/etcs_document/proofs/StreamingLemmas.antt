@@ -9,10 +9,10 @@ use Rattle.serde_json.specs.Read.{of_json}
 use Rattle.etcs_check.proofs.CheckerLemmas.{more_groups, more_messages, no_groups, no_messages}
 use Rattle.etcs_check.specs.LineChecker.{CheckerState, HasChecked, TakesGroups, TakesMessages}
 use Rattle.etcs_document.proofs.DocumentLemmas.{is_json}
-use Rattle.etcs_document.proofs.DocumentTokenLemmas.{each_read, first_more, list_taken, list_values, none_first, object_stands}
+use Rattle.etcs_document.proofs.DocumentTokenLemmas.{AreFirst, each_read, first_more, list_taken, list_values, none_first, object_stands}
 use Rattle.etcs_document.proofs.TokenLemmas.{converted_some, key_stands, then_stand}
 use Rattle.etcs_document.specs.Document.{◌then◌, document_group, document_line, document_message, in_form, json_value, line_groups, line_messages, line_of_text, read_indexed}
-use Rattle.etcs_document.specs.DocumentTokens.{AreFirst, AreTaken, HasLine, IsChecked, IsFirst, IsGroup, IsList, IsMessage, TakesEach}
+use Rattle.etcs_document.specs.DocumentTokens.{AreTaken, HasLine, IsChecked, IsFirst, IsGroup, IsList, IsMessage, TakesEach}
 use Rattle.etcs_schema.specs.Entries.{Entry, entries_object}
 use Rattle.etcs_schema.specs.Fault.{key as key_step, prefixed_result}
 use Rattle.etcs_schema.specs.Reading.{required_member, only_keys}

@@ -1,6 +1,8 @@
 -- A text's tokens, read as a value step by step.
-use Rattle.std.proofs.Common.{◌≡◌, ℕ, ◌-◌, ◌<◌, ◌≤◌, List, [], ◌∷◌, ◌++◌, length, Option, Some, None, option_map, refl, ap, ◌∙◌, arith}
-use Rattle.std.specs.Prelude.{IfSome}
+use Rattle.std.proofs.Common.{◌≡◌, ℕ, ◌-◌, ◌<◌, ◌≤◌, List, [], ◌∷◌, ◌++◌, length, Bool, true, false, Option, Some, None, Result, Ok, Err, option_and_then, option_map, refl, ap, subst, ◌∙◌, arith}
+use Rattle.std.specs.Bool.{then_some}
+use Rattle.std.specs.Prelude.{IfOk, IfSome, IsOk, MatchResult}
+use Rattle.std.specs.Result.{result_ok}
 use Rattle.json.proofs.Grammar.{items_end, items_more, left, members_more, read_key-shorter, skip_value-shorter, value-begin_array}
 use Rattle.json.specs.Json as json
 use Rattle.json.specs.Json.{after_end_array, items, parse_map, read_key, value}
@@ -9,7 +11,9 @@ use Rattle.serde_json.specs.Data.{Data, Items, Members, array, item, no_items, n
 use Rattle.serde_json.specs.Read.{converted, of_items, of_json, of_members}
 use Rattle.etcs_schema.specs.Entries.{Entry, put_or}
 use Rattle.etcs_schema.specs.Reading.{data_list}
-use Rattle.etcs_document.specs.Tokens.{HasItems, HasMembers, first_value, joined_items, prepend_items}
+use Rattle.etcs_document.specs.DocumentFault.{DocumentFault, Gives}
+use Rattle.etcs_document.specs.declared.line_error.LineError.{LineError}
+use Rattle.etcs_document.specs.Tokens.{HasMembers, first_value, prepend_items}
 
 -- ---- what was converted
 
@@ -77,6 +81,16 @@ then_stand depth e es old mid new one rest = record {
 
 -- ---- lists
 
+-- these items, and then the items that are found
+abbrev pub joined_items : List Data → Option (Items × List Token) → Option (Items × List Token)
+joined_items ds found = option_and_then (λ p. Some (prepend_items ds p.0, p.1)) found
+
+-- these values are the first items of the tokens
+pub record HasItems (depth : ℕ) (ds : List Data) (old new : List Token) : Type 0 where
+  pub one_by_one : (turns : ℕ) → length old ≤ turns → (left : ℕ) × (length new ≤ left)
+      × (converted of_items (items (value depth) turns old)
+      ≡ joined_items ds (converted of_items (items (value depth) left new)))
+
 nothing_after : (o : Option (Items × List Token)) → o ≡ joined_items [] o
 nothing_after None = refl
 nothing_after (Some p) = refl
@@ -124,6 +138,22 @@ same_list [] = refl
 same_list (d ∷ ds) = ap (λ r. d ∷ r) (same_list ds)
 
 -- ---- what a call returned, if it returned anything
+
+pub then_some_is : {A : Type 0} (b : Bool) (x y : A) → Some y ≡ then_some b x → (b ≡ true) × (y ≡ x)
+then_some_is true x y is = (refl, cc)
+then_some_is false x y is = absurd cc
+
+pub ok_part : {A E : Type 0} (P : A → Type 0) (Q : E → Type 0) (r : Result A E) (x : A) → MatchResult r P Q → Some x ≡ result_ok r → P x
+ok_part P Q (Ok y) x h is = let same : y ≡ x = cc in subst P same h
+ok_part P Q (Err e) x h is = absurd cc
+
+pub ok_some : {A E B : Type 0} (P Q : A → Type 0) (r : Result A E) (o : Option A) → IfOk r P → (IsOk r → B) → o ≡ result_ok r → ((x : A) → P x → B → Q x) → IfSome o Q
+ok_some P Q (Ok x) o is made same more = rw same (more x is (made refl))
+ok_some P Q (Err e) o is made same more = rw same tt
+
+pub gives_ok : {X : Type 0} (r : Result X LineError) (reading : Result X DocumentFault) → Gives (λ x. x) r reading → IfOk r (λ x. reading ≡ Ok x)
+gives_ok (Ok x) reading is = is
+gives_ok (Err e) reading is = tt
 
 pub if_some : {A : Type 0} (P Q : A → Type 0) (o : Option A) → IfSome o P → ((x : A) → P x → Q x) → IfSome o Q
 if_some P Q None h more = tt

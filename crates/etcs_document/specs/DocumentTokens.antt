@@ -5,9 +5,9 @@ use Rattle.std.specs.Prelude.{◌≡◌, ℕ, true, List, [], ◌∷◌, codes, 
 use Rattle.json.specs.Token.{Token}
 use Rattle.serde_json.specs.Data.{Data, array, no_items}
 use Rattle.etcs_check.specs.LineChecker.{CheckerState, HasChecked}
-use Rattle.etcs_document.specs.Document.{as_values, aspect_telegrams, balise_telegram, document_group, document_line, document_message, has_count, listed_aspects, only_values}
+use Rattle.etcs_document.specs.Document.{as_values, aspect_telegrams, balise_telegram, document_group, document_line, document_message, has_count, only_values}
 use Rattle.etcs_schema.specs.Entries.{Entry, entries_object}
-use Rattle.etcs_document.specs.Tokens.{HasItems, HasMembers, first_value, prepend_items}
+use Rattle.etcs_document.specs.Tokens.{HasMembers, first_value, prepend_items}
 use Rattle.etcs_radio.specs.declared.message.Message.{Message}
 use Rattle.etcs_telegram.specs.Record.{Telegram}
 use Rattle.etcs_group.specs.Group.{Telegrams, Aspects}
@@ -31,17 +31,9 @@ AreBalises ds group = (g : ℕ) (a first : Option ℕ) → has_count first (leng
 abbrev pub IsBalises : Data → Telegrams → Type 0
 IsBalises d group = (ds : List Data) × (as_values d ≡ Ok ds) × AreBalises ds group
 
--- the list of balises of the one aspect
-abbrev pub IsOnlyAspect : Data → Aspects → Type 0
-IsOnlyAspect d aspects = (group : Telegrams) × (aspects ≡ group ∷ []) × IsBalises d group
-
 -- the object with these balises
 abbrev pub IsAspect : Data → Telegrams → Type 0
 IsAspect d group = (ds : List Data) × (only_values (codes "balises") d ≡ Ok ds) × AreBalises ds group
-
--- the list of these aspects
-abbrev pub IsAspects : Data → Aspects → Type 0
-IsAspects d aspects = (ds : List Data) × (as_values d ≡ Ok ds) × ((g : ℕ) → listed_aspects g ds ≡ Ok aspects)
 
 -- the group with these aspects
 abbrev pub IsGroup : Data → Aspects → Type 0
@@ -62,13 +54,6 @@ AreEach Is [] [] = Unit {0}
 AreEach Is [] (x ∷ xs) = ⊥
 AreEach Is (d ∷ ds) [] = ⊥
 AreEach Is (d ∷ ds) (x ∷ xs) = Is d x × AreEach Is ds xs
-
--- the first items of the tokens are the items of xs
-pub record AreFirst {X : Type 0} (Is : Data → X → Type 0) (depth : ℕ) (old : List Token) (xs : List X)
-    (new : List Token) : Type 0 where
-  pub found : List Data
-  pub stand : HasItems depth found old new
-  pub are : AreEach Is found xs
 
 -- the list of these items
 abbrev pub IsList : {X : Type 0} → (Data → X → Type 0) → Data → List X → Type 0

@@ -1,9 +1,9 @@
 -- Values, members and items read from the tokens of a text, without building a JSON value.
-use Rattle.std.specs.Prelude.{◌≡◌, ◌≤◌, ℕ, List, [], ◌∷◌, length, Option, Some, option_and_then}
-use Rattle.json.specs.Json.{items, members, value}
+use Rattle.std.specs.Prelude.{◌≡◌, ◌≤◌, ℕ, List, [], ◌∷◌, length, Option}
+use Rattle.json.specs.Json.{members, value}
 use Rattle.json.specs.Token.{Token}
 use Rattle.serde_json.specs.Data.{Data, Items, Members, item}
-use Rattle.serde_json.specs.Read.{converted, of_items, of_json, of_members}
+use Rattle.serde_json.specs.Read.{converted, of_json, of_members}
 use Rattle.etcs_schema.specs.Entries.{Entry, with_entries}
 
 -- ---- one value
@@ -22,15 +22,7 @@ pub record HasMembers (depth : ℕ) (es : List Entry) (old new : List Token) : T
 
 -- ---- the items of a list
 
+-- the items, with these values in front of them
 abbrev pub prepend_items : List Data → Items → Items
 prepend_items [] rest = rest
 prepend_items (d ∷ ds) rest = item d (prepend_items ds rest)
-
-abbrev pub joined_items : List Data → Option (Items × List Token) → Option (Items × List Token)
-joined_items ds found = option_and_then (λ p. Some (prepend_items ds p.0, p.1)) found
-
--- these values are the first items of the tokens
-pub record HasItems (depth : ℕ) (ds : List Data) (old new : List Token) : Type 0 where
-  pub one_by_one : (turns : ℕ) → length old ≤ turns → (left : ℕ) × (length new ≤ left)
-      × (converted of_items (items (value depth) turns old)
-      ≡ joined_items ds (converted of_items (items (value depth) left new)))

@@ -6,10 +6,11 @@ ghost use Rattle.serde_json.specs.View.{view};
 ghost use Rattle.etcs_document.specs.Document.{document_line, json_value, line_of_text};
 ghost use Rattle.etcs_document.specs.DocumentFault.{Gives};
 
-use crate::document_groups::read_groups;
-use crate::document_messages::read_messages;
+use crate::document_values::{read_each, values_at};
 use crate::line_error::LineError;
 use etcs_check::Line;
+use etcs_group::Controlled;
+use etcs_radio::Message;
 use etcs_schema::check_keys;
 use serde_json::Value;
 use std::alloc::Global;
@@ -32,13 +33,13 @@ fn read_json(alloc: Global, bytes: &[u8]) -> Result<Value, LineError>
 }
 
 // Reads the railway line of a document: the groups, and then the messages.
-#[tactic(auto, unfolding(crate::specs::Document::document_line))]
+#[tactic(auto, unfolding(crate::specs::Document::document_line, crate::specs::Document::line_groups, crate::specs::Document::line_messages))]
 fn read_document(alloc: Global, value: &Value) -> Result<Line, LineError>
     ensures { Gives (λ l. (l.groups.items, l.messages.items)) result (document_line (view value.now)) }
 {
     check_keys(alloc, &value, &["groups", "messages"])?;
-    let groups = read_groups(alloc, value)?;
-    let messages = read_messages(alloc, value)?;
+    let groups = read_each::<Controlled>(alloc, values_at(alloc, value, "groups")?)?;
+    let messages = read_each::<Message>(alloc, values_at(alloc, value, "messages")?)?;
     Ok(Line { groups, messages })
 }
 

@@ -1,8 +1,8 @@
 //! `read_aspect`: an aspect of a group in a document, with its balises.
 
-ghost use Rattle.std.specs.Prelude.{◌≡◌, map};
+ghost use Rattle.std.specs.Prelude.{map};
 ghost use Rattle.serde_json.specs.View.{view};
-ghost use Rattle.etcs_document.specs.Document.{aspect_telegrams, balise_telegram, group_aspect, has_count, read_indexed};
+ghost use Rattle.etcs_document.specs.Document.{aspect_telegrams, balise_telegram, group_aspect};
 ghost use Rattle.etcs_document.specs.DocumentFault.{Gives};
 
 use crate::document_values::only_values;
@@ -37,38 +37,8 @@ fn read_telegram(
     }
 }
 
-// Reads balises, one after the other. Their lists of packets are shrunk to fit, because all of them are kept.
-fn read_telegrams(
-    alloc: Global,
-    group: usize,
-    aspect: Option<usize>,
-    values: &[Value],
-) -> Result<Vec<Telegram>, LineError>
-    ensures { Gives (λ v. v.items) result (read_indexed (balise_telegram group aspect) 0 (map view values.now)) }
-{
-    let mut telegrams = Vec::new(alloc);
-    'balises: for (place, value) in values.iter().enumerate() {
-        let mut telegram = read_telegram(alloc, group, aspect, place, value)?;
-        telegram.packets.shrink_to_fit();
-        if telegrams.push(telegram).is_err() {
-            return Err(LineError::Memory);
-        }
-    }
-    Ok(telegrams)
-}
-
-// Whether an aspect has as many balises as the first one.
-fn is_count(first: Option<usize>, count: usize) -> bool
-    ensures { result ≡ has_count first count }
-{
-    match first {
-        None => true,
-        Some(first) => count == first,
-    }
-}
-
 // Reads the balises of the group, or of an aspect of the group. Their number is checked first: it is
-// one to eight, and the number in the first aspect.
+// one to eight, and the number in the first aspect. The lists of packets are shrunk to fit, because all are kept.
 #[tactic(auto, unfolding(crate::specs::Document::aspect_telegrams))]
 fn read_counted(
     alloc: Global,
@@ -82,14 +52,16 @@ fn read_counted(
     if values.is_empty() || values.len() > 8 {
         return Err(LineError::Count(group));
     }
-    if !is_count(first, values.len()) {
+    if first.is_some_and(|first| values.len() != first) {
         return Err(LineError::Aspects(group));
     }
-    let telegrams = read_telegrams(alloc, group, aspect, values)?;
-    match Group::new(telegrams) {
-        Ok(group) => Ok(group),
-        Err(_) => Err(LineError::Count(group)),
+    let mut telegrams = Vec::new(alloc);
+    'balises: for (place, value) in values.iter().enumerate() {
+        let mut telegram = read_telegram(alloc, group, aspect, place, value)?;
+        telegram.packets.shrink_to_fit();
+        telegrams.push(telegram)?;
     }
+    Ok(Group::new(telegrams).unwrap())
 }
 
 /// Reads the group, or the aspect of the group: its form, the number of its balises, and then each balise.

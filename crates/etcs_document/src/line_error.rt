@@ -10,6 +10,7 @@ use etcs_bits::Memory;
 use etcs_radio::RadioTextError;
 use etcs_schema::{FormError, Step};
 use etcs_telegram::TextError;
+use std::alloc::AllocFailed;
 use thiserror::Error;
 
 /// Why bytes are not the document of a railway line: their first fault, depth first. Groups,
@@ -48,6 +49,14 @@ impl From<Memory> for LineError {
     ghost from_gives = { λ _ error. error ≡ errors.Memory };
 
     fn from(_memory: Memory) -> LineError {
+        LineError::Memory
+    }
+}
+
+impl<T: Drop> From<AllocFailed<T>> for LineError {
+    ghost from_gives = { λ _ error. error ≡ errors.Memory };
+
+    fn from(_failed: AllocFailed<T>) -> LineError {
         LineError::Memory
     }
 }

@@ -1,11 +1,11 @@
 //! Streaming check: `check_in_order` reads the document of a railway line and checks it group by group, with a
 //! `Checked` as its result. `None` means undecided, not refused.
 
-ghost use Rattle.std.specs.Prelude.{◌≡◌, ◌∷◌, [], false, List, Ok, IfOk, IfSome, IsTrue};
+ghost use Rattle.std.specs.Prelude.{◌≡◌, ◌∷◌, [], false, List, Ok, IfOk, IfSome};
 ghost use Rattle.std.specs.Str.{is_utf8};
 ghost use Rattle.etcs_check.specs.LineChecker.{CheckerState, HasChecked, TakesGroups, TakesMessages};
 ghost use Rattle.etcs_document.specs.DocumentFault.{Gives};
-ghost use Rattle.etcs_document.specs.DocumentTokens.{AreTaken, HasLine, IsChecked, IsFirst, IsList};
+ghost use Rattle.etcs_document.specs.DocumentTokens.{AreTaken, HasLine, IsFirst, IsList};
 ghost use Rattle.etcs_document.specs.Verdict.{NamesUnsoundParts, TextSaysYes, judged, summary, summary_of_text};
 ghost use Rattle.etcs_radio.specs.declared.message.Message.{Message as SomeMessage};
 ghost use Rattle.etcs_group.specs.Group.{Aspects};
@@ -39,23 +39,23 @@ trait Item: FromTokens {
     ghost takes: { CheckerState → Self → CheckerState → Type 0 };
 
     /// Passes it to the checker.
-    fn pass_to(&self, alloc: Global, checker: &mut LineChecker) -> bool
-        ensures { IsTrue result → takes checker.old self.now checker.new };
+    fn pass_to(&self, alloc: Global, checker: &mut LineChecker) -> Option<()>
+        ensures { IfSome result (λ _. takes checker.old self.now checker.new) };
 }
 
 impl Item for Controlled {
     ghost takes = { λ old group new. TakesGroups old (group ∷ []) new };
 
-    fn pass_to(&self, alloc: Global, checker: &mut LineChecker) -> bool {
-        checker.group(alloc, self).is_ok()
+    fn pass_to(&self, alloc: Global, checker: &mut LineChecker) -> Option<()> {
+        checker.group(alloc, self).ok()
     }
 }
 
 impl Item for Message {
     ghost takes = { λ old message new. TakesMessages old (message ∷ []) new };
 
-    fn pass_to(&self, alloc: Global, checker: &mut LineChecker) -> bool {
-        checker.message(alloc, self).is_ok()
+    fn pass_to(&self, alloc: Global, checker: &mut LineChecker) -> Option<()> {
+        checker.message(alloc, self).ok()
     }
 }
 
@@ -65,22 +65,16 @@ fn items<T: Item>(
     reader: &mut TokenReader<'_>,
     depth: usize,
     checker: &mut LineChecker,
-) -> bool
-    ensures { IsTrue result → AreTaken (λ xs. IsFirst (IsList T.is_value) depth reader.old xs reader.new)
-        T.takes checker.old checker.new }
+) -> Option<()>
+    ensures { IfSome result (λ _. AreTaken (λ xs. IsFirst (IsList T.is_value) depth reader.old xs reader.new)
+        T.takes checker.old checker.new) }
 {
-    if depth == 0 || !reader.pass_list() {
-        return false;
+    let inner = reader.pass_open(b'[', depth)?;
+    'items: while !reader.pass_close(b']') {
+        let item = T::from_tokens(alloc, reader, inner)?;
+        item.pass_to(alloc, checker)?;
     }
-    'items: while !reader.take_end_array() {
-        let Some(item) = T::from_tokens(alloc, reader, depth - 1) else {
-            return false;
-        };
-        if !item.pass_to(alloc, checker) {
-            return false;
-        }
-    }
-    true
+    Some(())
 }
 
 // Reads the two members of a document, in either order.
@@ -89,38 +83,18 @@ fn members(
     reader: &mut TokenReader<'_>,
     depth: usize,
     checker: &mut LineChecker,
-) -> bool
-    ensures { IsTrue result → HasChecked checker.old [] [] → HasLine depth reader.old checker.new reader.new }
+) -> Option<()>
+    ensures { HasChecked checker.old [] [] → IfSome result (λ _. HasLine depth reader.old checker.new reader.new) }
 {
     if reader.pass_key("groups") {
-        if !items::<Controlled>(alloc, reader, depth, checker) || !reader.pass_key("messages") {
-            return false;
-        }
+        items::<Controlled>(alloc, reader, depth, checker)?;
+        reader.pass_key("messages").then_some(())?;
         return items::<Message>(alloc, reader, depth, checker);
     }
-    if !reader.pass_key("messages")
-        || !items::<Message>(alloc, reader, depth, checker)
-        || !reader.pass_key("groups")
-    {
-        return false;
-    }
+    reader.pass_key("messages").then_some(())?;
+    items::<Message>(alloc, reader, depth, checker)?;
+    reader.pass_key("groups").then_some(())?;
     items::<Controlled>(alloc, reader, depth, checker)
-}
-
-// Reads a document, and passes its groups and messages to the checker.
-fn document(
-    alloc: Global,
-    reader: &mut TokenReader<'_>,
-    depth: usize,
-    checker: &mut LineChecker,
-) -> bool
-    ensures { IsTrue result → HasChecked checker.old [] []
-        → IsFirst IsChecked depth reader.old checker.new reader.new }
-{
-    if depth == 0 || !reader.pass_begin() {
-        return false;
-    }
-    members(alloc, reader, depth - 1, checker) && reader.pass_end()
 }
 
 // The result of a checker.
@@ -130,14 +104,12 @@ fn found_by(checker: LineChecker) -> Option<Checked>
 {
     let groups = checker.groups();
     let messages = checker.messages();
-    match checker.finish() {
-        Ok(findings) => Some(Checked {
-            groups,
-            messages,
-            findings,
-        }),
-        Err(_) => None,
-    }
+    let findings = checker.finish().ok()?;
+    Some(Checked {
+        groups,
+        messages,
+        findings,
+    })
 }
 
 /// Reads and checks a document group by group and message by message. `None` is inconclusive; the caller
@@ -146,12 +118,12 @@ pub(crate) fn quick_check(alloc: Global, bytes: &[u8]) -> Option<Checked>
     ensures { IfSome result
         (λ c. summary_of_text bytes.now ≡ Ok ((c.groups, c.messages), c.findings.items)) }
 {
-    let Ok(text) = str::from_utf8(bytes) else {
-        return None;
-    };
+    let text = str::from_utf8(bytes).ok()?;
     let mut reader = TokenReader::new(text.as_bytes());
     let mut checker = LineChecker::new(alloc);
-    if !document(alloc, &mut reader, DEPTH, &mut checker) || !reader.is_at_end() {
+    let inner = reader.pass_open(b'{', DEPTH)?;
+    members(alloc, &mut reader, inner, &mut checker)?;
+    if !reader.pass_close(b'}') || !reader.is_at_end() {
         return None;
     }
     found_by(checker)

@@ -2,7 +2,7 @@
 
 ghost use Rattle.std.specs.Prelude.{IfSome};
 ghost use Rattle.serde_json.specs.Data.{Data};
-ghost use Rattle.etcs_document.specs.DocumentTokens.{HasGroup, IsAspect, IsAspects, IsBalises, IsFirst, IsGroup, IsList, IsMessage, IsOnlyAspect, IsTelegram};
+ghost use Rattle.etcs_document.specs.DocumentTokens.{HasGroup, IsAspect, IsBalises, IsFirst, IsGroup, IsList, IsMessage, IsTelegram};
 
 use crate::document_groups::as_only_aspect;
 use crate::token_reader::{TextKind, TokenReader};
@@ -25,15 +25,11 @@ pub(crate) trait FromTokens: Drop {
 fn list<T: FromTokens>(alloc: Global, reader: &mut TokenReader<'_>, depth: usize) -> Option<Vec<T>>
     ensures { IfSome result (λ v. IsFirst (IsList T.is_value) depth reader.old v.items reader.new) }
 {
-    if depth == 0 || !reader.pass_list() {
-        return None;
-    }
+    let inner = reader.pass_open(b'[', depth)?;
     let mut found = Vec::new(alloc);
-    'items: while !reader.take_end_array() {
-        let item = T::from_tokens(alloc, reader, depth - 1)?;
-        if found.push(item).is_err() {
-            return None;
-        }
+    'items: while !reader.pass_close(b']') {
+        let item = T::from_tokens(alloc, reader, inner)?;
+        found.push(item).ok()?;
     }
     Some(found)
 }
@@ -43,10 +39,7 @@ impl FromTokens for Telegram {
 
     fn from_tokens(alloc: Global, reader: &mut TokenReader<'_>, _depth: usize) -> Option<Telegram> {
         let text = reader.text(TextKind::Telegram)?;
-        match etcs_telegram::from_hex(alloc, text) {
-            Ok(telegram) => Some(telegram),
-            Err(_) => None,
-        }
+        etcs_telegram::from_hex(alloc, text).ok()
     }
 }
 
@@ -55,10 +48,7 @@ impl FromTokens for Message {
 
     fn from_tokens(alloc: Global, reader: &mut TokenReader<'_>, _depth: usize) -> Option<Message> {
         let text = reader.text(TextKind::Message)?;
-        match etcs_radio::from_hex(alloc, text) {
-            Ok(message) => Some(message),
-            Err(_) => None,
-        }
+        etcs_radio::from_hex(alloc, text).ok()
     }
 }
 
@@ -67,10 +57,7 @@ fn balises(alloc: Global, reader: &mut TokenReader<'_>, depth: usize) -> Option<
     ensures { IfSome result (λ g. IsFirst IsBalises depth reader.old g reader.new) }
 {
     let telegrams = list::<Telegram>(alloc, reader, depth)?;
-    match Group::new(telegrams) {
-        Ok(group) => Some(group),
-        Err(_) => None,
-    }
+    Group::new(telegrams).ok()
 }
 
 // An aspect.
@@ -78,33 +65,16 @@ impl FromTokens for Group {
     ghost is_value = { IsAspect };
 
     fn from_tokens(alloc: Global, reader: &mut TokenReader<'_>, depth: usize) -> Option<Group> {
-        if depth == 0 || !reader.pass_begin() || !reader.pass_key("balises") {
+        let inner = reader.pass_open(b'{', depth)?;
+        if !reader.pass_key("balises") {
             return None;
         }
-        let group = balises(alloc, reader, depth - 1)?;
-        if reader.pass_end() { Some(group) } else { None }
-    }
-}
-
-// Reads a list of aspects.
-fn aspects(alloc: Global, reader: &mut TokenReader<'_>, depth: usize) -> Option<Controlled>
-    ensures { IfSome result (λ c. IsFirst IsAspects depth reader.old c reader.new) }
-{
-    let aspects = list::<Group>(alloc, reader, depth)?;
-    match Controlled::new(aspects) {
-        Ok(group) => Some(group),
-        Err(_) => None,
-    }
-}
-
-// Reads a list of balises as the one aspect of a group.
-fn only_aspect(alloc: Global, reader: &mut TokenReader<'_>, depth: usize) -> Option<Controlled>
-    ensures { IfSome result (λ c. IsFirst IsOnlyAspect depth reader.old c reader.new) }
-{
-    let group = balises(alloc, reader, depth)?;
-    match as_only_aspect(alloc, group) {
-        Ok(controlled) => Some(controlled),
-        Err(_) => None,
+        let group = balises(alloc, reader, inner)?;
+        if reader.pass_close(b'}') {
+            Some(group)
+        } else {
+            None
+        }
     }
 }
 
@@ -113,10 +83,12 @@ fn group_member(alloc: Global, reader: &mut TokenReader<'_>, depth: usize) -> Op
     ensures { IfSome result (λ c. HasGroup depth reader.old c reader.new) }
 {
     if reader.pass_key("balises") {
-        return only_aspect(alloc, reader, depth);
+        let group = balises(alloc, reader, depth)?;
+        return as_only_aspect(alloc, group).ok();
     }
     if reader.pass_key("aspects") {
-        return aspects(alloc, reader, depth);
+        let aspects = list::<Group>(alloc, reader, depth)?;
+        return Controlled::new(aspects).ok();
     }
     None
 }
@@ -130,10 +102,12 @@ impl FromTokens for Controlled {
         reader: &mut TokenReader<'_>,
         depth: usize,
     ) -> Option<Controlled> {
-        if depth == 0 || !reader.pass_begin() {
-            return None;
+        let inner = reader.pass_open(b'{', depth)?;
+        let group = group_member(alloc, reader, inner)?;
+        if reader.pass_close(b'}') {
+            Some(group)
+        } else {
+            None
         }
-        let group = group_member(alloc, reader, depth - 1)?;
-        if reader.pass_end() { Some(group) } else { None }
     }
 }

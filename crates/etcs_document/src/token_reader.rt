@@ -2,8 +2,7 @@
 //! gives for the text. Strings without escapes only. `false` or `None` is inconclusive; the caller then uses the full
 //! reader.
 
-ghost use Rattle.std.specs.Prelude.{◌≡◌, ◌≤◌, ◌∷◌, [], false, length, None, Some, IfSome, IsFalse, IsTrue};
-ghost use Rattle.std.specs.Bool.{MatchBool};
+ghost use Rattle.std.specs.Prelude.{◌≡◌, ◌+◌, ◌∷◌, [], false, None, Some, IfSome, IsFalse, IsTrue};
 ghost use Rattle.json.specs.Json.{after_end_array, read_key};
 ghost use Rattle.json.specs.Lex.{after_value, begins_colon, between, colon, lex, punctuate, token, tokens};
 ghost use Rattle.json.specs.Token.{begin_array, begin_object, string as string_token};
@@ -115,6 +114,17 @@ fn text_len(kind: TextKind, begun: &[u8]) -> usize
     }
 }
 
+// The bytes after a value and a comma, if there is one.
+#[inline]
+fn pass_comma(rest: &[u8]) -> (&[u8], Place)
+    ensures { remaining_tokens result.1 result.0.now ≡ punctuate after_value (lex between rest.now) }
+{
+    match pass_byte(rest, b',') {
+        Some(after) => (after, Place::AfterComma),
+        None => (rest, Place::AfterValue),
+    }
+}
+
 // The bytes after a text of a list, up to the next item or the end of the list.
 fn pass_text(rest: &[u8]) -> Option<(&[u8], Place)>
     ensures { IfSome result (λ r. (remaining_tokens r.1 r.0.now ≡ punctuate after_value (lex between rest.now))
@@ -156,78 +166,38 @@ impl<'a> TokenReader<'a> {
         }
     }
 
-    // Continues after a value, with these bytes.
-    #[inline]
-    fn go_on(&mut self, rest: &'a [u8])
-        ensures { self.new ≡ punctuate after_value (lex between rest.now) }
+    /// Reads the byte that begins an object or a list, which may nest `depth` levels. Returns the number of levels
+    /// that its parts may nest.
+    pub(crate) fn pass_open(&mut self, byte: u8, depth: usize) -> Option<usize>
+        ensures depth { IfSome result (λ inner. depth ≡ inner + 1) }
+        ensures object { byte ≡ 123 → IfSome result (λ _. self.old ≡ begin_object ∷ self.new) }
+        ensures list { byte ≡ 91 → IfSome result (λ _. self.old ≡ begin_array ∷ self.new) }
     {
-        match pass_byte(rest, b',') {
-            Some(rest) => {
-                self.rest = rest;
-                self.place = Place::AfterComma;
-            }
-            None => {
-                self.rest = rest;
-                self.place = Place::AfterValue;
-            }
-        }
-    }
-
-    /// Reads the beginning of an object.
-    pub(crate) fn pass_begin(&mut self) -> bool
-        ensures { IsTrue result → self.old ≡ begin_object ∷ self.new }
-    {
-        let Some(rest) = pass_byte(self.rest, b'{') else {
-            return false;
-        };
+        let inner = depth.checked_sub(1)?;
+        let rest = pass_byte(self.rest, byte)?;
         if !self.place.may_begin() {
-            return false;
+            return None;
         }
         self.rest = rest;
         self.place = Place::Fresh;
-        true
+        Some(inner)
     }
 
-    /// Reads the beginning of a list.
-    pub(crate) fn pass_list(&mut self) -> bool
-        ensures { IsTrue result → self.old ≡ begin_array ∷ self.new }
+    /// Reads the byte that ends an object or a list. `false` changes nothing.
+    pub(crate) fn pass_close(&mut self, byte: u8) -> bool
+        ensures object { byte ≡ 125 → IsTrue result → read_key self.old ≡ Some (None, self.new) }
+        ensures list { byte ≡ 93 → IsTrue result → after_end_array self.old ≡ Some self.new }
+        ensures no { IsFalse result → self.new ≡ self.old }
     {
-        let Some(rest) = pass_byte(self.rest, b'[') else {
-            return false;
-        };
-        if !self.place.may_begin() {
-            return false;
-        }
-        self.rest = rest;
-        self.place = Place::Fresh;
-        true
-    }
-
-    /// Reads the end of an object.
-    pub(crate) fn pass_end(&mut self) -> bool
-        ensures { IsTrue result → read_key self.old ≡ Some (None, self.new) }
-    {
-        let Some(rest) = pass_byte(self.rest, b'}') else {
+        let Some(rest) = pass_byte(self.rest, byte) else {
             return false;
         };
         if !self.place.may_close() {
             return false;
         }
-        self.go_on(rest);
-        true
-    }
-
-    /// Reads the end of a list. `false` changes nothing.
-    pub(crate) fn take_end_array(&mut self) -> bool
-        ensures { MatchBool result (after_end_array self.old ≡ Some self.new) (self.new ≡ self.old) }
-    {
-        let Some(rest) = pass_byte(self.rest, b']') else {
-            return false;
-        };
-        if !self.place.may_close() {
-            return false;
-        }
-        self.go_on(rest);
+        let (rest, place) = pass_comma(rest);
+        self.rest = rest;
+        self.place = place;
         true
     }
 

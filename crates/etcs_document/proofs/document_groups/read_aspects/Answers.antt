@@ -1,10 +1,14 @@
-use Rattle.std.proofs.Common.{refl}
-use Rattle.etcs_document.proofs.AspectLemmas.{are_controlled}
-use Rattle.etcs_document.proofs.DocumentLemmas.{is_not}
+use Rattle.std.proofs.Common.{◌≡◌, Ok, arith, map}
+use Rattle.std.proofs.lemmas.Grind.{common_steps}
+use Rattle.serde_json.specs.View.{view}
+use Rattle.etcs_document.specs.Document.{listed_aspects}
+use Rattle.etcs_document.proofs.SoundLemmas.{list_controlled}
 use Rattle.etcs_document.proofs.document_groups.read_aspects.Goals as goal
 
--- each aspect has as many balises as the first, so the controlled group is made
-pub returns : goal.returns
-returns c =
-    let first = c.telegrams-count.ensures in
-    absurd (is_not _ c.in-Err.ensures.made refl (are_controlled c.args.group _ _ _ c.in_ok-aspects.aspects.items first.value first.some c.in_ok-aspects.ensures))
+-- the aspects that were read are a controlled group
+pub unwrap-requires : goal.unwrap-requires
+unwrap-requires c =
+    let values = map view c.args.values.now in
+    let aspects = c.aspects.aspects.items in
+    let read : listed_aspects c.args.group values ≡ Ok aspects = grind (arith, common_steps) in
+    c.new.ensures.made.1 (list_controlled c.args.group values aspects read)

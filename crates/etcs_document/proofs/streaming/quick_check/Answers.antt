@@ -1,12 +1,16 @@
-use Rattle.std.proofs.Common.{rules, ap, ◌∙◌}
+use Rattle.std.proofs.Common.{◌≡◌, ◌<◌, refl, rules, ap, ◌∙◌, arith}
 use Rattle.json.specs.Lex.{tokens}
-use Rattle.etcs_document.proofs.StreamingLemmas.{text_taken}
-use Rattle.etcs_document.proofs.TokenLemmas.{if_some}
+use Rattle.etcs_document.proofs.StreamingLemmas.{document_taken, text_taken}
+use Rattle.etcs_document.proofs.TokenLemmas.{if_some, ok_part}
 use Rattle.etcs_document.proofs.streaming.quick_check.Goals as goal
 
 -- nothing follows the document, and all of it was passed to the checker
 pub returns : goal.returns
 returns c = if_some _ _ c.found_by.result c.found_by.ensures (λ x told.
-    let begins = c.new-reader.ensures ∙ ap tokens (c.as_bytes.ensures.value ∙ c.in-Ok.ensures.cases.0) in
-    text_taken c.args.bytes.now c.new-reader.result c.document.new.reader c.document.new.checker _ c.in-Ok.ensures.cases.1 begins (c.is_at_end.ensures c.if-not-is_at_end.false)
-    (c.document.ensures (search rules) c.new-checker.ensures) told)
+    let utf8 = ok_part _ _ c.from_utf8.result _ c.from_utf8.ensures.cases c.in_ok-text.ensures.value in
+    let begins = c.new-reader.ensures ∙ ap tokens (c.as_bytes.ensures.value ∙ utf8.0) in
+    let inner : c.in_ok-inner.inner ≡ 126 = omega (arith, c.in_ok-inner.ensures.depth) in
+    let deep : 0 < 127 = omega arith in
+    text_taken c.args.bytes.now c.new-reader.result c.pass_close.new.self c.members.new.checker _ utf8.1 begins (c.is_at_end.ensures (search rules))
+    (document_taken 127 _ c.pass_open.new.self c.members.new.reader _ _ deep (c.in_ok-inner.ensures.object refl) (rw inner at (c.in_ok-members.ensures c.new-checker.ensures)) (c.pass_close.ensures.object refl (search rules)))
+    told)
