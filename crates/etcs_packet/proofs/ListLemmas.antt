@@ -8,7 +8,7 @@ use Rattle.etcs_bits.specs.declared.layout.fault.DecodeError.TheVariants as erro
 use Rattle.etcs_bits.specs.layout.Rows.{Row, Place, join}
 use Rattle.etcs_bits.specs.layout.Fields.{Fields, AreRowsOf}
 use Rattle.etcs_bits.specs.layout.Fault.{IsFault, NoneBegins, lack}
-use Rattle.etcs_bits.specs.layout.Results.{Fails, IfMemory, OfFault, OfMemory}
+use Rattle.etcs_bits.specs.layout.Results.{Fails, OfFault, OfMemory}
 use Rattle.etcs_bits.specs.layout.Laid.{IsLayout}
 use Rattle.etcs_bits.proofs.LayoutLemmas.{laid_out, rows_again}
 use Rattle.etcs_bits.proofs.StandLemmas.{length-join, place_in, stands_within}
@@ -72,12 +72,6 @@ failing e = Err e
 pub of_memory : {P Q : Type 0} (e : DecodeError) → (P → Q) → OfMemory e P → OfMemory e Q
 of_memory errors.Memory follows reason = follows reason
 of_memory (errors.Fault f) follows reason = tt
-
--- where there is a reason anyway
-pub if_memory : {A P : Type 0} (r : Result A DecodeError) → P → IfMemory r P
-if_memory (Ok x) reason = tt
-if_memory (Err errors.Memory) reason = reason
-if_memory (Err (errors.Fault f)) reason = tt
 
 pub same_error : {A : Type 0} (d e : DecodeError) → failing {A = A} d ≡ failing {A = A} e → d ≡ e
 same_error d e is = cc

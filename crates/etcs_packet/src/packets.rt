@@ -1,17 +1,16 @@
 //! `read_packets` and `write_packets`: the packets from track to train of a telegram or of a message. `next_view`
 //! reads one of them as a `PacketView`.
 
-ghost use Rattle.std.specs.Prelude.{◌≡◌, ◌+◌, ◌<◌, ◌++◌, length, true, false, Err, IfOk, IsOk, OnOk, OnErr};
+ghost use Rattle.std.specs.Prelude.{◌≡◌, ◌⊎◌, ◌+◌, ◌<◌, ◌++◌, length, true, false, Err, IfOk, IsOk, OnOk, OnErr};
 ghost use Rattle.std.specs.List.{flat_map};
 ghost use Rattle.etcs_bits.specs.layout.Rows.{AreAllowed, join};
 ghost use Rattle.etcs_bits.specs.layout.Fault.{IsFault, lack};
-ghost use Rattle.etcs_bits.specs.layout.Reading.{forward, read_rows};
+ghost use Rattle.etcs_bits.specs.layout.Reading.{read_rows};
 ghost use Rattle.etcs_bits.specs.layout.Results.{Gives, IfFault, IfMemory};
-ghost use Rattle.etcs_bits.specs.variables.VariableFormats.{q_dir};
 ghost use Rattle.etcs_packet.specs.Lists.{IsListFault, NoStep, NoneStand, Stand, ends};
 ghost use Rattle.etcs_packet.specs.Reading.{read_list};
+ghost use Rattle.etcs_profile.specs.Growth.{track_grows, view_grows};
 ghost use Rattle.etcs_profile.specs.Track.{track_packet};
-ghost use Rattle.etcs_profile.specs.View.{grows_at};
 ghost use Rattle.etcs_packet.specs.View.{IsViewStep};
 
 use crate::list::{is_end, read_items, write_items};
@@ -42,11 +41,8 @@ pub fn next_view<'a>(
     ensures no_end { stop ≡ Stop.Telegram → length cur.old.bits < cur.old.at + 8
         → result ≡ Err (DecodeError.Fault (lack true cur.old)) }
 
-    // Memory is asked for only where a known packet that holds a list is due.
-    ensures memory { IfMemory result (grows_at cur.old ≡ true) }
-
-    // Memory is asked for only where Q_DIR, which follows NID_PACKET, has no fault.
-    ensures direction { IfMemory result (IsOk (read_rows q_dir.fields (forward cur.old 8))) }
+    // Memory is asked for only where a known packet has a list that is not empty, and no fault before.
+    ensures memory { IfMemory result (view_grows cur.old) }
 {
     if is_end(cur, stop) {
         return Ok(None);
@@ -83,6 +79,9 @@ pub fn read_packets(
 
     // An empty list takes no memory.
     ensures memory { IfMemory result (ends stop cur.old ≡ false) }
+
+    // Nor does a fault of the first packet, if the packet does not grow here.
+    ensures first { IfMemory result (track_grows cur.old ⊎ IsOk (read_rows track_packet.fields cur.old)) }
 {
     read_items(alloc, cur, stop)
 }

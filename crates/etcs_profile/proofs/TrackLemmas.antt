@@ -1,11 +1,7 @@
 -- A packet's rows by itself and in a list have the same bits.
-use Rattle.std.proofs.Common.{◌≡◌, ◌∙◌, ℕ, ◌+◌, Bool, true, false, List, ◌++◌, Option, Some, None, Ok, ap, arith, length, refl}
+use Rattle.std.proofs.Common.{◌≡◌, ℕ, Bool, true, false, List, ◌++◌, Option, Some, None, arith, length, refl}
 use Rattle.std.specs.Prelude.{◌==◌, ◌||◌, not}
-use Rattle.etcs_bits.specs.layout.Rows.{Row, Variable, Place, alone, AreAllowed, join, width}
-use Rattle.etcs_bits.specs.layout.Reading.{forward, read_field}
-use Rattle.etcs_bits.proofs.NumberLemmas.{length-num}
-use Rattle.etcs_bits.proofs.ReadingLemmas.{field_ok}
-use Rattle.etcs_bits.proofs.StandLemmas.{same_position}
+use Rattle.etcs_bits.specs.layout.Rows.{Row, alone, AreAllowed, join, width}
 use Rattle.etcs_profile.specs.Authority.{AuthorityValue, authority_value, parts_by_main, authority}
 use Rattle.etcs_profile.specs.declared.track.TrackPacket.{TrackPacket}
 use Rattle.etcs_profile.specs.declared.track.TrackPacket.TheVariants as packets
@@ -63,9 +59,3 @@ track_allowed p allowed = allowed
 -- what follows a number that is none of the known ones
 pub other_next : (n : ℕ) → is_kept_number n ≡ true → track_numbered.next n ≡ raw_rest.fields
 other_next n other = grind (arith, other)
-
--- a field is passed by its width
-pub field_forward : (x : Variable) (p q : Place) (n : ℕ) → read_field x p ≡ Ok (n, q) → q ≡ forward p x.width
-field_forward x p q n read =
-    let took = (field_ok x p (n, q) read).took in
-    same_position q (forward p x.width) took.stands.same (took.stands.past ∙ ap (λ (k : ℕ). p.at + k) (length-num x.width n))

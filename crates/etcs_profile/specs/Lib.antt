@@ -15,4 +15,5 @@ pub mod Raw
 pub mod RunningDirection
 pub mod Cover
 pub mod Track
+pub mod Growth
 pub mod View

@@ -1,32 +1,20 @@
 -- Packets as views (SUBSET-026, 7.4). A view has the packet itself where its layout is known. Else
 -- it has the number, the direction and the body.
-use Rattle.std.specs.Prelude.{◌≡◌, ℕ, ◌+◌, ◌==◌, ◌&&◌, nat_le, not, Bool, List, length, take, drop, Result, Ok, Err}
+use Rattle.std.specs.Prelude.{◌≡◌, List, Result, Ok, Err}
 use Rattle.etcs_bits.specs.declared.layout.fault.Fault.{Fault}
 use Rattle.etcs_bits.specs.declared.layout.fault.DecodeError.{DecodeError}
-use Rattle.etcs_bits.specs.bits.Number.{num_of_bits}
 use Rattle.etcs_bits.specs.layout.Rows.{Row, Place}
 use Rattle.etcs_bits.specs.layout.Results.{Fails}
 use Rattle.etcs_profile.specs.declared.track.TrackPacket.{TrackPacket}
 use Rattle.etcs_profile.specs.declared.track.TrackPacket.TheVariants as packets
 use Rattle.etcs_profile.specs.declared.view.PacketView.{PacketView}
 use Rattle.etcs_profile.specs.declared.view.PacketView.TheVariants as views
-use Rattle.etcs_profile.specs.PacketNumbers.{is_known}
 use Rattle.etcs_profile.specs.Track.{track_packet}
 
 -- the view of a packet
 abbrev pub packet_view : TrackPacket → PacketView
 packet_view (packets.Raw r) = views.Raw r.number r.dir r.body
 packet_view p = views.Known p
-
--- Whether reading a packet of this number may take memory. Each packet whose layout is known holds
--- a list, but packet 0.
-abbrev pub grows : ℕ → Bool
-grows n = is_known n && not (n == 0)
-
--- Eight bits are left here, and they are the number of such a packet.
-abbrev pub grows_at : Place → Bool
-grows_at p =
-    nat_le (p.at + 8) (length p.bits) && grows (num_of_bits (take 8 (drop p.at p.bits)))
 
 -- The view that a function returns is that of the packet that reading gives, and so is the place
 -- after it, unless memory ran out.

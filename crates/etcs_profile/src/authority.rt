@@ -1,7 +1,8 @@
 //! `Authority`: the movement authorities, packets 12 and 15, and `Authority::end`, how far they let a train run.
 
-ghost use Rattle.std.specs.Prelude.{◌≡◌, ◌↔◌, ◌<◌, ◌≤◌, ◌*◌, length, sum_by, IsOk, IsSome, IfSome};
+ghost use Rattle.std.specs.Prelude.{◌≡◌, ◌↔◌, ◌<◌, ◌≤◌, ◌*◌, length, sum_by, IsSome, IfSome};
 ghost use Rattle.etcs_bits.specs.layout.Format.{◌then◌};
+ghost use Rattle.etcs_bits.specs.layout.Growth.{GrowsAfter};
 ghost use Rattle.etcs_bits.specs.layout.Reading.{read_rows};
 ghost use Rattle.etcs_bits.specs.layout.Results.{Gives, IfMemory};
 ghost use Rattle.etcs_bits.specs.variables.VariableFormats.{q_dir};
@@ -50,9 +51,7 @@ impl Model for Authority {
 #[inline]
 fn scan_directed<B: Layout>(alloc: Global, cur: &mut Cursor<'_>) -> Result<(Dir, B), DecodeError>
     ensures gives { Gives (q_dir then B.format).rows result (read_rows (q_dir then B.format).fields cur.old) cur.new }
-
-    // At a fault of Q_DIR no memory is asked for.
-    ensures direction { IfMemory result (IsOk (read_rows q_dir.fields cur.old)) }
+    ensures memory { IfMemory result (GrowsAfter q_dir.fields B.grows cur.old) }
 {
     let dir = Dir::scan(alloc, cur)?;
     let body = B::scan(alloc, cur)?;
@@ -267,6 +266,7 @@ impl Authority {
     ghost use Rattle.std.specs.Prelude.{IsTrue};
     ghost use Rattle.etcs_bits.specs.layout.Choice.{read_chosen, numbered_rows};
     ghost use Rattle.etcs_profile.specs.Authority.{authority_numbered, authority_parts};
+    ghost use Rattle.etcs_profile.specs.Growth.{known_grows};
 
     /// Reads what follows NID_PACKET, whose number is 12 or 15. After an error the cursor may stand
     /// anywhere.
@@ -275,8 +275,8 @@ impl Authority {
         ensures gives { Gives (λ a. numbered_rows authority_numbered (authority_parts a)) result
             (read_chosen authority_numbered number cur.old) cur.new }
 
-        // Q_DIR is read first. At its fault no memory is asked for.
-        ensures direction { IfMemory result (IsOk (read_rows q_dir.fields cur.old)) }
+        // Memory is asked for only for a list of sections that is not empty.
+        ensures memory { IfMemory result (known_grows number cur.old) }
     {
         let packet = if number == 12 {
             ByLevel::Level1(scan_directed(alloc, cur)?)
@@ -290,10 +290,11 @@ impl Authority {
 #[tactic(auto, using(etcs_bits::proofs::PutLemmas::puts_bits), unfolding(etcs_bits::specs::layout::Rows::alone))]
 impl Layout for Authority {
     ghost use Rattle.etcs_profile.specs.Authority.{authority};
+    ghost use Rattle.etcs_profile.specs.Growth.{authority_grows};
 
     ghost format = { authority };
 
-    ghost grows = { λ _. Unit {0} };
+    ghost grows = { authority_grows };
 
     fn is_allowed(&self) -> bool {
         match &self.packet {

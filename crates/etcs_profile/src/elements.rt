@@ -119,12 +119,13 @@ impl<T: Element> Elements<T> {
 impl<T: Layout> Layout for Elements<T> {
     ghost use Rattle.std.specs.List.{AllByRecursion};
     ghost use Rattle.etcs_profile.specs.Elements.{elements};
+    ghost use Rattle.etcs_profile.specs.Growth.{elements_grow};
 
     ghost format = { elements T.format };
 
     ghost fit = { λ e. T.fit e.first × AllByRecursion T.fit e.further };
 
-    ghost grows = { λ _. Unit {0} };
+    ghost grows = { elements_grow T.grows T.format };
 
     fn is_allowed(&self) -> bool {
         each_allowed!(self; scale, first, further)
@@ -142,6 +143,7 @@ impl<T: Layout> Layout for Elements<T> {
         put_each!(self, out; scale, first, further)
     }
 
+    #[tactic(auto, using(etcs_bits::proofs::GrowthLemmas::never_grows, etcs_bits::proofs::GrowthLemmas::after_grows, etcs_bits::proofs::GrowthLemmas::first_grows, etcs_bits::proofs::GrowthLemmas::second_grows))]
     fn scan(alloc: Global, cur: &mut Cursor<'_>) -> Result<Self, DecodeError> {
         scan_each!(Elements, alloc, cur; scale, first, further)
     }

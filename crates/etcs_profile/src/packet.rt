@@ -24,12 +24,11 @@ impl<const N: u32, T: Layout> Model for Packet<N, T> {
 }
 
 impl<const N: u32, T: Layout> Packet<N, T> {
-    ghost use Rattle.std.specs.Prelude.{◌↔◌, ◌≤◌, ◌+◌, IsOk, IsSome, IfSome};
+    ghost use Rattle.std.specs.Prelude.{◌↔◌, ◌≤◌, ◌+◌, IsSome, IfSome};
     ghost use Rattle.etcs_bits.specs.layout.Rows.{width};
-    ghost use Rattle.etcs_bits.specs.layout.Growth.{GrowsAfter, GrowsBehindLength};
     ghost use Rattle.etcs_bits.specs.layout.Reading.{read_rows};
     ghost use Rattle.etcs_bits.specs.layout.Results.{Gives, IfMemory};
-    ghost use Rattle.etcs_bits.specs.variables.VariableFormats.{q_dir};
+    ghost use Rattle.etcs_profile.specs.Growth.{rest_grows};
     ghost use Rattle.etcs_profile.specs.Packet.{rest};
 
     /// Makes the packet with this record, for this direction. None if the record is not allowed or
@@ -63,10 +62,7 @@ impl<const N: u32, T: Layout> Packet<N, T> {
     /// stand anywhere.
     pub fn scan_rest(alloc: Global, cur: &mut Cursor<'_>) -> Result<Self, DecodeError>
         ensures gives { Gives (rest T.format).rows result (read_rows (rest T.format).fields cur.old) cur.new }
-        ensures memory { IfMemory result (GrowsAfter q_dir.fields (GrowsBehindLength T.grows) cur.old) }
-
-        // Q_DIR is read first. At its fault no memory is asked for.
-        ensures direction { IfMemory result (IsOk (read_rows q_dir.fields cur.old)) }
+        ensures memory { IfMemory result (rest_grows T.grows cur.old) }
     {
         let dir = Dir::scan(alloc, cur)?;
         let body = Layout::scan(alloc, cur)?;
@@ -77,15 +73,15 @@ impl<const N: u32, T: Layout> Packet<N, T> {
 #[tactic(auto, using(etcs_bits::proofs::PutLemmas::puts_then, etcs_bits::proofs::PutLemmas::keeps_front, etcs_bits::proofs::PutLemmas::allowed_both))]
 impl<const N: u32, T: Layout> Layout for Packet<N, T> {
     ghost use Rattle.std.specs.Prelude.{◌<◌};
-    ghost use Rattle.etcs_bits.specs.layout.Growth.{GrowsAfter, GrowsBehindLength};
-    ghost use Rattle.etcs_bits.specs.variables.VariableFormats.{q_dir};
+    ghost use Rattle.etcs_bits.specs.layout.Growth.{GrowsAfter};
+    ghost use Rattle.etcs_profile.specs.Growth.{rest_grows};
     ghost use Rattle.etcs_profile.specs.Packet.{nid_packet, packet};
 
     ghost format = { packet N T.format };
 
     ghost fit = { λ _. N < 256 };
 
-    ghost grows = { GrowsAfter (nid_packet N).fields (GrowsAfter q_dir.fields (GrowsBehindLength T.grows)) };
+    ghost grows = { GrowsAfter (nid_packet N).fields (rest_grows T.grows) };
 
     fn is_allowed(&self) -> bool {
         let number = Number::<N>;

@@ -1,6 +1,6 @@
 //! `RawPacket`: a packet whose layout is not known here. Its body is kept as bits.
 
-ghost use Rattle.std.specs.Prelude.{◌≡◌, ◌<◌, ◌≤◌, length, true, IfOk, IfErr, IsOk, IsTrue, ◌↔◌};
+ghost use Rattle.std.specs.Prelude.{◌≡◌, ◌<◌, ◌≤◌, length, true, IfOk, IfErr, IsOk, IsTrue, OnErr, ◌↔◌};
 ghost use Rattle.etcs_bits.specs.layout.Combined.{is_countable};
 ghost use Rattle.etcs_bits.specs.layout.Reading.{read_rows};
 ghost use Rattle.etcs_bits.specs.layout.Results.{Gives, IfMemory};
@@ -103,7 +103,8 @@ impl RawPacket {
         body: BitSlice<'_>,
     ) -> Result<Self, Memory>
         requires { is_kept number (length body) ≡ true }
-        ensures { IfOk result (λ r. (r.number ≡ number) × ((r.dir ≡ dir) × (r.body ≡ body.entry))) }
+        ensures ok { IfOk result (λ r. (r.number ≡ number) × ((r.dir ≡ dir) × (r.body ≡ body.entry))) }
+        ensures memory { OnErr result (0 < length body.entry) }
     {
         Ok(RawPacket {
             number,
@@ -114,11 +115,12 @@ impl RawPacket {
 }
 
 impl Layout for RawPacket {
+    ghost use Rattle.etcs_profile.specs.Growth.{raw_grows};
     ghost use Rattle.etcs_profile.specs.Raw.{raw_packet};
 
     ghost format = { raw_packet };
 
-    ghost grows = { λ _. Unit {0} };
+    ghost grows = { raw_grows };
 
     fn is_allowed(&self) -> bool {
         // For the proof alone: the type keeps the number in range.

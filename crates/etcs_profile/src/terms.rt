@@ -37,10 +37,11 @@ impl Model for Terms {
 
 impl Layout for Terms {
     ghost use Rattle.etcs_profile.specs.Terms.{terms};
+    ghost use Rattle.etcs_profile.specs.Growth.{terms_grow};
 
     ghost format = { terms };
 
-    ghost grows = { λ _. Unit {0} };
+    ghost grows = { terms_grow };
 
     #[tactic(auto, using(etcs_bits::proofs::PutLemmas::allowed_both, etcs_bits::proofs::FitLemmas::some_fit, etcs_bits::proofs::FitLemmas::all_fit))]
     fn is_allowed(&self) -> bool {
@@ -69,6 +70,7 @@ impl Layout for Terms {
         )
     }
 
+    #[tactic(auto, using(etcs_bits::proofs::GrowthLemmas::never_grows))]
     fn scan(alloc: Global, cur: &mut Cursor<'_>) -> Result<Self, DecodeError> {
         scan_each!(
             Terms, alloc, cur; end_speed, end_timeout, sections, l_endsection, section_timer,

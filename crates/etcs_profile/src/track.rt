@@ -1,7 +1,6 @@
 //! `TrackPacket`: any of the packets from track to train.
 
-ghost use Rattle.std.specs.Prelude.{◌≡◌, ◌==◌, true, min, not, IfOk, IsOk};
-ghost use Rattle.etcs_bits.specs.layout.Reading.{read_rows};
+ghost use Rattle.std.specs.Prelude.{◌≡◌, true, min, IfOk};
 ghost use Rattle.etcs_bits.specs.layout.Results.{Gives, IfMemory, Puts};
 ghost use Rattle.etcs_bits.specs.layout.Rows.{AreAllowed, join, width};
 ghost use Rattle.etcs_profile.specs.RunningDirection.{is_for_run};
@@ -155,7 +154,7 @@ impl TrackPacket {
 
 impl TrackPacket {
     ghost use Rattle.etcs_bits.specs.layout.Choice.{read_chosen, numbered_rows};
-    ghost use Rattle.etcs_bits.specs.variables.VariableFormats.{q_dir};
+    ghost use Rattle.etcs_profile.specs.Growth.{known_grows};
     ghost use Rattle.etcs_profile.specs.Track.{IsKnown, track_parts, track_numbered};
 
     /// Reads what follows the number of a packet whose layout is known. After an error the cursor
@@ -171,11 +170,8 @@ impl TrackPacket {
             (read_chosen track_numbered number cur.old) cur.new }
         ensures known { IfOk result IsKnown }
 
-        // Packet 0 has no list, and reading it takes no memory.
-        ensures memory { IfMemory result (not (number == 0) ≡ true) }
-
-        // Nor does a fault of Q_DIR, which all others have next.
-        ensures direction { IfMemory result (IsOk (read_rows q_dir.fields cur.old)) }
+        // Only a list that is not empty takes memory. Packet 0 has none.
+        ensures memory { IfMemory result (known_grows number cur.old) }
     {
         Ok(match number {
             0 => TrackPacket::Cover(CoverMarker {

@@ -7,11 +7,12 @@ use etcs_bits::{Bits, Cursor, DecodeError, Layout, Memory};
 use std::alloc::Global;
 
 impl Layout for TrackPacket {
+    ghost use Rattle.etcs_profile.specs.Growth.{track_grows};
     ghost use Rattle.etcs_profile.specs.Track.{track_packet};
 
     ghost format = { track_packet };
 
-    ghost grows = { λ _. Unit {0} };
+    ghost grows = { track_grows };
 
     fn is_allowed(&self) -> bool {
         self.is_sound()

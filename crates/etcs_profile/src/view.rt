@@ -1,6 +1,5 @@
 //! `PacketView`: a packet from track to train that borrows its body if it is kept as bits.
 
-ghost use Rattle.std.specs.Prelude.{◌≡◌, true, IsOk};
 ghost use Rattle.etcs_bits.specs.layout.Results.{IfMemory};
 
 use crate::number::scan_number;
@@ -26,17 +25,16 @@ pub enum PacketView<'a> {
 }
 
 impl<'a> PacketView<'a> {
-    ghost use Rattle.etcs_bits.specs.layout.Reading.{forward, read_rows};
-    ghost use Rattle.etcs_bits.specs.variables.VariableFormats.{q_dir};
+    ghost use Rattle.etcs_bits.specs.layout.Reading.{read_rows};
+    ghost use Rattle.etcs_profile.specs.Growth.{view_grows};
     ghost use Rattle.etcs_profile.specs.Track.{track_packet};
-    ghost use Rattle.etcs_profile.specs.View.{Shows, grows_at};
+    ghost use Rattle.etcs_profile.specs.View.{Shows};
 
     /// Reads a view of the packet at the cursor. After an error the cursor may stand anywhere.
     #[inline]
     pub fn scan(alloc: Global, cur: &mut Cursor<'a>) -> Result<PacketView<'a>, DecodeError>
         ensures gives { Shows result (read_rows track_packet.fields cur.old) cur.new }
-        ensures memory { IfMemory result (grows_at cur.old ≡ true) }
-        ensures direction { IfMemory result (IsOk (read_rows q_dir.fields (forward cur.old 8))) }
+        ensures memory { IfMemory result (view_grows cur.old) }
     {
         let number = scan_number(cur)?;
         if RawPacket::has_number(number) {

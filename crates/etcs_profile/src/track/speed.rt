@@ -133,20 +133,24 @@ pub struct SpeedElement {
 
 impl SpeedElement {
     ghost use Rattle.etcs_bits.specs.layout.Reading.{read_rows};
-    ghost use Rattle.etcs_bits.specs.layout.Results.{Gives};
+    ghost use Rattle.etcs_bits.specs.layout.Results.{Gives, IfMemory};
+    ghost use Rattle.etcs_profile.specs.Growth.{speed_grows};
     ghost use Rattle.etcs_profile.specs.Track.{speed_element};
 
     // Reads the fields one by one, wherever the bits end. It stands apart so that the way of those far
     // from the end saves fewer registers.
     #[inline(never)]
+    #[tactic(auto, using(etcs_bits::proofs::GrowthLemmas::never_grows))]
     fn scan_fields(alloc: Global, cur: &mut Cursor<'_>) -> Result<Self, DecodeError>
         ensures gives { Gives speed_element.rows result (read_rows speed_element.fields cur.old) cur.new }
+        ensures memory { IfMemory result (speed_grows cur.old) }
     {
         scan_each!(SpeedElement, alloc, cur; distance, speed, front, differences)
     }
 }
 
 impl Layout for SpeedElement {
+    ghost use Rattle.etcs_profile.specs.Growth.{speed_grows};
     ghost use Rattle.etcs_profile.specs.Track.{speed_element};
 
     ghost format = { speed_element };
@@ -154,7 +158,7 @@ impl Layout for SpeedElement {
     // The types keep the numbers in range, except the count of differences.
     ghost fit = { λ e. length e.differences ≤ 31 };
 
-    ghost grows = { λ _. Unit {0} };
+    ghost grows = { speed_grows };
 
     #[tactic(auto, using(etcs_bits::proofs::PutLemmas::allowed_both, etcs_bits::proofs::FitLemmas::all_fit))]
     fn is_allowed(&self) -> bool {

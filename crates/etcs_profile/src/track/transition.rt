@@ -103,11 +103,12 @@ impl Model for LevelOrders {
 
 #[tactic(auto, using(etcs_bits::proofs::PutLemmas::puts_then, etcs_bits::proofs::PutLemmas::keeps_front, etcs_bits::proofs::PutLemmas::allowed_both, etcs_bits::proofs::FitLemmas::all_fit))]
 impl Layout for LevelOrders {
+    ghost use Rattle.etcs_profile.specs.Growth.{orders_grow};
     ghost use Rattle.etcs_profile.specs.Transition.{level_orders};
 
     ghost format = { level_orders };
 
-    ghost grows = { λ _. Unit {0} };
+    ghost grows = { orders_grow };
 
     fn is_allowed(&self) -> bool {
         each_allowed!(self; scale, d_leveltr, first, further)
@@ -125,6 +126,7 @@ impl Layout for LevelOrders {
         put_each!(self, out; scale, d_leveltr, first, further)
     }
 
+    #[tactic(auto, using(etcs_bits::proofs::GrowthLemmas::never_grows))]
     fn scan(alloc: Global, cur: &mut Cursor<'_>) -> Result<Self, DecodeError> {
         scan_each!(LevelOrders, alloc, cur; scale, d_leveltr, first, further)
     }

@@ -4,7 +4,8 @@ use Rattle.etcs_bits.specs.layout.Results.{OfFault}
 use Rattle.etcs_packet.specs.Lists.{IsListFault, IsStep, Stand, ends}
 use Rattle.etcs_packet.proofs.EndLemmas.{less_left}
 use Rattle.etcs_packet.proofs.FollowLemmas.{follow_begins, follow_grows, follow_read, follow_within}
-use Rattle.etcs_packet.proofs.ListLemmas.{if_memory, of_memory, goes_on, no_error, none_before, over, same_error, list_fault, list_fails, none_of, stand_is_read}
+use Rattle.etcs_packet.proofs.ListLemmas.{of_memory, goes_on, no_error, none_before, over, same_error, list_fault, list_fails, none_of, stand_is_read}
+use Rattle.etcs_profile.proofs.GrowthLemmas.{if_memory}
 use Rattle.etcs_packet.proofs.list.read_items.Goals as goal
 
 -- the fault of the next packet is that of the list, and then no list stands

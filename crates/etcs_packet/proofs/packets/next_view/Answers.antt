@@ -37,7 +37,7 @@ returns-clause-ok c =
     (read.0, read.1, (goes, is_spelled track_packet.fields (track_packet.rows read.0) p c.scan.new.cur c.is_end.ensures.inside read.2))
 
 -- the fork stands where the cursor does
-pub returns-in_err-view-clause-direction : goal.returns-in_err-view-clause-direction
-returns-in_err-view-clause-direction c =
+pub returns-in_err-view-clause-memory : goal.returns-in_err-view-clause-memory
+returns-in_err-view-clause-memory c =
     let failed = err_from_is_err_and c.from_residual.result c.from_residual.ensures.1 in
-    rw (failed.1, failed.2) (rw c.fork-ahead.ensures.same at c.in_err-view.ensures.direction)
+    rw (failed.1, failed.2) (rw c.fork-ahead.ensures.same at c.in_err-view.ensures.memory)

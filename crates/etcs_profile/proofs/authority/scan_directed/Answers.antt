@@ -1,21 +1,10 @@
-use Rattle.std.proofs.Common.{refl}
-use Rattle.std.specs.Prelude.{IsOk}
 use Rattle.std.proofs.lemmas.Result.{err_from_is_err_and}
-use Rattle.etcs_bits.specs.declared.layout.fault.DecodeError.{DecodeError}
-use Rattle.etcs_bits.specs.declared.layout.fault.DecodeError.TheVariants as errors
-use Rattle.etcs_bits.specs.layout.Reading.{read_rows}
-use Rattle.etcs_bits.specs.layout.Results.{OfMemory}
 use Rattle.etcs_bits.specs.variables.VariableFormats.{q_dir}
+use Rattle.etcs_bits.proofs.GrowthLemmas.{after_grows}
 use Rattle.etcs_profile.proofs.authority.scan_directed.Goals as goal
 
--- what holds anyway holds where memory ran out
-anyway : {P : Type 0} (e : DecodeError) → P → OfMemory e P
-anyway errors.Memory there = there
-anyway (errors.Fault f) there = tt
-
--- Q_DIR was read
-pub returns-in_err-body-clause-direction : goal.returns-in_err-body-clause-direction
-returns-in_err-body-clause-direction g c =
+-- the body after Q_DIR grows
+pub returns-in_err-body-clause-memory : goal.returns-in_err-body-clause-memory
+returns-in_err-body-clause-memory g c =
     let failed = err_from_is_err_and c.from_residual-in_err-body.result c.from_residual-in_err-body.ensures.1 in
-    let there : IsOk (read_rows q_dir.fields c.args.cur.now) = rw c.in_ok-dir.ensures.gives refl in
-    rw (failed.1, failed.2) (anyway c.in_err-body.field-0.0 there)
+    rw (failed.1, failed.2) (after_grows c.in_err-body.field-0.0 q_dir.fields g.B.Layout.grows c.args.cur.now _ (q_dir.rows c.in_ok-dir.dir) c.in_ok-dir.ensures.gives c.in_err-body.ensures.memory)

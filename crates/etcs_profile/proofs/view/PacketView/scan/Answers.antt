@@ -1,17 +1,20 @@
-use Rattle.std.proofs.Common.{◌≡◌, true, Ok, refl, sym, ◌∙◌}
+use Rattle.std.proofs.Common.{◌≡◌, true, Ok, Err, refl, sym, ◌∙◌}
 use Rattle.std.proofs.lemmas.Result.{err_from_is_err_and}
 use Rattle.etcs_bits.specs.layout.Rows.{alone}
 use Rattle.etcs_bits.specs.layout.Reading.{read_rows}
 use Rattle.etcs_bits.proofs.SumLemmas.{rest_read, chosen_read}
 use Rattle.etcs_profile.specs.declared.track.TrackPacket.{TrackPacket}
 use Rattle.etcs_profile.specs.declared.track.TrackPacket.TheVariants as packets
+use Rattle.etcs_profile.specs.declared.view.PacketView.{PacketView}
 use Rattle.etcs_profile.specs.declared.view.PacketView.TheVariants as views
 use Rattle.etcs_profile.specs.PacketNumbers.{is_kept_number, nid_track}
 use Rattle.etcs_profile.specs.FoundRaw.{raw}
 use Rattle.etcs_profile.specs.Raw.{raw_rest}
 use Rattle.etcs_profile.specs.Track.{IsKnown, track_numbered}
+use Rattle.etcs_profile.specs.Growth.{known_grows}
 use Rattle.etcs_profile.specs.View.{packet_view}
-use Rattle.etcs_profile.proofs.TrackLemmas.{field_forward, other_next}
+use Rattle.etcs_profile.proofs.GrowthLemmas.{memory_follows}
+use Rattle.etcs_profile.proofs.TrackLemmas.{other_next}
 use Rattle.etcs_profile.proofs.view.PacketView.scan.Goals as goal
 
 known_view : (p : TrackPacket) → IsKnown p → packet_view p ≡ views.Known p
@@ -39,9 +42,9 @@ returns-clause-gives c =
     let p = c.in_ok-scan_known.field-0 in
     (p, known_view p c.in_ok-scan_known.ensures.known, chosen_read nid_track track_numbered track_numbered.next n c.args.cur.now c.scan_number.new.cur _ _ c.in_ok-number.ensures.gives refl c.in_ok-scan_known.ensures.gives)
 
--- Q_DIR comes after the number
-pub returns-in_err-scan_known-clause-direction : goal.returns-in_err-scan_known-clause-direction
-returns-in_err-scan_known-clause-direction c =
+-- what follows the number grows
+pub returns-in_err-scan_known-clause-memory : goal.returns-in_err-scan_known-clause-memory
+returns-in_err-scan_known-clause-memory c =
     let failed = err_from_is_err_and c.from_residual-in_err-scan_known.result c.from_residual-in_err-scan_known.ensures.1 in
-    let after = field_forward nid_track c.args.cur.now c.scan_number.new.cur c.in_ok-number.number c.in_ok-number.ensures.gives in
-    rw (failed.1, failed.2) (rw after at c.in_err-scan_known.ensures.direction)
+    let n = c.in_ok-number.number in
+    rw (failed.1, failed.2) (memory_follows {X = PacketView} (Err c.in_err-scan_known.field-0.0) (λ (grows : known_grows n c.scan_number.new.cur). (n, c.scan_number.new.cur, c.in_ok-number.ensures.gives, grows)) c.in_err-scan_known.ensures.memory)
