@@ -32,7 +32,6 @@ mod run;
 mod section;
 mod terms;
 pub mod track;
-mod track_layout;
 mod view;
 
 pub use authority::Authority;

@@ -7,6 +7,7 @@ ghost use Rattle.etcs_profile.specs.RunningDirection.{is_for_run};
 ghost use Rattle.etcs_profile.specs.PacketNumbers.{is_known};
 
 use crate::authority::Authority;
+use crate::number::scan_number;
 use crate::packet::Packet;
 use crate::raw::RawPacket;
 use crate::run::Run;
@@ -199,5 +200,37 @@ impl Same for TrackPacket {
             (TrackPacket::Raw(this), TrackPacket::Raw(that)) => this.same(that),
             _ => false,
         }
+    }
+}
+
+impl Layout for TrackPacket {
+    ghost use Rattle.etcs_profile.specs.Growth.{track_grows};
+    ghost use Rattle.etcs_profile.specs.Track.{track_packet};
+
+    ghost format = { track_packet };
+
+    ghost grows = { track_grows };
+
+    fn is_allowed(&self) -> bool {
+        self.is_sound()
+    }
+
+    fn width(&self) -> u64 {
+        self.own_width()
+    }
+
+    fn put(&self, out: &mut Bits) -> Result<(), Memory> {
+        self.put_own(out)
+    }
+
+    #[inline(always)]
+    fn scan(alloc: Global, cur: &mut Cursor<'_>) -> Result<Self, DecodeError> {
+        let number = scan_number(cur)?;
+        if RawPacket::has_number(number) {
+            let (dir, body) = RawPacket::scan_rest(alloc, cur)?;
+            let packet = RawPacket::with_copy(alloc, number as u8, dir, body)?;
+            return Ok(TrackPacket::Raw(packet));
+        }
+        TrackPacket::scan_known(alloc, number, cur)
     }
 }

@@ -8,7 +8,7 @@ use Rattle.etcs_profile.specs.Raw.{raw_rest}
 use Rattle.etcs_profile.specs.Track.{track_parts, track_numbered}
 use Rattle.etcs_profile.proofs.GrowthLemmas.{memory_follows, if_memory, grows_then, grows_else}
 use Rattle.etcs_profile.proofs.TrackLemmas.{other_next}
-use Rattle.etcs_profile.proofs.track_layout.TrackPacketLayout.scan.Goals as goal
+use Rattle.etcs_profile.proofs.track.TrackPacketLayout.scan.Goals as goal
 
 -- the packet has the number, the direction and the body that were read
 pub returns-then-has_number-clause-gives : goal.returns-then-has_number-clause-gives
