@@ -1,5 +1,5 @@
 -- From what the code reads to what bytes mean.
-use Rattle.std.proofs.Common.{◌≡◌, ℕ, ◌+◌, ◌*◌, ◌≤◌, min, ltb, true, false, Bool, List, length, take, drop, Result, Ok, Err, refl, sym, ap, subst, ◌∙◌, ◌==◌, arith}
+use Rattle.std.proofs.Common.{◌≡◌, ℕ, ◌+◌, ◌*◌, ◌≤◌, min, ltb, true, false, Bool, List, length, take, drop, Result, Ok, Err, refl, sym, ap, subst, ◌∙◌, ◌==◌, inl, arith}
 use Rattle.std.specs.Prelude.{IfOk}
 use Rattle.std.proofs.lemmas.List.{take_all, length-take, length-take-le, take-take}
 use Rattle.std.proofs.lemmas.Bool.{le-ltb, ltb-true, ltb-false, ne_eqb}
@@ -11,25 +11,23 @@ use Rattle.etcs_bits.specs.bits.Number.{num_of_bits, bits_of_bytes}
 use Rattle.etcs_bits.specs.layout.Rows.{Row, Place}
 use Rattle.etcs_bits.specs.layout.Fields.{Fields, one, ◌▹◌}
 use Rattle.etcs_bits.specs.layout.Reading.{◌>>=◌, forward, taken, read_rows}
-use Rattle.etcs_bits.specs.layout.Results.{Fails, Means, OfMemory, IfFault, IfMemory}
+use Rattle.etcs_bits.specs.layout.Results.{Fails, Means, IfFault, IfMemory}
 use Rattle.etcs_bits.specs.layout.Fault.{IsFault}
 use Rattle.etcs_bits.specs.variables.Variables.{only}
 use Rattle.etcs_bits.proofs.NumberLemmas.{length-bits_of_bytes}
 use Rattle.etcs_bits.proofs.BindLemmas.{err_is}
-use Rattle.etcs_bits.proofs.FaultLemmas.{fault_is_given}
 use Rattle.etcs_bits.proofs.LayoutLemmas.{is_spelled}
-use Rattle.etcs_bits.proofs.ReadingLemmas.{read_is_fault, spelled_is_read, taken_ok}
+use Rattle.etcs_bits.proofs.ReadingLemmas.{spelled_is_read, taken_ok}
 use Rattle.etcs_bits.proofs.ViewLemmas.{in_few_bytes}
-use Rattle.etcs_packet.specs.declared.stop.Stop.TheVariants as stops
-use Rattle.etcs_packet.specs.Lists.{ends}
-use Rattle.etcs_packet.specs.Whole.{IsFollowed, start}
-use Rattle.etcs_packet.proofs.EndLemmas.{has_room}
+use Rattle.etcs_packet.specs.Whole.{start}
+use Rattle.etcs_packet.proofs.WholeLemmas.{head_stands}
 use Rattle.etcs_radio.specs.declared.message.Message.{Message}
 use Rattle.etcs_radio.specs.Head.{Head, head, head_numbered, nid_message, movement_head, position_head}
 use Rattle.etcs_radio.specs.Meaning.{read_message_packets, read_message}
-use Rattle.etcs_radio.specs.Message.{beginning, IsMessage, IsMessageFault, IsNoMessage}
-use Rattle.etcs_radio.proofs.MessageLemmas.{then_packets, meant, means_message, meant_fault}
+use Rattle.etcs_radio.specs.Message.{beginning, IsMessage, IsMessageFault, IsNoMessage, MessageGrows, PacketsGrow}
+use Rattle.etcs_radio.proofs.MessageLemmas.{then_packets, meant, means_message, fault_meant, meant_fault}
 use Rattle.etcs_radio.proofs.NoMessageLemmas.{fault_none}
+use Rattle.etcs_radio.proofs.RawTrainLemmas.{memory_follows}
 
 -- ---- more bytes than L_MESSAGE can count
 
@@ -136,22 +134,13 @@ pub message_means : (r : Result Message DecodeError) (bytes : List ℕ) (p q : P
 message_means r bytes p q h s read means =
     subst (λ (x : Result Message Fault). Means (λ m. m) r x) (sym (head_is bytes p q h s read)) means
 
--- the head's fault is the one that is returned
-pub head_reported : (e : DecodeError) (bytes : List ℕ) (p : Place) (f : Fault) → AreSeen bytes p → OfMemory e ⊥
-    → Fails e (read_rows (head (length bytes)).fields p)
-    → IsFault (head (length bytes)).fields (beginning bytes) f → e ≡ errors.Fault f
-head_reported errors.Memory bytes p f s memory fails fault = absurd memory
-head_reported (errors.Fault g) bytes p f s memory fails fault =
-    let given = fault_is_given (head (length bytes)).fields (beginning bytes) f (omega arith) fault in
-    ap errors.Fault (err_is g f (sym fails ∙ seen_head bytes p s ∙ given))
-
-pub no_head_fault : {C : Type 0} (bytes : List ℕ) (p q : Place) (h : Head) (f : Fault) → AreSeen bytes p
+-- after a head that was read only the packets allocate
+pub if_grows : (r : Result Message DecodeError) (bytes : List ℕ) (p q : Place) (h : Head) → AreSeen bytes p
     → read_rows (head (length bytes)).fields p ≡ Ok ((head (length bytes)).rows h, q)
-    → IsFault (head (length bytes)).fields (beginning bytes) f → C
-no_head_fault bytes p q h f s read fault =
-    let given = fault_is_given (head (length bytes)).fields (beginning bytes) f (omega arith) fault in
-    let both = sym read ∙ (seen_head bytes p s ∙ given) in
-    absurd cc
+    → IfMemory r (PacketsGrow h q) → IfMemory r (MessageGrows bytes)
+if_grows r bytes p q h s read =
+    let first = is_spelled (head (length bytes)).fields ((head (length bytes)).rows h) (beginning bytes) q (omega arith) (sym (seen_head bytes p s) ∙ read) in
+    memory_follows r (λ (grows : PacketsGrow h q). record { h = h; middle = q; first = first; packets = grows })
 
 pub ok_of : (r : Result Message DecodeError) (bytes : List ℕ) → Means (λ m. m) r (read_message bytes)
     → IfOk r (λ m. IsMessage m bytes)
@@ -170,17 +159,18 @@ none_of (Ok m) bytes means = tt
 none_of (Err errors.Memory) bytes means = tt
 none_of (Err (errors.Fault f)) bytes means = fault_none bytes f (meant_fault bytes f means)
 
--- after a head that was read only the packets allocate
-pub if_followed : (r : Result Message DecodeError) (bytes : List ℕ) (p q : Place) (h : Head) → AreSeen bytes p
-    → read_rows (head (length bytes)).fields p ≡ Ok ((head (length bytes)).rows h, q)
-    → IfMemory r (ends stops.Message q ≡ false)
-    → IfMemory r (IsFollowed stops.Message (head (length bytes)).rows (beginning bytes))
-if_followed (Ok m) bytes p q h s read goes = tt
-if_followed (Err (errors.Fault f)) bytes p q h s read goes = tt
-if_followed (Err errors.Memory) bytes p q h s read goes =
-    let here = sym (seen_head bytes p s) ∙ read in
-    let first = is_spelled (head (length bytes)).fields ((head (length bytes)).rows h) (beginning bytes) q (omega arith) here in
-    record { h = h; middle = q; first = first; goes_on = goes; room = has_room stops.Message q (λ telegram few. cc) goes }
+-- if the packets grow, the head has no fault
+pub no_head_fault : (bytes : List ℕ) (f : Fault) → MessageGrows bytes → IsFault (head (length bytes)).fields (beginning bytes) f → ⊥
+no_head_fault bytes f x fault =
+    head_stands (head (length bytes)).fields (head (length bytes)).rows x.h (beginning bytes) x.middle f (omega arith) (head (length bytes)).laid.are_rows x.first fault
+
+-- the head's fault is the one that is returned
+pub head_fault_returned : (r : Result Message DecodeError) (bytes : List ℕ) (f : Fault) → Means (λ m. m) r (read_message bytes)
+    → IfMemory r (MessageGrows bytes) → IsFault (head (length bytes)).fields (beginning bytes) f → r ≡ Err (errors.Fault f)
+head_fault_returned (Ok m) bytes f means grows fault = let fails = sym means ∙ fault_meant bytes f (inl fault) in absurd cc
+head_fault_returned (Err errors.Memory) bytes f means grows fault = absurd (no_head_fault bytes f grows fault)
+head_fault_returned (Err (errors.Fault g)) bytes f means grows fault =
+    ap (λ (d : Fault). Err (errors.Fault d)) (err_is g f (sym means ∙ fault_meant bytes f (inl fault)))
 
 -- ---- the first bytes of a message
 
@@ -221,26 +211,11 @@ front_means all front (is_long many more same) =
     ∙ ap (λ (xs : List Bool). Err (long_fault (nid_message.allows (num_of_bits xs)))) same
     ∙ sym (long_means all many)
 
--- a head's fault in all bytes is one in such a front
-pub front_fault : (all front : List ℕ) (f : Fault) → FrontOf all front
-    → IsFault (head (length all)).fields (beginning all) f → IsFault (head (length front)).fields (beginning front) f
-front_fault all front f (is_all is) fault =
-    subst (λ (xs : List ℕ). IsFault (head (length xs)).fields (beginning xs) f) (sym is) fault
-front_fault all front f (is_long many more same) fault =
-    let given = fault_is_given (head (length all)).fields (beginning all) f (omega arith) fault in
-    let reads : read_rows (head (length front)).fields (beginning front) ≡ Err f = long_first front more
-    ∙ ap (λ (xs : List Bool). Err (long_fault (nid_message.allows (num_of_bits xs)))) same
-    ∙ sym (long_first all many) ∙ given in
-    read_is_fault (head (length front)).fields (beginning front) f (omega arith) reads
-
--- a packet that is due after a head in such a front is due in all bytes
-pub front_followed : (all front : List ℕ) → FrontOf all front
-    → IsFollowed stops.Message (head (length front)).rows (beginning front)
-    → IsFollowed stops.Message (head (length all)).rows (beginning all)
-front_followed all front (is_all is) due =
-    subst (λ (xs : List ℕ). IsFollowed stops.Message (head (length xs)).rows (beginning xs)) is due
-front_followed all front (is_long many more same) due =
-    let reads = spelled_is_read (head (length front)).fields ((head (length front)).rows due.h) (beginning front) due.middle (omega arith) ((head (length front)).laid.are_rows due.h) due.first in
-    let fails = long_first front more in
-    let both = sym reads ∙ fails in
+-- if the packets of such a front grow, they are those of all bytes
+pub front_grows : (all front : List ℕ) → FrontOf all front → MessageGrows front → MessageGrows all
+front_grows all front (is_all is) grows = subst MessageGrows is grows
+front_grows all front (is_long many more same) grows =
+    let h = head (length front) in
+    let reads = spelled_is_read h.fields (h.rows grows.h) (beginning front) grows.middle (omega arith) (h.laid.are_rows grows.h) grows.first in
+    let both = sym reads ∙ long_first front more in
     absurd cc

@@ -1,11 +1,11 @@
 -- Digits that are decoded up to a place.
-use Rattle.std.proofs.Common.{◌≡◌, ℕ, zero, suc, ◌+◌, ◌*◌, ◌/◌, ◌%◌, ◌≤◌, min, Bool, true, false, List, [], ◌∷◌, ◌++◌, length, take, drop, Result, Ok, Err, refl, sym, ap, ◌∙◌, arith}
-use Rattle.std.specs.Prelude.{IsTrue, MatchResult}
+use Rattle.std.proofs.Common.{◌≡◌, ℕ, zero, suc, ◌+◌, ◌*◌, ◌/◌, ◌%◌, ◌≤◌, min, Bool, true, List, [], ◌∷◌, ◌++◌, length, take, drop, Result, Ok, Err, refl, sym, ap, ◌∙◌, arith}
 use Rattle.std.proofs.lemmas.List.{length-take-le, take-append-drop}
 use Rattle.hex.specs.Hex.{◌>>=◌, decode_of, decode_pairs, decode_sized, pair_value}
 use Rattle.hex.specs.declared.error.FromHexError.{FromHexError}
 use Rattle.hex.proofs.HexLemmas.{decode_of-digits, decode_of-even, decode_of-ok, decode_sized-twice}
-use Rattle.etcs_radio.specs.Text.{IsHexadecimal}
+use Rattle.etcs_digits.specs.Hexadecimal.{IsHexadecimal}
+use Rattle.etcs_digits.proofs.DigitLemmas.{IsDecoded}
 use Rattle.etcs_radio.proofs.DecodeLemmas.{FrontOf, front_of}
 
 -- what an `Ok` after a step shows
@@ -29,50 +29,26 @@ pairs_front (suc n) i (x ∷ y ∷ a) b all len read =
     let same : p.0 ∷ q.0 ≡ all = cc (q.2) in
     rw (p.1, rest) (ap (λ (bytes : List ℕ). Ok (take (suc n) bytes)) same)
 
--- the result of decoding into a buffer, as the call returns it
-abbrev pub IsDecoded : Result (List ℕ) FromHexError → Bool → List ℕ → Type 0
-IsDecoded decoded result new = MatchResult decoded (λ bytes. (result ≡ true) × (new ≡ bytes)) (λ e. result ≡ false)
-
-written : (decoded : Result (List ℕ) FromHexError) (result : Bool) (new bytes : List ℕ)
-    → IsDecoded decoded result new → decoded ≡ Ok bytes → new ≡ bytes
-written (Ok x) result new bytes is ok = let same : x ≡ bytes = cc in is.1 ∙ same
-written (Err e) result new bytes is ok = absurd cc
-
--- the first digits are decoded to the first bytes
+-- a call that decodes the first digits of a text returns true, and writes the first bytes
 pub front_read : (text front : List ℕ) (n : ℕ) (result : Bool) (new all : List ℕ)
     → IsDecoded (decode_sized front n) result new → decode_of text ≡ Ok all → 2 * n ≤ length text
-    → front ≡ take (2 * n) text → new ≡ take n all
+    → front ≡ take (2 * n) text → (result ≡ true) × (new ≡ take n all)
 front_read text front n result new all is read fits front_is =
     let pairs : decode_pairs 0 text ≡ Ok all = sym (decode_of-even text (decode_of-ok text all read).0) ∙ read in
     let len : length front ≡ 2 * n = ap length front_is ∙ length-take-le (2 * n) text fits in
     let cut : front ++ drop (2 * n) text ≡ text = ap (λ (xs : List ℕ). xs ++ drop (2 * n) text) front_is ∙ take-append-drop (2 * n) text in
     let first : decode_pairs 0 front ≡ Ok (take n all) = pairs_front n 0 front (drop (2 * n) text) all len (ap (decode_pairs 0) cut ∙ pairs) in
     let even : length front % 2 ≡ 0 = omega (arith, len) in
-    written (decode_sized front n) result new (take n all) is (decode_sized-twice front n len ∙ (decode_of-even front even ∙ first))
+    let decoded : decode_sized front n ≡ Ok (take n all) = decode_sized-twice front n len ∙ (decode_of-even front even ∙ first) in
+    rw decoded at is
 
--- a text that is decoded whole is hexadecimal, and only such a text is
-pub whole_digits : (text : List ℕ) (n : ℕ) (result : Bool) (new : List ℕ) → length text ≡ 2 * n
-    → IsDecoded (decode_sized text n) result new
-    → (IsTrue result → IsHexadecimal text) × (IsHexadecimal text → IsTrue result)
-whole_digits text n result new len is = (
-  (λ holds.
-      let all = was_read (decode_sized text n) result new is holds in
-      let ok = decode_of-ok text all.0 (sym (decode_sized-twice text n len) ∙ all.1) in
-      record { even = ok.0; digits = ok.1 }),
-  (λ digits.
-      let all = decode_of-digits text digits.even digits.digits in
-      is_read (decode_sized text n) result new all.0 is (decode_sized-twice text n len ∙ all.1)),
-)
-  where
-    was_read : (decoded : Result (List ℕ) FromHexError) (result : Bool) (new : List ℕ)
-        → IsDecoded decoded result new → IsTrue result → (bytes : List ℕ) × (decoded ≡ Ok bytes)
-    was_read (Ok bytes) result new is holds = (bytes, refl)
-    was_read (Err e) result new is holds = absurd cc
-
-    is_read : (decoded : Result (List ℕ) FromHexError) (result : Bool) (new bytes : List ℕ)
-        → IsDecoded decoded result new → decoded ≡ Ok bytes → IsTrue result
-    is_read (Ok x) result new bytes is ok = cc
-    is_read (Err e) result new bytes is ok = absurd cc
+-- the front of a hexadecimal text is decoded
+pub front_decoded : (text front : List ℕ) (n : ℕ) (result : Bool) (new : List ℕ)
+    → IsDecoded (decode_sized front n) result new → 2 * n ≤ length text → front ≡ take (2 * n) text
+    → IsHexadecimal text → result ≡ true
+front_decoded text front n result new is fits front_is digits =
+    let all = decode_of-digits text digits.even digits.digits in
+    (front_read text front n result new all.0 is all.1 fits front_is).0
 
 -- the bytes of a text, and the front of them that was read
 pub record IsSeen (text front : List ℕ) : Type 0 where
@@ -86,9 +62,8 @@ pub seen : (text front : List ℕ) → IsHexadecimal text
 seen text front digits are =
     let all = decode_of-digits text digits.even digits.digits in
     let twice = (decode_of-ok text all.0 all.1).2 in
-    let least : min (length text / 2) 1024 ≡ min (length all.0) 1024 = omega (arith, twice) in
     record {
       all = all.0;
       decoded = all.1;
-      is_front = rw (are all.0 all.1) (front_of all.0 (min (length text / 2) 1024) least);
+      is_front = rw (are all.0 all.1) (front_of all.0 (min (length text / 2) 1024) (omega (arith, twice)));
     }

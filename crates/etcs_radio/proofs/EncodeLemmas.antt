@@ -1,6 +1,5 @@
 -- Which bytes a message has, and how long they are.
-use Rattle.std.proofs.Common.{◌≡◌, ℕ, suc, ◌+◌, ◌-◌, ◌*◌, ◌<◌, ◌≤◌, true, false, Bool, List, [], ◌∷◌, ◌++◌, length, take, drop, replicate, Result, Err, refl, sym, ap, ap₂, ◌∙◌, ◌⊎◌, inl, inr, arith, append_assoc, length-append}
-use Rattle.std.specs.Prelude.{IsErrOf, ◌↔◌}
+use Rattle.std.proofs.Common.{◌≡◌, ℕ, suc, ◌+◌, ◌-◌, ◌*◌, ◌<◌, ◌≤◌, true, false, Bool, List, [], ◌∷◌, ◌++◌, length, take, drop, replicate, refl, sym, ap, ap₂, ◌∙◌, ◌⊎◌, inl, inr, arith, append_assoc, length-append}
 use Rattle.std.specs.List.{flat_map}
 use Rattle.std.proofs.lemmas.List.{take_at, drop_at, length-replicate}
 use Rattle.hex.specs.Hex.{IsBytes}
@@ -17,8 +16,6 @@ use Rattle.etcs_packet.specs.Lists.{IsHeaded, Stand, ends}
 use Rattle.etcs_profile.specs.Track.{track_packet}
 use Rattle.etcs_packet.specs.Whole.{HeadAndListStand, start}
 use Rattle.etcs_packet.proofs.WrittenLemmas.{few_end, mark_ends, ends_only, whole_spelled, whole_written}
-use Rattle.etcs_radio.specs.declared.error.EncodeError.{EncodeError}
-use Rattle.etcs_radio.specs.declared.error.EncodeError.TheVariants as errors
 use Rattle.etcs_radio.specs.declared.message.Message.{Message}
 use Rattle.etcs_radio.specs.declared.message.Message.TheVariants as messages
 use Rattle.etcs_radio.specs.Head.{Head, MovementHead, PositionHead, head}
@@ -175,11 +172,3 @@ one_message m k bytes x y =
     let b = message_meant k bytes (encoding_message k bytes y) in
     let same = sym a ∙ b in
     cc
-
--- if a message fits, the only possible error is lack of memory
-pub only_memory : {X : Type 0} (r : Result X EncodeError) (m : Message) → used_bits m ≤ 8184
-    → r ≡ Err errors.Memory → IsErrOf r errors.TooBig ↔ IsTooBig m
-only_memory r m fits is = (
-  λ given. absurd (let both = sym is ∙ given in cc),
-  λ big. absurd (omega (arith, fits, big)),
-)

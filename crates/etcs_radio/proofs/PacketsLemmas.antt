@@ -7,7 +7,7 @@ use Rattle.etcs_bits.specs.declared.layout.fault.DecodeError.TheVariants as erro
 use Rattle.etcs_bits.specs.declared.variables.identity.Identity.{Identity}
 use Rattle.etcs_bits.specs.layout.Rows.{Place}
 use Rattle.etcs_bits.specs.layout.Format.{Format}
-use Rattle.etcs_bits.specs.layout.Results.{Fails}
+use Rattle.etcs_bits.specs.layout.Results.{Fails, OfMemory}
 use Rattle.etcs_packet.specs.declared.stop.Stop.TheVariants as stops
 use Rattle.etcs_profile.specs.declared.track.TrackPacket.{TrackPacket}
 use Rattle.etcs_packet.specs.Reading.{read_list}
@@ -17,6 +17,11 @@ use Rattle.etcs_radio.specs.declared.train_packet.TrainPacket.{TrainPacket}
 use Rattle.etcs_radio.specs.Head.{MovementHead, PositionHead}
 use Rattle.etcs_radio.specs.Record.{Movement, Position}
 use Rattle.etcs_radio.specs.Meaning.{read_message_list, movement_message, position_message}
+
+-- both hold if memory ran out
+pub both_memory : (P Q : Type 0) (e : DecodeError) → OfMemory e P → OfMemory e Q → OfMemory e (P × Q)
+both_memory P Q errors.Memory first second = (first, second)
+both_memory P Q (errors.Fault f) first second = tt
 
 -- if reading the packets fails, reading the message fails
 pub by_fails : {X : Type 0} (x : Format X) (has : List X → Bool) (why : FaultKind) (make : List X → Message)
@@ -40,10 +45,7 @@ pub by_err : {X : Type 0} (x : Format X) (has : List X → Bool) (why : FaultKin
 unfolding read_message_list
 by_err x has why make xs p q read none = rw (read, none) refl
 
--- the result of a constructor shows whether the required packet is there
-pub there : {A E : Type 0} (r : Result A E) (a : A) (b : Bool) → IsOk r ↔ (b ≡ true) → r ≡ Ok a → b ≡ true
-there r a b made is = made.0 (rw is refl)
-
+-- if a constructor fails, the required packet is not there
 pub not_there : {A E : Type 0} (r : Result A E) (e : E) (b : Bool) → IsOk r ↔ (b ≡ true) → r ≡ Err e → b ≡ false
 not_there r e true made is = let ok = rw is at (made.1 refl) in absurd cc
 not_there r e false made is = refl

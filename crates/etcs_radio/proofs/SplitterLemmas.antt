@@ -1,5 +1,5 @@
 -- What a splitter takes.
-use Rattle.std.proofs.Common.{◌≡◌, ◌≢◌, ℕ, ◌+◌, ◌-◌, ◌<◌, ◌≤◌, min, max, List, ◌++◌, length, take, drop, sym, ap, ◌∙◌, subst, arith, append_assoc, length-append, ⊎_elim}
+use Rattle.std.proofs.Common.{◌≡◌, ◌≢◌, ℕ, ◌+◌, ◌-◌, ◌<◌, ◌≤◌, min, max, List, ◌++◌, length, take, drop, sym, ap, ap₂, ◌∙◌, subst, arith, append_assoc, length-append, ⊎_elim}
 use Rattle.std.proofs.lemmas.Bool.{cases_lt}
 use Rattle.std.proofs.lemmas.List.{append-nil, length-drop, length-take-le, take_rest}
 use Rattle.std.proofs.Math.Seq.{take-add}
@@ -31,108 +31,8 @@ taken_on held piece m n =
 pub length-taken : (held piece : List ℕ) (n : ℕ) → n ≤ length piece → length (held ++ take n piece) ≡ length held + n
 length-taken held piece n within = length-append held (take n piece) ∙ ap (λ k. length held + k) (length-take-le n piece within)
 
--- Bytes are taken up to the third, and then up to the length in the first three.
-module _ (held piece : List ℕ) (head wanted rest : ℕ) where
-  -- what is held when the first step is done
-  abbrev three : List ℕ
-  three = held ++ take head piece
-
-  module _
-      (may : MayBeHeld held)
-      (first : head ≡ min (3 - length held) (length piece))
-      (few : length three < 3 → wanted ≡ 3)
-      (whole : 3 ≤ length three → wanted ≡ max 3 (message_length three))
-      (then_is : rest ≡ min (wanted - length three) (length (drop head piece))) where
-    three_has : length three ≡ length held + head
-    three_has = length-taken held piece head (omega (arith, first))
-
-    rest_few : rest ≤ length piece - head
-    rest_few = omega (arith, then_is, length-drop head piece)
-
-    within : head + rest ≤ length piece
-    within = omega (arith, first, rest_few)
-
-    -- before three bytes are held
-    early : (n : ℕ) → n < head → splitter_state (held ++ take n piece) ≡ More
-    early n before =
-        let has = length-taken held piece n (omega (arith, first)) in
-        state-short (held ++ take n piece) (omega (arith, first, has))
-
-    reached : 0 < rest → 3 ≤ length three
-    reached some =
-        ⊎_elim (λ (short : length three < 3). let third = few short in absurd (omega (arith, third, first, three_has, then_is, rest_few)))
-        (λ (enough : 3 ≤ length three). enough)
-        (cases_lt (length three) 3)
-
-    has : (n : ℕ) → n ≤ rest → length (held ++ take (head + n) piece) ≡ length three + n
-    has n part = length-taken held piece (head + n) (omega (arith, within)) ∙ omega (arith, three_has)
-
-    same : (n : ℕ) → 3 ≤ length three → message_length (held ++ take (head + n) piece) ≡ message_length three
-    same n enough = ap message_length (taken_on held piece head n) ∙ message_length-append three (take n (drop head piece)) enough
-
-    three_may : MayBeHeld three
-    three_may =
-        ⊎_elim (λ (short : length held < 3). omega (arith, first, three_has))
-        (λ (enough : 3 ≤ length held).
-        let none : head ≡ 0 = omega (arith, first) in
-        subst MayBeHeld (sym (ap (λ n. held ++ take n piece) none ∙ taken_none held piece)) may)
-        (cases_lt (length held) 3)
-
-    -- as long as L_MESSAGE counts more bytes
-    late : (n : ℕ) → n < rest → splitter_state (held ++ take (head + n) piece) ≡ More
-    late n before =
-        let enough = reached (omega arith) in
-        let until = whole enough in
-        let count = has n (omega arith) in
-        let length_is = same n enough in
-        state-below (held ++ take (head + n) piece) (omega (arith, length_is, until, then_is, enough)) (omega (arith, count, length_is, until, then_is, enough))
-
-    at_end : head + rest < length piece → splitter_state (held ++ take (head + rest) piece) ≢ More
-    at_end left more =
-        let enough : 3 ≤ length three = omega (arith, first, three_has) in
-        let until = whole enough in
-        let count = has rest (omega arith) in
-        let length_is = same rest enough in
-        let all : rest ≡ wanted - length three = omega (arith, then_is, length-drop head piece) in
-        ⊎_elim
-        (λ (small : message_length three < 3).
-        failed_is_not_more
-        (sym (state-failed (held ++ take (head + rest) piece)
-        (record {
-          three = omega (arith, count, until, all, three_may);
-          small = omega (arith, length_is);
-        })) ∙ more))
-        (λ (large : 3 ≤ message_length three).
-        ready_is_not_more
-        (sym (state-ready (held ++ take (head + rest) piece)
-        (record {
-          three = omega (arith, count, enough);
-          count = omega (arith, count, length_is, until, all, three_may);
-        })) ∙ more))
-        (cases_lt (message_length three) 3)
-
-    pub is_taken : IsTaken held piece (head + rest)
-    is_taken = record {
-      within = within;
-      waits_before = λ n before.
-          ⊎_elim (λ (in_first : n < head). early n in_first)
-          (λ (in_rest : head ≤ n).
-          let there : head + (n - head) ≡ n = omega arith in
-          subst (λ k. splitter_state (held ++ take k piece) ≡ More) there (late (n - head) (omega arith)))
-          (cases_lt n head);
-      waits_no_more = at_end;
-    }
-
-    pub may_be_held : MayBeHeld (held ++ take (head + rest) piece)
-    may_be_held =
-        let count = has rest (omega arith) in
-        ⊎_elim (λ (short : length three < 3). let third = few short in omega (arith, count, third, then_is))
-        (λ (enough : 3 ≤ length three).
-        let until = whole enough in
-        omega (arith, count, until, then_is, three_may, same rest enough))
-        (cases_lt (length three) 3)
-
--- The steps of `feed`, as its code makes them: `head` bytes, and then `rest` bytes of the others.
+-- The steps of `feed`, as its code makes them: `head` bytes up to the third, and then `rest` bytes of the others, up to the
+-- length in the first three.
 pub record Steps (held piece : List ℕ) (head rest : ℕ) (after : List ℕ) : Type 0 where
   pub may : MayBeHeld held
   pub first : head ≡ min (3 - length held) (length piece)
@@ -150,27 +50,100 @@ module _ (held piece : List ℕ) (head rest : ℕ) (after : List ℕ) (s : Steps
   others_dropped : s.others ≡ drop head piece
   others_dropped = s.others_are ∙ take_rest piece head
 
-  few_there : length (held ++ take head piece) < 3 → s.wanted ≡ 3
-  few_there = subst (λ xs. length xs < 3 → s.wanted ≡ 3) s.three_is s.few
+  three_has : length s.three ≡ length held + head
+  three_has = ap length s.three_is ∙ length-taken held piece head (omega (arith, s.first))
 
-  whole_there : 3 ≤ length (held ++ take head piece) → s.wanted ≡ max 3 (message_length (held ++ take head piece))
-  whole_there = subst (λ xs. 3 ≤ length xs → s.wanted ≡ max 3 (message_length xs)) s.three_is s.whole
+  rest_is : rest ≡ min (s.wanted - length s.three) (length piece - head)
+  rest_is = omega (arith, s.then_is, ap length others_dropped, length-drop head piece)
 
-  rest_there : rest ≡ min (s.wanted - length (held ++ take head piece)) (length (drop head piece))
-  rest_there =
-      subst (λ xs. rest ≡ min (s.wanted - length xs) (length (drop head piece))) s.three_is
-      (subst (λ xs. rest ≡ min (s.wanted - length s.three) (length xs)) others_dropped s.then_is)
+  within : head + rest ≤ length piece
+  within = omega (arith, s.first, rest_is)
+
+  -- before three bytes are held
+  early : (n : ℕ) → n < head → splitter_state (held ++ take n piece) ≡ More
+  early n before =
+      let has = length-taken held piece n (omega (arith, s.first)) in
+      state-short (held ++ take n piece) (omega (arith, s.first, has))
+
+  reached : 0 < rest → 3 ≤ length s.three
+  reached some =
+      ⊎_elim (λ (short : length s.three < 3). let third = s.few short in absurd (omega (arith, third, s.first, three_has, rest_is)))
+      (λ (enough : 3 ≤ length s.three). enough)
+      (cases_lt (length s.three) 3)
+
+  has : (n : ℕ) → n ≤ rest → length (held ++ take (head + n) piece) ≡ length s.three + n
+  has n part = length-taken held piece (head + n) (omega (arith, within)) ∙ omega (arith, three_has)
+
+  same : (n : ℕ) → 3 ≤ length s.three → message_length (held ++ take (head + n) piece) ≡ message_length s.three
+  same n enough =
+      ap message_length (taken_on held piece head n ∙ ap (λ xs. xs ++ take n (drop head piece)) (sym s.three_is))
+      ∙ message_length-append s.three (take n (drop head piece)) enough
+
+  three_may : MayBeHeld s.three
+  three_may =
+      ⊎_elim (λ (short : length held < 3). omega (arith, s.first, three_has))
+      (λ (enough : 3 ≤ length held).
+      let none : head ≡ 0 = omega (arith, s.first) in
+      subst MayBeHeld (sym (s.three_is ∙ ap (λ n. held ++ take n piece) none ∙ taken_none held piece)) s.may)
+      (cases_lt (length held) 3)
+
+  -- as long as L_MESSAGE counts more bytes
+  late : (n : ℕ) → n < rest → splitter_state (held ++ take (head + n) piece) ≡ More
+  late n before =
+      let enough = reached (omega arith) in
+      let until = s.whole enough in
+      let count = has n (omega arith) in
+      let length_is = same n enough in
+      state-below (held ++ take (head + n) piece) (omega (arith, length_is, until, rest_is, enough)) (omega (arith, count, length_is, until, rest_is, enough))
+
+  at_end : head + rest < length piece → splitter_state (held ++ take (head + rest) piece) ≢ More
+  at_end left more =
+      let enough : 3 ≤ length s.three = omega (arith, s.first, three_has) in
+      let until = s.whole enough in
+      let count = has rest (omega arith) in
+      let length_is = same rest enough in
+      let all : rest ≡ s.wanted - length s.three = omega (arith, rest_is) in
+      ⊎_elim
+      (λ (small : message_length s.three < 3).
+      failed_is_not_more
+      (sym (state-failed (held ++ take (head + rest) piece)
+      (record {
+        three = omega (arith, count, until, all, three_may);
+        small = omega (arith, length_is);
+      })) ∙ more))
+      (λ (large : 3 ≤ message_length s.three).
+      ready_is_not_more
+      (sym (state-ready (held ++ take (head + rest) piece)
+      (record {
+        three = omega (arith, count, enough);
+        count = omega (arith, count, length_is, until, all, three_may);
+      })) ∙ more))
+      (cases_lt (message_length s.three) 3)
 
   pub steps_taken : IsTaken held piece (head + rest)
-  steps_taken = is_taken held piece head s.wanted rest s.may s.first few_there whole_there rest_there
+  steps_taken = record {
+    within = within;
+    waits_before = λ n before.
+        ⊎_elim (λ (in_first : n < head). early n in_first)
+        (λ (in_rest : head ≤ n).
+        let there : head + (n - head) ≡ n = omega arith in
+        subst (λ k. splitter_state (held ++ take k piece) ≡ More) there (late (n - head) (omega arith)))
+        (cases_lt n head);
+    waits_no_more = at_end;
+  }
 
   pub steps_held : after ≡ held ++ take (head + rest) piece
   steps_held =
       s.after_is
-      ∙ ap (λ xs. xs ++ take rest s.others) s.three_is
-      ∙ ap (λ xs. (held ++ take head piece) ++ take rest xs) others_dropped
+      ∙ ap₂ (λ xs ys. xs ++ take rest ys) s.three_is others_dropped
       ∙ sym (taken_on held piece head rest)
 
   pub steps_may : MayBeHeld after
   steps_may =
-      subst MayBeHeld (sym steps_held) (may_be_held held piece head s.wanted rest s.may s.first few_there whole_there rest_there)
+      let count = has rest (omega arith) in
+      subst MayBeHeld (sym steps_held)
+      (⊎_elim (λ (short : length s.three < 3). let third = s.few short in omega (arith, count, third, rest_is))
+      (λ (enough : 3 ≤ length s.three).
+      let until = s.whole enough in
+      omega (arith, count, until, rest_is, three_may, same rest enough))
+      (cases_lt (length s.three) 3))

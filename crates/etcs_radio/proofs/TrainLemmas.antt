@@ -1,16 +1,19 @@
 -- A train packet's rows by itself and in a list have the same bits.
-use Rattle.std.proofs.Common.{◌≡◌, ◌⊎◌, ℕ, Bool, true, false, List, ◌∷◌, ◌++◌, Result, Ok, length, refl, sym, ap, ◌∙◌, inl, inr}
+use Rattle.std.proofs.Common.{◌≡◌, ◌⊎◌, ℕ, Bool, true, false, List, ◌∷◌, ◌++◌, Result, Ok, length, refl, sym, ap, ◌∙◌, inl, inr, arith}
 use Rattle.std.proofs.lemmas.Bool.{ne_eqb}
 use Rattle.std.specs.Prelude.{◌==◌, ◌||◌, not}
 use Rattle.etcs_bits.specs.declared.layout.fault.Fault.{Fault}
 use Rattle.etcs_bits.specs.layout.Rows.{Row, row, alone, Place, AreAllowed, join, width}
 use Rattle.etcs_bits.specs.layout.Choice.{numbered_rows}
+use Rattle.etcs_bits.specs.layout.Reading.{read_field}
+use Rattle.etcs_bits.proofs.ReadingLemmas.{field_again, field_ok}
 use Rattle.etcs_radio.specs.declared.report.Report.{Report}
 use Rattle.etcs_radio.specs.declared.train_packet.TrainPacket.{TrainPacket}
 use Rattle.etcs_radio.specs.declared.train_packet.TrainPacket.TheVariants as packets
 use Rattle.etcs_radio.specs.Report.{WithOne, WithTwo, report_numbered, report_parts, report_variable}
 use Rattle.etcs_bits.specs.layout.Format.{kept_bits}
 use Rattle.etcs_radio.specs.RawTrain.{other_of}
+use Rattle.etcs_radio.specs.TrainNumbers.{nid_raw}
 use Rattle.etcs_profile.specs.PacketNumbers.{nid_track as nid_train}
 use Rattle.etcs_radio.specs.TrainPacket.{train_numbered, numbered_report, train_packet, own_rows}
 
@@ -64,6 +67,13 @@ Not n k = n ≡ k → ⊥
 -- what follows a number that is no report's
 pub other_next : (n : ℕ) → Not n 0 → Not n 1 → train_numbered.next n ≡ (kept_bits 8).fields
 other_next n a b = rw (ne_eqb n 0 a, ne_eqb n 1 b) refl
+
+-- a number that is no report's, by itself
+pub raw_number : (n : ℕ) (p q : Place) → Not n 0 → Not n 1 → not (n == 255) ≡ true → read_field nid_train p ≡ Ok (n, q)
+    → read_field nid_raw p ≡ Ok (n, q)
+raw_number n p q a b end read =
+    let took = (field_ok nid_train p (n, q) read).took in
+    field_again nid_raw n p q took.small (rw (ne_eqb n 0 a, ne_eqb n 1 b) end) (omega (arith, took.within, took.stands.past)) took.stands
 
 -- what follows the number of a report
 pub report_next : (n : ℕ) → (n ≡ 0) ⊎ ((n ≡ 0 → ⊥) × (n ≡ 1)) → train_numbered.next n ≡ report_numbered.next n

@@ -1,7 +1,7 @@
 -- Radio messages (SUBSET-026, 8.4.4, 8.6 and 8.7): a head whose L_MESSAGE counts the bytes, packets,
 -- and a rest that carries no information. The packets end when fewer than eight bits are left, or at
 -- eight ones.
-use Rattle.std.specs.Prelude.{◌≡◌, ℕ, ◌+◌, ◌-◌, ◌*◌, ◌<◌, ◌⊎◌, Bool, true, false, List, ◌++◌, length, take, replicate}
+use Rattle.std.specs.Prelude.{◌≡◌, ℕ, ◌+◌, ◌-◌, ◌*◌, ◌<◌, ◌⊎◌, Bool, true, false, List, ◌++◌, length, take, replicate, IsOk}
 use Rattle.std.proofs.Common.{inl, inr}
 use Rattle.std.specs.List.{flat_map}
 use Rattle.hex.specs.Hex.{IsBytes}
@@ -11,13 +11,16 @@ use Rattle.etcs_bits.specs.declared.layout.fault.FaultKind.TheVariants.{NoAuthor
 use Rattle.etcs_bits.specs.bits.Number.{bits_of_bytes}
 use Rattle.etcs_bits.specs.layout.Rows.{Row, Place, AreAllowed, join, width, IsSpelled}
 use Rattle.etcs_bits.specs.layout.Fault.{IsFault}
+use Rattle.etcs_bits.specs.layout.Fields.{Fields}
+use Rattle.etcs_bits.specs.layout.Reading.{read_rows}
 use Rattle.etcs_packet.specs.declared.stop.Stop.TheVariants as stops
-use Rattle.etcs_packet.specs.Lists.{Stand, IsListFault}
+use Rattle.etcs_packet.specs.Lists.{Stand, IsListFault, ends}
 use Rattle.etcs_profile.specs.Track.{track_packet}
 use Rattle.etcs_packet.specs.Whole.{start}
 use Rattle.etcs_radio.specs.declared.message.Message.{Message}
 use Rattle.etcs_radio.specs.declared.message.Message.TheVariants as messages
 use Rattle.etcs_radio.specs.Head.{Head, head}
+use Rattle.etcs_radio.specs.RawTrain.{raw_train_grows}
 use Rattle.etcs_radio.specs.Required.{has_authority, has_report}
 use Rattle.etcs_radio.specs.TrainPacket.{train_packet}
 
@@ -88,6 +91,24 @@ IsNoMessage bytes f =
     (others : List ℕ) → length others ≡ length bytes
     → take f.end (bits_of_bytes others) ≡ take f.end (bits_of_bytes bytes)
     → (m : Message) → IsMessage m others → ⊥
+
+-- ---- where decoding a message may ask for memory
+
+-- A packet is due here, and it grows or has no fault.
+abbrev pub ListGrows : Fields → (Place → Type 0) → Place → Type 0
+ListGrows item Grows p = (ends stops.Message p ≡ false) × (Grows p ⊎ IsOk (read_rows item p))
+
+-- the packets that follow a head
+abbrev pub PacketsGrow : Head → Place → Type 0
+PacketsGrow (inl h) p = ends stops.Message p ≡ false
+PacketsGrow (inr h) p = ListGrows train_packet.fields raw_train_grows p
+
+-- A head is at the beginning, and the packets after it grow.
+pub record MessageGrows (bytes : List ℕ) : Type 0 where
+  pub h : Head
+  pub middle : Place
+  pub first : IsSpelled ((head (length bytes)).rows h) (beginning bytes) middle
+  pub packets : PacketsGrow h middle
 
 -- ---- from a message to bytes
 

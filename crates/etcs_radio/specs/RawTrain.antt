@@ -1,13 +1,14 @@
 -- A train packet of any other number (SUBSET-026, 7.4.1): its number, its length, and its body as
 -- bits. Packets from train to track have no Q_DIR.
-use Rattle.std.specs.Prelude.{◌≡◌, ℕ, Bool, true, false, List, length, refl}
+use Rattle.std.specs.Prelude.{◌≡◌, ℕ, ◌<◌, Bool, true, false, List, length, Ok, refl}
 use Rattle.std.proofs.Common.{sym, ap, subst, ◌∙◌}
 use Rattle.std.proofs.Math.Bool.{Bool-set}
 use Rattle.std.proofs.lemmas.Bool.{and_parts, true≢false}
-use Rattle.etcs_bits.specs.layout.Rows.{AreAllowed}
+use Rattle.etcs_bits.specs.layout.Rows.{AreAllowed, Place}
 use Rattle.etcs_bits.specs.layout.Choice.{Choice}
 use Rattle.etcs_bits.specs.layout.Format.{Format, kept_bits, others as of_others, chosen}
 use Rattle.etcs_bits.specs.layout.Combined.{is_countable}
+use Rattle.etcs_bits.specs.layout.Reading.{read_field, read_rows}
 use Rattle.etcs_bits.proofs.KeptLemmas.{kept_fit}
 use Rattle.etcs_radio.specs.declared.raw_train.RawTrainPacket.{RawTrainPacket}
 use Rattle.etcs_radio.specs.TrainNumbers.{is_kept_number, is_kept, nid_raw}
@@ -44,3 +45,14 @@ others =
 
 abbrev pub raw_train_packet : Format RawTrainPacket
 raw_train_packet = chosen nid_raw others (λ _. refl)
+
+-- ---- where reading a packet may ask for memory
+
+-- L_PACKET and a body that is not empty are here: the body is copied
+abbrev pub copy_grows : Place → Type 0
+copy_grows p =
+    (body : List Bool) × (q : Place) × (read_rows (kept_bits 8).fields p ≡ Ok ((kept_bits 8).rows body, q)) × (0 < length body)
+
+-- NID_PACKET of a packet that is kept as bits is here, and the body after it is copied
+abbrev pub raw_train_grows : Place → Type 0
+raw_train_grows p = (n : ℕ) × (q : Place) × (read_field nid_raw p ≡ Ok (n, q)) × copy_grows q

@@ -1,22 +1,15 @@
 -- Radio messages as text: the hexadecimal digits of their bytes. Digits of either case are read.
 -- Lower-case digits are written.
-use Rattle.std.specs.Prelude.{◌≡◌, ℕ, ◌%◌, List, length, Result, Ok, Err}
-use Rattle.std.specs.List.{AllPass}
-use Rattle.hex.specs.Hex.{decode_of, encode_lower, is_hex_digit}
+use Rattle.std.specs.Prelude.{◌≡◌, ℕ, List, length, Result, Ok, Err}
+use Rattle.hex.specs.Hex.{decode_of, encode_lower}
+use Rattle.etcs_digits.specs.Hexadecimal.{IsHexadecimal}
 use Rattle.etcs_bits.specs.declared.layout.fault.Fault.{Fault}
 use Rattle.etcs_bits.specs.layout.Fault.{IsFault}
-use Rattle.etcs_packet.specs.declared.stop.Stop.TheVariants as stops
-use Rattle.etcs_packet.specs.Whole.{IsFollowed}
 use Rattle.etcs_radio.specs.declared.error.RadioTextError.{RadioTextError}
 use Rattle.etcs_radio.specs.declared.error.RadioTextError.TheVariants as errors
 use Rattle.etcs_radio.specs.declared.message.Message.{Message}
 use Rattle.etcs_radio.specs.Head.{head}
-use Rattle.etcs_radio.specs.Message.{beginning, IsMessage, IsMessageFault, IsNoMessage, IsEncoding}
-
--- The text is an even number of hexadecimal digits, of either case.
-pub record IsHexadecimal (text : List ℕ) : Type 0 where
-  pub even : length text % 2 ≡ 0
-  pub digits : AllPass is_hex_digit text
+use Rattle.etcs_radio.specs.Message.{beginning, IsMessage, IsMessageFault, IsNoMessage, IsEncoding, MessageGrows}
 
 -- The text is this message.
 pub record IsMessageText (m : Message) (text : List ℕ) : Type 0 where
@@ -43,11 +36,11 @@ pub record HasHeadFault (text : List ℕ) (f : Fault) : Type 0 where
   pub decoded : decode_of text ≡ Ok bytes
   pub fault : IsFault (head (length bytes)).fields (beginning bytes) f
 
--- The text is hexadecimal. Its bytes begin with a head, and a packet is due after it.
+-- The text is hexadecimal. Its bytes begin with a head, and the packets after it grow.
 pub record HasPackets (text : List ℕ) : Type 0 where
   pub bytes : List ℕ
   pub decoded : decode_of text ≡ Ok bytes
-  pub followed : IsFollowed stops.Message (head (length bytes)).rows (beginning bytes)
+  pub grows : MessageGrows bytes
 
 -- The reason to refuse a text holds, and no reason checked earlier does.
 abbrev pub IsReason : RadioTextError → List ℕ → Type 0

@@ -1,17 +1,15 @@
 //! `decode`: from bytes to a message.
 
-ghost use Rattle.std.specs.Prelude.{◌≡◌, ◌≤◌, false, length, Err, IfOk};
+ghost use Rattle.std.specs.Prelude.{◌≡◌, ◌≤◌, length, Err, IfOk};
 ghost use Rattle.std.proofs.Common.{inl, inr};
 ghost use Rattle.etcs_bits.specs.declared.layout.fault.Fault.{Fault};
 ghost use Rattle.etcs_bits.specs.layout.Fault.{IsFault};
 ghost use Rattle.etcs_bits.specs.layout.Results.{IfFault, IfMemory, Means};
-ghost use Rattle.etcs_packet.specs.Lists.{ends};
-ghost use Rattle.etcs_packet.specs.Whole.{IsFollowed};
 ghost use Rattle.etcs_radio.specs.declared.message.Message.TheVariants as messages;
 ghost use Rattle.etcs_radio.specs.Head.{head};
 ghost use Rattle.etcs_radio.specs.HeadView.{head_value};
 ghost use Rattle.etcs_radio.specs.Meaning.{read_message, read_message_packets};
-ghost use Rattle.etcs_radio.specs.Message.{beginning, IsMessage, IsMessageFault, IsNoMessage};
+ghost use Rattle.etcs_radio.specs.Message.{beginning, IsMessage, IsMessageFault, IsNoMessage, MessageGrows, PacketsGrow};
 
 use crate::head::{Fields, MovementFields, PositionFields, scan_head};
 use crate::message::Message;
@@ -44,7 +42,7 @@ fn movement(
 ) -> Result<MovementMessage, DecodeError>
     requires { length cur.old.bits ≤ 8192 }
     ensures means { Means (λ m. messages.Movement m) result (read_message_packets (inl fields) cur.old) }
-    ensures memory { IfMemory result (ends Stop.Message cur.old ≡ false) }
+    ensures memory { IfMemory result (PacketsGrow (inl fields) cur.old) }
 {
     let packets = read_packets(alloc, cur, Stop::Message)?;
     let (time, (ack, lrbg)) = fields;
@@ -62,7 +60,7 @@ fn position(
 ) -> Result<PositionMessage, DecodeError>
     requires { length cur.old.bits ≤ 8192 }
     ensures means { Means (λ m. messages.Position m) result (read_message_packets (inr fields) cur.old) }
-    ensures memory { IfMemory result (ends Stop.Message cur.old ≡ false) }
+    ensures memory { IfMemory result (PacketsGrow (inr fields) cur.old) }
 {
     let packets = read_items(alloc, cur, Stop::Message)?;
     let (time, engine) = fields;
@@ -76,12 +74,24 @@ fn position(
 fn message(alloc: Global, fields: Fields, cur: &mut Cursor<'_>) -> Result<Message, DecodeError>
     requires { length cur.old.bits ≤ 8192 }
     ensures means { Means (λ m. m) result (read_message_packets (head_value fields) cur.old) }
-    ensures memory { IfMemory result (ends Stop.Message cur.old ≡ false) }
+    ensures memory { IfMemory result (PacketsGrow (head_value fields) cur.old) }
 {
     match fields {
         Fields::OfMovement(fields) => Ok(Message::Movement(movement(alloc, fields, cur)?)),
         Fields::OfPosition(fields) => Ok(Message::Position(position(alloc, fields, cur)?)),
     }
+}
+
+// Reads a message from its bytes, as `decode` does.
+fn read(alloc: Global, bytes: &[u8]) -> Result<Message, DecodeError>
+    ensures exact { Means (λ m. m) result (read_message bytes.now) }
+    ensures memory { IfMemory result (MessageGrows bytes.now) }
+{
+    // L_MESSAGE counts 1,023 bytes at most. The head of a longer input has a fault.
+    let few = bytes.len().min(1024);
+    let mut cur = Cursor::over(BitSlice::of_bytes(bytes, 8 * few));
+    let fields = scan_head(alloc, bytes.len(), &mut cur)?;
+    message(alloc, fields, &mut cur)
 }
 
 /// Reads a message from its bytes. What comes after the packets' end is ignored (SUBSET-026, 8.6
@@ -104,13 +114,9 @@ pub fn decode(alloc: Global, bytes: &[u8]) -> Result<Message, DecodeError>
         → result ≡ Err (DecodeError.Fault f) }
 
     // Allocates only if a packet is due after the head. So `NoAuthority` and `NoReport` are always reported
-    // for a message without packets.
-    ensures memory { IfMemory result
-        (IsFollowed Stop.Message (head (length bytes.now)).rows (beginning bytes.now)) }
+    // for a message without packets. In a position report allocates only if the first packet has no fault
+    // or its body is copied: the fault of a first packet 0 or 1 is always reported.
+    ensures memory { IfMemory result (MessageGrows bytes.now) }
 {
-    // L_MESSAGE counts 1,023 bytes at most. The head of a longer input has a fault.
-    let few = bytes.len().min(1024);
-    let mut cur = Cursor::over(BitSlice::of_bytes(bytes, 8 * few));
-    let fields = scan_head(alloc, bytes.len(), &mut cur)?;
-    message(alloc, fields, &mut cur)
+    read(alloc, bytes)
 }

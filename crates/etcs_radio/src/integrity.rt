@@ -25,19 +25,15 @@ impl Layout for Integrity {
 
     fn is_allowed(&self) -> bool {
         match self {
-            Integrity::Q1(length) => length.is_allowed(),
-            Integrity::Q2(length) => length.is_allowed(),
-            Integrity::Q0 => true,
-            Integrity::Q3 => true,
+            Integrity::Q1(length) | Integrity::Q2(length) => length.is_allowed(),
+            Integrity::Q0 | Integrity::Q3 => true,
         }
     }
 
     fn width(&self) -> u64 {
         match self {
-            Integrity::Q0 => 2,
-            Integrity::Q1(_) => 17,
-            Integrity::Q2(_) => 17,
-            Integrity::Q3 => 2,
+            Integrity::Q0 | Integrity::Q3 => 2,
+            Integrity::Q1(_) | Integrity::Q2(_) => 17,
         }
     }
 

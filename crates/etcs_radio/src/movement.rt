@@ -38,12 +38,7 @@ impl Model for MovementMessage {
 fn is_there(packets: &[TrackPacket]) -> bool
     ensures { result ≡ has_authority packets.now }
 {
-    'packets: for packet in packets {
-        if packet.number() == 15 {
-            return true;
-        }
-    }
-    false
+    packets.iter().any(|packet| packet.number() == 15)
 }
 
 impl MovementMessage {

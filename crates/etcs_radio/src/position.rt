@@ -36,12 +36,7 @@ impl Model for PositionMessage {
 fn is_there(packets: &[TrainPacket]) -> bool
     ensures { result ≡ has_report packets.now }
 {
-    'packets: for packet in packets {
-        if packet.is_report() {
-            return true;
-        }
-    }
-    false
+    packets.iter().any(|packet| packet.is_report())
 }
 
 impl PositionMessage {

@@ -1,10 +1,6 @@
 //! `RawTrainPacket`: a packet from train to track whose layout is not known here. Its body is kept as bits.
 
-ghost use Rattle.std.specs.Prelude.{◌≡◌, ◌≤◌, ◌<◌, ◌+◌, length, true, IfOk, IfErr, IsOk, IsTrue, ◌↔◌};
-ghost use Rattle.etcs_bits.specs.layout.Combined.{is_countable};
-ghost use Rattle.etcs_bits.specs.layout.Format.{kept_bits};
-ghost use Rattle.etcs_bits.specs.layout.Reading.{read_rows};
-ghost use Rattle.etcs_bits.specs.layout.Results.{Gives, IfMemory};
+ghost use Rattle.std.specs.Prelude.{◌≡◌, ◌≤◌, ◌<◌, length, true, IfOk, IfErr, IsOk, IsTrue, ◌↔◌};
 ghost use Rattle.etcs_radio.specs.TrainNumbers.{is_kept, is_kept_number};
 
 use etcs_bits::{
@@ -15,17 +11,6 @@ use std::alloc::Global;
 
 // The number of bits in front of L_PACKET: NID_PACKET.
 const BEFORE: u32 = 8;
-
-// Reads L_PACKET, and copies the bits after it.
-fn scan_body(alloc: Global, cur: &mut Cursor<'_>) -> Result<Bits, DecodeError>
-    ensures gives { Gives (kept_bits 8).rows result (read_rows (kept_bits 8).fields cur.old) cur.new }
-    ensures few { IfOk result (λ body. is_countable 8 (length body) ≡ true) }
-
-    // Allocates only if as many bits follow as L_PACKET counts, and at least one.
-    ensures memory { IfMemory result (IsOk (read_rows (kept_bits 8).fields cur.old) × (cur.old.at + 13 < cur.new.at)) }
-{
-    Ok(scan_kept(BEFORE, cur)?.to_bits(alloc)?)
-}
 
 /// A train packet whose layout is not known here: NID_PACKET, L_PACKET and a body that is kept as bits.
 /// Its number is none of 0, 1 and 255. Its body has at most 8,170 bits (SUBSET-026, 7.4.1).
@@ -80,10 +65,11 @@ impl RawTrainPacket {
 
 impl RawTrainPacket {
     ghost use Rattle.etcs_bits.specs.layout.Choice.{read_chosen, numbered_rows};
-    ghost use Rattle.etcs_radio.specs.RawTrain.{others};
+    ghost use Rattle.etcs_bits.specs.layout.Results.{Gives, IfMemory};
+    ghost use Rattle.etcs_radio.specs.RawTrain.{copy_grows, others};
 
-    // Reads what follows a number that is kept as bits. After an error the cursor is at an unspecified
-    // position.
+    // Reads what follows a number that is kept as bits, and copies the body. After an error the cursor is
+    // at an unspecified position.
     pub(crate) fn scan_rest(
         alloc: Global,
         number: u64,
@@ -91,9 +77,12 @@ impl RawTrainPacket {
     ) -> Result<Self, DecodeError>
         requires small { number < 256 }
         requires other { is_kept_number number ≡ true }
-        ensures { Gives (numbered_rows others) result (read_chosen others number cur.old) cur.new }
+        ensures gives { Gives (numbered_rows others) result (read_chosen others number cur.old) cur.new }
+
+        // Allocates only if as many bits follow as L_PACKET counts, and at least one.
+        ensures memory { IfMemory result (copy_grows cur.old) }
     {
-        let body = scan_body(alloc, cur)?;
+        let body = scan_kept(BEFORE, cur)?.to_bits(alloc)?;
         Ok(RawTrainPacket {
             number: number as u8,
             body,
@@ -102,11 +91,11 @@ impl RawTrainPacket {
 }
 
 impl Layout for RawTrainPacket {
-    ghost use Rattle.etcs_radio.specs.RawTrain.{raw_train_packet};
+    ghost use Rattle.etcs_radio.specs.RawTrain.{raw_train_grows, raw_train_packet};
 
     ghost format = { raw_train_packet };
 
-    ghost grows = { λ _. Unit {0} };
+    ghost grows = { raw_train_grows };
 
     fn is_allowed(&self) -> bool {
         // Only for the proof: the type keeps the number in range.

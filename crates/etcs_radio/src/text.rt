@@ -1,10 +1,11 @@
 //! `from_hex` and `to_hex`: messages as hexadecimal text.
 
-ghost use Rattle.std.specs.Prelude.{◌≡◌, ◌↔◌, ◌/◌, ℕ, List, length, min, take, Ok, Err, IfOk, IfErr, IsErrOf, IsTrue, OnOk, string_bytes};
-ghost use Rattle.hex.specs.Hex.{decode_of, encode_lower, is_hex_digit, IsBytes};
+ghost use Rattle.std.specs.Prelude.{◌≡◌, ◌↔◌, ◌/◌, ℕ, List, length, min, take, Ok, Err, IfOk, IfErr, IsErrOf, IsTrue, string_bytes};
+ghost use Rattle.hex.specs.Hex.{decode_of};
+ghost use Rattle.etcs_digits.specs.Hexadecimal.{IsHexadecimal};
 ghost use Rattle.etcs_bits.specs.declared.layout.fault.Fault.{Fault};
 ghost use Rattle.etcs_radio.specs.Message.{IsTooBig};
-ghost use Rattle.etcs_radio.specs.Text.{HasHeadFault, HasPackets, IsCanonicalText, IsHexadecimal, IsMessageText, IsReason, IsTextMeaning};
+ghost use Rattle.etcs_radio.specs.Text.{HasHeadFault, HasPackets, IsCanonicalText, IsMessageText, IsReason, IsTextMeaning};
 ghost use Rattle.etcs_radio.specs.TextMeaning.{message_of_text};
 
 use crate::decoding::decode;
@@ -12,21 +13,8 @@ use crate::encoding::encode;
 use crate::error::{EncodeError, RadioTextError};
 use crate::message::Message;
 use etcs_bits::DecodeError;
+use etcs_digits::is_hexadecimal;
 use std::alloc::Global;
-
-// Whether a byte is a hexadecimal digit, of either case.
-fn is_digit(byte: u8) -> bool
-    ensures { result ≡ is_hex_digit byte }
-{
-    matches!(byte, b'0'..=b'9' | b'A'..=b'F' | b'a'..=b'f')
-}
-
-// Whether the text is an even number of hexadecimal digits.
-fn is_hexadecimal(text: &[u8]) -> bool
-    ensures { IsTrue result ↔ IsHexadecimal text.now }
-{
-    text.len() % 2 == 0 && text.iter().all(|&byte| is_digit(byte))
-}
 
 // Writes the first bytes that the digits of a text spell: 1,024, or all if there are fewer. Returns
 // whether the text is an even number of digits. A text that spells at most 1,024 bytes is read in one pass.
@@ -36,14 +24,27 @@ fn read_front(text: &[u8], front: &mut [u8]) -> bool
     ensures front { (bytes : List ℕ) → decode_of text.now ≡ Ok bytes
         → front.new ≡ take (min (length text.now / 2) 1024) bytes }
 {
-    if text.len() == 2 * front.len() {
-        return etcs_digits::decode(text, front);
+    let len = 2 * front.len();
+    etcs_digits::decode(&text[..len], front) && (text.len() == len || is_hexadecimal(text))
+}
+
+// Reads a message from its text, as `from_hex` does.
+fn read(alloc: Global, text: &[u8]) -> Result<Message, RadioTextError>
+    ensures exact { IsTextMeaning result (message_of_text text.now) }
+    ensures packets { IsErrOf result RadioTextError.Memory → HasPackets text.now }
+{
+    // L_MESSAGE counts 1,023 bytes at most. The first 1,024 bytes of a longer text show its fault.
+    let count = (text.len() / 2).min(1024);
+    let mut room = [0; 1024];
+    let bytes = &mut room[..count];
+    if !read_front(text, bytes) {
+        return Err(RadioTextError::NotHex);
     }
-    if !is_hexadecimal(text) {
-        return false;
+    match decode(alloc, bytes) {
+        Ok(message) => Ok(message),
+        Err(DecodeError::Memory) => Err(RadioTextError::Memory),
+        Err(DecodeError::Fault(fault)) => Err(RadioTextError::Fault(fault)),
     }
-    etcs_digits::decode(&text[..2 * front.len()], front);
-    true
 }
 
 /// Reads a message from its text, which is an even number of hexadecimal digits of either case.
@@ -62,21 +63,10 @@ pub fn from_hex(alloc: Global, text: &[u8]) -> Result<Message, RadioTextError>
     ensures head { (f : Fault) → HasHeadFault text.now f
         → result ≡ Err (RadioTextError.Fault f) }
 
-    // Allocates only if a packet is due after the head.
+    // Allocates only if a packet is due after the head, and in a position report as `decode` does.
     ensures packets { IsErrOf result RadioTextError.Memory → HasPackets text.now }
 {
-    // L_MESSAGE counts 1,023 bytes at most. The first 1,024 bytes of a longer text show its fault.
-    let count = (text.len() / 2).min(1024);
-    let mut room = [0; 1024];
-    let bytes = &mut room[..count];
-    if !read_front(text, bytes) {
-        return Err(RadioTextError::NotHex);
-    }
-    match decode(alloc, bytes) {
-        Ok(message) => Ok(message),
-        Err(DecodeError::Memory) => Err(RadioTextError::Memory),
-        Err(DecodeError::Fault(fault)) => Err(RadioTextError::Fault(fault)),
-    }
+    read(alloc, text)
 }
 
 /// Writes the message's canonical text: its bytes in lower-case hexadecimal digits.
@@ -88,8 +78,5 @@ pub fn to_hex(alloc: Global, message: &Message) -> Result<String, EncodeError>
     ensures too_big { IsErrOf result EncodeError.TooBig ↔ IsTooBig message.now }
 {
     let bytes = encode(alloc, message)?;
-    match hex::encode(alloc, bytes.as_slice()) {
-        Ok(text) => Ok(text),
-        Err(_) => Err(EncodeError::Memory),
-    }
+    hex::encode(alloc, bytes.as_slice()).map_err(|_| EncodeError::Memory)
 }

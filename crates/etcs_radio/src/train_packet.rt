@@ -77,11 +77,13 @@ impl TrainPacket {
 }
 
 impl Layout for TrainPacket {
+    ghost use Rattle.etcs_radio.specs.RawTrain.{raw_train_grows};
     ghost use Rattle.etcs_radio.specs.TrainPacket.{train_packet};
 
     ghost format = { train_packet };
 
-    ghost grows = { λ _. Unit {0} };
+    // Position reports grow nowhere.
+    ghost grows = { raw_train_grows };
 
     fn is_allowed(&self) -> bool {
         self.is_sound()
@@ -95,6 +97,7 @@ impl Layout for TrainPacket {
         self.put_own(out)
     }
 
+    #[tactic(auto, using(etcs_bits::proofs::GrowthLemmas::never_grows))]
     fn scan(alloc: Global, cur: &mut Cursor<'_>) -> Result<Self, DecodeError> {
         let number = scan_number(cur)?;
         // Only for the proof, a test instead of a match: a failed test shows what the number is not.
