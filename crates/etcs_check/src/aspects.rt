@@ -38,24 +38,18 @@ pub(crate) fn first_aspect(aspects: &[Group]) -> &[Telegram]
 fn is_steady_in(wanted: &Telegram, group: &[Telegram], place: usize) -> bool
     ensures { result ≡ element_passes group.now place (is_steady wanted.now) }
 {
-    match group.get(place) {
-        Some(telegram) => {
-            telegram.header.counter.number() == 255 && same_telegram(wanted, telegram)
-        }
-        None => false,
-    }
+    group.get(place).is_some_and(|telegram| {
+        telegram.header.counter.number() == 255 && same_telegram(wanted, telegram)
+    })
 }
 
 // Whether every aspect has this telegram at the place, with counter 255.
 fn is_steady(wanted: &Telegram, aspects: &[Group], place: usize) -> bool
     ensures { result ≡ all_pass (is_steady wanted.now) place aspects.now }
 {
-    'aspects: for aspect in aspects {
-        if !is_steady_in(wanted, aspect.telegrams(), place) {
-            return false;
-        }
-    }
-    true
+    aspects
+        .iter()
+        .all(|aspect| is_steady_in(wanted, aspect.telegrams(), place))
 }
 
 // Whether an aspect has a counter below 254 at the place.
@@ -72,12 +66,9 @@ fn has_aspect_counter_in(group: &[Telegram], place: usize) -> bool
 fn has_aspect_counter(aspects: &[Group], place: usize) -> bool
     ensures { result ≡ all_pass has_aspect_counter place aspects.now }
 {
-    'aspects: for aspect in aspects {
-        if !has_aspect_counter_in(aspect.telegrams(), place) {
-            return false;
-        }
-    }
-    true
+    aspects
+        .iter()
+        .all(|aspect| has_aspect_counter_in(aspect.telegrams(), place))
 }
 
 // Whether there are two or more aspects, and the counters at the place do not distinguish them: not all
@@ -112,8 +103,7 @@ pub(crate) fn push_ambiguous(
 }
 
 // Whether a counter is below 254 and marked.
-pub(crate) fn is_taken(table: &[u64], telegram: &Telegram) -> bool
-    requires { length table.now ≡ 4 }
+pub(crate) fn is_taken(table: &[u64; 4], telegram: &Telegram) -> bool
     ensures { result ≡ is_taken table.now telegram.now }
 {
     let counter = telegram.header.counter.number() as usize;
@@ -121,12 +111,10 @@ pub(crate) fn is_taken(table: &[u64], telegram: &Telegram) -> bool
 }
 
 // Marks the counters of an aspect.
-pub(crate) fn mark_counters(table: &mut [u64], group: &[Telegram])
-    requires { length table.now ≡ 4 }
+pub(crate) fn mark_counters(table: &mut [u64; 4], group: &[Telegram])
     ensures { (n : ℕ) → is_marked table.new n ≡ (has_counter n group.now || is_marked table.old n) }
 {
-    'places: for place in 0..group.len() {
-        let telegram = &group[place];
+    'telegrams: for telegram in group {
         mark(table, telegram.header.counter.number() as usize);
     }
 }

@@ -18,10 +18,7 @@ use etcs_telegram::Telegram;
 fn is_other(number: Option<usize>, wanted: usize) -> bool
     ensures { result ≡ is_other number wanted }
 {
-    match number {
-        Some(number) => number != wanted,
-        None => true,
-    }
+    number.is_none_or(|number| number != wanted)
 }
 
 // Whether the partner of the balise at this place has another partner, or none.
@@ -94,13 +91,7 @@ fn counter_differs(group: &[Telegram], telegram: &Telegram) -> bool
     ensures { result ≡ counter_differs group.now telegram.now }
 {
     let counter = telegram.header.counter.number();
-    if counter >= 254 {
-        return false;
-    }
-    match first_counter(group) {
-        Some(first) => first != counter,
-        None => true,
-    }
+    counter < 254 && first_counter(group).is_none_or(|first| first != counter)
 }
 
 // Whether the telegram of the balise at this place breaks the rule. It is compared with `first`, aspect 0.
@@ -148,7 +139,7 @@ const ALONE: [Rule; 9] = [
 // Whether the telegram breaks the rule. The table has the counters of earlier aspects.
 fn balise_test(
     first: &[Telegram],
-    table: &[u64],
+    table: &[u64; 4],
     group: &[Telegram],
     rule: Rule,
     place: usize,
@@ -156,7 +147,6 @@ fn balise_test(
 ) -> bool
     requires within { place < length group.now }
     requires few { length group.now ≤ 8 }
-    requires long { length table.now ≡ 4 }
     ensures { result ≡ balise_test first.now table.now group.now rule place telegram.now }
 {
     match rule {
@@ -169,14 +159,13 @@ fn balise_test(
 #[inline(always)]
 fn has_alone(
     first: &[Telegram],
-    table: &[u64],
+    table: &[u64; 4],
     group: &[Telegram],
     place: usize,
     telegram: &Telegram,
 ) -> bool
     requires within { place < length group.now }
     requires few { length group.now ≤ 8 }
-    requires long { length table.now ≡ 4 }
     ensures { IsFalse result → (spot : SomeSpot)
         → alone_found first.now table.now spot group.now place telegram.now ≡ [] }
 {
@@ -196,14 +185,13 @@ pub(crate) fn push_alone(
     found: &mut Vec<Finding>,
     spot: Spot,
     first: &[Telegram],
-    table: &[u64],
+    table: &[u64; 4],
     group: &[Telegram],
     place: usize,
     telegram: &Telegram,
 ) -> Result<(), Memory>
     requires within { place < length group.now }
     requires few { length group.now ≤ 8 }
-    requires long { length table.now ≡ 4 }
     ensures ok { OnOk result (found.new.items
         ≡ found.old.items ++ alone_found first.now table.now spot group.now place telegram.now) }
     ensures memory { OnErr result (alone_found first.now table.now spot group.now place telegram.now ≢ []) }

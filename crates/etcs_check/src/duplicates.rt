@@ -1,7 +1,7 @@
 //! Equality of packets and telegrams, `same_packets` and `same_telegram`, and differences between a balise and its
 //! duplicate.
 
-ghost use Rattle.std.specs.Prelude.{◌≡◌, ◌↔◌, ◌≤◌, ◌<◌, ◌+◌, ℕ, length, drop, filter, slice_get, Some, IsFalse, IsTrue};
+ghost use Rattle.std.specs.Prelude.{◌≡◌, ◌↔◌, ◌≤◌, ◌<◌, ◌+◌, length, drop, filter, slice_get, Some, IsFalse, IsTrue};
 ghost use Rattle.std.specs.Cmp.Lexicographic.{pointwise};
 ghost use Rattle.etcs_profile.specs.Track.{holds};
 ghost use Rattle.etcs_profile.specs.declared.track.TrackPacket.{TrackPacket};
@@ -82,11 +82,7 @@ fn same_header(this: &Header, that: &Header) -> bool
 fn same_size(this: Size, that: Size) -> bool
     ensures { result ≡ same_size this that }
 {
-    match (this, that) {
-        (Size::Short, Size::Short) => true,
-        (Size::Long, Size::Long) => true,
-        _ => false,
-    }
+    this == that
 }
 
 // Whether two lists have the same packets.
@@ -117,10 +113,7 @@ pub fn same_packets(this: &Telegram, that: &Telegram, run: Run) -> bool
 fn are_pair(first: Dup, second: Dup) -> bool
     ensures { result ≡ are_pair first second }
 {
-    match (first, second) {
-        (Dup::Next, Dup::Previous) => true,
-        _ => false,
-    }
+    matches!((first, second), (Dup::Next, Dup::Previous))
 }
 
 // Whether two neighbours are a pair of duplicates whose packets that hold differ.

@@ -1,7 +1,7 @@
 //! Repeated identities: identities kept in a set while groups are read one by one, or found in a list of
 //! groups by a table of bits without heap memory.
 
-ghost use Rattle.std.specs.Prelude.{◌≡◌, ℕ, ◌+◌, ◌*◌, ◌^◌, ◌<◌, ◌≤◌, ◌||◌, ◌==◌, false, length, IsTrue, IsFalse, OnOk, OnErr};
+ghost use Rattle.std.specs.Prelude.{◌≡◌, ℕ, ◌+◌, ◌*◌, ◌^◌, ◌<◌, ◌||◌, ◌==◌, false, length, IsTrue, IsFalse, OnOk, OnErr};
 ghost use Rattle.std.specs.BTreeSet.{IsUnchanged, contains};
 ghost use Rattle.std.specs.Ordering.{nat_cmp};
 ghost use Rattle.etcs_check.specs.Identities.{HaveIdentities, HasNoRepeat, HasRepeat, HasIdentity, identity_number, is_marked, number_of_identity};
@@ -44,10 +44,8 @@ pub(crate) fn keep(kept: &mut BTreeSet<u32>, number: u32) -> Result<(), Memory>
     ensures err { OnErr result (IsUnchanged kept.old kept.new) }
     ensures absent { OnErr result (contains nat_cmp kept.old number ≡ false) }
 {
-    match kept.insert(number) {
-        Ok(_) => Ok(()),
-        Err(_) => Err(Memory),
-    }
+    kept.insert(number)?;
+    Ok(())
 }
 
 // Whether the place is marked.
@@ -59,6 +57,7 @@ pub(crate) fn is_marked(table: &[u64], place: usize) -> bool
 }
 
 // Marks the place, and returns whether it was marked before.
+#[tactic(auto, using(crate::proofs::IdentityLemmas::marked_after))]
 pub(crate) fn mark(table: &mut [u64], place: usize) -> bool
     requires { place < 64 * length table.old }
     ensures before { result ≡ is_marked table.old place }

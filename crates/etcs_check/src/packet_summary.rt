@@ -37,11 +37,7 @@ pub(crate) fn packets(telegram: &Telegram) -> &[TrackPacket]
 fn greater(this: Option<u64>, that: Option<u64>) -> Option<u64>
     ensures { result ≡ greater this that }
 {
-    match (this, that) {
-        (Some(m), Some(n)) => Some(if m < n { n } else { m }),
-        (Some(m), None) => Some(m),
-        (None, other) => other,
-    }
+    this.max(that)
 }
 
 // Whether a balise of a group of `count` is passed after the balise that its duplicate flag names.

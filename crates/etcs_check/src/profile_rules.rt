@@ -36,10 +36,7 @@ pub(crate) fn push_lacks(
 fn ends_before(reach: Reach, limit: u64) -> bool
     ensures { result ≡ falls_short reach limit }
 {
-    match reach {
-        Reach::Ends(end) => end < limit,
-        Reach::Open => false,
-    }
+    matches!(reach, Reach::Ends(end) if end < limit)
 }
 
 // The rule that the packet breaks if it holds, as a profile that ends before the location.
