@@ -9,8 +9,7 @@ ghost use Rattle.etcs_bits.specs.layout.Reading.{read_rows};
 ghost use Rattle.etcs_bits.specs.layout.Results.{Gives, IfFault, IfMemory};
 ghost use Rattle.etcs_packet.specs.Lists.{IsListFault, NoStep, NoneStand, Stand, ends};
 ghost use Rattle.etcs_packet.specs.Reading.{read_list};
-ghost use Rattle.etcs_profile.specs.Growth.{track_grows, view_grows};
-ghost use Rattle.etcs_profile.specs.Track.{track_packet};
+ghost use Rattle.etcs_profile.specs.Track.{track_grows, track_packet, view_grows};
 ghost use Rattle.etcs_packet.specs.View.{IsViewStep};
 
 use crate::list::{is_end, read_items, write_items};

@@ -7,9 +7,10 @@ use Rattle.std.proofs.lemmas.Bool.{ne_eqb, true≢false}
 use Rattle.etcs_bits.specs.declared.variables.direction.Dir.{Dir}
 use Rattle.etcs_bits.specs.layout.Format.{Format, number, ranges, flag, ◌then◌, if_there, struct, several, either, chosen, named}
 use Rattle.etcs_bits.specs.layout.Struct.{Struct, two_ways}
-use Rattle.etcs_bits.specs.variables.VariableFormats.{nid_c, nid_bg}
-use Rattle.etcs_bits.specs.layout.Rows.{Row}
+use Rattle.etcs_bits.specs.variables.VariableFormats.{nid_c, nid_bg, q_scale}
+use Rattle.etcs_bits.specs.layout.Rows.{Place, Row}
 use Rattle.etcs_bits.specs.layout.Choice.{Choice}
+use Rattle.etcs_bits.specs.layout.Growth.{GrowsAfter, HasItems}
 use Rattle.etcs_profile.specs.declared.track.linking.Link.{Link}
 use Rattle.etcs_profile.specs.declared.track.gradient.GradientElement.{GradientElement}
 use Rattle.etcs_profile.specs.declared.track.speed.Difference.{Difference}
@@ -22,12 +23,13 @@ use Rattle.etcs_profile.specs.declared.track.TrackPacket.TheVariants as packets
 use Rattle.etcs_profile.specs.Profile.{Profile}
 use Rattle.etcs_profile.specs.Packet.{rest, packet}
 use Rattle.etcs_profile.specs.Elements.{elements}
-use Rattle.etcs_profile.specs.Authority.{AuthorityValue, authority_value, WithMain, WithoutMain, with_main, without_main, of_packet_12, of_packet_15, parts_by_main, authority}
+use Rattle.etcs_profile.specs.Authority.{AuthorityValue, authority_value, WithMain, WithoutMain, with_main, without_main, of_packet_12, of_packet_15, parts_by_main, authority, authority_variable, v_main}
 use Rattle.etcs_profile.specs.Transition.{Orders, level_orders}
 use Rattle.etcs_profile.specs.Cover.{nid_vbcmk, cover_marker}
 use Rattle.etcs_profile.specs.Raw.{others, raw_packet}
-use Rattle.etcs_profile.specs.PacketNumbers.{is_known, nid_track}
+use Rattle.etcs_profile.specs.PacketNumbers.{is_kept_number, is_known, nid_track}
 use Rattle.etcs_profile.specs.RunningDirection.{is_for_run}
+use Rattle.etcs_profile.specs.Growth.{copy_grows, elements_grow, grows_by_number, grows_if, orders_grow, rest_grows, terms_grow}
 
 -- ---- packet 5, linking (SUBSET-026, 3.4.4 and 7.4.2): a link is a balise group ahead, and where it is
 
@@ -262,3 +264,35 @@ holds run (packets.Gradient p) = is_for_run run p.0
 holds run (packets.Speed p) = is_for_run run p.0
 holds run (packets.Transition p) = is_for_run run p.0
 holds run (packets.Raw p) = is_for_run run p.dir
+
+-- ---- where reading may ask for memory
+
+-- an element of packet 27 has differences
+abbrev pub speed_grows : Place → Type 0
+speed_grows = GrowsAfter d_static.fields (GrowsAfter v_static.fields (GrowsAfter q_front.fields HasItems))
+
+-- the body of the packet of a number; packet 0 has no list
+abbrev pub body_grows : ℕ → Place → Type 0
+body_grows n =
+    grows_if (n == 5) (elements_grow (λ _. ⊥) link) (
+    grows_if (n == 12) (GrowsAfter q_scale.fields (GrowsAfter v_main.fields terms_grow)) (
+    grows_if (n == 15) (GrowsAfter q_scale.fields terms_grow) (
+    grows_if (n == 21) (elements_grow (λ _. ⊥) gradient_element) (
+    grows_if (n == 27) (elements_grow speed_grows speed_element) (
+    grows_if (n == 41) orders_grow (λ _. ⊥))))))
+
+-- what follows the number of a packet whose layout is known
+abbrev pub known_grows : ℕ → Place → Type 0
+known_grows n = rest_grows (body_grows n)
+
+-- a movement authority
+abbrev pub authority_grows : Place → Type 0
+authority_grows = grows_by_number authority_variable known_grows
+
+-- a packet that is seen by a view, without a copy of its bits
+abbrev pub view_grows : Place → Type 0
+view_grows = grows_by_number nid_track known_grows
+
+-- a packet of a list
+abbrev pub track_grows : Place → Type 0
+track_grows = grows_by_number nid_track (λ n. grows_if (is_kept_number n) copy_grows (known_grows n))

@@ -266,7 +266,7 @@ impl Authority {
     ghost use Rattle.std.specs.Prelude.{IsTrue};
     ghost use Rattle.etcs_bits.specs.layout.Choice.{read_chosen, numbered_rows};
     ghost use Rattle.etcs_profile.specs.Authority.{authority_numbered, authority_parts};
-    ghost use Rattle.etcs_profile.specs.Growth.{known_grows};
+    ghost use Rattle.etcs_profile.specs.Track.{known_grows};
 
     /// Reads what follows NID_PACKET, whose number is 12 or 15. After an error the cursor may stand
     /// anywhere.
@@ -290,7 +290,7 @@ impl Authority {
 #[tactic(auto, using(etcs_bits::proofs::PutLemmas::puts_bits), unfolding(etcs_bits::specs::layout::Rows::alone))]
 impl Layout for Authority {
     ghost use Rattle.etcs_profile.specs.Authority.{authority};
-    ghost use Rattle.etcs_profile.specs.Growth.{authority_grows};
+    ghost use Rattle.etcs_profile.specs.Track.{authority_grows};
 
     ghost format = { authority };
 

@@ -155,8 +155,7 @@ impl TrackPacket {
 
 impl TrackPacket {
     ghost use Rattle.etcs_bits.specs.layout.Choice.{read_chosen, numbered_rows};
-    ghost use Rattle.etcs_profile.specs.Growth.{known_grows};
-    ghost use Rattle.etcs_profile.specs.Track.{IsKnown, track_parts, track_numbered};
+    ghost use Rattle.etcs_profile.specs.Track.{IsKnown, known_grows, track_numbered, track_parts};
 
     /// Reads what follows the number of a packet whose layout is known. After an error the cursor
     /// may stand anywhere.
@@ -204,8 +203,7 @@ impl Same for TrackPacket {
 }
 
 impl Layout for TrackPacket {
-    ghost use Rattle.etcs_profile.specs.Growth.{track_grows};
-    ghost use Rattle.etcs_profile.specs.Track.{track_packet};
+    ghost use Rattle.etcs_profile.specs.Track.{track_grows, track_packet};
 
     ghost format = { track_packet };
 

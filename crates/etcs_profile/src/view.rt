@@ -26,8 +26,7 @@ pub enum PacketView<'a> {
 
 impl<'a> PacketView<'a> {
     ghost use Rattle.etcs_bits.specs.layout.Reading.{read_rows};
-    ghost use Rattle.etcs_profile.specs.Growth.{view_grows};
-    ghost use Rattle.etcs_profile.specs.Track.{track_packet};
+    ghost use Rattle.etcs_profile.specs.Track.{track_packet, view_grows};
     ghost use Rattle.etcs_profile.specs.View.{Shows};
 
     /// Reads a view of the packet at the cursor. After an error the cursor may stand anywhere.

@@ -134,8 +134,7 @@ pub struct SpeedElement {
 impl SpeedElement {
     ghost use Rattle.etcs_bits.specs.layout.Reading.{read_rows};
     ghost use Rattle.etcs_bits.specs.layout.Results.{Gives, IfMemory};
-    ghost use Rattle.etcs_profile.specs.Growth.{speed_grows};
-    ghost use Rattle.etcs_profile.specs.Track.{speed_element};
+    ghost use Rattle.etcs_profile.specs.Track.{speed_element, speed_grows};
 
     // Reads the fields one by one, wherever the bits end. It stands apart so that the way of those far
     // from the end saves fewer registers.
@@ -150,8 +149,7 @@ impl SpeedElement {
 }
 
 impl Layout for SpeedElement {
-    ghost use Rattle.etcs_profile.specs.Growth.{speed_grows};
-    ghost use Rattle.etcs_profile.specs.Track.{speed_element};
+    ghost use Rattle.etcs_profile.specs.Track.{speed_element, speed_grows};
 
     ghost format = { speed_element };
 

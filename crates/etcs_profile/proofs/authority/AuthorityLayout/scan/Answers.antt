@@ -1,7 +1,7 @@
 use Rattle.std.proofs.Common.{◌≡◌, ◌⊎◌, ℕ, true, refl, inl, inr}
 use Rattle.etcs_bits.proofs.SumLemmas.{number_read, chosen_gives}
 use Rattle.etcs_profile.specs.Authority.{authority_variable, authority_numbered, authority_parts}
-use Rattle.etcs_profile.specs.Growth.{known_grows}
+use Rattle.etcs_profile.specs.Track.{known_grows}
 use Rattle.etcs_profile.proofs.GrowthLemmas.{memory_follows}
 use Rattle.etcs_profile.proofs.authority.AuthorityLayout.scan.Goals as goal
 

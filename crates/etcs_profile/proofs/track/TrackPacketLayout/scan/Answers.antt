@@ -3,9 +3,9 @@ use Rattle.etcs_bits.specs.layout.Rows.{alone}
 use Rattle.etcs_bits.specs.layout.Reading.{read_rows}
 use Rattle.etcs_bits.proofs.SumLemmas.{chosen_gives, rest_read}
 use Rattle.etcs_profile.specs.PacketNumbers.{is_kept_number, nid_track}
-use Rattle.etcs_profile.specs.Growth.{copy_grows, known_grows}
+use Rattle.etcs_profile.specs.Growth.{copy_grows}
+use Rattle.etcs_profile.specs.Track.{known_grows, track_numbered, track_parts}
 use Rattle.etcs_profile.specs.Raw.{raw_rest}
-use Rattle.etcs_profile.specs.Track.{track_parts, track_numbered}
 use Rattle.etcs_profile.proofs.GrowthLemmas.{memory_follows, if_memory, grows_then, grows_else}
 use Rattle.etcs_profile.proofs.TrackLemmas.{other_next}
 use Rattle.etcs_profile.proofs.track.TrackPacketLayout.scan.Goals as goal

@@ -10,8 +10,7 @@ use Rattle.etcs_profile.specs.declared.view.PacketView.TheVariants as views
 use Rattle.etcs_profile.specs.PacketNumbers.{is_kept_number, nid_track}
 use Rattle.etcs_profile.specs.FoundRaw.{raw}
 use Rattle.etcs_profile.specs.Raw.{raw_rest}
-use Rattle.etcs_profile.specs.Track.{IsKnown, track_numbered}
-use Rattle.etcs_profile.specs.Growth.{known_grows}
+use Rattle.etcs_profile.specs.Track.{IsKnown, known_grows, track_numbered}
 use Rattle.etcs_profile.specs.View.{packet_view}
 use Rattle.etcs_profile.proofs.GrowthLemmas.{memory_follows}
 use Rattle.etcs_profile.proofs.TrackLemmas.{other_next}
