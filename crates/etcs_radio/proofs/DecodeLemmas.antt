@@ -19,6 +19,7 @@ use Rattle.etcs_bits.proofs.BindLemmas.{err_is}
 use Rattle.etcs_bits.proofs.LayoutLemmas.{is_spelled}
 use Rattle.etcs_bits.proofs.ReadingLemmas.{spelled_is_read, taken_ok}
 use Rattle.etcs_bits.proofs.ViewLemmas.{in_few_bytes}
+use Rattle.etcs_profile.proofs.GrowthLemmas.{memory_follows}
 use Rattle.etcs_packet.specs.Whole.{start}
 use Rattle.etcs_packet.proofs.WholeLemmas.{head_stands}
 use Rattle.etcs_radio.specs.declared.message.Message.{Message}
@@ -27,7 +28,6 @@ use Rattle.etcs_radio.specs.Meaning.{read_message_packets, read_message}
 use Rattle.etcs_radio.specs.Message.{beginning, IsMessage, IsMessageFault, IsNoMessage, MessageGrows, PacketsGrow}
 use Rattle.etcs_radio.proofs.MessageLemmas.{then_packets, meant, means_message, fault_meant, meant_fault}
 use Rattle.etcs_radio.proofs.NoMessageLemmas.{fault_none}
-use Rattle.etcs_radio.proofs.RawTrainLemmas.{memory_follows}
 
 -- ---- more bytes than L_MESSAGE can count
 

@@ -15,6 +15,7 @@ use Rattle.etcs_bits.specs.layout.Fields.{Fields}
 use Rattle.etcs_bits.specs.layout.Reading.{read_rows}
 use Rattle.etcs_packet.specs.declared.stop.Stop.TheVariants as stops
 use Rattle.etcs_packet.specs.Lists.{Stand, IsListFault, ends}
+use Rattle.etcs_profile.specs.Track.{track_grows}
 use Rattle.etcs_profile.specs.Track.{track_packet}
 use Rattle.etcs_packet.specs.Whole.{start}
 use Rattle.etcs_radio.specs.declared.message.Message.{Message}
@@ -100,7 +101,7 @@ ListGrows item Grows p = (ends stops.Message p ≡ false) × (Grows p ⊎ IsOk (
 
 -- the packets that follow a head
 abbrev pub PacketsGrow : Head → Place → Type 0
-PacketsGrow (inl h) p = ends stops.Message p ≡ false
+PacketsGrow (inl h) p = ListGrows track_packet.fields track_grows p
 PacketsGrow (inr h) p = ListGrows train_packet.fields raw_train_grows p
 
 -- A head is at the beginning, and the packets after it grow.

@@ -8,8 +8,9 @@ use Rattle.etcs_bits.specs.layout.Rows.{AreAllowed, Place}
 use Rattle.etcs_bits.specs.layout.Choice.{Choice}
 use Rattle.etcs_bits.specs.layout.Format.{Format, kept_bits, others as of_others, chosen}
 use Rattle.etcs_bits.specs.layout.Combined.{is_countable}
-use Rattle.etcs_bits.specs.layout.Reading.{read_field, read_rows}
+use Rattle.etcs_bits.specs.layout.Reading.{read_rows}
 use Rattle.etcs_bits.proofs.KeptLemmas.{kept_fit}
+use Rattle.etcs_profile.specs.Growth.{grows_by_number}
 use Rattle.etcs_radio.specs.declared.raw_train.RawTrainPacket.{RawTrainPacket}
 use Rattle.etcs_radio.specs.TrainNumbers.{is_kept_number, is_kept, nid_raw}
 use Rattle.etcs_radio.specs.FoundRaw.{raw, raw_if_kept, make_raw}
@@ -55,4 +56,4 @@ copy_grows p =
 
 -- NID_PACKET of a packet that is kept as bits is here, and the body after it is copied
 abbrev pub raw_train_grows : Place → Type 0
-raw_train_grows p = (n : ℕ) × (q : Place) × (read_field nid_raw p ≡ Ok (n, q)) × copy_grows q
+raw_train_grows = grows_by_number nid_raw (λ _. copy_grows)

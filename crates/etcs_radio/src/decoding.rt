@@ -113,9 +113,9 @@ pub fn decode(alloc: Global, bytes: &[u8]) -> Result<Message, DecodeError>
     ensures head { (f : Fault) → IsFault (head (length bytes.now)).fields (beginning bytes.now) f
         → result ≡ Err (DecodeError.Fault f) }
 
-    // Allocates only if a packet is due after the head. So `NoAuthority` and `NoReport` are always reported
-    // for a message without packets. In a position report allocates only if the first packet has no fault
-    // or its body is copied: the fault of a first packet 0 or 1 is always reported.
+    // Allocates only if a packet is due after the head, and the packet has no fault or is read up to a part
+    // that needs memory. So `NoAuthority` and `NoReport` are always reported for a message without packets,
+    // and so is the fault of a first packet 0 or 1 of message 136.
     ensures memory { IfMemory result (MessageGrows bytes.now) }
 {
     read(alloc, bytes)

@@ -63,7 +63,7 @@ pub fn from_hex(alloc: Global, text: &[u8]) -> Result<Message, RadioTextError>
     ensures head { (f : Fault) → HasHeadFault text.now f
         → result ≡ Err (RadioTextError.Fault f) }
 
-    // Allocates only if a packet is due after the head, and in a position report as `decode` does.
+    // Allocates only if `decode` does.
     ensures packets { IsErrOf result RadioTextError.Memory → HasPackets text.now }
 {
     read(alloc, text)

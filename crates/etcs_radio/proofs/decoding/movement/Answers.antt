@@ -5,7 +5,7 @@ use Rattle.etcs_profile.specs.Track.{track_packet}
 use Rattle.etcs_radio.specs.Meaning.{movement_message}
 use Rattle.etcs_radio.specs.Required.{has_authority}
 use Rattle.etcs_radio.proofs.MessageLemmas.{stand_bits}
-use Rattle.etcs_radio.proofs.PacketsLemmas.{by_fails, by_ok, by_err, not_there, movement_made}
+use Rattle.etcs_radio.proofs.PacketsLemmas.{both_memory, by_fails, by_ok, by_err, not_there, movement_made}
 use Rattle.etcs_radio.proofs.decoding.movement.Goals as goal
 
 -- the fault of the packets is the fault of the message
@@ -38,7 +38,7 @@ returns-in-Err-clause-means c =
 pub returns-in_err-packets-clause-memory : goal.returns-in_err-packets-clause-memory
 returns-in_err-packets-clause-memory c =
     let failed = err_from_is_err_and c.from_residual.result c.from_residual.ensures.1 in
-    rw (failed.1, failed.2) c.in_err-packets.ensures.memory
+    rw (failed.1, failed.2) (both_memory _ _ c.in_err-packets.field-0.0 c.in_err-packets.ensures.memory c.in_err-packets.ensures.first)
 
 pub returns-in-Err-clause-memory : goal.returns-in-Err-clause-memory
 returns-in-Err-clause-memory c = rw c.incomplete.ensures tt

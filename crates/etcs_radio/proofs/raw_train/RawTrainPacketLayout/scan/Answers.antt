@@ -3,7 +3,7 @@ use Rattle.etcs_bits.specs.layout.Reading.{read_field}
 use Rattle.etcs_bits.proofs.SumLemmas.{number_read, chosen_gives}
 use Rattle.etcs_radio.specs.TrainNumbers.{nid_raw}
 use Rattle.etcs_radio.specs.RawTrain.{copy_grows, others}
-use Rattle.etcs_radio.proofs.RawTrainLemmas.{memory_follows}
+use Rattle.etcs_profile.proofs.GrowthLemmas.{memory_follows}
 use Rattle.etcs_radio.proofs.raw_train.RawTrainPacketLayout.scan.Goals as goal
 
 -- the number is one that is kept as bits
