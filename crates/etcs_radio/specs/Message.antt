@@ -15,8 +15,7 @@ use Rattle.etcs_bits.specs.layout.Fields.{Fields}
 use Rattle.etcs_bits.specs.layout.Reading.{read_rows}
 use Rattle.etcs_packet.specs.declared.stop.Stop.TheVariants as stops
 use Rattle.etcs_packet.specs.Lists.{Stand, IsListFault, ends}
-use Rattle.etcs_profile.specs.Track.{track_grows}
-use Rattle.etcs_profile.specs.Track.{track_packet}
+use Rattle.etcs_profile.specs.Track.{track_grows, track_packet}
 use Rattle.etcs_packet.specs.Whole.{start}
 use Rattle.etcs_radio.specs.declared.message.Message.{Message}
 use Rattle.etcs_radio.specs.declared.message.Message.TheVariants as messages
