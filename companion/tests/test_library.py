@@ -9,7 +9,7 @@ import sys
 from dataclasses import replace
 from pathlib import Path
 from types import SimpleNamespace
-from typing import Any, Iterator, List
+from typing import Any, Dict, Iterator, List
 
 import pytest
 from cases_of_program import TOP
@@ -19,6 +19,7 @@ from balisekit.engine import find_program, program as engine
 from balisekit.engine.grammar import Refusal
 from balisekit.engine.library import Call, Library, opened
 from balisekit.engine.program import Program
+from balisekit.engine.run import Run
 from balisekit.errors import NoAnswer
 
 LIBRARY = os.path.join(os.environ.get("BALISECHECK_LIBRARY", TOP / "dist" / "x86_64-linux"), "libbalisecheck.so")
@@ -33,7 +34,7 @@ def runs(monkeypatch: pytest.MonkeyPatch) -> List[Any]:
     """The words of each process that is started."""
     started: List[Any] = []
 
-    class Counted(engine.Run):
+    class Counted(Run):
         def __init__(self, path: str, words: Any, *others: Any) -> None:
             started.append(words)
             super().__init__(path, words, *others)
@@ -83,7 +84,8 @@ def test_a_library_that_cannot_be_used_is_none(tmp_path: Path) -> None:
 
 
 def test_without_ctypes_there_is_none(program: Program, monkeypatch: pytest.MonkeyPatch) -> None:
-    monkeypatch.setitem(sys.modules, "balisekit.engine.library", None)
+    modules: Dict[str, Any] = sys.modules
+    monkeypatch.setitem(modules, "balisekit.engine.library", None)
     assert replace(program).library is None
 
 
