@@ -19,6 +19,7 @@ cd "$(dirname "${BASH_SOURCE[0]}")/.."
 room=$(mktemp -d)
 trap 'rm -rf "$room"' EXIT
 dist=dist/x86_64-linux
+header=crates/balisecheck_c/include/balisecheck.h
 version=$(cat VERSION)
 # What is handed out beside the program. The tarball has files of scripts/ and man/ at its top.
 handed=(man/balisecheck.1 balisekit scripts/install.sh README.md CHANGELOG.md ERRATA.md LICENSE-APACHE LICENSE-MIT
@@ -127,6 +128,11 @@ tree() {
     git ls-files -z -- "${handed[@]}" | tar -c --null --files-from=- --transform='s,^\(scripts\|man\)/,,' | tar -x -C "$1"
     install -m 755 "$2" "$1/balisecheck"
     install -m 644 "$3" "$1/$dist/ABOUT"
+    # The library for C and its header have the places that they have in the repository.
+    if grep -q '^library ' "$3"; then
+        install -m 644 "$dist"/libbalisecheck.* "$1/$dist"
+        install -D -m 644 -t "$1/${header%/*}" "$header"
+    fi
     dist/pack/readme "$1"
     dist/pack/manual "$1"
     dist/pack/links "$1"
@@ -177,7 +183,10 @@ try() {
     local program
     program=${BALISECHECK:-$(BALISECHECK_PATH=1 ./balisecheck)}
     papers "$program" >"$room/ABOUT"
-    ! cmp -s "$program" "$dist/balisecheck" || sed -i "s/^kit .*/kit $(said kit "$dist")/" "$room/ABOUT"
+    if cmp -s "$program" "$dist/balisecheck"; then
+        sed -i "s/^kit .*/kit $(said kit "$dist")/" "$room/ABOUT"
+        sed -n '/^archive \|^library /p' "$dist/ABOUT" >>"$room/ABOUT"
+    fi
     pack "$1" "$program" "$room/ABOUT" -untested
     sums "$1"
 }

@@ -75,7 +75,8 @@ def test_version_starts_no_program(
     monkeypatch.setattr(program_file, "TOP", tmp_path)
     (tmp_path / "dist" / "one").mkdir(parents=True)
     about = tmp_path / "dist" / "one" / "ABOUT"
-    (about.parent / "libbalisecheck.so").touch()
+    library = about.parent / "libbalisecheck.so"
+    library.touch()
     for lines, said in (
         ("", [f"balisekit {__version__}"]),
         (
@@ -84,7 +85,7 @@ def test_version_starts_no_program(
         ),
         (
             f"version 1.2.3\nkit one\nsources 0a\nprogram 0b\nlibrary {NOTHING}\n",
-            [f"balisekit {__version__}", f"balisecheck 1.2.3, sources 0a, program 0b, library {NOTHING}"],
+            [f"balisekit {__version__}", "balisecheck 1.2.3, sources 0a, program 0b", f"library {library}"],
         ),
     ):
         about.write_text(lines, "utf-8")

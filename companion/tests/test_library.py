@@ -15,9 +15,9 @@ import pytest
 from cases_of_program import TOP
 from telegrams import ALONE, FAULTY, MESSAGE, OTHER, SPARE
 
-from balisekit.engine import find_program, program as engine
+from balisekit.engine import find_program, library as engine_library, program as engine
 from balisekit.engine.grammar import Refusal
-from balisekit.engine.library import Call, Library, opened
+from balisekit.engine.library import Call, Library, opened, stored
 from balisekit.engine.program import Program
 from balisekit.engine.run import Run
 from balisekit.errors import NoAnswer
@@ -45,7 +45,7 @@ def runs(monkeypatch: pytest.MonkeyPatch) -> List[Any]:
 
 def with_library(program: Program, path: str, monkeypatch: pytest.MonkeyPatch) -> Program:
     """The program with the library at this path, or with none."""
-    monkeypatch.setattr(find_program, "library", lambda _: path)
+    monkeypatch.setattr(engine_library, "stored", lambda _: path)
     return replace(program)
 
 
@@ -72,10 +72,10 @@ def test_only_the_library_that_was_stored_with_the_program(tmp_path: Path, monke
     folder = tmp_path / "dist" / "one"
     folder.mkdir(parents=True)
     (folder / "ABOUT").write_text(f"program 0b\nlibrary {hashlib.sha256(b'one').hexdigest()}\n", "utf-8")
-    assert find_program.library("0b") == ""
+    assert stored("0b") == ""
     for content, programs, found in ((b"one", "0b", True), (b"one", "0c", False), (b"other", "0b", False)):
         (folder / "libbalisecheck.so").write_bytes(content)
-        assert find_program.library(programs) == (str(folder / "libbalisecheck.so") if found else "")
+        assert stored(programs) == (str(folder / "libbalisecheck.so") if found else "")
 
 
 def test_a_library_that_cannot_be_used_is_none(tmp_path: Path) -> None:

@@ -7,7 +7,7 @@ import os
 import shutil
 import sys
 from contextlib import contextmanager
-from typing import TYPE_CHECKING, Dict, Iterator, List, Mapping, Optional, Tuple
+from typing import TYPE_CHECKING, Dict, Iterator, List, Optional, Tuple
 
 from balisekit.errors import NoAnswer
 
@@ -17,7 +17,6 @@ if TYPE_CHECKING:
 PACKAGE = os.path.dirname(os.path.dirname(os.path.abspath(__file__)))
 TOP = os.path.normpath(os.path.join(os.path.realpath(__file__), *[os.pardir] * 5))
 """The top of the repository or of the release. For a wheel it is neither, and the package has the file."""
-LIBRARY = "libbalisecheck.so"
 SECONDS = 60
 """How long the start script of a clone may take to compute the checksum of its sources."""
 _STARTED: List[Popen[bytes]] = []
@@ -120,23 +119,12 @@ def papers(sha256: str) -> Dict[str, str]:
     return next((papers for papers in all_papers() if sha256 in papers.get("program", "")), {})
 
 
-def library(sha256: str) -> str:
-    """The path of the library for C that was stored with the program with this checksum. Empty if there is none."""
-    return next((_library(folder, papers) for folder, papers in _abouts() if sha256 in papers.get("program", "")), "")
-
-
-def _library(folder: str, papers: Mapping[str, str]) -> str:
-    """The path of the library in the folder if it is the one that these lines name."""
-    path = os.path.join(folder, LIBRARY)
-    return path if os.path.isfile(path) and checksum(path) == papers.get("library") else ""
-
-
 def all_papers() -> Iterator[Dict[str, str]]:
     """The lines of each ABOUT by their first words. Files that cannot be read are skipped."""
-    return (papers for _, papers in _abouts())
+    return (papers for _, papers in abouts())
 
 
-def _abouts() -> Iterator[Tuple[str, Dict[str, str]]]:
+def abouts() -> Iterator[Tuple[str, Dict[str, str]]]:
     """The folder and the lines of each ABOUT."""
     stored = sorted(glob.glob(os.path.join(glob.escape(TOP), "dist", "*", "ABOUT")))
     for about in [*stored, os.path.join(PACKAGE, "ABOUT")]:
@@ -149,11 +137,6 @@ def _abouts() -> Iterator[Tuple[str, Dict[str, str]]]:
 
 
 def released() -> str:
-    """Version and checksums of the program that was released with this balisekit, and of the library that it uses.
-
-    Empty if there is none.
-    """
-    for folder, papers in _abouts():
-        text = "balisecheck {version}, sources {sources}, program {program}"
-        return f"{text}{', library {library}' if _library(folder, papers) else ''}".format(**papers) if papers else ""
-    return ""
+    """Version and checksums of the program that was released with this balisekit. Empty if there is none."""
+    papers: Dict[str, str] = next(all_papers(), {})
+    return "balisecheck {version}, sources {sources}, program {program}".format(**papers) if papers else ""

@@ -2,9 +2,11 @@
 from __future__ import annotations
 
 import ctypes
+import os
 from functools import lru_cache
 from typing import Iterator, Optional, Sequence
 
+from balisekit.engine import find_program
 from balisekit.errors import NoAnswer
 
 NO_MEMORY, TOO_SMALL = 3, 4
@@ -53,8 +55,17 @@ class Library:
         return call
 
 
+def stored(sha256: str = "") -> str:
+    """The path of the library that was stored with this program, or with this balisekit. Empty if there is none."""
+    for folder, papers in find_program.abouts():
+        path = os.path.join(folder, "libbalisecheck.so")
+        if sha256 in papers.get("program", ""):
+            return path if os.path.isfile(path) and find_program.checksum(path) == papers.get("library") else ""
+    return ""
+
+
 @lru_cache(maxsize=None)
-def opened(path: Optional[str]) -> Optional[Library]:
+def opened(path: str) -> Optional[Library]:
     """The library at this path. None if there is none, or if it cannot be used here: then the program answers."""
     try:
         return Library(path) if path else None

@@ -176,10 +176,10 @@ class Program:
     def library(self) -> Optional[Library]:
         """The library for C that was stored with the program, if it can be used here."""
         try:
-            from balisekit.engine.library import opened  # (slow, and only needed after a refusal)
-        except ImportError:  # (some builds of Python have no ctypes)
+            from balisekit.engine.library import opened, stored  # (slow, and only needed after a refusal)
+        except ImportError:  # (a wheel has no library, and some builds of Python no ctypes)
             return None
-        return opened(find_program.library(self.sha256))
+        return opened(stored(self.sha256))
 
     def _refusals(self, texts: Sequence[str]) -> Iterator[Optional[Refusal]]:
         """The refusal of each message, or None if `check` can read it."""
@@ -233,10 +233,7 @@ class Program:
                 yield answer
 
     def _several(self, work: Callable[[Program, Part], Iterator[Done]], count: int) -> Iterator[Done]:
-        """What is done for each line or message: by one run after the other, and after a few refusals by several.
-
-        Calls of the library are so fast that several would gain nothing.
-        """
+        """What is done for each line or message: by one run after the other, and after a few refusals by several."""
         done = refused = 0
         for answer in work(self, (0, count)):
             done += 1
