@@ -40,11 +40,14 @@ enum balisecheck_status {
 
 /* The commands. Text and status are those of the program for the same input. If it is refused, the last line of the
  * text begins with "refused:". */
-uint32_t balisecheck_check(const uint8_t *input, size_t input_length, uint8_t *buffer, size_t capacity, size_t *length);
-uint32_t balisecheck_decode(const uint8_t *input, size_t input_length, uint8_t *buffer, size_t capacity, size_t *length);
+uint32_t balisecheck_check(const uint8_t *input, size_t input_length, uint8_t *buffer, size_t capacity,
+                           size_t *length);
+uint32_t balisecheck_decode(const uint8_t *input, size_t input_length, uint8_t *buffer, size_t capacity,
+                            size_t *length);
 uint32_t balisecheck_decode_radio(const uint8_t *input, size_t input_length, uint8_t *buffer, size_t capacity,
                                   size_t *length);
-uint32_t balisecheck_encode(const uint8_t *input, size_t input_length, uint8_t *buffer, size_t capacity, size_t *length);
+uint32_t balisecheck_encode(const uint8_t *input, size_t input_length, uint8_t *buffer, size_t capacity,
+                            size_t *length);
 uint32_t balisecheck_encode_radio(const uint8_t *input, size_t input_length, uint8_t *buffer, size_t capacity,
                                   size_t *length);
 
