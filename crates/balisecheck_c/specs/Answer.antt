@@ -30,7 +30,7 @@ pub record IsOutOfMemory (old new : List ℕ) (count result : ℕ) : Type 0 wher
 pub record IsPut (output : Output) (old new : List ℕ) (count result : ℕ) : Type 0 where
   pub counted : count ≡ length output.0
   pub fits : length output.0 ≤ length old
-    → (result ≡ exit_status output.1) × (new ≡ output.0 ++ drop (length output.0) old)
+      → (result ≡ exit_status output.1) × (new ≡ output.0 ++ drop (length output.0) old)
   pub too_small : length old < length output.0 → (result ≡ capacity_status) × (new ≡ old)
 
 -- the output was put into the buffer, unless memory ran out

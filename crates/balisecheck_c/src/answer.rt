@@ -5,8 +5,8 @@ ghost use Rattle.balisecheck_c.specs.Answer.{IsPut, memory_status};
 
 use etcs_run::Status;
 
-/// Puts the text at the front of the buffer, and returns the exit status of the program for this status. If the
-/// buffer is too small, it stays as it is, and 4 is returned. In both cases the length of the text is reported.
+/// Puts the text at the front of the buffer, and returns the exit status of the program for this status. If
+/// the buffer is too small, it is unchanged, and 4 is returned. Both times the length of the text is reported.
 pub fn put(text: &[u8], status: Status, buffer: &mut [u8], length: &mut usize) -> u32
     ensures { IsPut (text.now, status) buffer.old buffer.new length.new result }
 {

@@ -66,7 +66,8 @@ pub extern "C" fn balisecheck_decode(
     answer(alloc, &["balisecheck", "decode"], input, buffer, length)
 }
 
-/// `balisecheck decode --radio`: from a stream of radio messages, in lines of hexadecimal text, to lines of JSON.
+/// `balisecheck decode --radio`: from a stream of radio messages, in lines of hexadecimal text, to lines of
+/// JSON.
 #[unsafe(no_mangle)]
 pub extern "C" fn balisecheck_decode_radio(
     alloc: Global,
@@ -77,7 +78,13 @@ pub extern "C" fn balisecheck_decode_radio(
     ensures { IsAnswer (program_output (codes "balisecheck" ∷ codes "decode" ∷ codes "--radio" ∷ []) input.now)
         buffer.old buffer.new length.new result }
 {
-    answer(alloc, &["balisecheck", "decode", "--radio"], input, buffer, length)
+    answer(
+        alloc,
+        &["balisecheck", "decode", "--radio"],
+        input,
+        buffer,
+        length,
+    )
 }
 
 /// `balisecheck encode`: from lines of JSON to lines of hexadecimal text, each a telegram.
@@ -105,5 +112,11 @@ pub extern "C" fn balisecheck_encode_radio(
     ensures { IsAnswer (program_output (codes "balisecheck" ∷ codes "encode" ∷ codes "--radio" ∷ []) input.now)
         buffer.old buffer.new length.new result }
 {
-    answer(alloc, &["balisecheck", "encode", "--radio"], input, buffer, length)
+    answer(
+        alloc,
+        &["balisecheck", "encode", "--radio"],
+        input,
+        buffer,
+        length,
+    )
 }

@@ -18,6 +18,7 @@ use etcs_telegram::TextError;
 use std::alloc::Global;
 
 /// Why there is no JSON line.
+#[derive(Clone, Copy)]
 pub enum Unread {
     /// Memory ran out.
     Memory,
