@@ -1,6 +1,6 @@
 -- What a call returns for an output, which is a text and a status: the text at the front of the buffer, the
--- length of the text, and the exit status of the program. A text that does not fit is left out. If memory runs
--- out there is no text.
+-- length of the text, and the exit status of the program. A text that does not fit is left out. If memory
+-- runs out there is no text.
 use Rattle.std.specs.Prelude.{◌≡◌, ◌<◌, ◌≤◌, ◌++◌, ◌⊎◌, ℕ, List, length, drop}
 use Rattle.etcs_run.specs.Output.{Output}
 use Rattle.etcs_run.specs.declared.status.Status.{Status}
@@ -25,8 +25,8 @@ pub record IsOutOfMemory (old new : List ℕ) (count result : ℕ) : Type 0 wher
   pub empty : count ≡ 0
   pub kept : new ≡ old
 
--- The length of the text was returned. If the text fits, it is at the front of the buffer, and what was behind it
--- is unchanged. Otherwise the buffer is unchanged.
+-- The length of the text was returned. If the text fits, it is at the front of the buffer, and what was
+-- behind it is unchanged. Otherwise the buffer is unchanged.
 pub record IsPut (output : Output) (old new : List ℕ) (count result : ℕ) : Type 0 where
   pub counted : count ≡ length output.0
   pub fits : length output.0 ≤ length old

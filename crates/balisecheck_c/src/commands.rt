@@ -75,7 +75,8 @@ pub extern "C" fn balisecheck_decode_radio(
     buffer: &mut [u8],
     length: &mut usize,
 ) -> u32
-    ensures { IsAnswer (program_output (codes "balisecheck" ∷ codes "decode" ∷ codes "--radio" ∷ []) input.now)
+    ensures { IsAnswer
+        (program_output (codes "balisecheck" ∷ codes "decode" ∷ codes "--radio" ∷ []) input.now)
         buffer.old buffer.new length.new result }
 {
     answer(
@@ -109,7 +110,8 @@ pub extern "C" fn balisecheck_encode_radio(
     buffer: &mut [u8],
     length: &mut usize,
 ) -> u32
-    ensures { IsAnswer (program_output (codes "balisecheck" ∷ codes "encode" ∷ codes "--radio" ∷ []) input.now)
+    ensures { IsAnswer
+        (program_output (codes "balisecheck" ∷ codes "encode" ∷ codes "--radio" ∷ []) input.now)
         buffer.old buffer.new length.new result }
 {
     answer(
