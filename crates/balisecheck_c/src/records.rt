@@ -27,10 +27,10 @@ pub enum Unread {
 }
 
 // The JSON line of a record.
-fn line_of<T: WriteJson>(alloc: Global, record: &T) -> Result<Vec<u8>, Unread>
-    ensures { Gives (λ line. line.items) result (Ok (json_line_text T.codec record.now)) }
+fn line_of<T: WriteJson>(alloc: Global, value: &T) -> Result<Vec<u8>, Unread>
+    ensures { Gives (λ line. line.items) result (Ok (json_line_text T.codec value.now)) }
 {
-    match json_line(Vec::new(alloc), record) {
+    match json_line(Vec::new(alloc), value) {
         Ok(line) => Ok(line),
         Err(_) => Err(Unread::Memory),
     }
