@@ -16,6 +16,7 @@
  *   - What the pointers point to does not overlap. During a call no other thread writes the input, and none reads or
  *     writes the buffer, the length or the fault.
  *   - malloc, realloc and free are of one allocator, which aligns as C requires.
+ *   - The thread has 512 kB of stack left. `check` used 384 kB at most, and the other functions 96 kB.
  *   - No call is made in a signal handler, or in the forked child of a process with threads.
  *
  * Calls keep nothing, so threads may call at the same time with buffers of their own. A call starts no thread, opens
