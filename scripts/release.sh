@@ -2,23 +2,24 @@
 # Makes a release of the program that was proved and built here.
 #
 #     scripts/release.sh raise        writes the next version number into VERSION and each other file that has it
-#     scripts/release.sh store        stores the program and its ABOUT in dist/x86_64-linux, and adds a line to
-#                                     dist/RELEASES
+#     scripts/release.sh store        stores the program, the library for C and their ABOUT in dist/x86_64-linux, and
+#                                     adds a line to dist/RELEASES
 #     scripts/release.sh              writes the release into out/release: tarball and its checksum, wheel, .deb, SPDX,
 #                                     the logs of the gate and of all edits, a README and SHA256SUMS
 #     scripts/release.sh --try DIR    the same into an empty DIR, with the program that ./balisecheck would run, without
 #                                     logs and without judged edits: the names of its packages have "untested"
 #
-# `store` takes the program that the gate or scripts/build has built from these sources in out/, and runs tests/dist. A
-# program that differs from the stored one needs a new version number. A release needs out/edits of `tests/edits --all`,
-# and the output of `.ci/run` in out/gate.log and of `tests/edits --all` in out/edits.log. Two runs on one commit with
-# the same tools give the same bytes. They need git, python3-hatchling, advancecomp, help2man and dpkg-deb.
+# `store` takes what the gate, or scripts/build and then scripts/library, have built from these sources in out/, and runs
+# tests/dist. A program that differs from the stored one needs a new version number. A release needs out/edits of
+# `tests/edits --all`, and the output of `.ci/run` in out/gate.log and of `tests/edits --all` in out/edits.log. Two runs on
+# one commit with the same tools give the same bytes. They need git, python3-hatchling, advancecomp, help2man and dpkg-deb.
 set -euo pipefail
 
 cd "$(dirname "${BASH_SOURCE[0]}")/.."
 room=$(mktemp -d)
 trap 'rm -rf "$room"' EXIT
 dist=dist/x86_64-linux
+header=crates/balisecheck_c/include/balisecheck.h
 version=$(cat VERSION)
 # What is handed out beside the program. The tarball has files of scripts/ and man/ at its top.
 handed=(man/balisecheck.1 balisekit scripts/install.sh README.md CHANGELOG.md ERRATA.md LICENSE-APACHE LICENSE-MIT
@@ -47,6 +48,13 @@ sum_of() {
 is_right() {
     grep -qsx "sources $(dist/sources)" "$1/ABOUT" || fail "the program in $1 was built from other sources: $2"
     grep -qx "program $(sum_of "$1/balisecheck")" "$1/ABOUT" || fail "the program in $1 is damaged: $2"
+}
+
+# has_library: fails if the library in out/ is damaged or, by LIBRARY, was built from other sources.
+has_library() {
+    grep -qsx "sources $(dist/sources)" out/LIBRARY && grep -qx "archive $(sum_of out/libbalisecheck.a)" out/LIBRARY &&
+        grep -qx "library $(sum_of out/libbalisecheck.so)" out/LIBRARY ||
+        fail 'the library in out is damaged, missing or of other sources: scripts/library'
 }
 
 # is_passed LOG COMMAND: fails if there is no log, or its last line does not report that everything passed.
@@ -97,11 +105,13 @@ store() {
     local line before=$room/before
     is_committed crates.txt HANDLES crates
     is_right out 'scripts/build'
+    has_library
     has_a_number
     mkdir -p "$dist"
     cp -a dist "$before"
     install -m 755 out/balisecheck "$dist/balisecheck"
-    papers out/balisecheck >"$dist/ABOUT"
+    install -m 644 out/libbalisecheck.a out/libbalisecheck.so "$dist"
+    { papers out/balisecheck; sed 1d out/LIBRARY; } >"$dist/ABOUT"
     line="$version $(said commit "$dist") $(said sources "$dist") $(said program "$dist")"
     grep -q "^$line " dist/RELEASES || echo "$line $(date -u +%F)" >>dist/RELEASES
     if ! BALISECHECK=$PWD/out/balisecheck tests/dist; then
@@ -118,6 +128,11 @@ tree() {
     git ls-files -z -- "${handed[@]}" | tar -c --null --files-from=- --transform='s,^\(scripts\|man\)/,,' | tar -x -C "$1"
     install -m 755 "$2" "$1/balisecheck"
     install -m 644 "$3" "$1/$dist/ABOUT"
+    # The library for C and its header have the places that they have in the repository.
+    if grep -q '^library ' "$3"; then
+        install -m 644 "$dist"/libbalisecheck.* "$1/$dist"
+        install -D -m 644 -t "$1/${header%/*}" "$header"
+    fi
     dist/pack/readme "$1"
     dist/pack/manual "$1"
     dist/pack/links "$1"
@@ -168,7 +183,10 @@ try() {
     local program
     program=${BALISECHECK:-$(BALISECHECK_PATH=1 ./balisecheck)}
     papers "$program" >"$room/ABOUT"
-    ! cmp -s "$program" "$dist/balisecheck" || sed -i "s/^kit .*/kit $(said kit "$dist")/" "$room/ABOUT"
+    if cmp -s "$program" "$dist/balisecheck"; then
+        sed -i "s/^kit .*/kit $(said kit "$dist")/" "$room/ABOUT"
+        sed -n '/^archive \|^library /p' "$dist/ABOUT" >>"$room/ABOUT"
+    fi
     pack "$1" "$program" "$room/ABOUT" -untested
     sums "$1"
 }

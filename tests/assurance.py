@@ -94,7 +94,9 @@ def words():
     files = [path for folder in folders for path in folder.rglob("*") if "out" not in path.parts]
     texts = [path.read_text(encoding="utf-8") for path in files if path.suffix in (".rt", ".antt")]
     texts += [(TOP / name).read_text(encoding="utf-8") for name in ("crates.txt", "dist/x86_64-linux/ABOUT")]
-    return {*re.findall(r"\w+", "\n".join(texts)), *(path.name for path in [*files, *TOP.iterdir()])}
+    # The attribute of an export is no unsafe code.
+    text = "\n".join(texts).replace("#[unsafe(no_mangle)]", "")
+    return {*re.findall(r"\w+", text), *(path.name for path in [*files, *TOP.iterdir()])}
 
 
 def is_there(span):

@@ -3,9 +3,12 @@
 # A line for each package: its name, what shows that it is here (a command, a file, or python:MODULE), what needs it.
 packages=$(cat <<'END'
 python3               python3                all tests
-gcc                   cc                     refused memory and failing devices
-libc6-dev             /usr/include/stdio.h   refused memory and failing devices
+gcc                   cc                     refused memory, failing devices, and the library from C
+libc6-dev             /usr/include/stdio.h   refused memory, failing devices, and the library from C
 binutils              readelf                the C library of the stored program
+g++                   c++                    the library from C++
+default-jdk-headless  javac                  the library from Java
+libjna-java           /usr/share/java/jna.jar  the library from Java
 git                   git                    the history of the stored program
 groff-base            groff                  the layout of the manual page
 jq                    jq                     recipes by jq

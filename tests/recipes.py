@@ -56,7 +56,6 @@ OTHERS = {
     "lost.txt": LOST + b"\n",
     "batch.txt": b"%b\n%b\n\r\n%b\n%b \n%b\n%b\n%b"
                  % (TELEGRAM, SPARE, TELEGRAM, TELEGRAM, PADDED, OLD, TELEGRAM.upper()),
-    "names.txt": b"Signal A, km 12.300\nSignal B, km 13.850\n",
     "line.txt": b"%b\n%b\n" % ((EXAMPLES / "duplicated-pair.txt").read_bytes(), TELEGRAM.replace(b"2000ff", b"2001ff")),
     "aspects.txt": b"a10283802000ff%b\na11303802000ff%b\n\na10284002000ff%b\na11304002000ff%b\n"
                    % ((ONES + b"c0",) * 4),
@@ -136,8 +135,8 @@ def test_commands(tests):
 
 
 def test_line_ends(tests, commands):
-    """Commands on names and on lines of telegrams write the same where lines end in blanks and a carriage return."""
-    for name in ("names.txt", "line.txt", "aspects.txt"):
+    """Commands on lines of telegrams write the same where lines end in blanks and a carriage return."""
+    for name in ("line.txt", "aspects.txt"):
         command = next(it for it in commands if it.startswith("jq ") and name in it)
         other = command.replace(name, "ends.txt")
         tests.writes(f"{command} >as-it-is.txt; sed 's/$/ \\t\\r/' {name} >ends.txt; {other} | diff as-it-is.txt -", "")

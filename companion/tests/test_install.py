@@ -1,6 +1,7 @@
 """balisekit as pip installs it, away from the repository."""
 from __future__ import annotations
 
+import hashlib
 import importlib.util
 import os
 import shutil
@@ -19,6 +20,7 @@ from balisekit.engine.program import Program
 from balisekit.errors import NoAnswer, TableError
 
 TOP = Path(__file__).resolve().parents[2]
+NOTHING = hashlib.sha256(b"").hexdigest()
 
 
 def test_install(tmp_path: Path, program: Program) -> None:
@@ -73,11 +75,17 @@ def test_version_starts_no_program(
     monkeypatch.setattr(program_file, "TOP", tmp_path)
     (tmp_path / "dist" / "one").mkdir(parents=True)
     about = tmp_path / "dist" / "one" / "ABOUT"
+    library = about.parent / "libbalisecheck.so"
+    library.touch()
     for lines, said in (
         ("", [f"balisekit {__version__}"]),
         (
             "version 1.2.3\nkit one\nsources 0a\nprogram 0b\n",
             [f"balisekit {__version__}", "balisecheck 1.2.3, sources 0a, program 0b"],
+        ),
+        (
+            f"version 1.2.3\nkit one\nsources 0a\nprogram 0b\nlibrary {NOTHING}\n",
+            [f"balisekit {__version__}", "balisecheck 1.2.3, sources 0a, program 0b", f"library {library}"],
         ),
     ):
         about.write_text(lines, "utf-8")

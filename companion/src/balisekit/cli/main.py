@@ -56,12 +56,20 @@ class _Once(argparse.Action):
 
 
 class _Version(argparse.Action):
-    """Writes the versions of balisekit and of the program that was released with it, and ends. It starts no program."""
+    """Writes the versions of balisekit and of the program that was released with it, and whether that has a library.
+
+    It ends, and starts no program.
+    """
 
     def __call__(self, parser: Any, *_: Any) -> None:
         from balisekit.engine.find_program import released
 
-        print(*filter(None, (f"balisekit {__version__}", released())), sep="\n")
+        library = ""
+        with suppress(ImportError):  # (a wheel has no library)
+            from balisekit.engine.library import stored
+
+            library = stored() and f"library {stored()}"
+        print(*filter(None, (f"balisekit {__version__}", released(), library)), sep="\n")
         parser.exit()
 
 

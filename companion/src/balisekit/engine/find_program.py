@@ -7,7 +7,7 @@ import os
 import shutil
 import sys
 from contextlib import contextmanager
-from typing import TYPE_CHECKING, Dict, Iterator, List, Optional
+from typing import TYPE_CHECKING, Dict, Iterator, List, Optional, Tuple
 
 from balisekit.errors import NoAnswer
 
@@ -121,6 +121,11 @@ def papers(sha256: str) -> Dict[str, str]:
 
 def all_papers() -> Iterator[Dict[str, str]]:
     """The lines of each ABOUT by their first words. Files that cannot be read are skipped."""
+    return (papers for _, papers in abouts())
+
+
+def abouts() -> Iterator[Tuple[str, Dict[str, str]]]:
+    """The folder and the lines of each ABOUT."""
     stored = sorted(glob.glob(os.path.join(glob.escape(TOP), "dist", "*", "ABOUT")))
     for about in [*stored, os.path.join(PACKAGE, "ABOUT")]:
         try:
@@ -128,7 +133,7 @@ def all_papers() -> Iterator[Dict[str, str]]:
                 lines = file.read().split("\n")
         except (OSError, UnicodeDecodeError):
             continue
-        yield dict(line.split(" ", 1) for line in lines if " " in line)
+        yield os.path.dirname(about), dict(line.split(" ", 1) for line in lines if " " in line)
 
 
 def released() -> str:

@@ -1,7 +1,8 @@
 """The program: where it is, and what it answers.
 
 `Program.find()` finds it. `decode`, `encode`, `messages` and `check` hand data to it and give its answers in order. A
-run ends with the first line that it refuses, so another run begins after that line.
+run ends with the first line that it refuses. If the library for C was stored with the program, it answers to the lines
+after that one. Otherwise another run does.
 """
 from __future__ import annotations
 
@@ -11,8 +12,9 @@ import tempfile
 from collections.abc import Callable, Iterable, Iterator, Mapping, Sequence
 from contextlib import ExitStack
 from dataclasses import dataclass, field, replace
+from functools import cached_property
 from threading import Event
-from typing import IO, Any, Dict, List, NamedTuple, Optional, Tuple, TypeVar, Union
+from typing import IO, TYPE_CHECKING, Any, Dict, List, NamedTuple, Optional, Tuple, TypeVar, Union
 
 from balisekit.engine import find_program, grammar, records
 from balisekit.engine.grammar import Finding, Refusal, Verdict
@@ -20,10 +22,13 @@ from balisekit.engine.records import Form, shared
 from balisekit.engine.run import HANDSHAKE_LIMIT, Limit, Run
 from balisekit.errors import NoAnswer
 
+if TYPE_CHECKING:
+    from balisekit.engine.library import Call, Library
+
 FEW = 16
 """After this many refusals the rest is tried in parts, several at a time."""
 PART = 64
-"""The lines or messages of a part."""
+"""The lines or messages of a part, and of a call of the library."""
 AT_A_TIME = min(4, os.cpu_count() or 1)
 SHOWN = 100
 """How many characters of a wrong answer are shown."""
@@ -167,19 +172,33 @@ class Program:
                 raise self.no_answer("decode --radio", f"no record of a message: {answer[:SHOWN]}")
             yield Record(answer)
 
+    @cached_property
+    def library(self) -> Optional[Library]:
+        """The library for C that was stored with the program, if it can be used here."""
+        try:
+            from balisekit.engine.library import opened, stored  # (slow, and only needed after a refusal)
+        except ImportError:  # (a wheel has no library, and some builds of Python no ctypes)
+            return None
+        return opened(stored(self.sha256))
+
     def _refusals(self, texts: Sequence[str]) -> Iterator[Optional[Refusal]]:
         """The refusal of each message, or None if `check` can read it."""
-        while texts:
-            answer = self.check({"groups": [], "messages": texts})
-            readable = len(texts)
-            if isinstance(answer, Refusal):
-                if answer.message is None or answer.message >= readable:
-                    raise self.no_answer("check", answer.line)
-                readable = answer.message
-            yield from [None] * readable
-            if isinstance(answer, Refusal):
-                yield answer
-            texts = texts[readable + 1 :]
+        done = 0
+        library: Optional[Library] = None
+        while done < len(texts):
+            part = texts[done : done + PART] if library else texts[done:]
+            document = json.dumps({"groups": [], "messages": part}).encode()
+            answer = _report(library.call(["check"], document), len(document)) if library else self.check(document)
+            if isinstance(answer, Report):
+                yield from [None] * len(part)
+                done += len(part)
+                continue
+            if answer.message is None or answer.message >= len(part):
+                raise self.no_answer("check", answer.line)
+            yield from [None] * answer.message
+            yield answer
+            done += answer.message + 1
+            library = self.library
 
     def _each(self, words: Sequence[str], texts: Iterable[str]) -> Iterator[Answer]:
         """The line, or the refusal, that the command writes for each text."""
@@ -200,6 +219,18 @@ class Program:
                         begin += len(lines[done])
                         done += 1
                         yield answer
+                if done < len(lines) and self.library:
+                    yield from self._answers_of_library(self.library, words, lines[done:])
+                    return
+
+    def _answers_of_library(self, library: Library, words: Sequence[str], lines: Sequence[bytes]) -> Iterator[Answer]:
+        """What the library writes for each of these lines."""
+        done = 0
+        while done < len(lines):
+            part = lines[done : done + PART]
+            for answer in _answers(library.call(words, b"".join(part)), " ".join(words), len(part)):
+                done += 1
+                yield answer
 
     def _several(self, work: Callable[[Program, Part], Iterator[Done]], count: int) -> Iterator[Done]:
         """What is done for each line or message: by one run after the other, and after a few refusals by several."""
@@ -208,7 +239,7 @@ class Program:
             done += 1
             refused += isinstance(answer, Refusal)
             yield answer
-            if refused == FEW:
+            if refused == FEW and not self.library:
                 break
         if done < count:
             yield from replace(self, _stop=Event())._in_parts(work, range(done, count, PART))
@@ -230,24 +261,7 @@ class Program:
         size = os.lseek(document.fileno(), 0, os.SEEK_END)
         os.lseek(document.fileno(), 0, os.SEEK_SET)
         with self._run(["check"], document, size) as run:
-            lines = run.lines()
-            first = next(lines, "")
-            verdict = grammar.verdict(first)
-            refusal = None if verdict else grammar.refusal("check", first)
-            count = verdict.findings if verdict else 0
-            if count > size:  # (a telegram has more digits than findings)
-                raise run.no_answer(f"more findings than the document has bytes: {first}")
-            findings: Dict[str, Finding] = {}
-            for line in lines:
-                finding = grammar.finding(line)
-                if finding is None or line in findings or len(findings) == count:
-                    raise run.no_answer(f"no line of its report: {line[:SHOWN]}")
-                findings[line] = finding
-            if refusal and run.status == 2:
-                return refusal
-            if verdict and run.status == (0 if verdict.yes else 1) and len(findings) == count:
-                return Report(verdict, tuple(findings.values()))
-            raise run.no_answer(_end(run, bool(first) + len(findings)))
+            return _report(run, size)
 
     def _run(self, words: Sequence[str], stdin: IO[bytes], size: int) -> Run:
         return Run(self.path, words, stdin, Limit.of(size, self.timeout, self._stop))
@@ -274,7 +288,29 @@ class Program:
         return NoAnswer(f"no answer of {self.path}: {command}: {why}")
 
 
-def _answers(run: Run, command: str, left: int) -> Iterator[Answer]:
+def _report(run: Union[Run, Call], size: int) -> Union[Report, Refusal]:
+    """What a run of `check` writes for a document of this size."""
+    lines = run.lines()
+    first = next(lines, "")
+    verdict = grammar.verdict(first)
+    refusal = None if verdict else grammar.refusal("check", first)
+    count = verdict.findings if verdict else 0
+    if count > size:  # (a telegram has more digits than findings)
+        raise run.no_answer(f"more findings than the document has bytes: {first}")
+    findings: Dict[str, Finding] = {}
+    for line in lines:
+        finding = grammar.finding(line)
+        if finding is None or line in findings or len(findings) == count:
+            raise run.no_answer(f"no line of its report: {line[:SHOWN]}")
+        findings[line] = finding
+    if refusal and run.status == 2:
+        return refusal
+    if verdict and run.status == (0 if verdict.yes else 1) and len(findings) == count:
+        return Report(verdict, tuple(findings.values()))
+    raise run.no_answer(_end(run, bool(first) + len(findings)))
+
+
+def _answers(run: Union[Run, Call], command: str, left: int) -> Iterator[Answer]:
     """What one run writes: lines, and a refusal as the last one if it does not come to the end.
 
     An answer is given when the next one has been read. So the last one is given only after the run has ended well.
@@ -305,7 +341,7 @@ def _line(text: str) -> str:
     return text
 
 
-def _end(run: Run, lines: int, wanted: int = 0) -> str:
+def _end(run: Union[Run, Call], lines: int, wanted: int = 0) -> str:
     """How a run has ended that gave no answer."""
     words = run.errors[:1000].decode("utf-8", "backslashreplace").strip()
     status = run.status or 0

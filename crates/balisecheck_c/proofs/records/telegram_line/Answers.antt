@@ -1,0 +1,31 @@
+use Rattle.std.proofs.Common.{◌≡◌, ◌∙◌, ℕ, List, Err, refl, ap, subst, sym}
+use Rattle.etcs_telegram.specs.declared.error.TextError.{TextError}
+use Rattle.etcs_telegram.specs.declared.error.TextError.TheVariants as texts
+use Rattle.etcs_run.proofs.FormLemmas.{refused_early}
+use Rattle.etcs_run.specs.TelegramLines.{IsEarly}
+use Rattle.balisecheck_c.specs.Fault.{telegram_fault}
+use Rattle.balisecheck_c.specs.Records.{Gives, telegram_json, telegram_reason}
+use Rattle.balisecheck_c.specs.declared.records.Unread.TheVariants.{Refused}
+use Rattle.balisecheck_c.proofs.records.telegram_line.Goals as goal
+
+-- the line of the telegram that the text means
+pub returns-in-Ok-clause-means : goal.returns-in-Ok-clause-means
+returns-in-Ok-clause-means c =
+    subst (Gives (λ line. line.items) c.line_of.result) (ap telegram_json (sym c.in-Ok.ensures.exact)) c.line_of.ensures
+
+-- a reason that is found before any packet is read is a fault
+fault_early : (why : TextError) (text : List ℕ) → IsEarly why text → telegram_reason why ≡ Refused (telegram_fault why)
+fault_early texts.Memory text early = absurd early
+fault_early texts.NotHex text early = refl
+fault_early texts.WrongSize text early = refl
+fault_early texts.PadBits text early = refl
+fault_early (texts.Fault f) text early = refl
+
+pub returns-in-Err-clause-early : goal.returns-in-Err-clause-early
+returns-in-Err-clause-early c why early =
+    let said = c.in-Err.ensures in
+    let found =
+    refused_early (Err c.in-Err.why) c.args.text.now why early said.not_hex said.wrong_size said.pad_bits
+    said.header in
+    let same : c.in-Err.why ≡ why = cc in
+    ap Err (c.unread_telegram.ensures ∙ ap telegram_reason same ∙ fault_early why c.args.text.now early)
