@@ -18,7 +18,7 @@ import tempfile
 
 from assurance import PARTS
 from hostile_process import LONG, STACK
-from runner import EXAMPLES, TOP, play, program
+from runner import EXAMPLES, TOP, crate_uses, play, program
 
 PAGES = [*sorted(TOP.glob("*.md")), *sorted((TOP / "docs").rglob("*.md")), TOP / "examples" / "README.md"]
 DOCUMENT = TOP / "crates" / "etcs_document"
@@ -79,9 +79,7 @@ def test_yes(tests):
 def test_crates(tests):
     """The table of crates in architecture.md has each crate with those that it uses, without what these use already. Its
     picture has each crate but the trials, in a row above those that it uses."""
-    lines = (TOP / "crates.txt").read_text(encoding="utf-8").splitlines()
-    uses = {name: set(used.split()) for name, _, used in (it.partition(":") for it in lines if not it.startswith("#"))}
-    uses = {name: used & uses.keys() for name, used in uses.items()}
+    uses = {name: {*used} & crate_uses().keys() for name, used in crate_uses().items()}
     all_uses = {}
     for name, used in uses.items():
         all_uses[name] = used.union(*(all_uses[it] for it in used))

@@ -19,6 +19,13 @@ LONGEST = 120  # seconds that a run may take
 Answer = collections.namedtuple("Answer", "status stdout stderr")
 
 
+def crate_uses(top=TOP):
+    """The libraries that each crate uses, in the order of crates.txt."""
+    lines = (top / "crates.txt").read_text(encoding="utf-8").splitlines()
+    found = (re.match(r"(\w+)[^:#]*:([^#]*)", it) for it in lines)
+    return {it[1]: it[2].split() for it in found if it}
+
+
 # ---- the program
 
 

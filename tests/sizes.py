@@ -12,7 +12,7 @@ It is no step of tests/all or of the gate: it judges nothing.
 """
 import re
 
-from runner import TOP
+from runner import TOP, crate_uses
 
 NO_CODE = re.compile(r"\s*(?:$|//|#!?\[|(?:use|pub use|ghost|ensures|requires|invariant)\b)")
 DEFINITION = re.compile(r"(?m)^(?:pub\s+)?(?:(?:abbrev|unfoldable|record|data)\s+(?:pub\s+)?)+(?!(?:pub|use)\s)(\S+)")
@@ -48,8 +48,7 @@ def row(name, numbers):
 
 def main():
     """Prints the table."""
-    crates = re.findall(r"(?m)^(?!trials_)(\w+)\s*:", (TOP / "crates.txt").read_text(encoding="utf-8"))
-    found = {crate: sizes(crate) for crate in crates}
+    found = {crate: sizes(crate) for crate in crate_uses() if not crate.startswith("trials_")}
     print(row("", HEADS), *(row(*one) for one in found.items()), row("all", map(sum, zip(*found.values()))), sep="\n")
 
 
