@@ -52,7 +52,8 @@ raw_train_packet = chosen nid_raw others (λ _. refl)
 -- L_PACKET and a body that is not empty are here: the body is copied
 abbrev pub copy_grows : Place → Type 0
 copy_grows p =
-    (body : List Bool) × (q : Place) × (read_rows (kept_bits 8).fields p ≡ Ok ((kept_bits 8).rows body, q)) × (0 < length body)
+    (body : List Bool) × (q : Place) × (read_rows (kept_bits 8).fields p ≡ Ok ((kept_bits 8).rows body, q))
+    × (0 < length body)
 
 -- NID_PACKET of a packet that is kept as bits is here, and the body after it is copied
 abbrev pub raw_train_grows : Place → Type 0

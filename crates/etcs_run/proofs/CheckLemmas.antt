@@ -1,5 +1,5 @@
 -- The refusal of a document is the refusal of its fault.
-use Rattle.std.proofs.Common.{◌≡◌, ◌≢◌, ◌∙◌, ℕ, List, Result, Ok, Err, IfOk, refl, sym, ap}
+use Rattle.std.proofs.Common.{◌≡◌, ◌≢◌, ℕ, List, Result, Ok, refl, sym, ap}
 use Rattle.etcs_document.specs.DocumentFault.{DocumentFault, Fails}
 use Rattle.etcs_document.specs.Refusal.{document_words, refusal_words}
 use Rattle.etcs_document.specs.Verdict.{Summary, summary_of_text}
@@ -10,7 +10,7 @@ use Rattle.etcs_document.specs.declared.refusal.Refusal.TheVariants.{Document}
 use Rattle.etcs_radio.specs.declared.error.RadioTextError.TheVariants as radio
 use Rattle.etcs_telegram.specs.declared.error.TextError.TheVariants as texts
 use Rattle.etcs_run.specs.Checking.{check_output, checked, reported}
-use Rattle.etcs_run.specs.Output.{Output, refusal_output}
+use Rattle.etcs_run.specs.Output.{refusal_output}
 
 -- a document that is refused, unless memory ran out, has this fault, in the same words
 pub document_refused : (why : LineError) (reading : Result Summary DocumentFault) → why ≢ errors.Memory → Fails why reading
@@ -50,9 +50,3 @@ pub is_refused : (why : LineError) (document : List ℕ) → why ≢ errors.Memo
     → Fails why (summary_of_text document) → refusal_output (Document why) ≡ check_output document
 unfolding check_output
 is_refused why document other fails = sym (document_refused why (summary_of_text document) other fails)
-
--- what was made is an output, and therefore an equal output
-pub made_as : {X E : Type 0} (result : Result X E) (view : X → Output) {output other : Output}
-    → output ≡ other → IfOk result (λ x. view x ≡ output) → IfOk result (λ x. view x ≡ other)
-made_as (Ok x) view same made = made ∙ same
-made_as (Err e) view same made = tt

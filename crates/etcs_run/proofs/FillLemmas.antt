@@ -86,13 +86,13 @@ Filling-end {line} {ended} {found} filling none end is =
     }
 
 -- the bytes that were moved if there was no `\n`
-pub moved_on : {b : Bool} {old new : TextLines} → b ≡ false → MovesLine (Ok b) old new
+pub moved_on : {b : Bool} {old new : TextLines} → b ≡ false → MovesLine b old new
     → Grows old new (held_bytes old) × (held_bytes new ≡ [])
 moved_on {b = true} is moved = cc
 moved_on {b = false} is moved = moved
 
 -- the bytes that were moved if there was one
-pub moved_cut : {b : Bool} {old new : TextLines} → b ≡ true → MovesLine (Ok b) old new
+pub moved_cut : {b : Bool} {old new : TextLines} → b ≡ true → MovesLine b old new
     → (front : List ℕ) × Grows old new front × (held_bytes old ≡ front ++ 10 ∷ held_bytes new)
 moved_cut {b = true} is moved = moved
 moved_cut {b = false} is moved = cc

@@ -39,11 +39,10 @@ pub record Grows (old new : TextLines) (front : List ℕ) : Type 0 where
   pub plain : IsLine front
 
 -- the line has grown by the held bytes before a `\n`, or by all of them if there is none
-abbrev pub MovesLine : Result Bool RunError → TextLines → TextLines → Type 0
-MovesLine (Err _) old new = Unit {0}
-MovesLine (Ok true) old new =
+abbrev pub MovesLine : Bool → TextLines → TextLines → Type 0
+MovesLine true old new =
     (front : List ℕ) × Grows old new front × (held_bytes old ≡ front ++ 10 ∷ held_bytes new)
-MovesLine (Ok false) old new = Grows old new (held_bytes old) × (held_bytes new ≡ [])
+MovesLine false old new = Grows old new (held_bytes old) × (held_bytes new ≡ [])
 
 -- The line is the first one of the bytes held and read, whatever follows them. Or there is no
 -- line: the end was reached, and no byte remains.

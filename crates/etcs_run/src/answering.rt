@@ -67,10 +67,7 @@ pub fn answer_input<C: TextLineCommand, R: Read, W: Write>(
     ensures counts { CountsOneDevice result reader.old reader.new writer.old writer.new }
 {
     let mut command = command;
-    let mut lines = match TextLines::new(alloc) {
-        Ok(lines) => lines,
-        Err(_) => return Err(RunError::Memory),
-    };
+    let mut lines = TextLines::new(alloc)?;
     let status = answer_lines(alloc, &mut command, &mut lines, reader, writer)?;
     finish(writer)?;
     Ok(status)

@@ -2,10 +2,8 @@
 
 ghost use Rattle.std.specs.Prelude.{◌≡◌, string_bytes, IfOk, OnErr, OnOk};
 ghost use Rattle.std.specs.Io.KnownBytes.{IsAtEnd};
-ghost use Rattle.etcs_document.specs.declared.refusal.Refusal.TheVariants.{Document};
-ghost use Rattle.etcs_run.specs.Checking.{check_output, check_status, reported};
+ghost use Rattle.etcs_run.specs.Checking.{check_output, check_status};
 ghost use Rattle.etcs_run.specs.Counted.{CanCount, CountsNone, CountsOne, wrapped};
-ghost use Rattle.etcs_run.specs.Output.{refusal_output};
 ghost use Rattle.etcs_run.specs.Ran.{CountsOneDevice, EndsFlushed, Runs};
 
 use crate::counted::Counted;
@@ -15,7 +13,7 @@ use crate::status::Status;
 use crate::whole_input::read_whole;
 use etcs_bits::Memory;
 use etcs_check::Finding;
-use etcs_document::{Checked, LineError, Refusal, check_in_order, refusal_text, report_counts};
+use etcs_document::{LineError, Refusal, check_in_order, refusal_text, report_counts};
 use std::alloc::Global;
 use std::io::{Read, Write};
 
@@ -30,34 +28,22 @@ fn status_of(findings: &[Finding]) -> Status
     }
 }
 
-// The report on a line, and the status.
-fn report_on(alloc: Global, checked: &Checked) -> Result<(String, Status), Memory>
-    ensures { IfOk result (λ a. (string_bytes a.0, a.1)
-        ≡ reported ((checked.now.groups, checked.now.messages), checked.now.findings.items)) }
-{
-    let findings = checked.findings.as_slice();
-    let text = report_counts(alloc, checked.groups, checked.messages, findings)?;
-    let status = status_of(findings);
-    Ok((text, status))
-}
-
-// The refusal of a document, and the status.
-fn refuse(alloc: Global, why: LineError) -> Result<(String, Status), Memory>
-    ensures { IfOk result (λ a. (string_bytes a.0, a.1) ≡ refusal_output (Document why)) }
-{
-    let text = refusal_text(alloc, &Refusal::Document(why))?;
-    Ok((text, Status::Refused))
-}
-
 // What is written for a document, and the status.
 fn answer_document(alloc: Global, document: &[u8]) -> Result<(String, Status), Memory>
     ensures { IfOk result (λ a. (string_bytes a.0, a.1) ≡ check_output document.now) }
 {
     match check_in_order(alloc, document) {
-        Ok(checked) => report_on(alloc, &checked),
+        Ok(checked) => {
+            let findings = checked.findings.as_slice();
+            let text = report_counts(alloc, checked.groups, checked.messages, findings)?;
+            Ok((text, status_of(findings)))
+        }
         Err(why) => match why {
             LineError::Memory => Err(Memory),
-            _ => refuse(alloc, why),
+            _ => {
+                let text = refusal_text(alloc, &Refusal::Document(why))?;
+                Ok((text, Status::Refused))
+            }
         },
     }
 }
@@ -88,8 +74,6 @@ pub fn check_input<R: Read, W: Write>(
     ensures unwritten { OnErr result (CountsNone writer.old writer.new → writer.new ≡ writer.old) }
 {
     let document = read_whole(alloc, reader)?;
-    let Ok((text, status)) = answer_document(alloc, document.as_slice()) else {
-        return Err(RunError::Memory);
-    };
+    let (text, status) = answer_document(alloc, document.as_slice())?;
     write_out(writer, text.as_bytes(), status)
 }

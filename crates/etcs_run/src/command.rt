@@ -3,10 +3,11 @@
 ghost use Rattle.std.specs.Prelude.{◌≡◌, false, IfOk, map};
 ghost use Rattle.clap.specs.declared.builder.command.Command.TheViews.{out-Command};
 ghost use Rattle.clap.specs.Words.{app_of, found_of, new_app, rows_of, subcommand_rows_of, with_rule};
-ghost use Rattle.etcs_run.specs.Command.{command_line, parsed_command, decode_command, encode_command, entered, has_radio, radio};
+ghost use Rattle.etcs_run.specs.Command.{command_line, parsed_command, entered, has_radio, radio};
 
 use clap::error::ErrorKind;
 use clap::{Arg, ArgAction, ArgMatches, Command as CommandLine};
+use etcs_bits::Memory;
 use std::alloc::{AllocError, Global};
 
 /// A command of the program.
@@ -62,28 +63,6 @@ fn is_radio(matches: &ArgMatches<'_>) -> bool
     }
 }
 
-// The command `decode`, of telegrams or of radio messages.
-fn decoding(radio: bool) -> Command
-    ensures { result ≡ decode_command radio }
-{
-    if radio {
-        Command::DecodeRadio
-    } else {
-        Command::Decode
-    }
-}
-
-// The command `encode`, of telegrams or of radio messages.
-fn encoding(radio: bool) -> Command
-    ensures { result ≡ encode_command radio }
-{
-    if radio {
-        Command::EncodeRadio
-    } else {
-        Command::Encode
-    }
-}
-
 // The command that `clap` found among the words.
 fn entered_command(matches: &ArgMatches<'_>) -> Option<Command>
     ensures { result ≡ entered (subcommand_rows_of matches.now) }
@@ -91,8 +70,10 @@ fn entered_command(matches: &ArgMatches<'_>) -> Option<Command>
     let (name, inner) = matches.subcommand()?;
     match name {
         "check" => Some(Command::Check),
-        "decode" => Some(decoding(is_radio(inner))),
-        "encode" => Some(encoding(is_radio(inner))),
+        "decode" if is_radio(inner) => Some(Command::DecodeRadio),
+        "decode" => Some(Command::Decode),
+        "encode" if is_radio(inner) => Some(Command::EncodeRadio),
+        "encode" => Some(Command::Encode),
         _ => None,
     }
 }
@@ -102,14 +83,14 @@ fn entered_command(matches: &ArgMatches<'_>) -> Option<Command>
 ///
 /// A request for help is not a command, so the texts of `clap` are never printed. Fails only if memory runs
 /// out; then no command is returned.
-pub fn read_command<'a>(alloc: Global, words: &'a [&'a str]) -> Result<Option<Command>, AllocError>
+pub fn read_command<'a>(alloc: Global, words: &'a [&'a str]) -> Result<Option<Command>, Memory>
     ensures { IfOk result (λ c. c ≡ parsed_command (map (λ w. w.now) words.entry.now)) }
 {
     let grammar = grammar(alloc)?;
     match grammar.try_get_matches_from(words) {
         Ok(matches) => Ok(entered_command(&matches)),
         Err(error) => match error.kind() {
-            ErrorKind::OutOfMemory => Err(AllocError),
+            ErrorKind::OutOfMemory => Err(Memory),
             _ => Ok(None),
         },
     }

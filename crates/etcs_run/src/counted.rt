@@ -72,14 +72,6 @@ impl<T> Counted<T> {
     {
         self.budget
     }
-
-    /// Whether the last call of the writer was a flush that succeeded.
-    #[inline]
-    pub(crate) fn is_flushed(&self) -> bool
-        ensures { result ≡ is_flushed self.now }
-    {
-        self.is_flushed
-    }
 }
 
 impl<R: Read> Read for Counted<R> {

@@ -5,7 +5,7 @@ ghost use Rattle.etcs_document.specs.Refusal.{line_words};
 ghost use Rattle.etcs_run.specs.Counted.{CanCount, FlushesNone, wrapped};
 ghost use Rattle.etcs_run.specs.LineReading.{CountsDevice};
 ghost use Rattle.etcs_run.specs.TextLines.{trimmed};
-ghost use Rattle.etcs_run.specs.Output.{after_line, answered};
+ghost use Rattle.etcs_run.specs.Output.{answered};
 ghost use Rattle.etcs_run.specs.Ran.{AnswersNextLine, AnswersLine};
 
 use crate::control_flow::ControlFlow;
@@ -47,57 +47,6 @@ pub(crate) fn refuse_line<W: Write>(
 {
     let status = refuse(alloc, &Refusal::Line(number, why), writer)?;
     Ok(ControlFlow::Stop(status))
-}
-
-// Writes the text of a line, or its refusal. `room` is the buffer of an earlier text.
-fn answer_line<M: TextLineMeaning, W: Write>(
-    alloc: Global,
-    meaning: &mut M,
-    number: u64,
-    line: &[u8],
-    room: &mut Vec<u8>,
-    writer: &mut Counted<W>,
-) -> Result<ControlFlow, RunError>
-    requires { CanCount writer.old }
-    ensures answers_line { AnswersLine (W.contents (wrapped writer.old)) (W.contents (wrapped writer.new))
-        (answered number (M.meaning line.now)) result }
-    ensures counts { CountsDevice result writer.old writer.new }
-    ensures unflushed { FlushesNone writer.old writer.new }
-{
-    let earlier = mem::replace(room, Vec::new(alloc));
-    match meaning.text(alloc, earlier, line) {
-        Ok(text) => {
-            put(writer, text.as_slice())?;
-            *room = text;
-            Ok(ControlFlow::Next)
-        }
-        Err(Unwritten::Memory) => Err(RunError::Memory),
-        Err(Unwritten::Refused(why)) => refuse_line(alloc, number, why, writer),
-    }
-}
-
-// Writes the answer to a line. An empty line is skipped.
-fn answer_or_skip<M: TextLineMeaning, W: Write>(
-    alloc: Global,
-    meaning: &mut M,
-    number: u64,
-    line: &[u8],
-    room: &mut Vec<u8>,
-    writer: &mut Counted<W>,
-) -> Result<ControlFlow, RunError>
-    requires { CanCount writer.old }
-    ensures answers_line { AnswersLine (W.contents (wrapped writer.old)) (W.contents (wrapped writer.new))
-        (after_line M.meaning number (trimmed line.now)) result }
-    ensures counts { CountsDevice result writer.old writer.new }
-    ensures unflushed { FlushesNone writer.old writer.new }
-    ensures empty { trimmed line.now ≡ [] → (result ≡ Ok ControlFlow.Next) × (writer.new ≡ writer.old) }
-{
-    let line = trim(line);
-    if line.is_empty() {
-        Ok(ControlFlow::Next)
-    } else {
-        answer_line(alloc, meaning, number, line, room, writer)
-    }
 }
 
 /// A command that answers each line by itself. Each line becomes its text, up to the first line without a
@@ -146,8 +95,20 @@ impl<M: TextLineMeaning> TextLineCommand for EachTextLine<M> {
         ensures unflushed { FlushesNone writer.old writer.new }
         ensures empty { trimmed line.now ≡ [] → (result ≡ Ok ControlFlow.Next) × (writer.new ≡ writer.old) }
     {
-        let EachTextLine { meaning, room } = self;
-        answer_or_skip(alloc, meaning, number, line, room, writer)
+        let line = trim(line);
+        if line.is_empty() {
+            return Ok(ControlFlow::Next);
+        }
+        let earlier = mem::replace(&mut self.room, Vec::new(alloc));
+        match self.meaning.text(alloc, earlier, line) {
+            Ok(text) => {
+                put(writer, text.as_slice())?;
+                self.room = text;
+                Ok(ControlFlow::Next)
+            }
+            Err(Unwritten::Memory) => Err(RunError::Memory),
+            Err(Unwritten::Refused(why)) => refuse_line(alloc, number, why, writer),
+        }
     }
 
     fn end<W: Write>(

@@ -16,7 +16,6 @@ use etcs_schema::{FormError, JsonError, JsonValue, ParsedJson};
 use etcs_telegram::Telegram;
 use json::Scratch;
 use serde_json::Value;
-use serde_json::error::Category;
 use std::alloc::Global;
 use std::marker::PhantomData;
 
@@ -26,10 +25,8 @@ fn value_of(alloc: Global, line: &[u8]) -> Result<Value, Unwritten>
 {
     match Value::from_slice(alloc, line) {
         Ok(value) => Ok(value),
-        Err(error) => match error.classify() {
-            Category::Memory => Err(Unwritten::Memory),
-            _ => Err(Unwritten::Refused(LineFault::Json)),
-        },
+        Err(error) if error.is_memory() => Err(Unwritten::Memory),
+        Err(_) => Err(Unwritten::Refused(LineFault::Json)),
     }
 }
 
@@ -46,15 +43,7 @@ fn record_of<T: Form, N: JsonValue>(alloc: Global, node: &N) -> Result<T, Unwrit
     }
 }
 
-// The record whose form the line is, if the line is too long for a tape.
-fn record_of_value<T: Form>(alloc: Global, line: &[u8]) -> Result<T, Unwritten>
-    ensures { Gives (λ x. x) result (parsed_record T.codec line.now) }
-{
-    let value = value_of(alloc, line)?;
-    record_of(alloc, &&value)
-}
-
-// The record whose form the line is.
+// The record whose form the line is. A line that is too long for a tape is read as a value.
 fn record_in_line<T: Form>(
     alloc: Global,
     scratch: &mut Scratch,
@@ -69,15 +58,14 @@ fn record_in_line<T: Form>(
         Ok(json) => record_of(alloc, &json.root()),
         Err(JsonError::NotJson) => Err(Unwritten::Refused(LineFault::Json)),
         Err(JsonError::Memory) => Err(Unwritten::Memory),
-        Err(JsonError::TooLong) => record_of_value(alloc, line),
+        Err(JsonError::TooLong) => record_of(alloc, &&value_of(alloc, line)?),
     }
 }
 
-// The digits with the end of the line. `room` is the buffer of an earlier line.
-fn ended_line(room: Vec<u8>, digits: &str) -> Result<Vec<u8>, Memory>
-    ensures { IfOk result (λ line. line.items ≡ digits.now ++ codes "\n") }
+// The digits with the end of the line, in the buffer of an earlier line.
+fn ended_line(mut line: Vec<u8>, digits: &str) -> Result<Vec<u8>, Memory>
+    ensures { IfOk result (λ v. v.items ≡ digits.now ++ codes "\n") }
 {
-    let mut line = room;
     line.clear();
     line.extend_from_slice(digits.as_bytes())?;
     line.push(b'\n')?;

@@ -29,10 +29,7 @@ pub fn put<W: Write>(writer: &mut Counted<W>, text: &[u8]) -> Result<(), RunErro
 {
     let mut count = 0;
     'writing: while count < text.len() {
-        match writer.write(&text[count..]) {
-            Ok(taken) => count += taken,
-            Err(_) => return Err(RunError::Device),
-        }
+        count += writer.write(&text[count..])?;
     }
     Ok(())
 }
@@ -48,10 +45,8 @@ pub fn finish<W: Write>(writer: &mut Counted<W>) -> Result<(), RunError>
     ensures counts { CountsDevice result writer.old writer.new }
     ensures device { IfErr result (λ e. e ≡ RunError.Device) }
 {
-    match writer.flush() {
-        Ok(()) => Ok(()),
-        Err(_) => Err(RunError::Device),
-    }
+    writer.flush()?;
+    Ok(())
 }
 
 /// Writes the text that is the whole output of a run, and flushes the writer. Returns the status.
@@ -77,8 +72,8 @@ pub fn write_out<W: Write>(
 
 /// Writes the refusal of the words, of a line or of a message, with its `\n`.
 ///
-/// `Memory`: an allocation failed, and nothing was written. `Device`: a write failed, and the writer's count of
-/// failures has risen by 1. What was written is a beginning of the refusal.
+/// `Memory`: an allocation failed. `Device`: a write failed, and the writer's count of failures has risen by 1.
+/// In both cases what was written is a beginning of the refusal.
 pub fn refuse<W: Write>(
     alloc: Global,
     why: &Refusal,
@@ -90,11 +85,7 @@ pub fn refuse<W: Write>(
     ensures counts { CountsDevice result writer.old writer.new }
     ensures unflushed { FlushesNone writer.old writer.new }
 {
-    match refusal_text(alloc, why) {
-        Ok(text) => {
-            put(writer, text.as_bytes())?;
-            Ok(Status::Refused)
-        }
-        Err(_) => Err(RunError::Memory),
-    }
+    let text = refusal_text(alloc, why)?;
+    put(writer, text.as_bytes())?;
+    Ok(Status::Refused)
 }

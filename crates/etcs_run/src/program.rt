@@ -20,12 +20,11 @@ use crate::radio_decoding::RadioDecoding;
 use crate::status::Status;
 use crate::telegram_lines::DecodingTelegrams;
 use crate::text_line_meaning::TextLineMeaning;
+use etcs_document::{Refusal, refusal_text};
 use etcs_radio::Message;
 use etcs_telegram::Telegram;
 use std::alloc::Global;
 use std::io::{Read, Write};
-
-const USAGE: &str = "refused: usage is balisecheck check, decode [--radio] or encode [--radio]\n";
 
 // Answers each line by its meaning.
 fn answer_each<M: TextLineMeaning, R: Read, W: Write>(
@@ -61,22 +60,16 @@ fn dispatch<R: Read, W: Write>(
     ensures flushed { EndsFlushed result writer.old writer.new }
     ensures counts { CountsOneDevice result reader.old reader.new writer.old writer.new }
 {
+    let Some(command) = command else {
+        let text = refusal_text(alloc, &Refusal::Usage)?;
+        return write_out(writer, text.as_bytes(), Status::Refused);
+    };
     match command {
-        Some(Command::Check) => check_input(alloc, reader, writer),
-        Some(Command::Decode) => answer_each(alloc, DecodingTelegrams, reader, writer),
-        Some(Command::DecodeRadio) => {
-            answer_input(alloc, RadioDecoding::new(alloc), reader, writer)
-        }
-        Some(Command::Encode) => answer_each(
-            alloc,
-            Encoding::<Telegram>::new(alloc),
-            reader,
-            writer,
-        ),
-        Some(Command::EncodeRadio) => {
-            answer_each(alloc, Encoding::<Message>::new(alloc), reader, writer)
-        }
-        None => write_out(writer, USAGE.as_bytes(), Status::Refused),
+        Command::Check => check_input(alloc, reader, writer),
+        Command::Decode => answer_each(alloc, DecodingTelegrams, reader, writer),
+        Command::DecodeRadio => answer_input(alloc, RadioDecoding::new(alloc), reader, writer),
+        Command::Encode => answer_each(alloc, Encoding::<Telegram>::new(alloc), reader, writer),
+        Command::EncodeRadio => answer_each(alloc, Encoding::<Message>::new(alloc), reader, writer),
     }
 }
 
@@ -118,8 +111,6 @@ pub fn run<'a, R: Read, W: Write>(
     // Only a failed device is counted, and `Device` is never returned for anything else.
     ensures counts { CountsOneDevice result reader.old reader.new writer.old writer.new }
 {
-    match read_command(alloc, words) {
-        Ok(command) => dispatch(alloc, command, reader, writer),
-        Err(_) => Err(RunError::Memory),
-    }
+    let command = read_command(alloc, words)?;
+    dispatch(alloc, command, reader, writer)
 }

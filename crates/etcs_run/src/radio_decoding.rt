@@ -32,44 +32,7 @@ fn message_line(alloc: Global, room: Vec<u8>, bytes: &[u8]) -> Result<Vec<u8>, D
     ensures { Means (λ line. line.items) result (message_json (read_message bytes.now)) }
 {
     let message = decode(alloc, bytes)?;
-    match json_line(room, &message) {
-        Ok(line) => Ok(line),
-        Err(_) => Err(DecodeError::Memory),
-    }
-}
-
-// Writes the JSON line of the message with this number, or its refusal. `room` is the buffer of an earlier
-// line.
-fn write_message<W: Write>(
-    alloc: Global,
-    number: u64,
-    bytes: &[u8],
-    room: &mut Vec<u8>,
-    writer: &mut Counted<W>,
-) -> Result<ControlFlow, RunError>
-    requires { CanCount writer.old }
-    ensures answers_line { AnswersLine (W.contents (wrapped writer.old)) (W.contents (wrapped writer.new))
-        (message_output number (message_json (read_message bytes.now))) result }
-    ensures counts { CountsDevice result writer.old writer.new }
-    ensures unflushed { FlushesNone writer.old writer.new }
-{
-    let earlier = mem::replace(room, Vec::new(alloc));
-    match message_line(alloc, earlier, bytes) {
-        Ok(line) => {
-            put(writer, line.as_slice())?;
-            *room = line;
-            Ok(ControlFlow::Next)
-        }
-        Err(DecodeError::Memory) => Err(RunError::Memory),
-        Err(DecodeError::Fault(fault)) => {
-            let status = refuse(
-                alloc,
-                &Refusal::Message(number, StreamFault::Fault(fault)),
-                writer,
-            )?;
-            Ok(ControlFlow::Stop(status))
-        }
-    }
+    Ok(json_line(room, &message)?)
 }
 
 /// A command that cuts the bytes of all lines into radio messages, independent of the ends of the lines, and
@@ -115,14 +78,20 @@ impl RadioDecoding {
         ensures counts { CountsDevice result writer.old writer.new }
         ensures unflushed { FlushesNone writer.old writer.new }
     {
-        let bytes = self.splitter.message();
-        match write_message(alloc, self.number, bytes, &mut self.room, writer)? {
-            ControlFlow::Next => {
+        let earlier = mem::replace(&mut self.room, Vec::new(alloc));
+        match message_line(alloc, earlier, self.splitter.message()) {
+            Ok(line) => {
+                put(writer, line.as_slice())?;
+                self.room = line;
                 self.splitter.clear();
                 self.number += 1;
                 Ok(ControlFlow::Next)
             }
-            ControlFlow::Stop(status) => Ok(ControlFlow::Stop(status)),
+            Err(DecodeError::Memory) => Err(RunError::Memory),
+            Err(DecodeError::Fault(fault)) => {
+                let why = Refusal::Message(self.number, StreamFault::Fault(fault));
+                Ok(ControlFlow::Stop(refuse(alloc, &why, writer)?))
+            }
         }
     }
 
@@ -149,11 +118,8 @@ impl RadioDecoding {
             match fed.state {
                 State::More => return Ok(ControlFlow::Next),
                 State::Failed => {
-                    let status = refuse(
-                        alloc,
-                        &Refusal::Message(self.number, StreamFault::BelowThree),
-                        writer,
-                    )?;
+                    let why = Refusal::Message(self.number, StreamFault::BelowThree);
+                    let status = refuse(alloc, &why, writer)?;
                     return Ok(ControlFlow::Stop(status));
                 }
                 State::Ready => {
@@ -195,13 +161,9 @@ impl TextLineCommand for RadioDecoding {
         writer: &mut Counted<W>,
     ) -> Result<Status, RunError> {
         if self.splitter.held() == 0 {
-            Ok(Status::Done)
-        } else {
-            refuse(
-                alloc,
-                &Refusal::Message(self.number, StreamFault::CutOff),
-                writer,
-            )
+            return Ok(Status::Done);
         }
+        let why = Refusal::Message(self.number, StreamFault::CutOff);
+        refuse(alloc, &why, writer)
     }
 }

@@ -21,10 +21,6 @@ impl Status {
         ensures findings { self ≡ Status.Findings → result ≡ 1 }
         ensures refused { self ≡ Status.Refused → result ≡ 2 }
     {
-        match self {
-            Status::Done => 0,
-            Status::Findings => 1,
-            Status::Refused => 2,
-        }
+        self as u8
     }
 }

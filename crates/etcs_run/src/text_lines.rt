@@ -4,14 +4,15 @@ ghost use Rattle.std.specs.Prelude.{◌≤◌, ◌<◌, vec_len, IfOk};
 
 use crate::counted::Counted;
 use crate::error::RunError;
-use std::alloc::{AllocError, Global};
+use etcs_bits::Memory;
+use std::alloc::Global;
 use std::io::Read;
 
 /// A buffer for one read.
-pub(crate) fn new_block(alloc: Global) -> Result<Vec<u8>, AllocError>
+pub(crate) fn new_block(alloc: Global) -> Result<Vec<u8>, Memory>
     ensures { IfOk result (λ block. 0 < vec_len block) }
 {
-    vec![in alloc; 0; 65_536]
+    Ok(vec![in alloc; 0; 65_536]?)
 }
 
 /// The last line, and the bytes that were read and belong to no line yet.
@@ -42,7 +43,7 @@ impl TextLines {
 
     /// The lines of an input from which nothing was read yet. Fails only if memory runs out; then
     /// nothing is returned.
-    pub fn new(alloc: Global) -> Result<TextLines, AllocError>
+    pub fn new(alloc: Global) -> Result<TextLines, Memory>
         ensures fresh { IfOk result (λ l. (held_bytes l ≡ []) × (has_ended l ≡ false)) }
         ensures line { IfOk result (λ l. last_line l ≡ []) }
     {
@@ -65,24 +66,19 @@ impl TextLines {
 
     // Moves the held bytes before the first `\n` to the line, and all of them if there is none.
     // Returns whether there is one.
-    fn move_line(&mut self) -> Result<bool, RunError>
-        ensures moves { MovesLine result self.old self.new }
-        ensures memory { IfErr result (λ e. e ≡ RunError.Memory) }
+    fn move_line(&mut self) -> Result<bool, Memory>
+        ensures moves { IfOk result (λ found. MovesLine found self.old self.new) }
         ensures same_end { has_ended self.new ≡ has_ended self.old }
     {
         let held = &self.block[self.from..self.to];
         match memchr::memchr(b'\n', held) {
             Some(end) => {
-                if self.line.extend_from_slice(&held[..end]).is_err() {
-                    return Err(RunError::Memory);
-                }
+                self.line.extend_from_slice(&held[..end])?;
                 self.from += end + 1;
                 Ok(true)
             }
             None => {
-                if self.line.extend_from_slice(held).is_err() {
-                    return Err(RunError::Memory);
-                }
+                self.line.extend_from_slice(held)?;
                 self.from = self.to;
                 Ok(false)
             }
@@ -119,15 +115,11 @@ impl TextLines {
             self.to = 0;
             return Ok(0);
         }
-        match reader.read(self.block.as_mut_slice()) {
-            Ok(count) => {
-                self.from = 0;
-                self.to = count;
-                self.has_ended = count == 0;
-                Ok(count)
-            }
-            Err(_) => Err(RunError::Device),
-        }
+        let count = reader.read(self.block.as_mut_slice())?;
+        self.from = 0;
+        self.to = count;
+        self.has_ended = count == 0;
+        Ok(count)
     }
 
     /// Finds the next line, and returns whether there is one. If not, the line is empty. The reader

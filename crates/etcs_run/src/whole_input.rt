@@ -26,10 +26,7 @@ fn read_more<R: Read>(
     // Each read that gives bytes lowers the budget.
     ensures lowers_budget { IfOk result (λ more. more ≡ true → read_budget reader.new < read_budget reader.old) }
 {
-    let count = match reader.read(block) {
-        Ok(count) => count,
-        Err(_) => return Err(RunError::Device),
-    };
+    let count = reader.read(block)?;
     match input.extend_from_slice(&block[..count]) {
         Ok(()) => Ok(0 < count),
         Err(_) => Err(RunError::Memory),
@@ -47,9 +44,7 @@ pub fn read_whole<R: Read>(alloc: Global, reader: &mut Counted<R>) -> Result<Vec
         (R.remaining (wrapped reader.new)) result }
     ensures counts { CountsDevice result reader.old reader.new }
 {
-    let Ok(mut block) = new_block(alloc) else {
-        return Err(RunError::Memory);
-    };
+    let mut block = new_block(alloc)?;
     let mut input = Vec::new(alloc);
     'reading: while read_more(block.as_mut_slice(), &mut input, reader)? {}
     Ok(input)

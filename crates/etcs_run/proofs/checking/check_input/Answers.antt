@@ -16,14 +16,17 @@ returns-in_err-document-clause-unwritten g c =
     rw passed_on.1 (λ none. refl)
 
 -- memory ran out before the answer was complete
-pub returns-in_default-clause-ran : goal.returns-in_default-clause-ran
-returns-in_default-clause-ran g c = Ran-unwritten _ c.in_ok-document.ensures.read
+pub returns-in_err-text-clause-ran : goal.returns-in_err-text-clause-ran
+returns-in_err-text-clause-ran g c =
+    let residual = c.from_residual-in_err-text in
+    let passed_on = err_from_is_err_and residual.result residual.ensures.1 in
+    rw passed_on.1 (Ran-unwritten passed_on.0 c.in_ok-document.ensures.read)
 
 -- the answer was written, or a beginning of it
 pub returns-clause-ran : goal.returns-clause-ran
 returns-clause-ran g c =
     let is =
-    ap (λ s. (s, c.in-Ok.status)) c.as_bytes.ensures.value ∙ c.in-Ok.ensures
+    ap (λ s. (s, c.in_ok-text.status)) c.as_bytes.ensures.value ∙ c.in_ok-text.ensures
     ∙ ap check_output c.as_slice.ensures.value in
     Ran-whole c.in_ok-document.ensures.read is c.write_out.ensures.writes
 

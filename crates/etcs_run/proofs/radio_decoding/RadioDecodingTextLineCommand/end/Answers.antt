@@ -11,8 +11,8 @@ returns-then-held-eq0-clause-writes g c number =
     ends_done (messages_written c.args.self.now) (kept_bytes c.args.self.now) number none
 
 -- a message has begun
-pub returns-else-held-eq0-clause-writes : goal.returns-else-held-eq0-clause-writes
-returns-else-held-eq0-clause-writes g c number =
+pub returns-clause-writes : goal.returns-clause-writes
+returns-clause-writes g c number =
     let some : kept_bytes c.args.self.now ≢ [] =
     λ none. c.if-held-eq0.false (c.held.ensures.value ∙ ap length none) in
     ends_cut_off (messages_written c.args.self.now) (kept_bytes c.args.self.now) number some c.refuse.ensures.writes
@@ -24,8 +24,8 @@ returns-then-held-eq0-clause-silent g c number silent =
     (ap Ok (sym (ends_silent (messages_written c.args.self.now) (kept_bytes c.args.self.now) number none)), refl)
 
 -- a message that has begun is always reported
-pub returns-else-held-eq0-clause-silent : goal.returns-else-held-eq0-clause-silent
-returns-else-held-eq0-clause-silent g c number silent =
+pub returns-clause-silent : goal.returns-clause-silent
+returns-clause-silent g c number silent =
     let some : kept_bytes c.args.self.now ≢ [] =
     λ none. c.if-held-eq0.false (c.held.ensures.value ∙ ap length none) in
     absurd (ends_told (messages_written c.args.self.now) (kept_bytes c.args.self.now) number some silent)

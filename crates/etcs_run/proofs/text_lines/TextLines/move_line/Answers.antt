@@ -4,8 +4,8 @@ use Rattle.etcs_run.proofs.LineLemmas.{found, not_found}
 use Rattle.etcs_run.proofs.text_lines.TextLines.move_line.Goals as goal
 
 -- the line grew by the bytes before the first `\n`
-pub returns-else-is_err-clause-moves : goal.returns-else-is_err-clause-moves
-returns-else-is_err-clause-moves c =
+pub returns-in_ok-extend_from_slice-in-Some-clause-moves : goal.returns-in_ok-extend_from_slice-in-Some-clause-moves
+returns-in_ok-extend_from_slice-in-Some-clause-moves c =
     let lines = c.args.self.now in
     let first = c.in-Some.ensures in
     let cut = found lines.block.items _ lines.from lines.to c.in-Some.end c.deref.ensures.value
@@ -13,8 +13,8 @@ returns-else-is_err-clause-moves c =
     (_, record { line = grind (arith, common_steps); plain = cut.0 }, cut.1)
 
 -- it grew by all held bytes, which have no `\n`
-pub returns-else-is_err-2-clause-moves : goal.returns-else-is_err-2-clause-moves
-returns-else-is_err-2-clause-moves c =
+pub returns-in_ok-extend_from_slice-in-None-clause-moves : goal.returns-in_ok-extend_from_slice-in-None-clause-moves
+returns-in_ok-extend_from_slice-in-None-clause-moves c =
     let lines = c.args.self.now in
     let held : List ℕ → List ℕ = λ xs. take (lines.to - lines.from) (drop lines.from xs) in
     let block = c.deref.ensures.value in
