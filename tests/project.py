@@ -80,7 +80,8 @@ def test_crates(tests):
     """The table of crates in architecture.md has each crate with those that it uses, without what these use already. Its
     picture has each crate but the trials, in a row above those that it uses."""
     lines = (TOP / "crates.txt").read_text(encoding="utf-8").splitlines()
-    uses = {name: set(used.split()) for name, _, used in (it.partition(":") for it in lines if not it.startswith("#"))}
+    parts = (it.partition(":") for it in lines if not it.startswith("#"))
+    uses = {name.split()[0]: set(used.split()) for name, _, used in parts}  # (a library for C has a word after its name)
     uses = {name: used & uses.keys() for name, used in uses.items()}
     all_uses = {}
     for name, used in uses.items():

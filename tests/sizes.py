@@ -48,7 +48,7 @@ def row(name, numbers):
 
 def main():
     """Prints the table."""
-    crates = re.findall(r"(?m)^(?!trials_)(\w+)\s*:", (TOP / "crates.txt").read_text(encoding="utf-8"))
+    crates = re.findall(r"(?m)^(?!trials_)(\w+)[\w\s]*:", (TOP / "crates.txt").read_text(encoding="utf-8"))
     found = {crate: sizes(crate) for crate in crates}
     print(row("", HEADS), *(row(*one) for one in found.items()), row("all", map(sum, zip(*found.values()))), sep="\n")
 
