@@ -27,8 +27,9 @@ from runner import TOP, answered, play, program, run
 
 FOLDER = TOP / "docs" / "assurance"
 PROOFS, SAFETY = ((FOLDER / name).read_text(encoding="utf-8") for name in ("proofs.md", "safety.md"))
-CALL = re.compile(r"`(etcs_\w+)::((?:\w+::)?\w+)`(?: \(((?:`\w+`(?:, )?)+)\))?")
-DEFINED = re.compile(r"`(etcs_\w+/\w+)\.antt`: ((?:`\w+`(?:, )?)+)|((?:`\w+`)) in `(etcs_\w+/\w+)\.antt`")
+CRATE = r"(?:etcs_\w+|balisecheck_c)"
+CALL = re.compile(rf"`({CRATE})::((?:\w+::)?\w+)`(?: \(((?:`\w+`(?:, )?)+)\))?")
+DEFINED = re.compile(rf"`({CRATE}/\w+)\.antt`: ((?:`\w+`(?:, )?)+)|((?:`\w+`)) in `({CRATE}/\w+)\.antt`")
 LINES = re.compile(r"(?m)^\| `(etcs_\w+/\w+)\.antt` \| (\d+) \|")
 LONE = "a1007f802000ffffffffffffffffffffffffffffffffffffffffc0"
 NOTHING = '{"groups":[],"messages":[]}'
@@ -48,7 +49,7 @@ def public_calls(crate):
                 block, is_open = line, " for " in line or " trait " in line
             elif line.startswith("}"):
                 block, is_open = "", False
-            head = re.match(r" *(pub )?(?:final )?fn (\w+)", line)
+            head = re.match(r" *(pub (?:extern \"C\" )?)?(?:final )?fn (\w+)", line)
             if head:
                 clauses = set() if head[1] or is_open else None
                 if clauses is not None:
@@ -66,6 +67,8 @@ def is_exported(crate, name):
     folder = TOP / "crates" / crate / "src"
     laws = folder / "laws.rt"
     if laws.exists() and re.search(rf"(?m)^pub fn {name}\b", laws.read_text(encoding="utf-8")):
+        return True
+    if any(f'pub extern "C" fn {name}(' in path.read_text(encoding="utf-8") for path in folder.glob("*.rt")):
         return True
     exports = re.findall(r"(?s)\npub use ([^;]+);", (folder / "lib.rt").read_text(encoding="utf-8"))
     return any(re.search(rf"\b{name}\b", it) for it in exports)
@@ -104,7 +107,7 @@ def is_there(span):
     first = span.split()[0]
     if first in ("rt", "diff", "export", "sha256sum"):
         return True
-    if re.fullmatch(r"etcs_\w+/\w+\.antt", first):
+    if re.fullmatch(rf"{CRATE}/\w+\.antt", first):
         return bool(definitions(first.removesuffix(".antt")))
     if "/" in first and not first.startswith("<"):
         path = first.removeprefix("./").replace("/NAME/", "/etcs_check/").rstrip("/")
