@@ -74,7 +74,10 @@ fn lists_are_accepted_or_refused(rt: HostRuntime) -> Result<(), Fail> {
     'rows: for (run, fronts, answer) in ROWS {
         assert_eq!(rt; message_of(rt.alloc(), run, fronts)?.as_str(), answer);
     }
-    assert_eq!(rt; message_of(rt.alloc(), Nominal, &PAIRS_AND_ONE[..8])?.as_str(), "ok");
+    assert_eq!(rt;
+        message_of(rt.alloc(), Nominal, &PAIRS_AND_ONE[..8])?.as_str(),
+        "ok"
+    );
     assert_eq!(rt;
         Refused::Memory.to_string(rt.alloc())?.as_str(),
         "out of memory"
