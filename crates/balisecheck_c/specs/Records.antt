@@ -1,10 +1,11 @@
 -- What the text of one record means: its JSON line, or its first fault. The line is the one that the program
 -- writes, and the fault is the one that it reports in words.
 use Rattle.std.specs.Prelude.{◌≡◌, ◌⊎◌, ℕ, List, [], Result, Ok, Err}
+use Rattle.etcs_digits.specs.Hexadecimal.{IsHexadecimal}
 use Rattle.etcs_schema.specs.Codec.{object}
 use Rattle.etcs_json.specs.AnyMessage.{message}
 use Rattle.etcs_json.specs.Telegrams.{telegram}
-use Rattle.etcs_radio.specs.Text.{HasHeadFault, IsHexadecimal}
+use Rattle.etcs_radio.specs.Text.{HasHeadFault}
 use Rattle.etcs_radio.specs.TextMeaning.{message_of_text}
 use Rattle.etcs_radio.specs.declared.error.RadioTextError.{RadioTextError}
 use Rattle.etcs_radio.specs.declared.error.RadioTextError.TheVariants as radio
