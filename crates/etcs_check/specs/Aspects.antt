@@ -39,7 +39,8 @@ has_aspect_counter t = nat_lt t.header.counter 254
 -- neither fixed (t, with counter 255, in every aspect) nor switched (a counter below 254 in every aspect)
 abbrev pub is_ambiguous : Aspects → ℕ → Telegram → Bool
 is_ambiguous aspects b t =
-    nat_lt 1 (length aspects) && not (all_pass (is_steady t) b aspects || all_pass has_aspect_counter b aspects)
+    nat_lt 1 (length aspects)
+    && not (all_pass (is_steady t) b aspects || all_pass has_aspect_counter b aspects)
 
 -- the location of a finding about a message or a whole group
 abbrev pub site_spot : Site → Spot

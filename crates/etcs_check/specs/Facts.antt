@@ -36,7 +36,8 @@ aspect_packets group (Some b) = option_map_or (λ t. t.packets) (slice_get group
 aspect_packets group None = []
 
 abbrev pub is_silent_balise : Telegrams → Run → Option ℕ → Bool
-is_silent_balise group run (Some b) = element_passes group b (λ t. is_silent run t.header.dup (length group) b)
+is_silent_balise group run (Some b) =
+    element_passes group b (λ t. is_silent run t.header.dup (length group) b)
 is_silent_balise group run None = false
 
 abbrev pub aspect_speech : Telegrams → Speech

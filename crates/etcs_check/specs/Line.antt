@@ -66,7 +66,8 @@ message_findings site m =
 
 -- the findings about the group at place i, and about all groups
 abbrev pub line_group_findings : List Aspects → ℕ → Aspects → List Finding
-line_group_findings groups i aspects = group_findings (sites.Group i) (is_used (take i groups) aspects) aspects
+line_group_findings groups i aspects =
+    group_findings (sites.Group i) (is_used (take i groups) aspects) aspects
 
 abbrev pub group_list : List Aspects → List Finding
 group_list groups = for_each groups (line_group_findings groups)

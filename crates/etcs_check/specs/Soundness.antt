@@ -20,7 +20,8 @@ use Rattle.etcs_check.specs.Profiles.{AreReached}
 -- A reading is sound: it makes the message of the reading with nothing missed, whose packets are reached.
 pub record IsSoundReading (group : Telegrams) (run : Run) (missed : ℕ → Bool) : Type 0 where
   pub accepted : IsAccepted run (group_reading run missed group)
-  pub same : assembled run (group_reading run missed group) ≡ assembled run (group_reading run none_missed group)
+  pub same : assembled run (group_reading run missed group)
+      ≡ assembled run (group_reading run none_missed group)
   pub reached : AreReached (assembled run (group_reading run missed group))
 
 -- A sound group is well formed, and in each running direction each covered reading of it is sound.

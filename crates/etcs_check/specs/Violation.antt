@@ -1,7 +1,7 @@
 -- What a finding means: which part of soundness does not hold at its location, and what follows for the
 -- readings of its group. Each part is named as in IsWellFormed, HasOneCounter, HasEqualPairs, HasProfiles,
--- AreOneGroup, IsSoundMessage or IsSoundLine. It holds in each sound line (a_sound_line_has_no_violation), and
--- wherever its rule has no finding (parts_hold_unless_found).
+-- AreOneGroup, IsSoundMessage or IsSoundLine. It holds in each sound line (a_sound_line_has_no_violation),
+-- and wherever its rule has no finding (parts_hold_unless_found).
 use Rattle.std.specs.Prelude.{◌≡◌, ◌≢◌, ℕ, suc, ◌+◌, ◌<◌, ◌≤◌, ◌==◌, Bool, List, length, filter, Option, Some, None, is_some, IsSome, IsTrue, IsFalse, ⊤, ◌⊎◌}
 use Rattle.etcs_bits.specs.declared.variables.duplicate.Dup.TheVariants as dups
 use Rattle.etcs_profile.specs.Track.{holds}
@@ -75,7 +75,8 @@ AffectsReadings group rule run b = ⊤
 
 -- if there is an authority among the packets, there is a profile of the kind
 abbrev pub HasProfile : (TrackPacket → Option Reach) → List TrackPacket → Type 0
-HasProfile reach packets = (i : ℕ) (a : TrackPacket) (limit : ℕ) → At packets i a → packet_limit a ≡ Some limit
+HasProfile reach packets =
+    (i : ℕ) (a : TrackPacket) (limit : ℕ) → At packets i a → packet_limit a ≡ Some limit
     → (j : ℕ) × (p : TrackPacket) × At packets j p × IsTrue (is_some (reach p))
 
 -- if p is a profile of the kind, it reaches the supervised location of each authority among the packets
@@ -133,7 +134,8 @@ AspectPart aspects a group rules.GradientShort (Some run) (Some b) (Some k) =
     IsLongProfile gradient_reach group run b k
 AspectPart aspects a group rules.NoSpeed (Some run) None None =
     HasProfile speed_reach (group_message run group)
-AspectPart aspects a group rules.SpeedShort (Some run) (Some b) (Some k) = IsLongProfile speed_reach group run b k
+AspectPart aspects a group rules.SpeedShort (Some run) (Some b) (Some k) =
+    IsLongProfile speed_reach group run b k
 -- marks
 AspectPart aspects a group rules.MarksDiffer None (Some b) None =
     (t first : Telegram) → At group b t → At (first_aspect aspects) b first → t.header.dup ≡ first.header.dup

@@ -80,12 +80,14 @@ has_count (Some first) count = count == first
 unfoldable pub aspect_telegrams : ℕ → Option ℕ → Option ℕ → List Data → Result Telegrams DocumentFault
 aspect_telegrams g a first ds =
     if nat_lt 0 (length ds) && nat_le (length ds) 8
-    then (if has_count first (length ds) then read_indexed (balise_telegram g a) 0 ds else Err (bad_aspects g))
+    then (if has_count first (length ds)
+    then read_indexed (balise_telegram g a) 0 ds else Err (bad_aspects g))
     else Err (bad_count g)
 
 -- group g, or aspect a of that group: first its form, then the number of its balises, and then each balise
 unfoldable pub group_aspect : ℕ → Option ℕ → Option ℕ → Data → Result Telegrams DocumentFault
-group_aspect g first a d = in_form (group_path g a) (only_values (codes "balises") d) then aspect_telegrams g a first
+group_aspect g first a d =
+    in_form (group_path g a) (only_values (codes "balises") d) then aspect_telegrams g a first
 
 -- the aspects after the first, which has `count` balises
 abbrev pub other_aspects : ℕ → ℕ → List Data → Result Aspects DocumentFault

@@ -53,7 +53,8 @@ agree g h =
 
 -- the telegram at the place differs from the one at place 0 in one of these
 abbrev pub header_disagrees : Telegrams → ℕ → Bool
-header_disagrees s i = element_passes s 0 (λ first. element_passes s i (λ t. not (agree first.header t.header)))
+header_disagrees s i =
+    element_passes s 0 (λ first. element_passes s i (λ t. not (agree first.header t.header)))
 
 -- its position is above its total, or it does not come after the telegram at the place before it
 abbrev pub is_misplaced : Run → Telegrams → ℕ → Bool

@@ -59,7 +59,8 @@ pub record IsMixtureDecided (run : Run) (aspects : Aspects) (shown : ℕ → Opt
       × ((a : ℕ) × (group : Telegrams) × At aspects a group × HasAllShown aspects shown group))
   pub packets : (a : ℕ) (group : Telegrams) → At aspects a group → HasAllShown aspects shown group
       → IsAccepted run (mixture_reading run aspects shown)
-      → assembled run (mixture_reading run aspects shown) ≡ assembled run (group_reading run none_missed group)
+      → assembled run (mixture_reading run aspects shown)
+      ≡ assembled run (group_reading run none_missed group)
 
 -- The law about mixtures, for a controlled group whose aspects make one message each and, if there are two
 -- or more, are contents of one group and distinguished by their counters.

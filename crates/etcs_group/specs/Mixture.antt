@@ -40,4 +40,5 @@ mixture_reading run aspects shown =
 
 -- an aspect has, at their places, all the telegrams that are shown
 abbrev pub HasAllShown : Aspects → (ℕ → Option ℕ) → Telegrams → Type 0
-HasAllShown aspects shown group = (p : ℕ) (t : Telegram) → shown_telegram aspects shown p ≡ Some t → At group p t
+HasAllShown aspects shown group =
+    (p : ℕ) (t : Telegram) → shown_telegram aspects shown p ≡ Some t → At group p t

@@ -28,4 +28,5 @@ numbered = either (movement track_packet) (last (position train_packet)) refl
 
 -- NID_MESSAGE is read first: 3 or 136
 unfoldable pub message : Codec Message
-message = renamed either_message message_kinds message_again (chosen (codes "nid_message") numbered.allows numbered (λ v _. numbered.is_number v))
+message = renamed either_message message_kinds message_again
+    (chosen (codes "nid_message") numbered.allows numbered (λ v _. numbered.is_number v))

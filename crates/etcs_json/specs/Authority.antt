@@ -18,19 +18,22 @@ use Rattle.etcs_schema.specs.Variables.{is_allowed, number}
 unfoldable pub section_timer : ObjectMembers section_timer_layout.rows
 section_timer =
     closed (struct section_timer_struct
-    (key (codes "t_sectiontimer") (number t_sectiontimer.fields) then key (codes "d_sectiontimerstoploc") (number d_sectiontimerstoploc.fields))) refl
+    (key (codes "t_sectiontimer") (number t_sectiontimer.fields)
+    then key (codes "d_sectiontimerstoploc") (number d_sectiontimerstoploc.fields))) refl
 
 -- a section
 unfoldable pub section : ObjectMembers section_layout.rows
 section =
     closed (struct section_struct
-    (key (codes "l_section") (number l_section.fields) then optional_key (codes "section_timer") (object section_timer))) refl
+    (key (codes "l_section") (number l_section.fields)
+    then optional_key (codes "section_timer") (object section_timer))) refl
 
 -- how long the end section is granted, and where its timer starts
 unfoldable pub end_timer : ObjectMembers end_timer_layout.rows
 end_timer =
     closed (struct end_timer_struct
-    (key (codes "t_endtimer") (number t_endtimer.fields) then key (codes "d_endtimerstartloc") (number d_endtimerstartloc.fields))) refl
+    (key (codes "t_endtimer") (number t_endtimer.fields)
+    then key (codes "d_endtimerstartloc") (number d_endtimerstartloc.fields))) refl
 
 -- the danger point, and its release speed
 unfoldable pub danger_point : ObjectMembers danger_point_layout.rows
@@ -42,23 +45,30 @@ danger_point =
 unfoldable pub overlap : ObjectMembers overlap_layout.rows
 overlap =
     closed (struct overlap_struct
-    (key (codes "d_startol") (number d_startol.fields) then key (codes "t_ol") (number t_ol.fields) then key (codes "d_ol") (number d_ol.fields)
+    (key (codes "d_startol") (number d_startol.fields)
+    then key (codes "t_ol") (number t_ol.fields) then key (codes "d_ol") (number d_ol.fields)
     then key (codes "v_releaseol") (number v_releaseol.fields))) refl
 
 -- ---- the members of both packets
 
 -- the optional members after the end section: its two timers, the danger point, the overlap
-unfoldable pub end_parts : MemberCodec (pair_rows (option_rows section_timer_layout.rows) (pair_rows (option_rows end_timer_layout.rows) (pair_rows (option_rows danger_point_layout.rows) (option_rows overlap_layout.rows))))
+unfoldable pub end_parts : MemberCodec
+    (pair_rows (option_rows section_timer_layout.rows)
+    (pair_rows (option_rows end_timer_layout.rows)
+    (pair_rows (option_rows danger_point_layout.rows) (option_rows overlap_layout.rows))))
 end_parts =
-    optional_key (codes "section_timer") (object section_timer) then optional_key (codes "end_timer") (object end_timer)
-    then optional_key (codes "danger_point") (object danger_point) then optional_key (codes "overlap") (object overlap)
+    optional_key (codes "section_timer") (object section_timer)
+    then optional_key (codes "end_timer") (object end_timer)
+    then optional_key (codes "danger_point") (object danger_point)
+    then optional_key (codes "overlap") (object overlap)
 
 -- the conditions: V_LOA, T_LOA, the sections, L_ENDSECTION, and the members after the end section
 unfoldable pub terms : MemberCodec terms_layout.rows
 terms =
     struct conditions_struct
     (key (codes "end_speed") (number v_loa.fields) then key (codes "end_timeout") (number t_loa.fields)
-    then key (codes "sections") (list (object section)) then key (codes "l_endsection") (number l_endsection.fields) then end_parts)
+    then key (codes "sections") (list (object section))
+    then key (codes "l_endsection") (number l_endsection.fields) then end_parts)
 
 -- ---- the packets
 
@@ -76,10 +86,12 @@ without_main = numbered_members (headed (scaled terms)) refl
 abbrev pub either_authority : Choice (codes "nid_packet") authority_variable (WithMain ⊎ WithoutMain)
 either_authority = either with_main (last without_main) refl
 
-pub either_nid : (v : WithMain ⊎ WithoutMain) → is_allowed (ranged 8 254 256) (either_authority.number v) ≡ true
+pub either_nid : (v : WithMain ⊎ WithoutMain)
+    → is_allowed (ranged 8 254 256) (either_authority.number v) ≡ true
 either_nid (inl p) = refl
 either_nid (inr p) = refl
 
 -- a movement authority; NID_PACKET is read before the other keys
 unfoldable pub authority : Codec AuthorityValue
-authority = renamed make_authority authority_parts again (chosen (codes "nid_packet") (is_allowed (ranged 8 254 256)) either_authority (λ v _. either_nid v))
+authority = renamed make_authority authority_parts again
+    (chosen (codes "nid_packet") (is_allowed (ranged 8 254 256)) either_authority (λ v _. either_nid v))

@@ -22,7 +22,8 @@ pub record IsTelegramInRange (t : Telegram) : Type 0 where
 
 -- The form of a telegram is read as that telegram.
 abbrev pub TelegramsAreReadAgain : Type 0
-TelegramsAreReadAgain = (t : Telegram) → IsTelegramInRange t → (object telegram).of ((object telegram).to t) ≡ Ok t
+TelegramsAreReadAgain =
+    (t : Telegram) → IsTelegramInRange t → (object telegram).of ((object telegram).to t) ≡ Ok t
 
 -- Two telegrams with one form are equal.
 abbrev pub TelegramsHaveFormsOfTheirOwn : Type 0

@@ -22,27 +22,41 @@ no_packet = at_once Range (key_step (codes "packets"))
 -- its rows after the number, in the order of the keys
 abbrev pub movement_rows : Codec TrackPacket → Movement → List Row
 movement_rows packet =
-    rows_holding (λ m. has_authority m.packets) (λ m. pair_rows t_train.rows (pair_rows m_ack.rows (pair_rows nid_c.rows (pair_rows nid_bg.rows (flat_map packet.rows))))
+    rows_holding (λ m. has_authority m.packets)
+    (λ m. pair_rows t_train.rows
+    (pair_rows m_ack.rows (pair_rows nid_c.rows (pair_rows nid_bg.rows (flat_map packet.rows))))
     (m.time, (m.ack, (m.lrbg.country, (m.lrbg.group, m.packets)))))
 
 -- message 3: a packet 15 is among its packets
-unfoldable pub movement : (packet : Codec TrackPacket) → NumberedMembers (codes "nid_message") 3 (movement_rows packet)
+unfoldable pub movement : (packet : Codec TrackPacket)
+    → NumberedMembers (codes "nid_message") 3 (movement_rows packet)
 movement packet =
     numbered_members (holding no_packet (λ m. has_authority m.packets) (named
-    (λ p. record { time = p.0; ack = p.1.0; lrbg = record { country = p.1.1.0; group = p.1.1.1.0 }; packets = p.1.1.1.1 })
+    (λ p. record {
+      time = p.0;
+      ack = p.1.0;
+      lrbg = record { country = p.1.1.0; group = p.1.1.1.0 };
+      packets = p.1.1.1.1;
+    })
     (λ m. (m.time, (m.ack, (m.lrbg.country, (m.lrbg.group, m.packets)))))
     (λ _. refl)
-    (key (codes "t_train") (number t_train.fields) then key (codes "m_ack") flag then key (codes "nid_c") (number nid_c.fields)
+    (key (codes "t_train") (number t_train.fields)
+    then key (codes "m_ack") flag then key (codes "nid_c") (number nid_c.fields)
     then key (codes "nid_bg") (number nid_bg.fields) then key (codes "packets") (listed packet)))) refl
 
 abbrev pub position_rows : Codec TrainPacket → Position → List Row
-position_rows packet = rows_holding (λ m. has_report m.packets) (λ m. pair_rows t_train.rows (pair_rows nid_engine.rows (flat_map packet.rows)) (m.time, (m.engine, m.packets)))
+position_rows packet = rows_holding (λ m. has_report m.packets)
+    (λ m. pair_rows t_train.rows
+    (pair_rows nid_engine.rows (flat_map packet.rows)) (m.time, (m.engine, m.packets)))
 
 -- message 136: a packet 0 or 1 is among its packets
-unfoldable pub position : (packet : Codec TrainPacket) → NumberedMembers (codes "nid_message") 136 (position_rows packet)
+unfoldable pub position : (packet : Codec TrainPacket)
+    → NumberedMembers (codes "nid_message") 136 (position_rows packet)
 position packet =
     numbered_members (holding no_packet (λ m. has_report m.packets) (named
     (λ p. record { time = p.0; engine = p.1.0; packets = p.1.1 })
     (λ m. (m.time, (m.engine, m.packets)))
     (λ _. refl)
-    (key (codes "t_train") (number t_train.fields) then key (codes "nid_engine") (number nid_engine.fields) then key (codes "packets") (listed packet)))) refl
+    (key (codes "t_train") (number t_train.fields)
+    then key (codes "nid_engine") (number nid_engine.fields)
+    then key (codes "packets") (listed packet)))) refl

@@ -14,4 +14,5 @@ raw_packet =
     (λ p. make_raw p.0 p.1)
     (λ r. (r.number, (r.dir, r.body)))
     raw_again
-    (key (codes "nid_packet") (variable nid_raw) then key (codes "q_dir") direction then counted_body 10)) refl
+    (key (codes "nid_packet") (variable nid_raw)
+    then key (codes "q_dir") direction then counted_body 10)) refl

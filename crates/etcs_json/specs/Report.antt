@@ -21,7 +21,8 @@ use Rattle.etcs_schema.specs.Variables.{is_allowed, named_numbers, number, scale
 
 -- the identity of a group, as its country and its number there
 abbrev pub identity : List ℕ → List ℕ → MemberCodec identity_layout.rows
-identity country group = struct identity_struct (key country (number nid_c.fields) then key group (number nid_bg.fields))
+identity country group =
+    struct identity_struct (key country (number nid_c.fields) then key group (number nid_bg.fields))
 
 -- a group whose bits are one number of 24 bits
 pub lrbg_allowed : (i : Identity) → AreAllowed (lrbg_rows i) → AreAllowed (identity_layout.rows i)
@@ -40,7 +41,8 @@ abbrev pub side : Codec Train3
 side = named_numbers train3_variable train3_number train3_value train3_names
 
 pub length_keys : (n : ℕ) → HasKeys (length_numbered.next n) (codes "l_trainint" ∷ [])
-length_keys n = keys_by _ _ _ (n == 0) tt (keys_by _ _ _ (n == 1) (λ _. tt) (keys_by _ _ _ (n == 2) (λ _. tt) tt))
+length_keys n =
+    keys_by _ _ _ (n == 0) tt (keys_by _ _ _ (n == 1) (λ _. tt) (keys_by _ _ _ (n == 2) (λ _. tt) tt))
 
 -- Q_LENGTH, and L_TRAININT at 1 and 2: whether the train is complete, and its length
 abbrev pub integrity : MemberCodec q_length.rows
@@ -51,16 +53,22 @@ integrity = keyed_variables (codes "q_length" ∷ codes "l_trainint" ∷ []) q_l
 -- where the train is, as seen from the group; whether it is complete, how it runs, in which mode and level
 unfoldable pub situation : MemberCodec situation_layout.rows
 situation =
-    key (codes "d_lrbg") (number d_lrbg.fields) then key (codes "q_dirlrbg") side then key (codes "q_dlrbg") side
-    then key (codes "l_doubtover") (number l_doubtover.fields) then key (codes "l_doubtunder") (number l_doubtunder.fields) then integrity then key (codes "v_train") (number v_train.fields)
-    then key (codes "q_dirtrain") side then key (codes "m_mode") (number m_mode.fields) then level (codes "m_level")
+    key (codes "d_lrbg") (number d_lrbg.fields)
+    then key (codes "q_dirlrbg") side then key (codes "q_dlrbg") side
+    then key (codes "l_doubtover") (number l_doubtover.fields)
+    then key (codes "l_doubtunder") (number l_doubtunder.fields)
+    then integrity then key (codes "v_train") (number v_train.fields)
+    then key (codes "q_dirtrain") side
+    then key (codes "m_mode") (number m_mode.fields) then level (codes "m_level")
 
 -- ---- the packets
 
 -- packet 0
 unfoldable pub with_one : Packet 0 with_one_layout.rows
 unfolding situation
-with_one = numbered_members (sized 8 (key (codes "q_scale") scale then lrbg (codes "nid_c") (codes "nid_bg") then situation)) refl
+with_one =
+    numbered_members
+    (sized 8 (key (codes "q_scale") scale then lrbg (codes "nid_c") (codes "nid_bg") then situation)) refl
 
 -- packet 1: the previous group comes after the group
 unfoldable pub with_two : Packet 1 with_two_layout.rows
@@ -79,4 +87,5 @@ either_nid (inr p) = refl
 
 -- a position report; NID_PACKET is read first
 unfoldable pub report : Codec Report
-report = renamed make_report report_parts again (chosen (codes "nid_packet") (is_allowed (plain 1)) either_report (λ v _. either_nid v))
+report = renamed make_report report_parts again
+    (chosen (codes "nid_packet") (is_allowed (plain 1)) either_report (λ v _. either_nid v))

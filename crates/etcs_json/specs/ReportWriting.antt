@@ -14,10 +14,13 @@ use Rattle.etcs_schema.specs.Variables.{scale}
 unfoldable pub first_members : Report → List Entry
 first_members r =
     (codes "d_lrbg", Some (number_data r.distance)) ∷ (codes "l_doubtover", Some (number_data r.doubt_over))
-    ∷ (codes "l_doubtunder", Some (number_data r.doubt_under)) ∷ (codes "l_trainint", optional number_data (row_number 1 (q_length.rows r.length)))
-    ∷ (codes "m_level", Some (number_data (level_number r.level))) ∷ (codes "m_mode", Some (number_data r.mode))
+    ∷ (codes "l_doubtunder", Some (number_data r.doubt_under))
+    ∷ (codes "l_trainint", optional number_data (row_number 1 (q_length.rows r.length)))
+    ∷ (codes "m_level", Some (number_data (level_number r.level)))
+    ∷ (codes "m_mode", Some (number_data r.mode))
     ∷ (codes "nid_bg", Some (number_data r.lrbg.group)) ∷ (codes "nid_c", Some (number_data r.lrbg.country))
-    ∷ (codes "nid_ntc", optional number_data (row_number 1 (m_level.rows r.level))) ∷ (codes "nid_packet", Some (number_data (report_number r))) ∷ []
+    ∷ (codes "nid_ntc", optional number_data (row_number 1 (m_level.rows r.level)))
+    ∷ (codes "nid_packet", Some (number_data (report_number r))) ∷ []
 
 -- the members after NID_PACKET; only packet 1 has the previous group
 unfoldable pub last_members : Report → List Entry
@@ -25,7 +28,8 @@ last_members r =
     (codes "prv_nid_bg", optional number_data (option_map (λ i. i.group) r.previous))
     ∷ (codes "prv_nid_c", optional number_data (option_map (λ i. i.country) r.previous))
     ∷ (codes "q_dirlrbg", Some (side.to r.orientation)) ∷ (codes "q_dirtrain", Some (side.to r.running))
-    ∷ (codes "q_dlrbg", Some (side.to r.side)) ∷ (codes "q_length", Some (number_data (length_number r.length)))
+    ∷ (codes "q_dlrbg", Some (side.to r.side))
+    ∷ (codes "q_length", Some (number_data (length_number r.length)))
     ∷ (codes "q_scale", Some (scale.to r.scale)) ∷ (codes "v_train", Some (number_data r.speed)) ∷ []
 
 abbrev pub written_members : Report → List Entry

@@ -40,7 +40,9 @@ size = record {
   rows = λ _. [];
   to = λ s. number_data (user_bits s);
   of = λ d. as_kind size_from_bits (allowed_number is_size d);
-  again = λ s _. ap (as_kind size_from_bits) (number_again is_size (user_bits s) (is_one s)) ∙ ap Ok (size_again s);
+  again =
+      λ s _. ap (as_kind size_from_bits) (number_again is_size (user_bits s) (is_one s))
+      ∙ ap Ok (size_again s);
 }
 
 -- the header; the bits have Q_UPDOWN and Q_MEDIA too
@@ -48,7 +50,8 @@ unfoldable pub header : MemberCodec header_layout.rows
 header =
     struct header_struct
     (unstated (only_number 1 1 Downlink) 1 (key (codes "m_version") version
-    then unstated (only_number 1 0 Loop) 0 (key (codes "n_pig") (number n_pig.fields) then key (codes "n_total") (number n_total.fields)
+    then unstated (only_number 1 0 Loop) 0
+    (key (codes "n_pig") (number n_pig.fields) then key (codes "n_total") (number n_total.fields)
     then key (codes "m_dup") duplicate then key (codes "m_mcount") (number m_mcount.fields)
     then identity (codes "nid_c") (codes "nid_bg") then key (codes "q_link") flag)))
 

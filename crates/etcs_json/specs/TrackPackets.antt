@@ -25,31 +25,41 @@ use Rattle.etcs_json.specs.Cover.{cover}
 use Rattle.etcs_json.specs.Raw.{raw_packet}
 use Rattle.etcs_json.specs.Transition.{transition}
 
--- a packet of elements that has no more bits than L_PACKET counts, of which 23 are NID_PACKET, Q_DIR and L_PACKET
+-- a packet of elements that has no more bits than L_PACKET counts, with the 23 of NID_PACKET, Q_DIR, L_PACKET
 abbrev pub is_short : {X : Type 0} → Format X → Dir × Profile X → Bool
 is_short layout p = nat_le (23 + width ((elements layout).rows p.1)) 8191
 
-pub profile_short : {X : Type 0} (layout : Format X) (p : Dir × Profile X) → AreAllowed ((rest (elements layout)).rows p) → is_short layout p ≡ true
+pub profile_short : {X : Type 0} (layout : Format X) (p : Dir × Profile X)
+    → AreAllowed ((rest (elements layout)).rows p) → is_short layout p ≡ true
 unfolding alone
-profile_short layout p allowed = le-leb (23 + width ((elements layout).rows p.1)) 8191 (omega (arith, allowed.1.0.0))
+profile_short layout p allowed =
+    le-leb (23 + width ((elements layout).rows p.1)) 8191 (omega (arith, allowed.1.0.0))
 
 -- a packet with a list of elements at this key; it is refused if it is too long
-abbrev pub profile : {X : Type 0} → List ℕ → (layout : Format X) → ObjectMembers layout.rows → MemberCodec (rest (elements layout)).rows
+abbrev pub profile : {X : Type 0} → List ℕ → (layout : Format X)
+    → ObjectMembers layout.rows → MemberCodec (rest (elements layout)).rows
 profile name layout element =
-    tested (here Range) (is_short layout) (profile_short layout) (headed (struct profile_struct (scaled (key name (non_empty_list (object element))))))
+    tested (here Range) (is_short layout) (profile_short layout)
+    (headed (struct profile_struct (scaled (key name (non_empty_list (object element))))))
 
 -- what such a packet is read as
-abbrev pub decoded_profile : {X : Type 0} → List ℕ → Format X → (Data → Result X Fault) → Data → Result (Dir × Profile X) Fault
+abbrev pub decoded_profile : {X : Type 0} → List ℕ → Format X
+    → (Data → Result X Fault) → Data → Result (Dir × Profile X) Fault
 decoded_profile name layout element d =
     decoded_pair (required_member direction.of (codes "q_dir"))
-    (λ e. decoded_pair (required_member scale.of (codes "q_scale")) (required_member (first_and_others element 32) name) e >>= λ p. Ok (profile_struct.make p)) d >>= only (here Range) (is_short layout)
+    (λ e. decoded_pair (required_member scale.of (codes "q_scale"))
+    (required_member (first_and_others element 32) name) e >>= λ p. Ok (profile_struct.make p)) d
+    >>= only (here Range) (is_short layout)
 
 -- a balise group ahead; it has a country if and only if Q_NEWCOUNTRY is 1
 unfoldable pub link : ObjectMembers link_layout.rows
 link =
     closed (struct link_struct
-    (key (codes "d_link") (number d_link.fields) then optional_key (codes "nid_c") (number nid_c.fields) then key (codes "nid_bg") (number nid_bg.fields)
-    then key (codes "q_linkorientation") flag then key (codes "q_linkreaction") (number q_linkreaction.fields) then key (codes "q_locacc") (number q_locacc.fields))) refl
+    (key (codes "d_link") (number d_link.fields)
+    then optional_key (codes "nid_c") (number nid_c.fields)
+    then key (codes "nid_bg") (number nid_bg.fields)
+    then key (codes "q_linkorientation") flag then key (codes "q_linkreaction") (number q_linkreaction.fields)
+    then key (codes "q_locacc") (number q_locacc.fields))) refl
 
 -- what packet 5 has after its number
 unfoldable pub linking : Packet 5 (rest (elements link_layout)).rows
@@ -59,7 +69,8 @@ linking = numbered_members (profile (codes "links") link_layout link) refl
 unfoldable pub gradient_element : ObjectMembers gradient_layout.rows
 gradient_element =
     closed (struct gradient_struct
-    (key (codes "d_gradient") (number d_gradient.fields) then key (codes "q_gdir") flag then key (codes "g_a") (number g_a.fields))) refl
+    (key (codes "d_gradient") (number d_gradient.fields)
+    then key (codes "q_gdir") flag then key (codes "g_a") (number g_a.fields))) refl
 
 -- what packet 21 has after its number
 unfoldable pub gradient : Packet 21 (rest (elements gradient_layout)).rows
@@ -69,13 +80,15 @@ gradient = numbered_members (profile (codes "elements") gradient_layout gradient
 unfoldable pub difference : ObjectMembers difference_layout.rows
 difference =
     closed (struct difference_struct
-    (key (codes "q_diff") (number q_diff.fields) then key (codes "nc") (number nc_diff.fields) then key (codes "v_diff") (number v_diff.fields))) refl
+    (key (codes "q_diff") (number q_diff.fields) then key (codes "nc") (number nc_diff.fields)
+    then key (codes "v_diff") (number v_diff.fields))) refl
 
 -- a speed, and the place where it begins
 unfoldable pub speed_element : ObjectMembers speed_layout.rows
 speed_element =
     closed (struct speed_struct
-    (key (codes "d_static") (number d_static.fields) then key (codes "v_static") (number v_static.fields) then key (codes "q_front") flag
+    (key (codes "d_static") (number d_static.fields)
+    then key (codes "v_static") (number v_static.fields) then key (codes "q_front") flag
     then key (codes "differences") (list (object difference)))) refl
 
 -- what packet 27 has after its number
@@ -90,7 +103,9 @@ raw_has p = begins_with (codes "nid_packet") p.number raw_packet p _ refl
 
 -- a packet whose layout is not known
 abbrev pub raw : Choice (codes "nid_packet") nid_track RawPacket
-raw = others nid_raw (λ p. p.number) other_bits.rows raw_packet refl (λ p. other_of p.number (length p.body) p.kept) raw_has
+raw =
+    others nid_raw (λ p. p.number) other_bits.rows raw_packet refl
+    (λ p. other_of p.number (length p.body) p.kept) raw_has
 
 abbrev pub track_numbered : Choice (codes "nid_packet") nid_track NumberedTrackPacket
 track_numbered =
@@ -105,4 +120,6 @@ track_numbered =
 
 -- NID_PACKET is read first; 255, the end mark, is the number of no packet
 abbrev pub track_packet : Codec TrackPacket
-track_packet = renamed make_track_packet track_parts again (chosen (codes "nid_packet") (is_allowed (ranged 8 254 256)) track_numbered (λ v nid. nid_range (track_numbered.number v) nid.0 nid.1))
+track_packet = renamed make_track_packet track_parts again
+    (chosen (codes "nid_packet") (is_allowed (ranged 8 254 256)) track_numbered
+    (λ v nid. nid_range (track_numbered.number v) nid.0 nid.1))

@@ -20,11 +20,15 @@ raw_has p = begins_with (codes "nid_packet") p.number raw_train_packet p _ refl
 
 -- a packet whose layout is not known
 abbrev pub raw : Choice (codes "nid_packet") nid_train RawTrainPacket
-raw = others nid_raw (λ p. p.number) other_bits.rows raw_train_packet refl (λ p. other_of p.number (length p.body) p.kept) raw_has
+raw =
+    others nid_raw (λ p. p.number) other_bits.rows raw_train_packet refl
+    (λ p. other_of p.number (length p.body) p.kept) raw_has
 
 abbrev pub train_numbered : Choice (codes "nid_packet") nid_train NumberedTrainPacket
 train_numbered = either with_one (either with_two raw refl) refl
 
 -- NID_PACKET is read first; 255, the end mark, is the number of no packet
 abbrev pub train_packet : Codec TrainPacket
-train_packet = renamed make_train_packet train_parts again (chosen (codes "nid_packet") (is_allowed (ranged 8 254 256)) train_numbered (λ v nid. nid_range (train_numbered.number v) nid.0 nid.1))
+train_packet = renamed make_train_packet train_parts again
+    (chosen (codes "nid_packet") (is_allowed (ranged 8 254 256)) train_numbered
+    (λ v nid. nid_range (train_numbered.number v) nid.0 nid.1))

@@ -11,7 +11,9 @@ use Rattle.etcs_schema.specs.Codec.{ObjectMembers, MemberCodec, closed, key, non
 use Rattle.etcs_schema.specs.Variables.{number}
 
 pub level_keys : (n : ℕ) → HasKeys (level_numbered.next n) (codes "nid_ntc" ∷ [])
-level_keys n = keys_by _ _ _ (n == 0) tt (keys_by _ _ _ (n == 1) (λ _. tt) (keys_by _ _ _ (n == 2) tt (keys_by _ _ _ (n == 3) tt tt)))
+level_keys n =
+    keys_by _ _ _ (n == 0) tt
+    (keys_by _ _ _ (n == 1) (λ _. tt) (keys_by _ _ _ (n == 2) tt (keys_by _ _ _ (n == 3) tt tt)))
 
 -- the number of a level at this key, and NID_NTC
 abbrev pub level : List ℕ → MemberCodec m_level.rows
@@ -27,4 +29,5 @@ level_order =
 unfoldable pub transition : Packet 41 (rest level_orders).rows
 transition =
     numbered_members (headed (struct orders_struct (scaled
-    (key (codes "d_leveltr") (number d_leveltr.fields) then key (codes "transitions") (non_empty_list (object level_order)))))) refl
+    (key (codes "d_leveltr") (number d_leveltr.fields)
+    then key (codes "transitions") (non_empty_list (object level_order)))))) refl

@@ -62,6 +62,7 @@ IsWholeFault stop head item from fault =
     IsFault head from fault ⊎ IsLaterFault stop head item from fault
 
 -- No input of equal length with these first `end` bits has a head and its list here.
-abbrev pub NoHeadAndListStands : {H X : Type 0} → Stop → (H → List Row) → (X → List Row) → Place → Fault → Type 0
+abbrev pub NoHeadAndListStands : {H X : Type 0} → Stop
+    → (H → List Row) → (X → List Row) → Place → Fault → Type 0
 NoHeadAndListStands {H} {X} stop head rows =
     InAnyInput (λ p. (h : H) (xs : List X) (to : Place) → HeadAndListStand stop head rows h xs p to → ⊥)

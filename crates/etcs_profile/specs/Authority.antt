@@ -79,7 +79,8 @@ pub back : (p : WithMain ⊎ WithoutMain) → authority_parts (make_authority p)
 back (inl p) = refl
 back (inr p) = refl
 
-pub again_by : (main : Option ℕ) (a : AuthorityValue) → make_authority (parts_by_main main a) ≡ authority_value a.dir a.scale main a.terms
+pub again_by : (main : Option ℕ) (a : AuthorityValue)
+    → make_authority (parts_by_main main a) ≡ authority_value a.dir a.scale main a.terms
 again_by (Some v) a = refl
 again_by None a = refl
 

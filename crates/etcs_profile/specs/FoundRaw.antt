@@ -9,7 +9,8 @@ use Rattle.etcs_profile.specs.PacketNumbers.{is_kept}
 abbrev pub raw : (n : ℕ) → Dir → (body : List Bool) → is_kept n (length body) ≡ true → RawPacket
 raw n dir body kept = record { number = n; dir = dir; body = body; kept = kept }
 
-abbrev pub raw_if_kept : (n : ℕ) → Dir → (body : List Bool) → (b : Bool) → is_kept n (length body) ≡ b → RawPacket
+abbrev pub raw_if_kept : (n : ℕ) → Dir → (body : List Bool)
+    → (b : Bool) → is_kept n (length body) ≡ b → RawPacket
 raw_if_kept n dir body true kept = raw n dir body kept
 raw_if_kept n dir body false other = raw 1 dir [] refl
 

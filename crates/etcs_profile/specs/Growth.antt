@@ -1,5 +1,5 @@
--- Where reading a packet from track to train may ask for memory: at a list that is not empty, and at a body of
--- bits that is copied and not empty. Reading comes there before any fault.
+-- Where reading a packet from track to train may ask for memory: at a list that is not empty, and at a body
+-- of bits that is copied and not empty. Reading comes there before any fault.
 use Rattle.std.specs.Prelude.{◌≡◌, ◌<◌, ℕ, Bool, true, false, List, length, Ok}
 use Rattle.etcs_bits.specs.declared.variables.direction.Dir.{Dir}
 use Rattle.etcs_bits.specs.layout.Rows.{Variable, Place}

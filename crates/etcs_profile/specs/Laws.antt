@@ -4,7 +4,8 @@ use Rattle.std.specs.List.{AllByRecursion}
 
 -- Some element of the list is the first that is marked. The distances up to and including it have
 -- this sum.
-pub record IsWayToMark {X : Type 0} (distance : X → ℕ) (marked : X → Bool) (xs : List X) (way : ℕ) : Type 0 where
+pub record IsWayToMark {X : Type 0} (distance : X → ℕ)
+    (marked : X → Bool) (xs : List X) (way : ℕ) : Type 0 where
   pub before : List X
   pub first : X
   pub after : List X

@@ -24,7 +24,8 @@ raw_rest = q_dir then kept_bits 10
 pub raw_back : (n : ℕ) (dir : Dir) (body : List Bool) (h : is_kept n (length body) ≡ true) (b : Bool)
     (e : is_kept n (length body) ≡ b) → raw_if_kept n dir body b e ≡ raw n dir body h
 raw_back n dir body h true e =
-    ap (λ (k : is_kept n (length body) ≡ true). raw n dir body k) (Bool-set (is_kept n (length body)) true e h)
+    ap (λ (k : is_kept n (length body) ≡ true). raw n dir body k)
+    (Bool-set (is_kept n (length body)) true e h)
 raw_back n dir body h false e = absurd (true≢false (sym h ∙ e))
 
 pub raw_again : (r : RawPacket) → make_raw r.number (r.dir, r.body) ≡ r

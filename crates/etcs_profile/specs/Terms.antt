@@ -37,16 +37,17 @@ pub record TermsValue : Type 0 where
 -- conditions made of these parts
 abbrev pub terms_value : ℕ → ℕ → List Section → ℕ → Option SectionTimer → Option EndTimer
     → Option DangerPoint → Option Overlap → TermsValue
-terms_value end_speed end_timeout sections l_endsection section_timer end_timer danger_point overlap = record {
-  end_speed = end_speed;
-  end_timeout = end_timeout;
-  sections = sections;
-  l_endsection = l_endsection;
-  section_timer = section_timer;
-  end_timer = end_timer;
-  danger_point = danger_point;
-  overlap = overlap;
-}
+terms_value end_speed end_timeout sections l_endsection section_timer end_timer danger_point overlap =
+    record {
+      end_speed = end_speed;
+      end_timeout = end_timeout;
+      sections = sections;
+      l_endsection = l_endsection;
+      section_timer = section_timer;
+      end_timer = end_timer;
+      danger_point = danger_point;
+      overlap = overlap;
+    }
 
 -- conditions, and their fields in order
 abbrev pub conditions_struct : Struct (ℕ × (ℕ × (List Section × (ℕ × (Option SectionTimer
@@ -55,7 +56,13 @@ conditions_struct =
     two_ways
     (λ p. terms_value p.0 p.1.0 p.1.1.0 p.1.1.1.0
     p.1.1.1.1.0 p.1.1.1.1.1.0 p.1.1.1.1.1.1.0 p.1.1.1.1.1.1.1)
-    (λ c. (c.end_speed, (c.end_timeout, (c.sections, (c.l_endsection, (c.section_timer, (c.end_timer, (c.danger_point, c.overlap))))))))
+    (λ c. (
+      c.end_speed,
+      (
+        c.end_timeout,
+        (c.sections, (c.l_endsection, (c.section_timer, (c.end_timer, (c.danger_point, c.overlap))))),
+      ),
+    ))
     (λ _. refl) (λ _. refl)
 
 -- The conditions. N_ITER counts the sections before the end section. Four qualifiers of one bit say

@@ -53,7 +53,14 @@ q_locacc = number 6
 abbrev pub link_struct : Struct (ℕ × (Option ℕ × (ℕ × (Bool × (ℕ × ℕ))))) Link
 link_struct =
     two_ways
-    (λ p. record { distance = p.0; country = p.1.0; group = p.1.1.0; nominal = p.1.1.1.0; reaction = p.1.1.1.1.0; accuracy = p.1.1.1.1.1 })
+    (λ p. record {
+      distance = p.0;
+      country = p.1.0;
+      group = p.1.1.0;
+      nominal = p.1.1.1.0;
+      reaction = p.1.1.1.1.0;
+      accuracy = p.1.1.1.1.1;
+    })
     (λ l. (l.distance, (l.country, (l.group, (l.nominal, (l.reaction, l.accuracy))))))
     (λ _. refl) (λ _. refl)
 
@@ -190,7 +197,8 @@ back (inr (inr (inr (inr (inr (inr (inr p))))))) = refl
 back n = refl
 
 pub authority_again : (main : Option ℕ) (a : AuthorityValue)
-    → make_track_packet (numbered_authority (parts_by_main main a)) ≡ packets.Authority (authority_value a.dir a.scale main a.terms)
+    → make_track_packet (numbered_authority (parts_by_main main a))
+    ≡ packets.Authority (authority_value a.dir a.scale main a.terms)
 authority_again (Some v) a = refl
 authority_again None a = refl
 
@@ -232,7 +240,8 @@ all_but_the_end n =
 
 -- a packet of a list
 abbrev pub track_packet : Format TrackPacket
-track_packet = named (chosen nid_track track_numbered all_but_the_end) make_track_packet track_parts back again
+track_packet =
+    named (chosen nid_track track_numbered all_but_the_end) make_track_packet track_parts back again
 
 -- the rows of a packet by itself, which have the bits that it has in a list
 abbrev pub own_rows : TrackPacket → List Row

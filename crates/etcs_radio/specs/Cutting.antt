@@ -40,7 +40,8 @@ continue_cut Failed held then = no_message held
 -- what comes out of a splitter that holds some bytes and is fed others
 unfoldable pub cut_stream : List ℕ → List ℕ → Cut
 cut_stream held [] = continue_cut (splitter_state held) held no_message
-cut_stream held (byte ∷ bytes) = continue_cut (splitter_state held) held (λ before. cut_stream (before ++ (byte ∷ [])) bytes)
+cut_stream held (byte ∷ bytes) =
+    continue_cut (splitter_state held) held (λ before. cut_stream (before ++ (byte ∷ [])) bytes)
 
 -- what comes out of a splitter that holds some bytes and is fed one piece after the other
 unfoldable pub cut_pieces : List ℕ → List (List ℕ) → Cut

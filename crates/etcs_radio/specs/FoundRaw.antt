@@ -9,7 +9,8 @@ use Rattle.etcs_radio.specs.TrainNumbers.{is_kept}
 abbrev pub raw : (n : ℕ) → (body : List Bool) → is_kept n (length body) ≡ true → RawTrainPacket
 raw n body kept = record { number = n; body = body; kept = kept }
 
-abbrev pub raw_if_kept : (n : ℕ) → (body : List Bool) → (b : Bool) → is_kept n (length body) ≡ b → RawTrainPacket
+abbrev pub raw_if_kept : (n : ℕ) → (body : List Bool)
+    → (b : Bool) → is_kept n (length body) ≡ b → RawTrainPacket
 raw_if_kept n body true kept = raw n body kept
 raw_if_kept n body false other = raw 2 [] refl
 

@@ -57,7 +57,8 @@ again lengths.Q3 = refl
 
 -- Q_LENGTH, with L_TRAININT
 abbrev pub q_length : Format Integrity
-q_length = named (chosen length_variable length_numbered (λ _. refl)) make_integrity integrity_parts back again
+q_length =
+    named (chosen length_variable length_numbered (λ _. refl)) make_integrity integrity_parts back again
 
 -- Q_LENGTH
 abbrev pub length_number : Integrity → ℕ

@@ -49,8 +49,10 @@ lrbg_records r (first, second, e, (n, end, is, none), (m, end_too, is_too, none_
     let whole : r ≡ row (plain 24) n ∷ (row (free 0) m ∷ []) = rw (e, is, none, is_too, none_too) refl in
     let here = subst (λ (rows : List Row). AreAllowed rows) whole allowed in
     let both : n / 16384 * 16384 + n % 16384 ≡ n = omega arith in
-    let fits : n % 16384 / 16384 ≡ m = omega (arith, here.1.0.0) in
-    (record { country = n / 16384; group = n % 16384 }, ap₂ (λ (a b : ℕ). row (plain 24) a ∷ (row (free 0) b ∷ [])) both fits ∙ sym whole)
+    let fits : n % 16384 / 16384 ≡ m = omega (arith, here.1.0.0) in (
+      record { country = n / 16384; group = n % 16384 },
+      ap₂ (λ (a b : ℕ). row (plain 24) a ∷ (row (free 0) b ∷ [])) both fits ∙ sym whole,
+    )
 
 pub lrbg_laid : IsLayout lrbg_fields lrbg_rows lrbg_value
 lrbg_laid = record { are_rows = lrbg_are_rows; is_record = lrbg_record; has_record = lrbg_records }

@@ -44,7 +44,8 @@ read_message_list x has why make p =
 
 -- the message of this head and the packets here
 abbrev pub read_message_packets : Head → Place → Result Message Fault
-read_message_packets (inl h) p = read_message_list track_packet has_authority NoAuthority (movement_message h) p
+read_message_packets (inl h) p =
+    read_message_list track_packet has_authority NoAuthority (movement_message h) p
 read_message_packets (inr h) p = read_message_list train_packet has_report NoReport (position_message h) p
 
 -- what bytes mean: their message, or their first fault

@@ -43,7 +43,8 @@ back (inl p) = refl
 back (inr (inl p)) = refl
 back (inr (inr p)) = refl
 
-train_of_report : (s : WithOne ⊎ WithTwo) → make_train_packet (numbered_report s) ≡ packets.Report (make_report s)
+train_of_report : (s : WithOne ⊎ WithTwo)
+    → make_train_packet (numbered_report s) ≡ packets.Report (make_report s)
 train_of_report (inl p) = refl
 train_of_report (inr p) = refl
 
@@ -68,7 +69,8 @@ all_but_the_end n = allowed_by (n == 0) (n == 1) (n == 255) (report_is_no_end n)
 
 -- a packet of a list
 abbrev pub train_packet : Format TrainPacket
-train_packet = named (chosen nid_train train_numbered all_but_the_end) make_train_packet train_parts back again
+train_packet =
+    named (chosen nid_train train_numbered all_but_the_end) make_train_packet train_parts back again
 
 -- the rows of a packet by itself; they have the same bits as in a list
 abbrev pub own_rows : TrainPacket → List Row

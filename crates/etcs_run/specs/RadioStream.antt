@@ -50,7 +50,8 @@ unless_failed _ number held rest = rest number held
 abbrev pub messages_output : ℕ → List (List ℕ) → List ℕ → Continuation → Output
 messages_output number [] held rest = unless_failed (splitter_state held) number held rest
 messages_output number (bytes ∷ messages) held rest =
-    message_output number (message_json (read_message bytes)) (messages_output (number + 1) messages held rest)
+    message_output number (message_json (read_message bytes))
+    (messages_output (number + 1) messages held rest)
 
 -- what came out of the splitter, its messages in order, and then what is written later
 abbrev pub cut_output : ℕ → Cut → Continuation → Output

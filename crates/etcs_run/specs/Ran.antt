@@ -3,8 +3,8 @@
 --   was read. Reaching the end of the input counts as reading it.
 -- - It returned no status: the text written is a beginning of the output of each such input.
 -- - The whole input is known: the text written and the status are the output of that input.
--- - The reader's bytes or the writer's contents are not known: nothing is promised for such a reader, and only
---   the status for such a writer.
+-- - The reader's bytes or the writer's contents are not known: nothing is promised for such a reader, and
+--   only the status for such a writer.
 use Rattle.std.specs.Prelude.{◌≡◌, ◌≤◌, ◌+◌, ◌++◌, ◌⊎◌, ℕ, Bool, true, List, [], ◌∷◌, take, length, Option, Result, Ok, Err, IfSome, OnOk}
 use Rattle.std.specs.Io.KnownBytes.{Appends, Consumes, IsAtEnd}
 use Rattle.etcs_run.specs.Counted.{CountsFlush, CountsNone, CountsOne, flush_count, wrapped, is_flushed}
@@ -96,7 +96,8 @@ pub record WritesAnswer {X : Type 0} (old new : Option (List ℕ)) (now later : 
   pub says : (rest : X) → IsAnswerSoFar result text (now rest) (later rest)
 
 -- the answer to a line, before any output
-abbrev pub AnswersLine : Option (List ℕ) → Option (List ℕ) → (Output → Output) → Result ControlFlow RunError → Type 0
+abbrev pub AnswersLine : Option (List ℕ) → Option (List ℕ)
+    → (Output → Output) → Result ControlFlow RunError → Type 0
 AnswersLine old new after result = WritesAnswer old new after (λ rest. rest) result
 
 -- the answer to a line, before the answers to any lines

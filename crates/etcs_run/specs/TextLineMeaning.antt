@@ -11,7 +11,8 @@ Meaning = List ℕ → Result (List ℕ) (List ℕ)
 
 -- the refusal of the line with this number, for a reason in these words
 unfoldable pub line_refusal : ℕ → List ℕ → List ℕ
-line_refusal number words = codes "refused: line " ++ (decimal number ++ (codes ": " ++ (words ++ codes "\n")))
+line_refusal number words =
+    codes "refused: line " ++ (decimal number ++ (codes ": " ++ (words ++ codes "\n")))
 
 -- What a call returned, seen through `view`, is what the line means, unless memory ran out. The words of a
 -- refusal's reason are the words of the meaning.

@@ -30,12 +30,14 @@ pub record NumberedMembers (name : List ℕ) (k : ℕ) {X : Type 0} (rows : X �
   pub members : MemberCodec rows
   pub apart : are_apart (name ∷ members.keys) ≡ true
 
-abbrev pub numbered_members : {name : List ℕ} {k : ℕ} {X : Type 0} {rows : X → List Row} (members : MemberCodec rows)
+abbrev pub numbered_members : {name : List ℕ} {k : ℕ}
+    {X : Type 0} {rows : X → List Row} (members : MemberCodec rows)
     → are_apart (name ∷ members.keys) ≡ true → NumberedMembers name k rows
 numbered_members members apart = record { members = members; apart = apart }
 
 -- the number, which must be k, and the members after it
-abbrev pub with_number : {name : List ℕ} {k : ℕ} {X : Type 0} {rows : X → List Row} → NumberedMembers name k rows
+abbrev pub with_number : {name : List ℕ} {k : ℕ} {X : Type 0} {rows : X → List Row}
+    → NumberedMembers name k rows
     → ObjectMembers rows
 with_number {name = name} {k = k} o = record {
   members = named (λ p. p.1) (λ x. (tt, x)) (λ _. refl) (fixed name k then o.members);
@@ -91,7 +93,8 @@ abbrev pub by_kind : {A B C : Type 0} → (A → C) → (B → C) → A ⊎ B �
 by_kind f g (inl x) = f x
 by_kind f g (inr y) = g y
 
-abbrev pub decoded_either : {A B : Type 0} → ℕ → (Data → Result A Fault) → (ℕ → Data → Result B Fault) → ℕ → Data
+abbrev pub decoded_either : {A B : Type 0} → ℕ
+    → (Data → Result A Fault) → (ℕ → Data → Result B Fault) → ℕ → Data
     → Result (A ⊎ B) Fault
 decoded_either k read rest n d = if n == k then as_kind inl (read d) else as_kind inr (rest n d)
 
@@ -107,7 +110,8 @@ either_is_number k c fresh (inr y) =
 pub either_has_number : {name : List ℕ} {x : Variable} {k : ℕ} {A B : Type 0} {rows : A → List Row}
     (o : NumberedMembers name k rows) (c : Choice name x B) (v : A ⊎ B)
     → HasNumber name (either_number k c.number v) (by_kind (object (with_number o)).to c.to v)
-either_has_number {name = name} {k = k} o c (inl x) = begins_with name k (with_number o) x (o.members.to x) refl
+either_has_number {name = name} {k = k} o c (inl x) =
+    begins_with name k (with_number o) x (o.members.to x) refl
 either_has_number o c (inr y) = c.has_number y
 
 pub either_again : {name : List ℕ} {x : Variable} {k : ℕ} {A B : Type 0} {rows : A → List Row}
@@ -167,7 +171,11 @@ pub chosen_again : {X : Type 0} {x : Variable} (name : List ℕ) (test : ℕ →
 unfolding alone
 chosen_again name test c passes v allowed =
     let number = c.has_number v in
-    rw (number.0, key_again number_data (allowed_number test) name (c.number v) (c.to v) (number_again test (c.number v) (passes v allowed.0)) (number.1, tt)) (c.again v allowed)
+    rw (
+      number.0,
+      key_again number_data (allowed_number test) name (c.number v) (c.to v)
+          (number_again test (c.number v) (passes v allowed.0)) (number.1, tt),
+    ) (c.again v allowed)
 
 -- an object whose number passes the test, as every number that is allowed in the bits does
 abbrev pub chosen : {X : Type 0} {x : Variable} (name : List ℕ) (test : ℕ → Bool) (c : Choice name x X)

@@ -49,7 +49,8 @@ abbrev pub encoded_items : {X : Type 0} → (X → Data) → List X → Items
 encoded_items to [] = no_items
 encoded_items to (x ∷ xs) = item (to x) (encoded_items to xs)
 
-encoded_count : {X : Type 0} (to : X → Data) (xs : List X) → length (data_list (encoded_items to xs)) ≡ length xs
+encoded_count : {X : Type 0} (to : X → Data) (xs : List X)
+    → length (data_list (encoded_items to xs)) ≡ length xs
 encoded_count to [] = refl
 encoded_count to (x ∷ xs) = rw (encoded_count to xs) refl
 
@@ -57,7 +58,10 @@ pub items_again : {X : Type 0} (s : Codec X) (i : ℕ) (xs : List X) → AreAllo
     → indexed_items s.of i (data_list (encoded_items s.to xs)) ≡ Ok xs
 items_again s i [] h = refl
 items_again s i (x ∷ xs) h =
-    rw (s.again x (allowed_first (s.rows x) (flat_map s.rows xs) h), items_again s (i + 1) xs (allowed_second (s.rows x) (flat_map s.rows xs) h)) refl
+    rw (
+      s.again x (allowed_first (s.rows x) (flat_map s.rows xs) h),
+      items_again s (i + 1) xs (allowed_second (s.rows x) (flat_map s.rows xs) h),
+    ) refl
 
 pub list_again : {X : Type 0} (s : Codec X) (low high : ℕ) (xs : List X) → low ≤ length xs → length xs ≤ high
     → AreAllowed (flat_map s.rows xs)
@@ -118,7 +122,8 @@ non_empty_list s = record {
 pub key_again : {X : Type 0} (to : X → Data) (read : Data → Result X Fault) (name : List ℕ) (x : X) (d : Data)
     → read (to x) ≡ Ok x → HasEntries ((name, Some (to x)) ∷ []) d → required_member read name d ≡ Ok x
 unfolding required_member
-key_again to read name x d again holds = ap (key_or read name) holds.0 ∙ ap (prefixed_result (key_step name)) again
+key_again to read name x d again holds =
+    ap (key_or read name) holds.0 ∙ ap (prefixed_result (key_step name)) again
 
 -- a required key
 abbrev pub key : {X : Type 0} → List ℕ → (s : Codec X) → MemberCodec s.rows
@@ -157,14 +162,19 @@ decoded_pair a b d = a d >>= λ x. b d >>= λ y. Ok (x, y)
 
 pub then_again : {A B : Type 0} {rows_a : A → List Row} {rows_b : B → List Row} (a : MemberCodec rows_a)
     (b : MemberCodec rows_b) (p : A × B) (d : Data)
-    → AreAllowed (pair_rows rows_a rows_b p) → HasEntries (a.to p.0 ++ b.to p.1) d → decoded_pair a.of b.of d ≡ Ok p
+    → AreAllowed (pair_rows rows_a rows_b p)
+    → HasEntries (a.to p.0 ++ b.to p.1) d → decoded_pair a.of b.of d ≡ Ok p
 then_again {rows_a = rows_a} {rows_b = rows_b} a b p d allowed holds =
     let parts = holds_parts (a.to p.0) (b.to p.1) d holds in
-    rw (a.again p.0 d (allowed_first (rows_a p.0) (rows_b p.1) allowed) parts.0, b.again p.1 d (allowed_second (rows_a p.0) (rows_b p.1) allowed) parts.1) refl
+    rw (
+      a.again p.0 d (allowed_first (rows_a p.0) (rows_b p.1) allowed) parts.0,
+      b.again p.1 d (allowed_second (rows_a p.0) (rows_b p.1) allowed) parts.1,
+    ) refl
 
 -- members, and then more members
 infixr 5 ◌then◌
-abbrev pub ◌then◌ : {A B : Type 0} {rows_a : A → List Row} {rows_b : B → List Row} → MemberCodec rows_a → MemberCodec rows_b
+abbrev pub ◌then◌ : {A B : Type 0} {rows_a : A → List Row} {rows_b : B → List Row}
+    → MemberCodec rows_a → MemberCodec rows_b
     → MemberCodec (pair_rows rows_a rows_b)
 a then b = record {
   keys = a.keys ++ b.keys;
@@ -215,7 +225,8 @@ abbrev pub unstated : {X : Type 0} {rows : X → List Row} (x : Variable) (n : �
 unstated {rows = rows} x n a = with_bits (λ v. alone x n ++ rows v) (λ v. rest_allowed x n (rows v)) a
 
 -- members whose bits follow L_PACKET
-abbrev pub sized : {X : Type 0} {rows : X → List Row} (before : ℕ) → MemberCodec rows → MemberCodec (body_rows before rows)
+abbrev pub sized : {X : Type 0} {rows : X → List Row} (before : ℕ)
+    → MemberCodec rows → MemberCodec (body_rows before rows)
 sized {rows = rows} before a =
     with_bits (body_rows before rows)
     (λ x. rest_allowed l_packet (before + (13 + width (rows x))) (rows x)) a
@@ -227,7 +238,9 @@ fixed name k = record {
   to = λ _. (name, Some (number_data k)) ∷ [];
   of = λ d. required_member (allowed_number (λ n. n == k)) name d >>= λ _. Ok tt;
   has_keys = λ _. refl;
-  again = λ _ d _ holds. ap (λ r. r >>= λ _. Ok tt) (key_again number_data (allowed_number (λ n. n == k)) name k d (number_again (λ n. n == k) k (is_itself k)) holds);
+  again = λ _ d _ holds. ap (λ r. r >>= λ _. Ok tt)
+      (key_again number_data (allowed_number (λ n. n == k)) name k d
+      (number_again (λ n. n == k) k (is_itself k)) holds);
 }
 
 abbrev pub only : {X : Type 0} → Fault → (X → Bool) → X → Result X Fault
@@ -252,12 +265,14 @@ pub record ObjectMembers {X : Type 0} (rows : X → List Row) : Type 0 where
   pub apart : are_apart members.keys ≡ true
 
 -- only these members
-abbrev pub closed : {X : Type 0} {rows : X → List Row} (members : MemberCodec rows) → are_apart members.keys ≡ true
+abbrev pub closed : {X : Type 0} {rows : X → List Row} (members : MemberCodec rows)
+    → are_apart members.keys ≡ true
     → ObjectMembers rows
 closed members apart = record { members = members; apart = apart }
 
 pub object_again : {X : Type 0} {rows : X → List Row} (o : ObjectMembers rows) (x : X) → AreAllowed (rows x)
-    → (only_keys o.members.keys (entries_object (o.members.to x)) >>= λ u. o.members.of (entries_object (o.members.to x))) ≡ Ok x
+    → (only_keys o.members.keys (entries_object (o.members.to x))
+    >>= λ u. o.members.of (entries_object (o.members.to x))) ≡ Ok x
 unfolding only_keys
 object_again o x allowed =
     let known = rw (o.members.has_keys x) at (object_known (o.members.to x)) in

@@ -22,13 +22,23 @@ decoded_counted_body head d =
 
 -- ---- reading what was written
 
-pub counted_body_again : (before : ℕ) (body : List Bool) (d : Data) → AreAllowed ((kept_bits before).rows body)
-    → HasEntries ((codes "l_packet", Some (number_data (before + 13 + length body))) ∷ (codes "body", Some (string (body_text body))) ∷ []) d → decoded_counted_body (before + 13) d ≡ Ok body
+pub counted_body_again : (before : ℕ) (body : List Bool) (d : Data)
+    → AreAllowed ((kept_bits before).rows body)
+    → HasEntries
+    ((codes "l_packet", Some (number_data (before + 13 + length body)))
+    ∷ (codes "body", Some (string (body_text body))) ∷ []) d
+    → decoded_counted_body (before + 13) d ≡ Ok body
 counted_body_again before body d allowed holds =
     let l = before + 13 + length body in
     let rest : l - (before + 13) ≡ length body = omega arith in
     let fits = number_again (is_length (before + 13)) l (number_allowed (l_kept before) l allowed.0) in
-    rw (key_again number_data (allowed_number (is_length (before + 13))) (codes "l_packet") l d fits (holds.0, tt), rest) (key_again (λ b. string (body_text b)) (decoded_body (length body)) (codes "body") body d (body_again body) (holds.1.0, tt))
+    rw (
+      key_again number_data (allowed_number (is_length (before + 13))) (codes "l_packet") l d fits
+          (holds.0, tt),
+      rest,
+    )
+    (key_again (λ b. string (body_text b)) (decoded_body (length body))
+    (codes "body") body d (body_again body) (holds.1.0, tt))
 
 -- L_PACKET and the body; L_PACKET counts the `before` bits in front of it, its own bits and the body's
 abbrev pub counted_body : (before : ℕ) → MemberCodec (kept_bits before).rows

@@ -87,7 +87,8 @@ IsPrefixedFault step f (Some g) = f ≡ prefixed step g
 
 -- the outer error is the inner one with this step in front of its path, unless memory ran out
 abbrev pub IsPrefixedError : Step → FormError → FormError → Type 0
-IsPrefixedError step inner outer = IfSome (error_fault outer) (λ f. IsPrefixedFault step f (error_fault inner))
+IsPrefixedError step inner outer =
+    IfSome (error_fault outer) (λ f. IsPrefixedFault step f (error_fault inner))
 
 -- what a call returned, as the enclosing value reports it: the same value, or its fault with this step in
 -- front

@@ -17,7 +17,8 @@ abbrev pub headed : {X : Type 0} {rows : X → List Row} → MemberCodec rows
 headed rest = key (codes "q_dir") direction then sized 10 rest
 
 -- Q_SCALE, and then the members with distances
-abbrev pub scaled : {X : Type 0} {rows : X → List Row} → MemberCodec rows → MemberCodec (pair_rows q_scale.rows rows)
+abbrev pub scaled : {X : Type 0} {rows : X → List Row}
+    → MemberCodec rows → MemberCodec (pair_rows q_scale.rows rows)
 scaled rest = key (codes "q_scale") scale then rest
 
 -- the number, and what follows it

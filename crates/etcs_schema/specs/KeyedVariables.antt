@@ -15,7 +15,8 @@ row_number i rows = option_map (λ r. r.number) (slice_get rows i)
 -- each number at its key, and nothing at the remaining keys
 abbrev pub variable_entries : List (List ℕ) → List Row → List Entry
 variable_entries [] rows = []
-variable_entries (k ∷ ks) rows = (k, optional number_data (row_number 0 rows)) ∷ variable_entries ks (drop 1 rows)
+variable_entries (k ∷ ks) rows =
+    (k, optional number_data (row_number 0 rows)) ∷ variable_entries ks (drop 1 rows)
 
 -- the rows whose numbers are at the keys
 abbrev pub rows_read : Fields → List (List ℕ) → Data → Result (List Row) Fault
@@ -48,12 +49,14 @@ pub rows_again : (fields : Fields) (ks : List (List ℕ)) → HasKeys fields ks 
 unfolding absent_member
 rows_again nothing [] has rows are allowed d holds = ap Ok (sym are)
 rows_again nothing (k ∷ ks) has rows are allowed d holds =
-    let free = rw are at holds in rw (ap (unwanted_or k) free.0, rows_again nothing ks has [] refl tt d free.1) (ap Ok (sym are))
+    let free = rw are at holds in
+    rw (ap (unwanted_or k) free.0, rows_again nothing ks has [] refl tt d free.1) (ap Ok (sym are))
 rows_again (field x next) [] has rows are allowed d holds = absurd has
 rows_again (field x next) (k ∷ ks) has rows are allowed d holds =
     let both = rw are.2 at allowed in
     let there = rw are.2 at holds in
-    let first = key_again number_data (allowed_number (is_allowed x)) k are.0 d (number_again (is_allowed x) are.0 (number_allowed x are.0 both.0)) (there.0, tt) in
+    let first = key_again number_data (allowed_number (is_allowed x)) k are.0 d
+    (number_again (is_allowed x) are.0 (number_allowed x are.0 both.0)) (there.0, tt) in
     rw (first, rows_again (next are.0) ks (has are.0) are.1 are.3 both.1 d there.1) (ap Ok (sym are.2))
 rows_again (a ▹ b) ks has rows are allowed d holds = absurd has
 rows_again (sized before body) ks has rows are allowed d holds = absurd has

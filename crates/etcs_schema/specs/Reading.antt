@@ -30,7 +30,8 @@ with_first x (Err f) = Err f
 -- the items; the first one has this index
 abbrev pub indexed_items : {A : Type 0} → (Data → Result A Fault) → ℕ → List Data → Result (List A) Fault
 indexed_items read i [] = Ok []
-indexed_items read i (d ∷ ds) = prefixed_result (list_item i) (read d) >>= λ x. with_first x (indexed_items read (i + 1) ds)
+indexed_items read i (d ∷ ds) =
+    prefixed_result (list_item i) (read d) >>= λ x. with_first x (indexed_items read (i + 1) ds)
 
 abbrev pub data_list : Items → List Data
 data_list no_items = []
@@ -44,7 +45,8 @@ abbrev pub bounded_list_or : {A : Type 0} → (Data → Result A Fault) → ℕ 
     → Result (List A) Fault
 bounded_list_or read low high None = Err (here Kind)
 bounded_list_or read low high (Some ds) =
-    if has_bounded_length low high (data_list ds) then indexed_items read 0 (data_list ds) else Err (here Range)
+    if has_bounded_length low high (data_list ds)
+    then indexed_items read 0 (data_list ds) else Err (here Range)
 
 -- a list of `low` to `high` items
 unfoldable pub bounded_list : {A : Type 0} → (Data → Result A Fault) → ℕ → ℕ → Data → Result (List A) Fault
@@ -77,7 +79,8 @@ option_or read name None = Ok None
 option_or read name (Some d) = as_kind (λ x. Some x) (prefixed_result (key name) (read d))
 
 -- an optional member
-unfoldable pub optional_member : {A : Type 0} → (Data → Result A Fault) → List ℕ → Data → Result (Option A) Fault
+unfoldable pub optional_member : {A : Type 0}
+    → (Data → Result A Fault) → List ℕ → Data → Result (Option A) Fault
 optional_member read name d = option_or read name (get name d)
 
 abbrev pub unwanted_or : List ℕ → Option Data → Result (Unit {0}) Fault

@@ -38,7 +38,15 @@ q_link = flag
 abbrev pub header_struct : Struct (Version × (ℕ × (ℕ × (Dup × (ℕ × (Identity × Bool)))))) Header
 header_struct =
     two_ways
-    (λ p. record { version = p.0; position = p.1.0; total = p.1.1.0; dup = p.1.1.1.0; counter = p.1.1.1.1.0; identity = p.1.1.1.1.1.0; linked = p.1.1.1.1.1.1 })
+    (λ p. record {
+      version = p.0;
+      position = p.1.0;
+      total = p.1.1.0;
+      dup = p.1.1.1.0;
+      counter = p.1.1.1.1.0;
+      identity = p.1.1.1.1.1.0;
+      linked = p.1.1.1.1.1.1;
+    })
     (λ h. (h.version, (h.position, (h.total, (h.dup, (h.counter, (h.identity, h.linked)))))))
     (λ _. refl) (λ _. refl)
 

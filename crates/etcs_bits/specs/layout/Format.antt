@@ -111,7 +111,9 @@ behind_length before a = record {
 abbrev pub kept_bits : ℕ → Format (List Bool)
 kept_bits before = record {
   fields = field (l_kept before) (λ l. one (free (l - (before + 13))));
-  rows = λ bits. row (l_kept before) (before + 13 + length bits) ∷ row (free (length bits)) (num_of_bits bits) ∷ [];
+  rows =
+      λ bits. row (l_kept before) (before + 13 + length bits)
+      ∷ row (free (length bits)) (num_of_bits bits) ∷ [];
   of = kept_value before;
   laid = kept_laid before;
 }
@@ -148,9 +150,11 @@ either k a c fresh = record {
 
 -- every number that passes the test, and this record. A value has its number and the parts of the
 -- record, and is made of these.
-abbrev pub others : {X A : Type 0} (test : ℕ → Bool) (a : Format A) (number : X → ℕ) (parts : X → A) (make : ℕ → A → X)
+abbrev pub others : {X A : Type 0} (test : ℕ → Bool)
+    (a : Format A) (number : X → ℕ) (parts : X → A) (make : ℕ → A → X)
     → ((x : X) → test (number x) ≡ true) → ((x : X) → make (number x) (parts x) ≡ x)
-    → ((n : ℕ) (p : A) → test n ≡ true → AreAllowed (a.rows p) → (number (make n p) ≡ n) × (parts (make n p) ≡ p)) → Choice X
+    → ((n : ℕ) (p : A) → test n ≡ true → AreAllowed (a.rows p)
+    → (number (make n p) ≡ n) × (parts (make n p) ≡ p)) → Choice X
 others test a number parts make is_number again back = record {
   allows = test;
   next = λ _. a.fields;
@@ -164,7 +168,8 @@ others test a number parts make is_number again back = record {
 }
 
 -- a variable with the numbers of a choice, and the record that its number decides
-abbrev pub chosen : {X : Type 0} (x : Variable) (c : Choice X) → ((n : ℕ) → x.allows n ≡ c.allows n) → Format X
+abbrev pub chosen : {X : Type 0} (x : Variable) (c : Choice X)
+    → ((n : ℕ) → x.allows n ≡ c.allows n) → Format X
 chosen x c same = record {
   fields = field x c.next;
   rows = λ v. alone x (c.number v) ++ c.rows v;

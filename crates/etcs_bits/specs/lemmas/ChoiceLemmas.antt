@@ -11,7 +11,8 @@ use Rattle.etcs_bits.specs.lemmas.CombinedLemmas.{field_records}
 
 -- only one number
 pub last_value : {A : Type 0} {a : Fields} {rows_a : A → List Row} {of_a : List Row → A}
-    → IsLayout a rows_a of_a → (k n : ℕ) (more : List Row) → (n == k) ≡ true → AreRowsOf a more → AreAllowed more
+    → IsLayout a rows_a of_a → (k n : ℕ) (more : List Row)
+    → (n == k) ≡ true → AreRowsOf a more → AreAllowed more
     → (x : A) × (k ≡ n) × (rows_a x ≡ more)
 last_value laid k n more is w allowed =
     let x = laid.has_record more w allowed in (x.0, sym (eqb-true n k is), x.1)
@@ -58,7 +59,8 @@ either_has_value k laid c n more ok w allowed = either_by k laid c n more (n == 
 -- every number that passes a test
 pub others_value : {X A : Type 0} {test : ℕ → Bool} {a : Fields} {rows_a : A → List Row} {of_a : List Row → A}
     (number : X → ℕ) (parts : X → A) (make : ℕ → A → X) → IsLayout a rows_a of_a
-    → ((n : ℕ) (p : A) → test n ≡ true → AreAllowed (rows_a p) → (number (make n p) ≡ n) × (parts (make n p) ≡ p))
+    → ((n : ℕ) (p : A) → test n ≡ true → AreAllowed (rows_a p)
+    → (number (make n p) ≡ n) × (parts (make n p) ≡ p))
     → (n : ℕ) (more : List Row) → test n ≡ true → AreRowsOf a more → AreAllowed more
     → (x : X) × (number x ≡ n) × (rows_a (parts x) ≡ more)
 others_value {rows_a = rows_a} number parts make laid back n more ok w allowed =
@@ -68,7 +70,8 @@ others_value {rows_a = rows_a} number parts make laid back n more ok w allowed =
 
 -- the variable whose number is chosen, and what follows it
 pub chosen_laid : {X : Type 0} (x : Variable) (c : Choice X) → ((n : ℕ) → x.allows n ≡ c.allows n)
-    → IsLayout (field x c.next) (λ v. alone x (c.number v) ++ c.rows v) (λ r. c.of (row_number 0 r) (drop 1 r))
+    → IsLayout (field x c.next) (λ v. alone x (c.number v) ++ c.rows v)
+    (λ r. c.of (row_number 0 r) (drop 1 r))
 unfolding alone
 chosen_laid x c same = record {
   are_rows = λ v. (c.number v, c.rows v, refl, c.are_rows v);

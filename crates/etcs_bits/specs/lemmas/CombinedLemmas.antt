@@ -69,7 +69,8 @@ option_records v r (suc (suc n), more, e, w) allowed =
 pub option_laid : {X : Type 0} {fields : Fields} {rows : X → List Row} {of : List Row → X}
     → IsLayout fields rows of
     → IsLayout (option qualifier fields) (option_rows rows) (option_value of)
-option_laid v = record { are_rows = option_are_rows v; is_record = option_record v; has_record = option_records v }
+option_laid v = record
+    { are_rows = option_are_rows v; is_record = option_record v; has_record = option_records v }
 
 -- ---- a counted list
 
@@ -130,16 +131,25 @@ left head count = omega arith
 
 pub kept_laid : (before : ℕ)
     → IsLayout (field (l_kept before) (λ l. one (free (l - (before + 13)))))
-    (λ bits. row (l_kept before) (before + 13 + length bits) ∷ row (free (length bits)) (num_of_bits bits) ∷ [])
+    (λ bits. row (l_kept before) (before + 13 + length bits)
+    ∷ row (free (length bits)) (num_of_bits bits) ∷ [])
     (kept_value before)
 kept_laid before = record {
   are_rows = λ bits.
-      let of_bits = row (free (length bits)) (num_of_bits bits) ∷ [] in
-      (before + 13 + length bits, of_bits, refl, subst (λ k. AreRowsOf (one (free k)) of_bits) (sym (left (before + 13) (length bits))) (num_of_bits bits, [], refl, refl));
-  is_record = λ bits. ap (λ k. num k (num_of_bits bits)) (left (before + 13) (length bits)) ∙ num-num_of_bits bits;
+      let of_bits = row (free (length bits)) (num_of_bits bits) ∷ [] in (
+        before + 13 + length bits,
+        of_bits,
+        refl,
+        subst (λ k. AreRowsOf (one (free k)) of_bits)
+            (sym (left (before + 13) (length bits))) (num_of_bits bits, [], refl, refl),
+      );
+  is_record = λ bits. ap (λ k. num k (num_of_bits bits)) (left (before + 13) (length bits))
+      ∙ num-num_of_bits bits;
   has_record = λ r (l, more, e, (m, end, is, none)) allowed.
       let here = rw (e, is) at allowed in
       let bits = length-num (l - (before + 13)) m in
-      let back : before + 13 + (l - (before + 13)) ≡ l = omega (arith, leb-true (before + 13) l here.0.1) in
-      (num (l - (before + 13)) m, rw (e, is, none, bits, back, num_of_bits-small (l - (before + 13)) m here.1.0.0) refl);
+      let back : before + 13 + (l - (before + 13)) ≡ l = omega (arith, leb-true (before + 13) l here.0.1) in (
+        num (l - (before + 13)) m,
+        rw (e, is, none, bits, back, num_of_bits-small (l - (before + 13)) m here.1.0.0) refl,
+      );
 }

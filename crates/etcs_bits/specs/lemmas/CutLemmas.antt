@@ -12,6 +12,11 @@ cut_whole nothing rows more w = rw w refl
 cut_whole (field x next) rows more (n, tail, e, w) =
     rw (e, cut_whole (next n) tail more w) refl
 cut_whole (a ▹ b) rows more (first, second, e, v, w) =
-    rw (e, append_assoc first second more, cut_whole a first (second ++ more) v, cut_whole b second more w) refl
+    rw (
+      e,
+      append_assoc first second more,
+      cut_whole a first (second ++ more) v,
+      cut_whole b second more w,
+    ) refl
 cut_whole (sized before body) rows more (tail, e, w) =
     rw (e, cut_whole body tail more w) refl

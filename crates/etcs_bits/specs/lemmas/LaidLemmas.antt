@@ -38,7 +38,8 @@ alone_laid x = record {
 
 -- no variable
 pub empty_laid : IsLayout nothing (λ (_ : Unit {0}). []) (λ _. tt)
-empty_laid = record { are_rows = λ _. refl; is_record = λ _. refl; has_record = λ r none allowed. (tt, sym none) }
+empty_laid = record
+    { are_rows = λ _. refl; is_record = λ _. refl; has_record = λ r none allowed. (tt, sym none) }
 
 -- a variable with only one number carries no information: its row is that of a type with one value
 pub only_laid : {X : Type 0} (w k : ℕ) (why : FaultKind) (x : X) → ((y : X) → x ≡ y)

@@ -15,7 +15,8 @@ worth_of_digit (suc (suc x)) h = omega arith
 
 -- ---- the number of a list of bits
 
-pub num_of_bits-cons : (x : Bool) (xs : List Bool) → num_of_bits (x ∷ xs) ≡ worth x * 2 ^ length xs + num_of_bits xs
+pub num_of_bits-cons : (x : Bool) (xs : List Bool)
+    → num_of_bits (x ∷ xs) ≡ worth x * 2 ^ length xs + num_of_bits xs
 unfolding num_of_bits
 num_of_bits-cons x xs = refl
 
@@ -76,7 +77,8 @@ num_of_bits-num (suc w) n =
     let h = num_of_bits-num w n in
     let d = worth_of_digit (n / 2 ^ w % 2) (omega arith) in
     let e : n % 2 ^ (1 + w) ≡ (n / 2 ^ w % 2 ^ 1) * 2 ^ w + n % 2 ^ w = mod-pow-add n 1 w in
-    ap num_of_bits (num-suc w n) ∙ rw (num_of_bits-cons, length-num, h, d) (sym (ap (λ j. n % 2 ^ j) (suc_is w) ∙ e))
+    ap num_of_bits (num-suc w n)
+    ∙ rw (num_of_bits-cons, length-num, h, d) (sym (ap (λ j. n % 2 ^ j) (suc_is w) ∙ e))
 
 -- a number that fits is spelled by its bits
 pub num_of_bits-small : (w n : ℕ) → n < 2 ^ w → num_of_bits (num w n) ≡ n
@@ -84,4 +86,6 @@ num_of_bits-small w n small = num_of_bits-num w n ∙ mod-eq_of_lt small
 
 -- bits are the bits of the number that they spell
 pub num-num_of_bits : (xs : List Bool) → num (length xs) (num_of_bits xs) ≡ xs
-num-num_of_bits xs = same_from_num _ xs (length-num _ _) (num_of_bits-num (length xs) (num_of_bits xs) ∙ mod-eq_of_lt (num_of_bits-lt xs))
+num-num_of_bits xs =
+    same_from_num _ xs (length-num _ _)
+    (num_of_bits-num (length xs) (num_of_bits xs) ∙ mod-eq_of_lt (num_of_bits-lt xs))

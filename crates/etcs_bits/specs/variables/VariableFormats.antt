@@ -14,7 +14,9 @@ use Rattle.etcs_bits.specs.lemmas.VariableLemmas.{names_have_values, transmissio
 
 -- Q_UPDOWN, 1 bit: the direction of transmission
 abbrev pub q_updown : Format Transmission
-q_updown = names transmission_variable 1 transmission_number transmission_value (names_have_values transmission_names)
+q_updown =
+    names transmission_variable 1 transmission_number transmission_value
+    (names_have_values transmission_names)
 
 -- Q_MEDIA, 1 bit: the medium that sends the telegram
 abbrev pub q_media : Format Medium

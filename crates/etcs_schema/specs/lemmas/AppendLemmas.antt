@@ -25,7 +25,9 @@ entries_append (e ∷ es) fs =
     ap (λ ts. entry_tokens e.0 e.1 ++ ts) (entries_append es fs)
     ∙ sym (append_assoc (entry_tokens e.0 e.1) (entries_tokens es) (entries_tokens fs))
 
-pub written_then : {M : Type 0} (adds : List Token → M → M → Type 0) (then : (ts us : List Token) (old mid new : M) → adds ts old mid → adds us mid new → adds (ts ++ us) old new)
+pub written_then : {M : Type 0} (adds : List Token → M → M → Type 0)
+    (then : (ts us : List Token) (old mid new : M)
+    → adds ts old mid → adds us mid new → adds (ts ++ us) old new)
     → (es fs : List Entry) (old mid new : M) → adds (entries_tokens es) old mid
     → adds (entries_tokens fs) mid new → adds (entries_tokens (es ++ fs)) old new
 written_then adds then es fs old mid new some others =

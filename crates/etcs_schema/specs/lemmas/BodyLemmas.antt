@@ -74,4 +74,6 @@ bits_first body =
 pub body_again : (body : List Bool) → decoded_body (length body) (string (body_text body)) ≡ Ok body
 unfolding decoded_body
 body_again body =
-    ap (decoded_or (length body)) (decode_of-encode_lower (body_bytes body) (are_bytes (byte_count (length body)) (padded_bits body))) ∙ bits_first body
+    ap (decoded_or (length body))
+    (decode_of-encode_lower (body_bytes body) (are_bytes (byte_count (length body)) (padded_bits body)))
+    ∙ bits_first body

@@ -45,7 +45,8 @@ unfolding AreFree
 free_at_first [] = tt
 free_at_first (e ∷ es) = (refl, free_at_first es)
 
-still_free : (e : Entry) (es : List Entry) (ms : Members) → is_known e.0 (entry_keys es) ≡ false → AreFree es ms
+still_free : (e : Entry) (es : List Entry) (ms : Members)
+    → is_known e.0 (entry_keys es) ≡ false → AreFree es ms
     → AreFree es (put_or e.0 e.1 ms)
 unfolding AreFree
 still_free e [] ms none free = tt
@@ -59,15 +60,20 @@ unfolding AreFree
 onto_holds ms [] apart free = tt
 onto_holds ms (e ∷ es) apart free =
     let both = and_parts _ _ apart in
-    let none = not-true _ both.0 in
-    (onto_other e.0 (put_or e.0 e.1 ms) es none ∙ here_after e.0 e.1 ms free.0, onto_holds (put_or e.0 e.1 ms) es both.1 (still_free e es ms none free.1))
+    let none = not-true _ both.0 in (
+      onto_other e.0 (put_or e.0 e.1 ms) es none
+          ∙ here_after e.0 e.1 ms free.0,
+      onto_holds (put_or e.0 e.1 ms) es both.1 (still_free e es ms none free.1),
+    )
 
 -- at each key, the value that it was given
-pub object_has_entries : (es : List Entry) → are_apart (entry_keys es) ≡ true → HasEntries es (entries_object es)
+pub object_has_entries : (es : List Entry)
+    → are_apart (entry_keys es) ≡ true → HasEntries es (entries_object es)
 object_has_entries es apart = onto_holds no_members es apart (free_at_first es)
 
 -- entries of two parts
-pub holds_parts : (es fs : List Entry) (d : Data) → HasEntries (es ++ fs) d → HasEntries es d × HasEntries fs d
+pub holds_parts : (es fs : List Entry) (d : Data)
+    → HasEntries (es ++ fs) d → HasEntries es d × HasEntries fs d
 holds_parts [] fs d h = (tt, h)
 holds_parts (e ∷ es) fs d h = let rest = holds_parts es fs d h.1 in ((h.0, rest.0), rest.1)
 
@@ -94,7 +100,9 @@ among_own (e ∷ es) =
 
 put_known_at : (o : Ordering) (keys : List (List ℕ)) (k l : List ℕ) (d e : Data) (ms : Members)
     → is_known k keys ≡ true → are_known keys (member l e ms) ≡ true
-    → are_known keys (put k d ms) ≡ true → are_known keys (match_ordering o (member k d (member l e ms)) (member l d ms) (member l e (put k d ms))) ≡ true
+    → are_known keys (put k d ms) ≡ true
+    → are_known keys
+    (match_ordering o (member k d (member l e ms)) (member l d ms) (member l e (put k d ms))) ≡ true
 put_known_at Less keys k l d e ms is known later = and_from _ _ is known
 put_known_at Equal keys k l d e ms is known later = known
 put_known_at Greater keys k l d e ms is known later =
