@@ -9,3 +9,6 @@ pub returns-in-Encode-clause-ran : goal.returns-in-Encode-clause-ran
 returns-in-Encode-clause-ran g c =
     let encode : c.args.command ≡ Encode = search rules in
     Ran-as (λ s. ap (λ o. command_output o s) encode) c.answer_each-in-Encode.ensures.ran
+
+pub returns-in-Encode-clause-known : goal.returns-in-Encode-clause-known
+returns-in-Encode-clause-known g c = Ran-known _ (returns-in-Encode-clause-ran g c)
