@@ -8,7 +8,8 @@ use etcs_run::Status;
 /// Puts the text at the front of the buffer, and returns the exit status of the program for this status. If
 /// the buffer is too small, it is unchanged, and 4 is returned. `length` becomes the length of the text.
 pub fn put(text: &[u8], status: Status, buffer: &mut [u8], length: &mut usize) -> u32
-    ensures { IsPut (text.now, status) buffer.old buffer.new length.new result }
+    ensures put { IsPut (text.now, status) buffer.old buffer.new length.new result }
+    ensures other { result ≡ memory_status → ⊥ }
 {
     let count = text.len();
     *length = count;

@@ -1,38 +1,36 @@
 //! The commands: each returns what the program writes for an input, and its status.
 
-ghost use Rattle.std.specs.Prelude.{◌≡◌, [], ◌∷◌, codes, map, IfSome};
-ghost use Rattle.etcs_run.specs.Commands.{program_output};
+ghost use Rattle.std.specs.Prelude.{◌≡◌, IfSome};
+ghost use Rattle.etcs_run.specs.Commands.{command_output};
 ghost use Rattle.balisecheck_c.specs.Answer.{IsAnswer};
 
 use crate::answer::{out_of_memory, put};
-use etcs_run::{Counted, Status, run};
+use etcs_run::{Command, Counted, Status, execute};
 use std::alloc::Global;
 
-// The text and the status of the program for these words and this input, unless memory runs out.
-fn output<'a>(alloc: Global, words: &'a [&'a str], input: &[u8]) -> Option<(Vec<u8>, Status)>
-    ensures { IfSome result (λ o.
-        program_output (map (λ w. w.now) words.entry.now) input.now ≡ (o.0.items, o.1)) }
+// The text and the status of the command for this input, unless memory runs out.
+fn output(alloc: Global, command: Command, input: &[u8]) -> Option<(Vec<u8>, Status)>
+    ensures { IfSome result (λ o. command_output command input.now ≡ (o.0.items, o.1)) }
 {
     let mut reader = Counted::new(input);
     let mut writer = Counted::new(Vec::new(alloc));
-    match run(alloc, words, &mut reader, &mut writer) {
+    match execute(alloc, command, &mut reader, &mut writer) {
         Ok(status) => Some((writer.into_inner(), status)),
         Err(_) => None,
     }
 }
 
-// Puts what the program writes for these words and this input into the buffer.
-fn answer<'a>(
+// Puts what the command writes for this input into the buffer.
+fn answer(
     alloc: Global,
-    words: &'a [&'a str],
+    command: Command,
     input: &[u8],
     buffer: &mut [u8],
     length: &mut usize,
 ) -> u32
-    ensures { IsAnswer (program_output (map (λ w. w.now) words.entry.now) input.now)
-        buffer.old buffer.new length.new result }
+    ensures { IsAnswer (command_output command input.now) buffer.old buffer.new length.new result }
 {
-    match output(alloc, words, input) {
+    match output(alloc, command, input) {
         Some((text, status)) => put(text.as_slice(), status, buffer, length),
         None => out_of_memory(length),
     }
@@ -46,10 +44,9 @@ pub extern "C" fn balisecheck_check(
     buffer: &mut [u8],
     length: &mut usize,
 ) -> u32
-    ensures { IsAnswer (program_output (codes "balisecheck" ∷ codes "check" ∷ []) input.now)
-        buffer.old buffer.new length.new result }
+    ensures { IsAnswer (command_output Command.Check input.now) buffer.old buffer.new length.new result }
 {
-    answer(alloc, &["balisecheck", "check"], input, buffer, length)
+    answer(alloc, Command::Check, input, buffer, length)
 }
 
 /// `balisecheck decode`: from lines of hexadecimal text, each a telegram, to lines of JSON.
@@ -60,10 +57,9 @@ pub extern "C" fn balisecheck_decode(
     buffer: &mut [u8],
     length: &mut usize,
 ) -> u32
-    ensures { IsAnswer (program_output (codes "balisecheck" ∷ codes "decode" ∷ []) input.now)
-        buffer.old buffer.new length.new result }
+    ensures { IsAnswer (command_output Command.Decode input.now) buffer.old buffer.new length.new result }
 {
-    answer(alloc, &["balisecheck", "decode"], input, buffer, length)
+    answer(alloc, Command::Decode, input, buffer, length)
 }
 
 /// `balisecheck decode --radio`: from a stream of radio messages, in lines of hexadecimal text, to lines of
@@ -75,17 +71,9 @@ pub extern "C" fn balisecheck_decode_radio(
     buffer: &mut [u8],
     length: &mut usize,
 ) -> u32
-    ensures { IsAnswer
-        (program_output (codes "balisecheck" ∷ codes "decode" ∷ codes "--radio" ∷ []) input.now)
-        buffer.old buffer.new length.new result }
+    ensures { IsAnswer (command_output Command.DecodeRadio input.now) buffer.old buffer.new length.new result }
 {
-    answer(
-        alloc,
-        &["balisecheck", "decode", "--radio"],
-        input,
-        buffer,
-        length,
-    )
+    answer(alloc, Command::DecodeRadio, input, buffer, length)
 }
 
 /// `balisecheck encode`: from lines of JSON to lines of hexadecimal text, each a telegram.
@@ -96,10 +84,9 @@ pub extern "C" fn balisecheck_encode(
     buffer: &mut [u8],
     length: &mut usize,
 ) -> u32
-    ensures { IsAnswer (program_output (codes "balisecheck" ∷ codes "encode" ∷ []) input.now)
-        buffer.old buffer.new length.new result }
+    ensures { IsAnswer (command_output Command.Encode input.now) buffer.old buffer.new length.new result }
 {
-    answer(alloc, &["balisecheck", "encode"], input, buffer, length)
+    answer(alloc, Command::Encode, input, buffer, length)
 }
 
 /// `balisecheck encode --radio`: from lines of JSON to lines of hexadecimal text, each a radio message.
@@ -110,15 +97,7 @@ pub extern "C" fn balisecheck_encode_radio(
     buffer: &mut [u8],
     length: &mut usize,
 ) -> u32
-    ensures { IsAnswer
-        (program_output (codes "balisecheck" ∷ codes "encode" ∷ codes "--radio" ∷ []) input.now)
-        buffer.old buffer.new length.new result }
+    ensures { IsAnswer (command_output Command.EncodeRadio input.now) buffer.old buffer.new length.new result }
 {
-    answer(
-        alloc,
-        &["balisecheck", "encode", "--radio"],
-        input,
-        buffer,
-        length,
-    )
+    answer(alloc, Command::EncodeRadio, input, buffer, length)
 }

@@ -1,10 +1,13 @@
 //! One record: a telegram or a radio message, from its text to its JSON line, or to its first fault.
 
 ghost use Rattle.std.specs.Prelude.{◌≡◌, ℕ, List, Result, Ok, Err};
+ghost use Rattle.etcs_radio.specs.Text.{HasPackets as HasMessagePackets};
 ghost use Rattle.etcs_radio.specs.declared.error.RadioTextError.{RadioTextError};
+ghost use Rattle.etcs_telegram.specs.Text.{HasPackets as HasTelegramPackets};
 ghost use Rattle.etcs_telegram.specs.declared.error.TextError.{TextError};
 ghost use Rattle.etcs_run.specs.JsonLine.{json_line_text};
 ghost use Rattle.etcs_run.specs.TelegramLines.{IsEarly};
+ghost use Rattle.balisecheck_c.specs.Answer.{memory_status};
 ghost use Rattle.balisecheck_c.specs.Fault.{message_fault, telegram_fault};
 ghost use Rattle.balisecheck_c.specs.Records.{Gives, IsEarlyMessage, IsRecordAnswer, message_meaning, message_reason, telegram_meaning, telegram_reason};
 ghost use Rattle.balisecheck_c.specs.declared.fault.Fault.{Fault};
@@ -65,6 +68,8 @@ fn telegram_line(alloc: Global, text: &[u8]) -> Result<Vec<u8>, Unread>
     ensures means { Gives (λ line. line.items) result (telegram_meaning text.now) }
     ensures early { (why : TextError) → IsEarly why text.now
         → result ≡ Err (Unread.Refused (telegram_fault why)) }
+    ensures memory { (f : Fault) → telegram_meaning text.now ≡ Err f
+        → result ≡ Err Unread.Memory → HasTelegramPackets text.now }
 {
     match etcs_telegram::from_hex(alloc, text) {
         Ok(telegram) => line_of(alloc, &telegram),
@@ -77,6 +82,8 @@ fn message_line(alloc: Global, text: &[u8]) -> Result<Vec<u8>, Unread>
     ensures means { Gives (λ line. line.items) result (message_meaning text.now) }
     ensures early { (why : RadioTextError) → IsEarlyMessage why text.now
         → result ≡ Err (Unread.Refused (message_fault why)) }
+    ensures memory { (f : Fault) → message_meaning text.now ≡ Err f
+        → result ≡ Err Unread.Memory → HasMessagePackets text.now }
 {
     match etcs_radio::from_hex(alloc, text) {
         Ok(message) => line_of(alloc, &message),
@@ -95,6 +102,7 @@ fn answer(
         → IsRecordAnswer meaning buffer.old buffer.new length.new fault.new result }
     ensures refused { (f : Fault) → line ≡ Err (Unread.Refused f)
         → (result ≡ 2) × (fault.new ≡ f) }
+    ensures memory { result ≡ memory_status → line ≡ Err Unread.Memory }
 {
     *fault = Fault::of_text(0);
     match line {
@@ -122,6 +130,10 @@ pub extern "C" fn balisecheck_telegram(
         buffer.old buffer.new length.new fault.new result }
     ensures early { (why : TextError) → IsEarly why input.now
         → (result ≡ 2) × (fault.new ≡ telegram_fault why) }
+
+    // A text that is refused needs memory only if a packet has to be read.
+    ensures memory { (f : Fault) → telegram_meaning input.now ≡ Err f
+        → result ≡ memory_status → HasTelegramPackets input.now }
 {
     answer(telegram_line(alloc, input), buffer, length, fault)
 }
@@ -141,6 +153,10 @@ pub extern "C" fn balisecheck_message(
         buffer.old buffer.new length.new fault.new result }
     ensures early { (why : RadioTextError) → IsEarlyMessage why input.now
         → (result ≡ 2) × (fault.new ≡ message_fault why) }
+
+    // A text that is refused needs memory only if reading a packet may need it.
+    ensures memory { (f : Fault) → message_meaning input.now ≡ Err f
+        → result ≡ memory_status → HasMessagePackets input.now }
 {
     answer(message_line(alloc, input), buffer, length, fault)
 }

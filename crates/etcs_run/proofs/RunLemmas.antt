@@ -1,16 +1,14 @@
 -- How a run over lines continues, and how it ends. `output` is what the run must write for an
 -- input, and `left` is what remains to be written.
-use Rattle.std.proofs.Common.{◌≡◌, ◌+◌, ◌++◌, ℕ, Bool, true, false, List, [], ◌∷◌, Option, Some, None, IfSome, Result, Ok, Err, inr, refl, sym, ap, ◌∙◌, append_assoc, take, drop, subst, arith}
+use Rattle.std.proofs.Common.{◌≡◌, ◌+◌, ◌++◌, ℕ, Bool, true, false, List, [], ◌∷◌, Option, Some, None, IfSome, Result, Ok, Err, refl, sym, ap, ◌∙◌, append_assoc, take, drop, subst, arith}
 use Rattle.std.proofs.lemmas.List.{append-nil, take_all, take-append-drop}
 use Rattle.std.specs.Io.KnownBytes.{Appends, Consumes, IsAtEnd, Keeps}
-use Rattle.etcs_run.specs.LineReading.{CountsDevice, Reads}
+use Rattle.etcs_run.specs.LineReading.{Reads}
 use Rattle.etcs_run.specs.Ran.{MayFollow}
 use Rattle.etcs_run.specs.TextLines.{split_lines}
 use Rattle.etcs_run.specs.Output.{Output, line_by_line, prepend}
-use Rattle.etcs_run.specs.Ran.{CountsOneDevice, IsOutputSoFar, Ran, AnswersNextLine, Writes, WritesBytes}
-use Rattle.etcs_run.specs.declared.counted.Counted.{Counted}
+use Rattle.etcs_run.specs.Ran.{IsOutputSoFar, Ran, AnswersNextLine, Writes, WritesBytes}
 use Rattle.etcs_run.specs.declared.error.RunError.{RunError}
-use Rattle.etcs_run.specs.declared.error.RunError.TheVariants.{Memory, Device}
 use Rattle.etcs_run.specs.declared.status.Status.{Status}
 use Rattle.etcs_run.specs.declared.control_flow.ControlFlow.TheVariants.{Next, Stop}
 use Rattle.etcs_run.proofs.StreamLemmas.{Appends-kept, Appends-none, Appends-then, Consumes-none, Consumes-then}
@@ -302,11 +300,3 @@ Writes-failed e writes = record {
   appended = writes.appended;
   says = ([], ap (λ o. o.0) writes.says ∙ sym (append-nil writes.text));
 }
-
--- the device that failed is the writer, because the reader was not called
-pub counts_at_writer : {R W X : Type 0} (result : Result X RunError) (reader : Counted R)
-    (old new : Counted W) → CountsDevice result old new
-    → CountsOneDevice result reader reader old new
-counts_at_writer (Ok x) reader old new counts = (refl, counts)
-counts_at_writer (Err Memory) reader old new counts = (refl, counts)
-counts_at_writer (Err Device) reader old new counts = inr (refl, counts)

@@ -13,13 +13,17 @@ use Rattle.etcs_run.specs.TelegramLines.{telegram_decoded}
 use Rattle.etcs_run.specs.declared.command.Command.{Command}
 use Rattle.etcs_run.specs.declared.command.Command.TheVariants.{Check, Decode, DecodeRadio, Encode, EncodeRadio}
 
--- what is written for a command and an input, or for no command
+-- what is written for a command and an input
+abbrev pub command_output : Command → List ℕ → Output
+command_output Check input = check_output input
+command_output Decode input = each_text_line telegram_decoded input
+command_output DecodeRadio input = line_by_line (stream_answers 0 []) input
+command_output Encode input = each_text_line (encoded (object telegram) telegram_line) input
+command_output EncodeRadio input = each_text_line (encoded message message_line) input
+
+-- what is written for an input, also if there is no command
 abbrev pub of_command : Option Command → List ℕ → Output
-of_command (Some Check) input = check_output input
-of_command (Some Decode) input = each_text_line telegram_decoded input
-of_command (Some DecodeRadio) input = line_by_line (stream_answers 0 []) input
-of_command (Some Encode) input = each_text_line (encoded (object telegram) telegram_line) input
-of_command (Some EncodeRadio) input = each_text_line (encoded message message_line) input
+of_command (Some command) input = command_output command input
 of_command None input = refusal_output Usage
 
 -- what is written for some words and an input

@@ -2,9 +2,9 @@
 //! railway line to the findings about the line; from lines of hexadecimal text, each a Eurobalise
 //! telegram, to lines of JSON, and back; and from a stream of radio messages to lines of JSON, and back.
 //!
-//! [`run`] executes the words of a command line, from a [`Counted`] reader to a [`Counted`] writer. Its
-//! contract states what is written for every input: `specs/Commands.antt` defines that text, and
-//! `specs/Ran.antt` what is promised about it. It returns a [`Status`], or a [`RunError`] if an allocation
+//! [`run`] executes the words of a command line, from a [`Counted`] reader to a [`Counted`] writer, and
+//! [`execute`] a [`Command`]. Their contracts state what is written for every input: `specs/Commands.antt`
+//! defines that text, and `specs/Ran.antt` what is promised about it. Both return a [`Status`], or a [`RunError`] if an allocation
 //! or a device failed. [`json_line`] writes one record. Read `program.rt` first, then `answering.rt`,
 //! `text_line_command.rt`, `text_line_meaning.rt`, `each_text_line.rt` and `text_lines.rt`. The meaning of a
 //! line is in `telegram_lines.rt` and `form_lines.rt`. A stream is decoded in `radio_decoding.rt`, independent
@@ -31,8 +31,9 @@ mod text_line_meaning;
 mod text_lines;
 mod whole_input;
 
+pub use command::Command;
 pub use counted::Counted;
 pub use error::RunError;
-pub use program::run;
+pub use program::{execute, run};
 pub use record_line::json_line;
 pub use status::Status;

@@ -5,7 +5,7 @@ use Rattle.etcs_run.proofs.FormLemmas.{refused_early}
 use Rattle.etcs_run.specs.TelegramLines.{IsEarly}
 use Rattle.balisecheck_c.specs.Fault.{telegram_fault}
 use Rattle.balisecheck_c.specs.Records.{Gives, telegram_json, telegram_reason}
-use Rattle.balisecheck_c.specs.declared.records.Unread.TheVariants.{Refused}
+use Rattle.balisecheck_c.specs.declared.records.Unread.TheVariants.{Memory, Refused}
 use Rattle.balisecheck_c.proofs.records.telegram_line.Goals as goal
 
 -- the line of the telegram that the text means
@@ -29,3 +29,16 @@ returns-in-Err-clause-early c why early =
     said.header in
     let same : c.in-Err.why ≡ why = cc in
     ap Err (c.unread_telegram.ensures ∙ ap telegram_reason same ∙ fault_early why c.args.text.now early)
+
+-- only a lack of memory is reported as one
+is_memory : (why : TextError) → telegram_reason why ≡ Memory → why ≡ texts.Memory
+is_memory texts.Memory lacks = refl
+is_memory texts.NotHex lacks = cc
+is_memory texts.WrongSize lacks = cc
+is_memory texts.PadBits lacks = cc
+is_memory (texts.Fault f) lacks = cc
+
+pub returns-in-Err-clause-memory : goal.returns-in-Err-clause-memory
+returns-in-Err-clause-memory c f is lacks =
+    let reason : telegram_reason c.in-Err.why ≡ Memory = cc in
+    c.in-Err.ensures.packets (ap Err (is_memory c.in-Err.why reason))
