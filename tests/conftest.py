@@ -5,14 +5,6 @@ import pytest
 
 import runner
 
-try:
-    from hypothesis import settings
-
-    settings.register_profile("tests", derandomize=True, deadline=None, database=None)
-    settings.load_profile("tests")
-except ImportError:
-    pass
-
 os.environ["BALISECHECK"] = runner.program()  # (found once: processes of xdist and scripts take it over)
 
 
