@@ -3,6 +3,7 @@ numbers that were put into the fields.
 
     tests/cases.py    prints the cases of `decode`, one a line: name, input line and answer, with tabs between them
 """
+import functools
 import itertools
 import json
 import operator
@@ -40,9 +41,14 @@ def text(bits):
     return f"{int(whole, 2):0{len(whole) // 4}x}" if bits else ""
 
 
-def in_telegram(bits, size):
-    """The text of a telegram of this size that begins with these bits."""
-    return text(bits.ljust(size, "1"))
+def telegram(bits, size, head=HEAD):
+    """The text of a telegram of this size with these packets."""
+    return text((head + bits + END_MARK).ljust(size, "1"))
+
+
+def sizes(bits):
+    """The sizes of telegrams that have room for these packets."""
+    return [size for size in (SHORT, LONG) if len(HEAD + bits + END_MARK) <= size]
 
 
 def with_packets(form, forms):
@@ -67,19 +73,10 @@ def answer(size, forms, head=HEAD):
     return with_packets({**form, "user_bits": size}, forms)
 
 
-def least(bits):
-    """The least telegram that has room for these packets, and its size."""
-    whole = HEAD + bits + END_MARK
-    if len(whole) > LONG:
-        raise ValueError(f"no telegram has room for {bits}")
-    size = SHORT if len(whole) <= SHORT else LONG
-    return in_telegram(whole, size), size
-
-
 def accepted(name, bits, forms):
     """The packets in a telegram of each size that has room for them."""
-    for size in range(least(bits)[1], LONG + 1, LONG - SHORT):
-        yield f"{name}, {size} bits", in_telegram(HEAD + bits + END_MARK, size), answer(size, forms)
+    for size in sizes(bits):
+        yield f"{name}, {size} bits", telegram(bits, size), answer(size, forms)
 
 
 # ---- packets.txt
@@ -106,17 +103,15 @@ def cut(name, fields):
 def faults(name, ahead, fields, others):
     """The packet with other digits in one field."""
     for place, digits, why in others:
-        telegram, _ = least(ahead + "".join([*fields[:place], digits, *fields[place + 1:]]))
-        yield f"{name}: field {place + 1} is {digits}", telegram, refusal(why, len(HEAD + ahead))
+        bits = ahead + "".join([*fields[:place], digits, *fields[place + 1:]])
+        yield f"{name}: field {place + 1} is {digits}", telegram(bits, sizes(bits)[0]), refusal(why, len(HEAD + ahead))
 
 
 def replaced(form, path, number):
     """The form with the number at the end of these keys and places."""
-    value = inner = json.loads(form)
-    *outer, last = [int(step) if step.isdigit() else step for step in path.split("/")]
-    for step in outer:
-        inner = inner[step]
-    inner[last] = number
+    value = json.loads(form)
+    *outer, last = (int(step) if step.isdigit() else step for step in path.split("/"))
+    functools.reduce(operator.getitem, outer, value)[last] = number
     return FORM.encode(value)
 
 
@@ -126,11 +121,11 @@ def each_number(name, fields, form, allowed):
         front, width = "".join(fields[:place]), len(fields[place])
         ranges = [[int(end) for end in one.split("-")] for one in numbers.split()]
         for number in range(2 ** width):
-            telegram, size = least(front + spelled((width, number)) + "".join(fields[place + 1:]))
-            wanted = refusal(f"spare at {len(front)} end {len(front) + width}", len(HEAD))
+            bits = front + spelled((width, number)) + "".join(fields[place + 1:])
+            size, wanted = sizes(bits)[0], refusal(f"spare at {len(front)} end {len(front) + width}", len(HEAD))
             if any(one[0] <= number <= one[-1] for one in ranges):
                 wanted = answer(size, [replaced(form, path, number)])
-            yield f"{name}: {path} {number}", telegram, wanted
+            yield f"{name}: {path} {number}", telegram(bits, size), wanted
 
 
 def packets():
@@ -158,20 +153,25 @@ def packets():
 # ---- telegrams without packets
 
 
+def turned(bits, place):
+    """The digits with one of them turned."""
+    return bits[:place] + "01"[bits[place] == "0"] + bits[place + 1:]
+
+
 def headers():
     """A header with each of its bits turned, and with each number of M_VERSION and of M_DUP."""
-    heads = [HEAD[:at] + "01"[HEAD[at] == "0"] + HEAD[at + 1:] for at in range(len(HEAD))]
+    heads = [turned(HEAD, place) for place in range(len(HEAD))]
     for at, width in ((1, 7), (15, 2)):
         heads += [HEAD[:at] + spelled((width, number)) + HEAD[at + width:] for number in range(2 ** width)]
     for head in heads:
-        yield f"the header {head}", in_telegram(head + END_MARK, SHORT), answer(SHORT, [], head)
+        yield f"the header {head}", telegram("", SHORT, head), answer(SHORT, [], head)
 
 
 def no_digits():
     """Bytes that are no digits, each at each index of a short telegram, and one at each index of a long one."""
     beside = "/:@G`g"
     for size, few in ((SHORT, len(beside)), (LONG, 1)):
-        line = in_telegram(HEAD + END_MARK, size)
+        line = telegram("", size)
         for place in range(len(line)):
             for byte in (beside[place % 6:] + beside)[:few]:
                 other = line[:place] + byte + line[place + 1:]
@@ -186,9 +186,7 @@ def turned_bits():
                                        ("the pad bits", SHORT, range(SHORT, 216), refusal("pad bits set")),
                                        ("the fill of a long telegram", LONG, range(mark + 8, LONG), answer(LONG, []))):
         bits = (HEAD + END_MARK).ljust(size, "1").ljust(size + -size % 8, "0")
-        for place in places:
-            turned = bits[:place] + "01"[bits[place] == "0"] + bits[place + 1:]
-            yield f"{name}, bit {place} turned", text(turned), wanted
+        yield from ((f"{name}, bit {place} turned", text(turned(bits, place)), wanted) for place in places)
 
 
 # ---- the greatest lists and messages
@@ -235,8 +233,8 @@ def last_bits():
     for size in (SHORT, LONG):
         width = size - len(HEAD + END_MARK)
         yield from accepted("packet 44 up to the end mark", *filler(width))
-        telegram = HEAD + filler(width + 1)[0] + END_MARK[1:]
-        yield f"a bit less, {size} bits", text(telegram), refusal(f"no end at {size - 7} end {size - 7}")
+        bits = HEAD + filler(width + 1)[0] + END_MARK[1:]
+        yield f"a bit less, {size} bits", text(bits), refusal(f"no end at {size - 7} end {size - 7}")
 
 
 def message_ends():
