@@ -9,7 +9,6 @@ import os
 import pathlib
 import re
 import subprocess
-import sys
 
 HERE = pathlib.Path(__file__).resolve().parent
 TOP, CASES, EXAMPLES = HERE.parent, HERE / "cases", HERE.parent / "examples"
@@ -64,46 +63,6 @@ def answered(stdout, stderr=""):
     last = stdout.rstrip("\n").split("\n")[-1]
     status = 3 if stderr in (MEMORY, DEVICE) else 2 if last.startswith("refused: ") else int(stdout.startswith("no: "))
     return Answer(status, stdout, stderr)
-
-
-# ---- the count
-
-
-class Tests:
-    """How many tests passed and failed so far, and what else was counted."""
-
-    def __init__(self, shown=100):
-        self.passed, self.failed, self.shown = 0, 0, shown
-        self.figures = collections.Counter()
-
-    def holds(self, name, holds, *seen):
-        """A test. The first ones that fail are shown."""
-        self.passed, self.failed = self.passed + bool(holds), self.failed + (not holds)
-        if not holds and self.failed <= self.shown:
-            print(f"failed: {str(name)[:500]}", *(f"  {str(one)[:1000]!r}" for one in seen), sep="\n", file=sys.stderr)
-
-    def equal(self, name, found, wanted):
-        """A test that passes if what was found is what is wanted."""
-        self.holds(name, found == wanted, f"found:  {found}", f"wanted: {wanted}")
-
-    def lines(self, name, found, wanted):
-        """The same for texts. The first lines that differ are shown."""
-        pairs = zip(found.split("\n") + ["the end"], wanted.split("\n") + ["the end"])
-        one, other = next((pair for pair in pairs if pair[0] != pair[1]), ("", ""))
-        self.holds(name, found == wanted, f"found:  {one}", f"wanted: {other}")
-
-    def end(self, title):
-        """Ends the process, with the count as its last line."""
-        print(f"{title}: {self.passed} passed, {self.failed} failed")
-        sys.exit(self.failed > 0)
-
-
-def play(title, *several):
-    """Runs these functions of tests, and ends the process."""
-    tests = Tests()
-    for one in several:
-        one(tests)
-    tests.end(title)
 
 
 # ---- the texts of the cases

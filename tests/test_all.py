@@ -23,19 +23,18 @@ def play(tmp_path):
         for path, text in (("python", f'case "$*" in *{absent}*) exit 1; esac; exec {sys.executable} "$@"'),
                            ("tools/id", f"echo {user}"), ("tools/apt-cache", '[ "$2" = one ]'),
                            ("tools/apt-get", f"echo \"$*\" >>{tmp_path}/called; [ $1 = update ] || {{ {install}\n}}"),
-                           ("balisecheck", "echo /bin/true"), ("companion/test", balisekit),
-                           ("tests/loop.py", "echo 7 passed, 0 failed")):
+                           ("balisecheck", "echo /bin/true"), ("companion/test", balisekit)):
             write(path, f"#!/bin/sh\n{text}\n")
+        write("tests/loop.py", "print('7 passed, 0 failed')\n")
         write("tests/test_it.py", TEST.format(fails))
         known = {"PATH": f"{tmp_path}/tools:/usr/bin:/bin", "PYTHON": f"{tmp_path}/python"}
         known["PYTEST_XDIST_AUTO_NUM_WORKERS"] = "0"
         ran = run([tmp_path / "tests" / "all"], env=known, stdout=PIPE, text=True, check=False)
         return *ran.stdout.splitlines(), ran.returncode
 
-    for name, pattern, other in (("all", r"(?s)scripts=\(.*?\noptions", "scripts=()\nothers=()\noptions"),
-                                 ("packages.sh", "packages='[^']*'", f"packages='one={tmp_path}/one two=/nowhere'"),
-                                 ("steps.sh", "^", "")):
-        write(f"tests/{name}", re.sub(pattern, other, (HERE / name).read_text()))
+    for name in ("all", "steps.sh", "packages.sh"):
+        needed = f"packages='one={tmp_path}/one two=/nowhere'"
+        write(f"tests/{name}", re.sub("packages='[^']*'", needed, (HERE / name).read_text()))
     return played
 
 
