@@ -36,7 +36,7 @@ TO_MEND = [
         b'%b0x%b\r\n# none \xdf\r\n%b # 3\r\n"0X%b",\xc2\xa0\r\n'
         % (MARK, TELEGRAM.upper(), re.sub(b"..", rb"\g<0> ", MARKED), SPARE))),
 ]
-# What pages name.
+# What the commands name. What is left of the refused block of long.txt is more than a pipe holds.
 FILES = {
     "faulty.txt": b"a1007f802000c15022a0d4800151402b80d9000105083e87ffffc0\n",
     "lost.txt": b"a1007f802000c15022a0d400151402a8139000105083e87ffffc0\n",
@@ -44,46 +44,41 @@ FILES = {
     "line.txt": (EXAMPLES / "duplicated-pair.txt").read_bytes() + b"\n%b\n" % TELEGRAM.replace(b"2000ff", b"2001ff"),
     "aspects.txt": b"a1%bc0\na1%bc0\n\na1%bc0\na1%bc0\n" % tuple(
         head + ONES for head in (b"0283802000ff", b"1303802000ff", b"0284002000ff", b"1304002000ff")),
-}
-# What only the calls below read. What is left of the refused block of long.txt is more than a pipe holds.
-MORE = {
     "numbered.txt": b"%b\n\n\r\n%b\r\n%b" % (TELEGRAM, MARKED, TELEGRAM),
     "uplink.txt": b"02804001" + b"0" * 46 + b"\n",
     "long.txt": SPARE + b"\n" + (TELEGRAM + b"\n") * 20000,
     "refused.json": b'{"groups":[{"balises":["%b"]}],"messages":[]}' % SPARE,
 }
 NO_DIGIT = "line 1 has no hexadecimal digit for bit"
-# Commands with what they write and their status. T and S are telegrams, E is the end of a line.
-CALLS = [
-    ("./balisecheck decode <numbered.txt | json_lines | jq -c .packets | number_lines numbered.txt",
-     '1 []\n4 [{"nid_packet":0,"nid_vbcmk":17}]\n5 []', 0),
-    ("./balisecheck decode <batch.txt | json_lines 2>said | jq -c .packets | number_lines batch.txt", "1 []", 0),
-    ("put_number 1 15 17 4 <<<$T", "4 is no number of 2 bits", 1),
-    ("put_number 1 15 17 x <<<$T", "x is no number of 2 bits", 1),
-    ("put_number 1 214 218 3 <<<$T", f"{NO_DIGIT} 217", 1),
-    ('put_number 1 0 4 3 <<<" $T"', f"{NO_DIGIT} 3", 1),
-    ("put_number 2 15 17 3 <<<$T >/dev/null", "there is no line 2", 1),
-    ("put_number 1 15 17 3 <<<$T", SPARE.decode(), 0),
-    ("put_number 1 15 17 0 <<<${S^^} | tr A-F a-f", TELEGRAM.decode(), 0),
-    ('put_number 1 15 17 3 <<<"$T$E"', f"{SPARE.decode()} \t\r", 0),
-    ("show_bits 1 214 218 <<<$T", f"{NO_DIGIT} 216", 1),
-    ('show_bits 1 214 218 <<<"$T$E"', f"{NO_DIGIT} 216", 1),
-    ("show_bits 2 0 8 <<<$T", "there is no line 2", 1),
-    ("show_bits 0 0 8 <<<$T", "there is no line 0", 1),
-    ('show_bits 1 208 216 <<<"$T$E"', "11000000 is 192", 0),
-    ("list_packets 2 <<<$T", "there is no line 2", 1),
-    ("list_packets 1 <<<${T:0:13}", f"{NO_DIGIT} 52", 1),
-    ('list_packets 1 <<<"$T$E"', "packet 255 at bit 50", 0),
-    ("number_lines numbered.txt <<<'{}'", "1 {}", 0),
-    ("number_lines missing.txt <<<'{}'", "missing.txt has no line for answer 1", 1),
-    ("./balisecheck decode <uplink.txt", "refused: line 1: down-link at 0 end 1", 2),
-    ("move_zeros 1 <uplink.txt | show_bits 1 0 8", "10100000 is 160", 0),
-    ("move_zeros 1 <<<$T", "line 1 does not begin with 6 zeros", 1),
-    ("move_zeros 2 <<<$T >/dev/null", "there is no line 2", 1),
-]
 CHECK, SOUND = "examples/check/", "examples/check/sound-line.json"
-# Work in parts ends with the greatest status, and with 3 if a part is lost.
-PARTS = [
+# Commands after their status, some with what they write. T and S are telegrams, E is the end of a line. Work in parts
+# ends with the greatest status, and with 3 if a part is lost.
+CALLS = [
+    (0, "./balisecheck decode <numbered.txt | json_lines | jq -c .packets | number_lines numbered.txt",
+     '1 []\n4 [{"nid_packet":0,"nid_vbcmk":17}]\n5 []'),
+    (0, "./balisecheck decode <batch.txt | json_lines 2>said | jq -c .packets | number_lines batch.txt", "1 []"),
+    (1, "put_number 1 15 17 4 <<<$T", "4 is no number of 2 bits"),
+    (1, "put_number 1 15 17 x <<<$T", "x is no number of 2 bits"),
+    (1, "put_number 1 214 218 3 <<<$T", f"{NO_DIGIT} 217"),
+    (1, 'put_number 1 0 4 3 <<<" $T"', f"{NO_DIGIT} 3"),
+    (1, "put_number 2 15 17 3 <<<$T >/dev/null", "there is no line 2"),
+    (0, "put_number 1 15 17 3 <<<$T", SPARE.decode()),
+    (0, "put_number 1 15 17 0 <<<${S^^} | tr A-F a-f", TELEGRAM.decode()),
+    (0, 'put_number 1 15 17 3 <<<"$T$E"', f"{SPARE.decode()} \t\r"),
+    (1, "show_bits 1 214 218 <<<$T", f"{NO_DIGIT} 216"),
+    (1, 'show_bits 1 214 218 <<<"$T$E"', f"{NO_DIGIT} 216"),
+    (1, "show_bits 2 0 8 <<<$T", "there is no line 2"),
+    (1, "show_bits 0 0 8 <<<$T", "there is no line 0"),
+    (0, 'show_bits 1 208 216 <<<"$T$E"', "11000000 is 192"),
+    (1, "list_packets 2 <<<$T", "there is no line 2"),
+    (1, "list_packets 1 <<<${T:0:13}", f"{NO_DIGIT} 52"),
+    (0, 'list_packets 1 <<<"$T$E"', "packet 255 at bit 50"),
+    (0, "number_lines numbered.txt <<<'{}'", "1 {}"),
+    (1, "number_lines missing.txt <<<'{}'", "missing.txt has no line for answer 1"),
+    (2, "./balisecheck decode <uplink.txt", "refused: line 1: down-link at 0 end 1"),
+    (0, "move_zeros 1 <uplink.txt | show_bits 1 0 8", "10100000 is 160"),
+    (1, "move_zeros 1 <<<$T", "line 1 does not begin with 6 zeros"),
+    (1, "move_zeros 2 <<<$T >/dev/null", "there is no line 2"),
     (2, f"check_documents {CHECK}no-gradient.json {CHECK}no-gradient.txt {SOUND}"),
     (3, f"check_documents {CHECK}no-gradient.txt missing.json {SOUND}"),
     (3, f"check_documents {SOUND} >/dev/full"),
@@ -121,7 +116,7 @@ def shell(tmp_path):
     (tmp_path / "balisecheck").symlink_to(program())
     for name in ("examples", "balisekit", "companion"):
         (tmp_path / name).symlink_to(TOP / name)
-    for name, content in {**FILES, **MORE}.items():
+    for name, content in FILES.items():
         (tmp_path / name).write_bytes(content)
     known = {"BALISECHECK": program(), "T": TELEGRAM.decode(), "S": SPARE.decode(), "E": " \t\r"}
 
@@ -142,12 +137,13 @@ def test_block(commands, wanted, shell):
 
 
 def test_pages():
-    """Each page has commands, and shows none otherwise. Each file is used."""
+    """Each page has commands, and shows none otherwise. Each kind of file has a row, and each file is used."""
     assert {page for page, commands, _ in BLOCKS if commands} == {*PAGES}
     for page in PAGES:
         assert not re.search(r"(?m)^    \$", (TOP / page).read_text(encoding="utf-8")), page
+    assert sorted(MENDING) == ["named", "returns", "several", "utf16"]
     for name in FILES:
-        assert any(f" {name}" in commands for _, commands, _ in BLOCKS), name
+        assert any(name in commands for _, commands, *_ in BLOCKS + CALLS), name
 
 
 @pytest.mark.parametrize("name", ["line.txt", "aspects.txt"])
@@ -158,34 +154,24 @@ def test_line_ends(name, shell):
     assert shell(f"sed 's/$/ \\t\\r/' {name} >ends.txt; diff <({command}) <({other})").status == 0
 
 
-def test_rows_that_mend():
-    """The page has a row for each kind of file. The lines that it must give are refused only at the last one."""
-    assert sorted(MENDING) == ["named", "returns", "several", "utf16"]
-    assert run(("decode",), GOOD).stdout.endswith("\nrefused: line 4: spare at 15 end 17\n")
-
-
 @pytest.mark.parametrize("row, order, content", TO_MEND, ids=[row for row, *_ in TO_MEND])
 def test_mending(row, order, content, shell, tmp_path):
-    """The file is refused as it is. Corrected it has the lines, and the same answer."""
+    """The file is refused as it is. Corrected it has the lines, of which only the last one is refused."""
     assert re.search(r"(?m)^refused: line [12]: not hexadecimal\n\Z", run(("decode",), content).stdout)
     (tmp_path / f"{row}.txt").write_bytes(content)
     shell(MENDING[row].replace("UTF-16 ", f"UTF-16{order} "))
     mended = (tmp_path / "mended.txt").read_bytes()
     assert mended.replace(b"\r", b"").lower() == GOOD
-    assert run(("decode",), mended) == run(("decode",), GOOD)
+    assert run(("decode",), mended).stdout.endswith("\nrefused: line 4: spare at 15 end 17\n")
 
 
-@pytest.mark.parametrize("command, wanted, status", CALLS, ids=[command for command, *_ in CALLS])
-def test_call(command, wanted, status, shell):
-    """A function writes this, or reports what is wrong."""
+@pytest.mark.parametrize("call", CALLS, ids=lambda call: call[1])
+def test_call(call, shell):
+    """A command ends with this status, and writes this if it is listed."""
+    status, command, *wanted = call
     ran = shell(command)
-    assert (ran.stdout + ran.stderr, ran.status) == (f"{wanted}\n", status)
-
-
-@pytest.mark.parametrize("status, command", PARTS)
-def test_parts(status, command, shell):
-    """Work in parts ends with this status."""
-    assert shell(command).status == status
+    assert ran.status == status
+    assert not wanted or ran.stdout + ran.stderr == f"{wanted[0]}\n"
 
 
 @pytest.mark.parametrize("name", ["header-only", "movement-authority-radio", "movement-authority-level-1"])
