@@ -23,8 +23,8 @@ def check(document):
 
 @pytest.mark.parametrize("block", blocks("documents.txt"), ids=lambda block: block[0])
 def test_case(block):
-    """A document is answered as its block says, also with a line end, in another spelling, and with a repeated key,
-    with which it is not read group by group."""
+    """A document has the answer of its block, also with a line end, in another spelling, and with a repeated key, with
+    which it is not read group by group."""
     _, line, *report = block
     document, wanted = in_full(line), answered("\n".join(report) + "\n")
     assert check(document) == wanted
@@ -47,7 +47,7 @@ def test_no_json(document):
     ("8807000000320000004000e480200081f450014002830832c00ed280", 165),
     ("8806c000003200000040411480200080200101f450014002830830", 169)])
 def test_message(digits, wanted):
-    """The beginnings of a message are refused, and so are all but so many with one bit turned."""
+    """Each beginning of a message is refused. With one bit turned, this many are still messages."""
     def report(message):
         return check(f'{{"groups":[],"messages":["{message}"]}}').stdout
 
@@ -90,8 +90,8 @@ def test_many():
 @pytest.mark.elsewhere
 @pytest.mark.parametrize("path", sorted(FOLDER.glob("*.json")), ids=lambda path: path.stem)
 def test_example(path):
-    """A document has its report beside it, and a corrected one gets a yes. It changes nothing if the balises of each
-    group are its only aspect."""
+    """A document has its report beside it, and a corrected one gets a yes. The report stays the same if the balises of
+    each group are its only aspect."""
     document = json.loads(path.read_text())
     if path.stem.endswith("-mended"):
         report = f"yes: groups {len(document['groups'])}, messages {len(document['messages'])}\n"

@@ -23,8 +23,8 @@ AROUND = {
 
 @pytest.mark.parametrize("block", blocks("forms.txt"), ids=lambda block: block[0])
 def test_form(block):
-    """A line is answered as its block says, also in another spelling. `decode` writes what the block says, or the line
-    again with its keys in order."""
+    """A line has the answer of its block, also in another spelling. `decode` of the answer writes the last line of the
+    block, or the line again with its keys in order."""
     _, given, wanted, *other = block
     first, _, rest = given.partition(" ")
     before, after, option = AROUND[first]

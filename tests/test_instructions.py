@@ -3,6 +3,7 @@
 Fast paths are in front of slow paths that give the same answers, so no other test notices that one is never taken. Each
 input takes some of them so often that losing one costs more than the 3 % by which a count may differ from its budget,
 the count of the stored program. After a change that makes the program faster, the new counts are the budgets.
+Not guarded: a header's fields read at once, bits that fit into the last byte, rules about single balises asked at once.
 
 Instructions of the C library and the loader depend on the machine. They are not counted, and a call of a library counts
 as 100.

@@ -1,4 +1,4 @@
-"""Commands that pages show, run as they stand there in a folder with the files that they name, and the functions of
+"""Commands that pages show, run unchanged in a folder with the files that they name, and the functions of
 examples/find-field.sh and examples/parallel.sh with what they must refuse."""
 import math
 import os
@@ -36,7 +36,7 @@ TO_MEND = [
         b'%b0x%b\r\n# none \xdf\r\n%b # 3\r\n"0X%b",\xc2\xa0\r\n'
         % (MARK, TELEGRAM.upper(), re.sub(b"..", rb"\g<0> ", MARKED), SPARE))),
 ]
-# What the commands name. What is left of the refused block of long.txt is more than a pipe holds.
+# Files that the commands name. In long.txt more lines follow the refused one than a pipe holds.
 FILES = {
     "faulty.txt": b"a1007f802000c15022a0d4800151402b80d9000105083e87ffffc0\n",
     "lost.txt": b"a1007f802000c15022a0d400151402a8139000105083e87ffffc0\n",
@@ -51,8 +51,8 @@ FILES = {
 }
 NO_DIGIT = "line 1 has no hexadecimal digit for bit"
 CHECK, SOUND = "examples/check/", "examples/check/sound-line.json"
-# Commands after their status, some with what they write. T and S are telegrams, E is the end of a line. Work in parts
-# ends with the greatest status, and with 3 if a part is lost.
+# Commands after their status, some with their output. T and S are telegrams, E is the end of a line. Work in parts ends
+# with the greatest status, and with 3 if a part is lost.
 CALLS = [
     (0, "./balisecheck decode <numbered.txt | json_lines | jq -c .packets | number_lines numbered.txt",
      '1 []\n4 [{"nid_packet":0,"nid_vbcmk":17}]\n5 []'),
@@ -156,7 +156,7 @@ def test_line_ends(name, shell):
 
 @pytest.mark.parametrize("row, order, content", TO_MEND, ids=[row for row, *_ in TO_MEND])
 def test_mending(row, order, content, shell, tmp_path):
-    """The file is refused as it is. Corrected it has the lines, of which only the last one is refused."""
+    """The file is refused. Corrected it has the lines, of which only the last one is refused."""
     assert re.search(r"(?m)^refused: line [12]: not hexadecimal\n\Z", run(("decode",), content).stdout)
     (tmp_path / f"{row}.txt").write_bytes(content)
     shell(MENDING[row].replace("UTF-16 ", f"UTF-16{order} "))
@@ -167,7 +167,7 @@ def test_mending(row, order, content, shell, tmp_path):
 
 @pytest.mark.parametrize("call", CALLS, ids=lambda call: call[1])
 def test_call(call, shell):
-    """A command ends with this status, and writes this if it is listed."""
+    """A command has this status, and this output if one is listed."""
     status, command, *wanted = call
     ran = shell(command)
     assert ran.status == status
