@@ -1,6 +1,6 @@
 # shellcheck shell=bash
 # Functions for bash that share work among processors by GNU parallel, and find with jq which identities documents share
-# (in Debian the packages `parallel` and `jq`). docs/performance.md says when to use them. tests/recipes.py runs the
+# (in Debian the packages `parallel` and `jq`). docs/performance.md says when to use them. tests/test_recipes.py runs the
 # commands below. Read the functions into a bash in the folder of ./balisecheck:
 #
 #     $ . examples/parallel.sh

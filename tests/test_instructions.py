@@ -1,0 +1,124 @@
+"""How many instructions the commands take for fixed inputs, counted by valgrind.
+
+Fast paths are in front of slow paths that give the same answers, so no other test notices that one is never taken. Each
+input takes some of them so often that losing one costs more than the 3 % by which a count may differ from its budget,
+the count of the stored program. After a change that makes the program faster, the new counts are the budgets.
+Not guarded: a header's fields read at once, bits that fit into the last byte, rules about single balises asked at once.
+
+Instructions of the C library and the loader depend on the machine. They are not counted, and a call of a library counts
+as 100.
+"""
+import functools
+import json
+import os
+import platform
+import re
+import shutil
+
+import pytest
+
+from cases import FORM
+from runner import EXAMPLES, program, run
+
+BUDGETS = {
+    # Elements whose fields are read at once, fields far from the end, digits of messages.
+    "links": 841277, "gradients": 874153, "speeds": 1257497, "differences": 1244416, "level orders": 980886,
+    "sections": 749184, "parts": 1156341,
+    "pairs": 2924548,  # documents read from their tokens, in either order and with blanks; equal packets compared once
+    "findings": 3289453,  # groups with findings found in one walk, digits of telegrams
+    "decode": 892821,  # members of a line after one check of capacity, numbers of three and of five digits
+    "decode short": 335372,  # capacity for seven packets
+    "decode --radio": 434913,  # digits of a stream, fields in the last bytes
+    "encode": 1746148,  # numbers of 19 digits
+    "encode --radio": 2245687,  # keys in byte order
+}
+
+
+def example(name, line=0):
+    """The form in this line of an example."""
+    return json.loads((EXAMPLES / f"{name}.json").read_text().splitlines()[line])
+
+
+def packet(name, key, count, **others):
+    """The first packet of an example. Its list has the first item this many times, with other values of some keys."""
+    form = example(name)["packets"][0]
+    return {**form, key: [{**form[key][0], **others}] * count}
+
+
+SINGLE, PAIR = example("header-only"), (example("duplicated-pair"), example("duplicated-pair", 1))
+AUTHORITY, *PROFILES = example("authority-with-profiles")["packets"]
+PARTS = {**packet("movement-authority-level-1", "sections", 31, l_section=10), "l_endsection": 10}
+DIFFERENCE = example("speeds")["packets"][0]["elements"][0]["differences"][0]
+# A packet of each kind, and how many of them a message has.
+KINDS = {
+    "links": (packet("linking", "links", 32), 6),
+    "gradients": (packet("gradients", "elements", 32), 9),
+    "speeds": (packet("speeds", "elements", 32, differences=[]), 8),
+    "differences": (packet("speeds", "elements", 1, differences=[DIFFERENCE] * 31), 17),
+    "level orders": (packet("level-transition", "transitions", 32), 12),
+    "sections": (PARTS, 5),
+    "parts": ({**PARTS, "sections": []}, 40),
+}
+
+
+def encoded(forms, *option):
+    """The texts of telegrams or messages, and their lines of JSON."""
+    lines = "".join(f"{FORM.encode(form)}\n" for form in forms)
+    return run(("encode", *option), lines).stdout, lines
+
+
+def pairs(packets, heads=PAIR):
+    """A hundred groups of two balises with these packets."""
+    forms = [{**head, "nid_bg": it, "packets": packets, "user_bits": 830} for it in range(100) for head in heads]
+    texts = encoded(forms)[0].split()
+    return [{"balises": it} for it in zip(texts[::2], texts[1::2])]
+
+
+@functools.lru_cache(None)
+def inputs():
+    """The words, the input and the beginning of the answer for each budget."""
+    found, message = {}, example("radio-movement-authority")
+    for name, (form, count) in KINDS.items():
+        packets = [*message["packets"], *PROFILES, *[form] * count]
+        texts, _ = encoded([{**message, "packets": packets}] * 20, "--radio")
+        found[name] = ["check"], FORM.encode({"groups": [], "messages": texts.split()}), "yes: groups 0, messages 20\n"
+    equal = pairs([{"body": "", "l_packet": 23, "nid_packet": 44, "q_dir": it % 2} for it in range(33)])
+    found["pairs"] = ["check"], json.dumps({"messages": [], "groups": equal}, indent=1), "yes: groups 100, messages 0\n"
+    short = [{**AUTHORITY, "l_endsection": 1010}, *PROFILES]
+    groups = pairs(short)[:50] + pairs(short, (SINGLE, {**SINGLE, "m_mcount": 254}))[50:]
+    found["findings"] = ["check"], FORM.encode({"groups": groups, "messages": []}), "no: findings 500\n"
+    gradients = packet("gradients", "elements", 30, d_gradient=30000, g_a=200)
+    texts, forms = encoded([{**SINGLE, "packets": [gradients], "user_bits": 830}] * 20)
+    found["decode"] = ["decode"], texts * 5, forms * 5
+    # Of a repeated key the last one counts.
+    found["encode"] = ["encode"], forms.replace('"packets"', f'"packets":{[int("1" * 19)] * 20},"packets"'), texts
+    texts, forms = encoded([{**SINGLE, "packets": [{"nid_packet": 0, "nid_vbcmk": 17}] * 5}] * 100)
+    found["decode short"] = ["decode"], texts, forms
+    texts, forms = encoded([example("radio-two-groups-report")] * 100, "--radio")
+    found["decode --radio"] = ["decode", "--radio"], texts, forms
+    found["encode --radio"] = ["encode", "--radio"], forms, texts
+    return found
+
+
+def cost(counts, path):
+    """The count of the program at this path in the output of callgrind."""
+    own = "\n".join(part for part in counts.split("\nob=") if part.startswith(f"{path}\n"))
+    calls = re.findall(rf"cob=(?!{re.escape(path)}\n).*\n(?:cf[il]=.*\n)?cfn=.*\ncalls=(\d+)", own)
+    steps = re.findall(r"(?m)^\d+ (\d+)$", re.sub(r"calls=.*\n.*", "", own))
+    return sum(map(int, steps)) + 100 * sum(map(int, calls))
+
+
+@pytest.mark.parametrize("name", BUDGETS)
+def test_budget(name, tmp_path):
+    """The answer is right, and the count is within 3 % of its budget."""
+    if not shutil.which("valgrind") or platform.machine() != "x86_64":
+        pytest.skip("counts of instructions (valgrind)")
+    words, given, wanted = inputs()[name]
+    path, counts = os.path.realpath(program()), tmp_path / "counts"
+    (tmp_path / "input").write_text(given)
+    options = "--tool=callgrind", "--compress-strings=no", "--compress-pos=no", f"--callgrind-out-file={counts}"
+    with open(tmp_path / "input", "rb") as file:
+        answer = run((*options, path, *words), path="valgrind", stdin=file)
+    count = cost(counts.read_text(), path)
+    assert answer.stdout.startswith(wanted)
+    assert 0.97 * BUDGETS[name] < count < 1.03 * BUDGETS[name], f"{name}: {count} instructions"
