@@ -1,21 +1,16 @@
 #!/bin/bash
-# Prints the public contracts of a commit, one a line: each public signature with its clauses, and
-# what the values of each type are seen as.
-#
-#     tests/contracts.sh COMMIT
-#
-# Two commits promise the same if both print the same and have the same crates/*/specs:
+# Prints the public contracts of a commit, one a line: each public signature with its clauses, and what the values of each
+# type are seen as. Functions that are public only within their crate are printed too.
 #
 #     diff <(tests/contracts.sh BEFORE) <(tests/contracts.sh AFTER)
 #
-# A line that only BEFORE prints is a promise that was changed or dropped. Functions that are public
-# within their own crate alone are printed too.
+# Two commits promise the same if both print the same and have the same crates/*/specs. A line that only BEFORE prints is a
+# promise that was changed or dropped.
 set -euo pipefail
 commit=${1:?"usage: tests/contracts.sh COMMIT"}
 cd "$(dirname "$0")/.."
-
 contracts='
-    # The block that a function stands in. In a trait, or an impl of one, every function is public.
+    # The block of a function. In a trait, or an impl of one, every function is public.
     /^(impl|pub trait)/ { block = $0; open = / for |trait/; sub(/ [{]$/, "", block) }
     /^}/ { block = ""; open = 0 }
 
@@ -27,7 +22,6 @@ contracts='
     on && /^ *(requires|ensures) / { clauses = 1 }
     on && !/^ *(\/\/.*)?$/ { gsub(/^ +/, ""); text = text " " $0 }
     on && (/^ *[{][}]?$/ || (!clauses && /[{;]$/) || /};$/) { print text; on = 0 }'
-
 git grep -l . "$commit" -- 'crates/*/src/*.rt' | grep -v '/tests' | while read -r file; do
     git show "$file" | awk "$contracts"
 done | sed 's/ {}\{0,1\}$//' | sort

@@ -1,7 +1,6 @@
-"""What the tests of the built program share: the program and its runs, the texts of tests/cases, and the count.
+"""What the tests share: the program and its runs, the texts of tests/cases, and JSON in another spelling.
 
-A test is a name, what was found and what is wanted. A driver makes tests and ends by `Tests.end`, whose last line is
-'TITLE: N passed, M failed'. BALISECHECK names the program; else it is the one that ./balisecheck would run.
+BALISECHECK names the program. Otherwise it is the one that ./balisecheck would run.
 """
 import collections
 import functools
@@ -10,7 +9,6 @@ import os
 import pathlib
 import re
 import subprocess
-import sys
 
 HERE = pathlib.Path(__file__).resolve().parent
 TOP, CASES, EXAMPLES = HERE.parent, HERE / "cases", HERE.parent / "examples"
@@ -21,9 +19,8 @@ Answer = collections.namedtuple("Answer", "status stdout stderr")
 
 def crate_uses(top=TOP):
     """The libraries that each crate uses, in the order of crates.txt."""
-    lines = (top / "crates.txt").read_text(encoding="utf-8").splitlines()
-    found = (re.match(r"(\w+)[^:#]*:([^#]*)", it) for it in lines)
-    return {it[1]: it[2].split() for it in found if it}
+    text = (top / "crates.txt").read_text(encoding="utf-8")
+    return {crate: uses.split() for crate, uses in re.findall(r"(?m)^(\w+)[^:#\n]*:([^#\n]*)", text)}
 
 
 # ---- the program
@@ -31,16 +28,15 @@ def crate_uses(top=TOP):
 
 @functools.lru_cache(None)
 def program():
-    """The path of the program, which has to be there."""
+    """The path of the program."""
     named = os.environ.get("BALISECHECK")
     if not named:
-        asked = subprocess.run([TOP / "balisecheck"], env={**os.environ, "BALISECHECK_PATH": "1"}, text=True,
-                               stdout=subprocess.PIPE, check=False)
-        named = asked.stdout.strip()
-    if not named or not os.access(named, os.X_OK):
-        print(f"no program {named}: make it by scripts/build, or name one by BALISECHECK\n0 passed, 1 failed")
-        sys.exit(1)
-    return os.path.abspath(named)
+        known = {**os.environ, "BALISECHECK_PATH": "1"}
+        named = subprocess.run([TOP / "balisecheck"], env=known, stdout=subprocess.PIPE, text=True, check=True).stdout
+    path = os.path.abspath(named.strip())
+    if not os.access(path, os.X_OK):
+        raise FileNotFoundError(f"no program {path}: make it by scripts/build, or name one by BALISECHECK")
+    return path
 
 
 def in_bytes(text):
@@ -49,12 +45,11 @@ def in_bytes(text):
 
 
 def run(words, data=b"", limits="", seconds=LONGEST, path=None, **files):
-    """The answer of the program, or of the one at this path, to this input, or with these files, after these lines of a
-    shell. It has no status if it takes too long."""
+    """The answer of the program, or of the one at `path`, to this input or with these files, after the shell commands
+    in `limits`. Its status is None if it takes too long."""
     command = [path or program(), *words]
     command = ["sh", "-c", f'{limits}\nexec "$0" "$@"', *command] if limits else command
-    files = files or {"input": in_bytes(data)}
-    files = {"stdout": subprocess.PIPE, "stderr": subprocess.PIPE, **files}
+    files = {"stdout": subprocess.PIPE, "stderr": subprocess.PIPE, **(files or {"input": in_bytes(data)})}
     try:
         ran = subprocess.run(command, check=False, timeout=seconds, **files)
     except subprocess.TimeoutExpired:
@@ -64,50 +59,10 @@ def run(words, data=b"", limits="", seconds=LONGEST, path=None, **files):
 
 
 def answered(stdout, stderr=""):
-    """The answer that writes this: the status goes with the last line, or with what is said beside it."""
+    """The answer with these outputs, and with the status that goes with them."""
     last = stdout.rstrip("\n").split("\n")[-1]
     status = 3 if stderr in (MEMORY, DEVICE) else 2 if last.startswith("refused: ") else int(stdout.startswith("no: "))
     return Answer(status, stdout, stderr)
-
-
-# ---- the count
-
-
-class Tests:
-    """How many tests passed and failed so far, and what else was counted."""
-
-    def __init__(self, shown=100):
-        self.passed, self.failed, self.shown = 0, 0, shown
-        self.figures = collections.Counter()
-
-    def holds(self, name, holds, *seen):
-        """A test. The first ones that fail are shown."""
-        self.passed, self.failed = self.passed + bool(holds), self.failed + (not holds)
-        if not holds and self.failed <= self.shown:
-            print(f"failed: {str(name)[:500]}", *(f"  {str(one)[:1000]!r}" for one in seen), sep="\n", file=sys.stderr)
-
-    def equal(self, name, found, wanted):
-        """A test that passes if what was found is what is wanted."""
-        self.holds(name, found == wanted, f"found:  {found}", f"wanted: {wanted}")
-
-    def lines(self, name, found, wanted):
-        """The same for texts. The first lines that differ are shown."""
-        pairs = zip(found.split("\n") + ["the end"], wanted.split("\n") + ["the end"])
-        one, other = next((pair for pair in pairs if pair[0] != pair[1]), ("", ""))
-        self.holds(name, found == wanted, f"found:  {one}", f"wanted: {other}")
-
-    def end(self, title):
-        """Ends the process, with the count as its last line."""
-        print(f"{title}: {self.passed} passed, {self.failed} failed")
-        sys.exit(self.failed > 0)
-
-
-def play(title, *several):
-    """Runs these functions of tests, and ends the process."""
-    tests = Tests()
-    for one in several:
-        one(tests)
-    tests.end(title)
 
 
 # ---- the texts of the cases
@@ -122,10 +77,7 @@ def blocks(name):
 def filled(line):
     """The line, its dots replaced by digits up to a short or a long telegram."""
     found = re.fullmatch(r"(\w*?)(\.{2,3})(\w) ?(.*)", line)
-    if not found:
-        return line
-    digits, dots, digit, end = found.groups()
-    return digits.ljust(52 if dots == ".." else 206, digit) + end
+    return found[1].ljust(52 if found[2] == ".." else 206, found[3]) + found[4] if found else line
 
 
 def in_full(line):
@@ -145,33 +97,21 @@ def flipped(digits, place):
 # ---- the same JSON in another spelling
 
 
-class Number(str):
-    """A number as it is spelled."""
-
-
-class Members(list):
-    """The keys of an object with their values, in their order."""
-
-
-def escaped(text):
-    """The text in quotes, its first letter as an escape."""
-    return json.dumps(text) if not text else f'"\\u{ord(text[0]):04X}{json.dumps(text[1:])[1:]}'
-
-
 def written(value):
-    """The JSON of a value, with blanks and escapes."""
-    if isinstance(value, Members):
-        twice = len({key for key, _ in value}) < len(value)
-        pairs = value if twice else value[::-1]
-        return "{ " + " ,\t".join(f"{escaped(key)} : {written(member)}" for key, member in pairs) + "\t}"
+    """The JSON of a value, with blanks and escapes: tuples are the members of objects, bytes are numbers."""
+    if isinstance(value, bytes):
+        return value.decode()
+    if isinstance(value, tuple):
+        pairs = value if len(dict(value)) < len(value) else value[::-1]
+        return "{ " + " ,\t".join(f"{written(key)} : {written(member)}" for key, member in pairs) + "\t}"
     if isinstance(value, list):
         return "[ " + " , ".join(map(written, value)) + " ]"
-    if isinstance(value, str) and not isinstance(value, Number):
-        return escaped(value)
-    return value if isinstance(value, Number) else json.dumps(value)
+    if isinstance(value, str) and value:
+        return f'"\\u{ord(value[0]):04X}{json.dumps(value[1:])[1:]}'
+    return json.dumps(value)
 
 
 def respelled(line):
     """The same JSON, its keys in the reverse order unless one comes twice, with blanks and escapes."""
-    value = json.loads(line, object_pairs_hook=Members, parse_int=Number, parse_float=Number)
+    value = json.loads(line, object_pairs_hook=tuple, parse_int=str.encode, parse_float=str.encode)
     return f" {written(value)}\t"

@@ -1,55 +1,45 @@
-# What tests/all, the gate and the tests in bash share: steps that are run and kept, tests, their count, and a folder that
-# goes in the end. To be read by bash.
+# What the scripts of the tests and the gate share: steps and their counts, tests, and a folder that is removed at the end.
+# To be read by bash.
 room=$(mktemp -d)
 trap 'for job in $(jobs -p); do pkill -P "$job"; kill "$job"; done 2>/dev/null
     chmod -R u+w "$room" 2>/dev/null; rm -rf "$room"' EXIT
 trap 'exit 1' HUP INT TERM
-TIMEFORMAT='%R %U %S'
+TIMEFORMAT='%0R s, %0U + %0S s of processor time'
 passed=0
 failed=0
 
-# step NAME COMMAND..: runs it, shows what it says, and keeps that with its status and its times.
+# step NAME COMMAND..: runs it, shows its output, and keeps that with its status and its times.
 step() {
-    local name=$1
-    shift
     {
-        time "$@" </dev/null 2>&1 | tee "$room/$name"
-        echo "${PIPESTATUS[0]}" >"$room/$name.status"
-    } 2>"$room/$name.times"
+        time "${@:2}" </dev/null 2>&1 | tee "$room/$1"
+        echo "${PIPESTATUS[0]}" >"$room/$1.status"
+    } 2>"$room/$1.times"
 }
 
-# count NAME: adds what the step counted in its last line, and tells it in a line. A status that says otherwise is a
-# failure of its own, and so is a step that gave no count, or that ran nothing.
+# count NAME: adds what the last line of the step counts, in the form of `total` or of pytest, and prints it in a line. A
+# status that says otherwise is a failure, and so is a step that gave no count or ran nothing.
 count() {
-    local status last ran=0 bad=0 wall user system
+    local status last ran=0 bad=0
     status=$(cat "$room/$1.status" 2>/dev/null)
     last=$(tail -n 1 "$room/$1" 2>/dev/null)
-    if [[ $last =~ ^(.*:\ )?([0-9]+)\ passed,\ ([0-9]+)\ failed$ ]]; then
-        ran=$((10#${BASH_REMATCH[2]}))
-        bad=$((10#${BASH_REMATCH[3]}))
-    else
-        last='no count'
-    fi
+    [[ " $last" =~ \ ([0-9]+)\ passed ]] && ran=$((10#${BASH_REMATCH[1]}))
+    [[ " $last" =~ \ ([0-9]+)\ failed ]] && bad=$((10#${BASH_REMATCH[1]}))
+    [[ " $last" =~ \ ([0-9]+)\ error ]] && bad=$((bad + 10#${BASH_REMATCH[1]}))
     if [ "$bad" -eq 0 ] && { [ "$status" != 0 ] || [ "$ran" -eq 0 ]; }; then
         bad=1
-        last="$last, yet status ${status:-unknown}: failed"
+        last="failed with status ${status:-unknown} after the line: $last"
     fi
     passed=$((passed + ran))
     failed=$((failed + bad))
-    read -r wall user system < <(tail -n 1 "$room/$1.times" 2>/dev/null)
-    printf '%-12s %5.0f s, %5.0f s of processor time  %s\n' "$1" "${wall:-0}" \
-        "$(awk "BEGIN { print ${user:-0} + ${system:-0} }")" "$last"
+    printf '%-12s %s: %s\n' "$1" "$(tail -n 1 "$room/$1.times" 2>/dev/null)" "$last"
     return "$((bad > 0))"
 }
 
 # holds NAME DIFFERENCE: a test, which an empty difference passes.
 holds() {
-    if [ -z "$2" ]; then
-        passed=$((passed + 1))
-    else
-        failed=$((failed + 1))
-        printf 'failed: %s\n%s\n' "$1" "$2"
-    fi
+    [ -n "$2" ] || { passed=$((passed + 1)) && return; }
+    failed=$((failed + 1))
+    printf 'failed: %s\n%s\n' "$1" "$2"
 }
 
 # total [TITLE]: the last line, and whether all has passed.

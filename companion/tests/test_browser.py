@@ -18,7 +18,7 @@ from cases_of_program import TOP
 from balisekit.cli import main as cli
 
 CHROMIUM = shutil.which("chromium")
-pytestmark = pytest.mark.skipif(CHROMIUM is None, reason="there is no chromium (Debian: chromium)")
+pytestmark = pytest.mark.skipif(CHROMIUM is None, reason="tests of balisekit in a browser (chromium)")
 LINE = TOP / "examples" / "table" / "line.csv"
 PICTURES = Path(__file__).with_name("pictures")
 

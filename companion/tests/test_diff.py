@@ -354,7 +354,7 @@ def test_the_page(run: Run, table: Write, tmp_path: Path) -> None:
     assert "D_LINK" in said and "1010 m [1010]" in said and out[-1] in said and "not proved" in said
     assert not re.search(r"https?://|<img|<link", said)
     if shutil.which("chromium") is None:
-        pytest.skip("there is no chromium")
+        pytest.skip("tests of balisekit in a browser (chromium)")
     done = subprocess.run(
         [
             "chromium",

@@ -24,9 +24,9 @@ NOTHING = hashlib.sha256(b"").hexdigest()
 
 
 def test_install(tmp_path: Path, program: Program) -> None:
-    lacks = [module for module in ("pip", "hatchling") if importlib.util.find_spec(module) is None]
+    lacks = [f"python3-{module}" for module in ("pip", "hatchling") if importlib.util.find_spec(module) is None]
     if lacks:
-        pytest.skip(f"no {', '.join(lacks)}")
+        pytest.skip(f"installation of balisekit ({', '.join(lacks)})")
     shutil.copytree(TOP / "companion", tmp_path / "companion", ignore=shutil.ignore_patterns("tests", "__pycache__"))
     venv.create(tmp_path / "room", system_site_packages=True, with_pip=False)
     python = tmp_path / "room" / "bin" / "python"

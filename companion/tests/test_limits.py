@@ -158,7 +158,7 @@ def test_a_report_of_1000_groups(reported: Tuple[Path, bool]) -> None:
 
 
 @pytest.mark.slow
-@pytest.mark.skipif(CHROMIUM is None, reason="there is no chromium (Debian: chromium)")
+@pytest.mark.skipif(CHROMIUM is None, reason="tests of balisekit in a browser (chromium)")
 def test_a_browser_opens_a_report_of_1000_groups(reported: Tuple[Path, bool], tmp_path: Path) -> None:
     """Without a pause: in less than 13 seconds. It lays out what is seen; all of the page takes three times as long.
 

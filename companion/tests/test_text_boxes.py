@@ -178,7 +178,7 @@ def test_overlaps_are_found() -> None:
         assert bool(overlaps(Picture("", 100, tuple(shapes)))) == meets
 
 
-@pytest.mark.skipif(CHROMIUM is None, reason="there is no chromium (Debian: chromium)")
+@pytest.mark.skipif(CHROMIUM is None, reason="tests of balisekit in a browser (chromium)")
 def test_widths_are_those_of_a_browser(tmp_path: Path) -> None:
     """If it has the font. Another font is no wider."""
     texts = ("Signal E, green, V_MAIN 160 km/h", "\u22125 \u2030 \u25b8 A\u2026", "W\u00c4gj\u00e9~{}")
