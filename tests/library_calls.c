@@ -1,11 +1,11 @@
-/* Calls the library once, for tests/library, and allocates nothing by itself:
+/* Calls the library once, for tests/test_library.py, and allocates nothing by itself:
  *
  *     library_calls NAME [CAPACITY [threads]]
  *
  * balisecheck_NAME gets standard input and a buffer of that many bytes. Standard output gets the text, standard error the
- * fault of a record, and the exit status is that of the call. With `threads` the call is then made 200 times in each of two
- * threads at once. It is 96 if a thread gets another answer, 97 if the buffer was written where the header says that it is
- * not, and 98 if a block of memory was not freed: it is linked with --wrap for malloc, realloc and free. */
+ * fault of a record, and the exit status is that of the call. With `threads` the call is then made 200 times in each of
+ * two threads at once. The status is 96 if a thread gets another answer, 97 if the buffer was written where the header
+ * says that it is not, and 98 if a block of memory was not freed: link it with --wrap for malloc, realloc and free. */
 #include "balisecheck.h"
 
 #include <pthread.h>
@@ -14,7 +14,7 @@
 #include <string.h>
 #include <unistd.h>
 
-enum { MOST = 1 << 22, TIMES = 200, UNTOUCHED = 0xa5, OTHER_ANSWER = 96, WRITTEN = 97, NOT_FREED = 98, WRONG_USE = 99 };
+enum { MOST = 1 << 16, TIMES = 200, UNTOUCHED = 0xa5, OTHER_ANSWER = 96, WRITTEN = 97, NOT_FREED = 98, WRONG_USE = 99 };
 
 typedef uint32_t command(const uint8_t *, size_t, uint8_t *, size_t, size_t *);
 typedef uint32_t record(const uint8_t *, size_t, uint8_t *, size_t, size_t *, struct balisecheck_fault *);
@@ -31,7 +31,7 @@ static const struct {
     {"encode_radio", balisecheck_encode_radio, NULL},
     {"telegram", NULL, balisecheck_telegram},
     {"message", NULL, balisecheck_message},
-};
+}, *chosen = calls;
 
 struct answer {
     uint32_t status;
@@ -40,43 +40,37 @@ struct answer {
     uint8_t text[MOST];
 };
 
-static size_t chosen, count, capacity = MOST;
+static size_t count, capacity = MOST;
 static uint8_t input[MOST];
-static struct answer first, others[2];
+static struct answer first, others[2]; /* (zeros, also between the fields) */
 
-/* The blocks that the library has. */
-static long blocks;
+static long blocks; /* that the library has */
 void *__real_malloc(size_t), *__real_realloc(void *, size_t), __real_free(void *);
+
 void *__wrap_malloc(size_t size) {
     void *at = __real_malloc(size);
     if (at) __sync_fetch_and_add(&blocks, 1);
     return at;
 }
+
 void *__wrap_realloc(void *old, size_t size) { return __real_realloc(old, size); }
+
 void __wrap_free(void *at) {
     if (at) __sync_fetch_and_sub(&blocks, 1);
     __real_free(at);
 }
 
 static void call(struct answer *to) {
-    memset(to->text, UNTOUCHED, capacity);
+    memset(to->text, UNTOUCHED, MOST);
     memset(&to->fault, 0, sizeof to->fault);
-    if (calls[chosen].command) {
-        to->status = calls[chosen].command(input, count, to->text, capacity, &to->length);
-    } else {
-        to->status = calls[chosen].record(input, count, to->text, capacity, &to->length, &to->fault);
-    }
-}
-
-static int is_same(const struct answer *one) {
-    return one->status == first.status && one->length == first.length && one->fault.reason == first.fault.reason &&
-           one->fault.at == first.fault.at && one->fault.end == first.fault.end && !memcmp(one->text, first.text, capacity);
+    to->status = chosen->command ? chosen->command(input, count, to->text, capacity, &to->length)
+                                 : chosen->record(input, count, to->text, capacity, &to->length, &to->fault);
 }
 
 static void *call_often(void *to) {
     for (int i = 0; i < TIMES; i++) {
         call(to);
-        if (!is_same(to)) return to;
+        if (memcmp(to, &first, sizeof first)) return to;
     }
     return NULL;
 }
@@ -91,29 +85,17 @@ static int differs_in_threads(void) {
     return differs[0] || differs[1];
 }
 
-static void put(int file, const void *text, size_t size) {
-    for (size_t done = 0; done < size;) {
-        ssize_t now = write(file, (const char *)text + done, size - done);
-        if (now < 0) exit(WRONG_USE);
-        done += now;
-    }
-}
-
 int main(int argc, char **argv) {
-    size_t end = sizeof calls / sizeof calls[0], text;
     ssize_t now;
-    while (chosen < end && (argc < 2 || strcmp(calls[chosen].name, argv[1]))) chosen++;
+    while (argc > 1 && chosen < calls + sizeof calls / sizeof *calls && strcmp(chosen->name, argv[1])) chosen++;
     if (argc > 2) capacity = strtoul(argv[2], NULL, 10);
-    if (chosen == end || capacity > MOST) return WRONG_USE;
+    if (argc < 2 || chosen == calls + sizeof calls / sizeof *calls || capacity > MOST) return WRONG_USE;
     while (count < MOST && (now = read(0, input + count, MOST - count)) > 0) count += now;
     call(&first);
-    text = first.status < BALISECHECK_MEMORY ? first.length : 0;
-    put(1, first.text, text);
-    if (first.fault.reason) {
-        char said[100];
-        put(2, said, snprintf(said, sizeof said, "%u %zu %zu\n", (unsigned)first.fault.reason, first.fault.at, first.fault.end));
-    }
-    for (size_t i = text; i < capacity; i++) {
+    size_t text = first.status < BALISECHECK_MEMORY ? first.length : 0;
+    if (write(1, first.text, text) != (ssize_t)text) return WRONG_USE;
+    if (first.fault.reason) dprintf(2, "%u %zu %zu\n", (unsigned)first.fault.reason, first.fault.at, first.fault.end);
+    for (size_t i = text; i < MOST; i++) {
         if (first.text[i] != UNTOUCHED) return WRITTEN;
     }
     if (argc > 3 && differs_in_threads()) return OTHER_ANSWER;
