@@ -31,9 +31,9 @@ def test_crates():
 
 
 def test_limits():
-    """Pages name the limits of tests/hostile, and how many crates have edits in must-fail/: each at most twelve."""
+    """Pages name the limits of hostile tests, and how many crates have edits in must-fail/: each at most twelve."""
     texts = "\n".join(path.read_text("utf-8") for path in sorted(TOP.glob("tests/*.py")))
-    groups, stack = (int(re.search(rf"(?m)^{name} = (\d+)", texts)[1]) for name in ("LONG", "STACK"))
+    groups, stack = (int(re.search(rf"(?m)^{name} = (\d+)", texts)[1]) for name in ("(?:GROUPS|LONG)", "STACK"))
     assert f"{groups:,} sound groups" in ARCHITECTURE and f"{stack} KiB of stack" in ARCHITECTURE
     edits = [len([*TOP.glob(f"crates/{name}/must-fail/*.edit")]) for name in USES]
     page = (TOP / "docs/contributing/testing.md").read_text("utf-8")

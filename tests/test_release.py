@@ -14,7 +14,6 @@ import pytest
 
 from runner import TOP, crate_uses, program
 
-pytestmark = [pytest.mark.slow, pytest.mark.xdist_group("release")]
 VERSION = (TOP / "VERSION").read_text("utf-8").strip()
 NAME = f"balisecheck-{VERSION}-x86_64-linux-untested"
 STORED = "dist/x86_64-linux"
@@ -83,32 +82,10 @@ def has_live_pages(folder, is_installed=True):
             assert line[0] != "$" and re.search("clone|repository", line), (page, line)
 
 
-# ---- the release
+# ---- the files of a release
 
 
-@pytest.fixture(scope="module", name="made")
-def a_release(tmp_path_factory):
-    """The folder of a release. Beside it is another one that was made at the same time."""
-    lacking = [name for name, command in NEEDS.items() if not shutil.which(command, path=KNOWN["PATH"])]
-    lacking += [name for name, module in MODULES.items() if not importlib.util.find_spec(module)]
-    if lacking or not (TOP / ".git").exists():
-        pytest.skip(f"a release ({', '.join(lacking) or 'git'})")
-    room = tmp_path_factory.mktemp("a room")
-    made, known = [room / "made", room / "again"], {**KNOWN, "BALISECHECK": program()}
-    runs = [subprocess.Popen([TOP / "scripts/release.sh", "--try", path], env=known, stderr=subprocess.PIPE, text=True)
-            for path in made]
-    assert [run.communicate()[1] for run in runs] == [f"written: {path}\n" for path in made]
-    return made[0]
-
-
-@pytest.fixture(scope="module", name="tree")
-def a_tarball(made):
-    """The folder of the tarball."""
-    sh(made.parent, "tar -xzf made/*.tar.gz")
-    return made.with_name(NAME)
-
-
-def test_files(made):
+def look_at_files(made):
     """Two releases are equal, byte for byte. Their README names files that are there. A folder with files is left."""
     assert sh(made.parent, "diff -r made again") == ""
     assert sorted(os.listdir(made)) == [
@@ -124,7 +101,7 @@ def test_files(made):
     assert sh(TOP, again, check=False) == f"release: {made} is not empty\n"
 
 
-def test_tarball(made, tree):
+def look_at_tarball(made, tree):
     """What the tarball has, and what its pages name. It is installed, used and uninstalled."""
     assert sh(tree, "sha256sum --quiet -c SHA256SUMS") == ""
     if sum_of(program()) == sum_of(TOP / STORED / "balisecheck"):
@@ -199,7 +176,7 @@ def differences(origin, package):
             yield name
 
 
-def test_wheel(made, tree):
+def look_at_wheel(made, tree):
     """The wheel is installed in a venv without network. It has the code of the tarball, and all names that it uses."""
     venv = made.with_name("a venv")
     assert next(made.glob("*.whl")).stat().st_size <= 700_000
@@ -216,7 +193,7 @@ def test_wheel(made, tree):
     serves(made, venv / "bin")
 
 
-def test_deb(made):
+def look_at_deb(made):
     """The .deb is unpacked and used. The recipe of the container fits what it has and recommends."""
     root = made.with_name("a root")
     docs = root / "usr/share/doc/balisecheck"
@@ -237,7 +214,7 @@ def test_deb(made):
     assert {*recommended} <= {*re.findall(r"[\w-]+", recipe)}
 
 
-def test_libraries(made):
+def look_at_libraries(made):
     """The SPDX document, THIRD-PARTY.md, the program and crates.txt name the same libraries."""
     document = json.loads(text_of(made / f"balisecheck-{VERSION}-untested.spdx.json"))
     names = {one["SPDXID"] for one in document["packages"]}
@@ -248,6 +225,29 @@ def test_libraries(made):
     assert {name for names in crates.values() for name in names} - {*crates} <= {name for name, _ in listed}
     called = {*re.findall(r"(?m)^[0-9a-f]* [tTwW] ([a-z]\w*)::", sh(TOP, f"nm '{program()}'"))} - {*crates}
     assert called == {name for name, use in listed if use == "in the program"}
+
+
+# ---- all of it
+
+
+@pytest.mark.slow
+def test_release(tmp_path):
+    """A release, and another one that is made at the same time."""
+    lacking = [name for name, command in NEEDS.items() if not shutil.which(command, path=KNOWN["PATH"])]
+    lacking += [name for name, module in MODULES.items() if not importlib.util.find_spec(module)]
+    if lacking or not (TOP / ".git").exists():
+        pytest.skip(f"a release ({', '.join(lacking) or 'git'})")
+    room = tmp_path / "a room"
+    made, known = [room / "made", room / "again"], {**KNOWN, "BALISECHECK": program()}
+    runs = [subprocess.Popen([TOP / "scripts/release.sh", "--try", path], env=known, stderr=subprocess.PIPE, text=True)
+            for path in made]
+    assert [run.communicate()[1] for run in runs] == [f"written: {path}\n" for path in made]
+    sh(room, "tar -xzf made/*.tar.gz")
+    look_at_files(made[0])
+    look_at_tarball(made[0], room / NAME)
+    look_at_wheel(made[0], room / NAME)
+    look_at_deb(made[0])
+    look_at_libraries(made[0])
 
 
 def test_clone(tmp_path):

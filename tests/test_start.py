@@ -8,7 +8,7 @@ import tempfile
 
 import pytest
 
-from tiny import FILES, made, sh, write
+from tiny import made, sh, write
 
 pytestmark = pytest.mark.elsewhere
 USUAL = """sh dirname readlink find sort xargs sha256sum grep sed awk cat cp mv rm mkdir install ln sleep head tail wc
@@ -166,37 +166,34 @@ def test_build_that_fails(tree, before, command, why, wanted):
 # ---- the installation
 
 
-def installs(tree, script, prefix):
-    """Installs the tree, and compares what is there then."""
-    kit, page = prefix / "share/balisecheck", prefix / "share/man/man1/balisecheck.1"
-    placed = (prefix / "bin/balisecheck", prefix / "bin/balisekit", page)
-    assert run(tree, script, prefix) == (0, "", "".join(f"installed: {path}\n" for path in placed))
-    assert (prefix / "bin/balisecheck").read_bytes() == (tree / STORED).read_bytes()
-    assert (kit / STORED).with_name("ABOUT").read_bytes() == (tree / STORED).with_name("ABOUT").read_bytes()
-    assert page.read_text("utf-8") == FILES["man/balisecheck.1"]
+@pytest.mark.parametrize("before, script", [
+    (":", "scripts/install.sh"),
+    ("rm dist/sources; mv scripts/install.sh man/balisecheck.1 .; cp $stored/balisecheck .", "install.sh")])
+def test_install(tree, before, script):
+    """A clone, or a release with the program at its top, is installed twice. What was there before is gone."""
+    prefix, kit = tree.parent / "a prefix", "share/balisecheck"
+    page = sh(tree, f"cat man/balisecheck.1; {before}")
+    placed = ["bin/balisecheck", "bin/balisekit", "share/man/man1/balisecheck.1"]
+    files = ["balisecheck", "balisekit", "companion/pyproject.toml", "companion/src/balisekit/__init__.py",
+             "companion/start.py", "dist/x86_64-linux/ABOUT"]
+    for _ in range(2):
+        assert run(tree, tree / script, prefix) == (0, "", "".join(f"installed: {prefix}/{name}\n" for name in placed))
+        found = {str(path.relative_to(prefix)) for path in prefix.rglob("*") if not path.is_dir()}
+        assert found == {*placed, *(f"{kit}/{name}" for name in files)}
+        (prefix / kit / "companion/src/balisekit/older.py").touch()
+    assert (prefix / placed[0]).read_bytes() == (tree / STORED).read_bytes()
+    assert (prefix / kit / files[-1]).read_bytes() == (tree / files[-1]).read_bytes()
+    assert (prefix / placed[2]).read_text("utf-8") == page
     assert run(tree, prefix / "bin/balisekit")[1] == "a kit\n"
-    assert (kit / "balisecheck").resolve() == (prefix / "bin/balisecheck").resolve()
-    assert sorted(str(path.relative_to(kit)) for path in kit.rglob("*") if not path.is_dir()) == [
-        "balisecheck", "balisekit", "companion/pyproject.toml", "companion/src/balisekit/__init__.py",
-        "companion/start.py", "dist/x86_64-linux/ABOUT"]
+    assert (prefix / kit / "balisecheck").resolve() == (prefix / "bin/balisecheck").resolve()
 
 
-def test_install(tree):
-    """Both commands are installed, also over an older version, and from a release, with the program at its top."""
-    prefix, script = tree.parent / "prefix", tree / "scripts/install.sh"
-    installs(tree, script, prefix)
-    (prefix / "share/balisecheck/companion/src/balisekit/older.py").touch()
-    installs(tree, script, prefix)
-    write(tree / "dist/pack/manual", "")
-    needs = f"not installed: {prefix}/share/man/man1/balisekit.1, which needs help2man"
-    assert run(tree, script, prefix)[2].splitlines()[-1] == needs
-    sh(tree, "rm -r dist/pack dist/sources; mv scripts/install.sh man/balisecheck.1 .; cp $stored/balisecheck .")
-    installs(tree, tree / "install.sh", tree.parent / "of a release")
-
-
-def test_nothing_is_installed(tree):
-    """A folder that cannot be written, and no program."""
+def test_what_is_not_installed(tree):
+    """The page of balisekit without help2man, anything in a folder that cannot be written, and what is not there."""
     script, file = tree / "scripts/install.sh", tree.parent / "file"
+    write(tree / "dist/pack/manual", "")
+    needs = f"not installed: {tree}/share/man/man1/balisekit.1, which needs help2man"
+    assert run(tree, script, tree)[2].splitlines()[-1] == needs
     file.touch()
     status, _, errors = run(tree, script, file)
     assert status and f"install: not installed, because {file}/bin cannot be written" in errors

@@ -1,7 +1,6 @@
 """Whether docs/assurance/proofs.md has the table of tests/trusted, and whether tests/trusted counts what it has to."""
+import re
 import runpy
-import subprocess
-import sys
 
 import pytest
 
@@ -33,13 +32,19 @@ number c = c.to 0
 
 
 def test_table():
-    subprocess.run([sys.executable, "-B", TOP / "tests" / "trusted", "--check"], check=True)
+    """The page has the table that tests/trusted --write makes."""
+    shown = re.findall(r"(?s)<!-- trusted -->\n(.*)<!-- /trusted -->\n", TOOL["PAGE"].read_text("utf-8"))
+    assert "".join(shown).splitlines() == TOOL["table"](TOOL["trusted"]()).splitlines()
 
 
 @pytest.mark.parametrize("old, new, free, pinned", [
-    ("", "", 6, 2), ("-- a code\n", f"{LEMMA}\n", 6, 2), ("-- a code\n", CONSTANT, 8, 2), ("number c =", "number _ =", 6, 2),
-    ("  pub to : ℕ → ℕ\n", "  pub to : ℕ → ℕ\n  pub of : ℕ → ℕ\n", 7, 2), ("self :", "abbrev self :", 8, 2),
-    (PIN, "", 8, 0), ("-- Codes.\n", f"-- Codes.\n{PIN}", 0, 8)])
+    ("", "", 6, 2),
+    ("-- a code\n", f"{LEMMA}\n", 6, 2),
+    ("-- a code\n", CONSTANT, 8, 2),
+    ("  pub to : ℕ → ℕ\n", "  pub to : ℕ → ℕ\n  pub of : ℕ → ℕ\n", 7, 2),
+    ("self :", "abbrev self :", 8, 2),
+    (PIN, "", 8, 0),
+    ("-- Codes.\n", f"-- Codes.\n{PIN}", 0, 8)])
 def test_count(old, new, free, pinned):
     """After this change of a file so many lines count."""
     found, cited = TOOL["count"](CODE.replace(old, new, 1))
@@ -54,7 +59,8 @@ def test_count(old, new, free, pinned):
     ("two/specs/Two.antt", CODE, "crates.txt does not name this crate")])
 def test_refused(tmp_path, name, text, why):
     """Files that are not as they have to be."""
-    for path, content in (("crates.txt", "one:\n"), ("crates/one/src/laws.rt", "pub fn all()"), (f"crates/{name}", text)):
+    files = {"crates.txt": "one:\n", "crates/one/src/laws.rt": "pub fn all()", f"crates/{name}": text}
+    for path, content in files.items():
         (tmp_path / path).parent.mkdir(parents=True, exist_ok=True)
         (tmp_path / path).write_text(content, "utf-8")
     with pytest.raises(SystemExit, match=why):

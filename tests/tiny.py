@@ -9,8 +9,7 @@ SCRIPTS = ("balisecheck", "scripts/build", "scripts/install.sh", "scripts/releas
 NUMBERED = ("man/balisecheck.1", "crates/balisecheck/src/help.rt", "companion/src/balisekit/__init__.py",
             "examples/ci/job.yml")
 CRATES = "# crates\netcs_low:\netcs_high: etcs_low\ntrials_low: etcs_low\nbalisecheck: etcs_high\n"
-EMPTY = ["companion/start.py", "companion/pyproject.toml", "companion/src/balisekit/__pycache__/main.pyc", "README.md",
-         "ERRATA.md", "LICENSE-APACHE", "LICENSE-MIT", "THIRD-PARTY.md", "docs/one", "schemas/one"]
+EMPTY = ["companion/start.py", "companion/pyproject.toml", "companion/src/balisekit/__pycache__/main.pyc"]
 EMPTY += [f"crates/{crate}/{name}" for crate in ("etcs_low", "etcs_high", "trials_low", "balisecheck")
           for name in ("src/lib.rt", "specs/Lib.antt", "proofs/Lib.antt", "out/log")]
 FILES = {**dict.fromkeys(EMPTY, ""), **dict.fromkeys(NUMBERED, '.TH X 1 "not 1.219" "balisecheck 1.2.9" ""\n'),
