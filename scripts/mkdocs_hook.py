@@ -1,8 +1,8 @@
 """What mkdocs adds to `docs/` for a site of all pages: the hook of mkdocs.yml.
 
-The site is made of a copy of the repository's pages in out/pages, in which each keeps its folder. So their links lead
-to the same files as in the repository. Files and folders that a page links to are copied too, and a folder gets a list
-of its files. The page docs/rules.md is made of the texts of balisekit's rules.
+The site is made of a copy of the repository's pages beside it, in out/pages, in which each keeps its folder. So their
+links lead to the same files as in the repository. Files and folders that a page links to are copied too, and a folder
+gets a list of its files. The page docs/rules.md is made of the texts of balisekit's rules.
 """
 from __future__ import annotations
 
@@ -21,6 +21,8 @@ LINK = re.compile(r"\]\(([^)\s#]+)[^)\s]*\)")
 
 def on_config(config: Any) -> Any:
     """Has mkdocs read the copy in place of docs/."""
+    global ROOM
+    ROOM = Path(config["site_dir"]).with_name("pages")
     shutil.rmtree(ROOM, ignore_errors=True)
     for name in names():
         copy(name)

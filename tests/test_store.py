@@ -1,0 +1,147 @@
+"""What scripts/release.sh stores and refuses, and what tests/dist reports of a stored program, in a tiny tree."""
+import datetime
+import shutil
+
+import pytest
+
+from tiny import FILES, NUMBERED, attempt, made, sh, write
+
+pytestmark = [pytest.mark.elsewhere,
+              pytest.mark.skipif(not shutil.which("git"), reason="storing and releasing (git)")]
+TODAY = datetime.datetime.now(datetime.timezone.utc).date()
+# A stand-in for `readelf -V` and `readelf -d`.
+READELF = """#!/bin/sh
+grep -o 'GLIBC_[0-9.]*' "$2"
+echo ' (NEEDED)  Shared library: [libc.so.6]'
+"""
+
+
+def refused(tree, why, words=""):
+    """Whether scripts/release.sh refuses, and why."""
+    status, said = attempt(tree, f"scripts/release.sh {words}")
+    return status == 1 and f"release: {why}" in said or said
+
+
+def releases(tree):
+    """The numbers in dist/RELEASES."""
+    return [line.split()[0] for line in (tree / "dist/RELEASES").read_text("utf-8").splitlines()[1:]]
+
+
+@pytest.fixture(name="tree")
+def a_tree(tmp_path):
+    """A tree with a program that was built, and none that is stored."""
+    write(tmp_path / "tools/readelf", READELF)
+    tree = made(tmp_path / "a tree")
+    sh(tree, "git init -q; save; built one")
+    return tree
+
+
+@pytest.fixture(name="stored")
+def a_stored_program(tree):
+    """A tree with a stored program."""
+    assert "stored: commit dist" in sh(tree, "scripts/release.sh store; save")
+    return tree
+
+
+# ---- what is stored
+
+
+def test_store(stored):
+    """Program and library are stored with ABOUT, and with a line in dist/RELEASES for each commit of sources."""
+    dist = stored / "dist/x86_64-linux"
+    for name in ("balisecheck", "libbalisecheck.a", "libbalisecheck.so"):
+        assert (dist / name).read_bytes() == (stored / "out" / name).read_bytes()
+    about = dict(line.split(" ", 1) for line in (dist / "ABOUT").read_text("utf-8").splitlines())
+    assert [*about] == ["version", "commit", "kit", "glibc", "sources", "program", "archive", "library"]
+    line = " ".join(about[word] for word in ("version", "commit", "sources", "program"))
+    assert (stored / "dist/RELEASES").read_text("utf-8") == f"# heads\n{line} {TODAY}\n"
+    sh(stored, "scripts/release.sh store")
+    assert sh(stored, "git status --porcelain") == ""
+    sh(stored, "echo // >>crates/etcs_low/src/lib.rt; save; built one; scripts/release.sh store")
+    assert releases(stored) == ["1.2.9"] * 2
+
+
+@pytest.mark.parametrize("command, why", [
+    ("echo // >>crates/etcs_low/src/lib.rt", "not committed: "),
+    ("echo // >>crates/etcs_low/src/lib.rt; save", "the program in out was built from other sources: scripts/build"),
+    ("echo >>out/balisecheck", "the program in out is damaged: scripts/build"),
+    ("echo >>out/libbalisecheck.so", "the library in out is damaged, missing or of other sources: scripts/library"),
+    ("sed -i '1s/.*/sources 0/' out/LIBRARY", "the library in out is damaged, missing or of other sources: "),
+    ("echo 1.2.10 >VERSION; built other; git checkout -q VERSION", "not stored, since tests/dist failed")])
+def test_not_stored(tree, command, why):
+    """After the command nothing is stored."""
+    sh(tree, command)
+    assert refused(tree, why, "store") is True
+    assert sh(tree, "git status --porcelain dist") == ""
+
+
+def test_numbers(stored):
+    """Another program needs another number, which is written wherever the number is, before the program is built."""
+    sh(stored, "built other")
+    assert refused(stored, "1.2.9 is the number of another program", "store") is True
+    assert sh(stored, "git status --porcelain dist") == "" and (stored / "VERSION").read_text() == "1.2.10\n"
+    for name in NUMBERED:
+        assert (stored / name).read_text("utf-8") == FILES[name].replace("1.2.9", "1.2.10")
+    heads = f"# Changelog\n\n## Unreleased\n\n## 1.2.10 - {TODAY}\n- more\n\n## 1.2.9 - 2026-01-01\n"
+    assert (stored / "CHANGELOG.md").read_text("utf-8") == heads
+    sh(stored, "save; built other; scripts/release.sh store; save")
+    sh(stored, "scripts/release.sh raise; save; built third; scripts/release.sh store")
+    assert releases(stored) == ["1.2.9", "1.2.10", "1.2.11"]
+
+
+def test_release(tree):
+    """Nothing is released that was not stored, judged or passed. After each command something else is missing."""
+    for command, why in (
+            (":", "the program in dist/x86_64-linux was built from other sources: scripts/release.sh store"),
+            ("scripts/release.sh store", "not committed: "),
+            ("save", "not every edit of these sources was judged: tests/edits --all"),
+            ("echo one 1 >out/edits", "no out/gate.log in which everything passed: .ci/run"),
+            ("echo '9 passed, 1 failed' >out/gate.log", "no out/gate.log in which everything passed: .ci/run"),
+            ("echo '10 passed, 0 failed' >out/gate.log", "out/gate.log is from other sources: .ci/run"),
+            ("sed -i \"1i== sources $(dist/sources)\" out/gate.log", "no out/edits.log in which everything passed: "),
+            ("echo 'the edits: 0 passed, 0 failed' >out/edits.log", "no out/edits.log in which everything passed: "),
+            ("sed -i 's/^version .*/version 1.2.8/' $stored/ABOUT; save", "the stored program is not 1.2.9: ")):
+        sh(tree, command)
+        assert refused(tree, why) is True
+    assert refused(tree, "usage: ", "tarball") is True
+
+
+# ---- what tests/dist reports
+
+VERSIONED = ("ABOUT", "../../VERSION", "../../man/balisecheck.1", "../../CHANGELOG.md")
+SOURCES = ("src/lib.rt", "specs/Lib.antt", "proofs/Lib.antt", "../../crates.txt", "../../HANDLES")
+
+
+def test_right(stored):
+    """A program as it is stored, and what is no source beside it."""
+    said = sh(stored, "touch more crates/etcs_low/out/more; BALISECHECK=out/balisecheck tests/dist")
+    assert said == "the stored program: 14 passed, 0 failed\n"
+
+
+@pytest.mark.parametrize("command, why", [
+    *((f"echo >>../../crates/etcs_low/{name}", "the stored program is of these sources") for name in SOURCES),
+    ("cd ../../crates/etcs_low/src; mv lib.rt other.rt", "the stored program is of these sources"),
+    ("echo >>balisecheck", "the stored program is undamaged"),
+    ("echo >>libbalisecheck.a", "the stored library is undamaged"),
+    ("echo >>libbalisecheck.so", "the stored library is undamaged"),
+    ("rm libbalisecheck.a", "nothing else is stored"),
+    ("rm libbalisecheck.so", "nothing else is stored"),
+    ("touch libc.so.6", "nothing else is stored"),
+    ("echo >>../../out/balisecheck", "the stored program is the one that was built here"),
+    ("rm ../../out/balisecheck", "the stored program is the one that was built here"),
+    ("echo >>../../out/balisecheck; sed -i 's/^kit .*/kit another/' ABOUT", "It was built by another kit, another."),
+    ("sed -i s/2.34/2.17/ ABOUT", "it needs this C library"),
+    ("echo GLIBC_2.36 >>libbalisecheck.so", "the stored library needs no more"),
+    *((f"sed -i s/1[.]2[.]9/9.9.9/ {name}", "the version is that of VERSION") for name in VERSIONED),
+    (f"sed -i s/1[.]2[.]9/9.9.9/ ../RELEASES {' '.join(VERSIONED)}", "the program has that number inside"),
+    ("sed -i '$d' ../RELEASES", "the last line of dist/RELEASES"),
+    ("sed -i '2p; 2s/ [^ ]* 2/ 0 2/' ../RELEASES", "no number there is of two programs"),
+    ("sed -i /^commit/d ABOUT", "ABOUT has these lines"),
+    ("rm ABOUT", "ABOUT has these lines"),
+    ("chmod -x balisecheck", "the stored program can be run"),
+    ("sed -i 's/^commit .*/commit 0123/' ABOUT", "the commit of its sources is in this history")])
+def test_wrong(stored, command, why):
+    """After the command in the folder of the stored program this test fails."""
+    sh(stored, f"cd $stored; {command}")
+    status, said = attempt(stored, "BALISECHECK=out/balisecheck tests/dist")
+    assert status == 1 and why in said
