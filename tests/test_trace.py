@@ -1,4 +1,4 @@
-"""The table of variables agrees with the definitions and with what is made of it, and tests/trace reports any difference."""
+"""The table of variables agrees with the definitions and what is made of it, and tests/trace reports differences."""
 import shutil
 import subprocess
 import sys
@@ -18,17 +18,17 @@ RAW = f"{ETCS}/raw_layouts.json"
 CHANGES = (
     # the layouts in the definitions: width, numbers, refusal, constructors, conditions, order, packets, form
     (TRACK, "g_a = number 8", "g_a = number 9", "packet 21, G_A: "),
-    ("profile/specs/Authority.antt", "v_main = ranges 7 120 128", "v_main = ranges 7 121 128", "packet 12, V_MAIN: "),
+    ("profile/specs/Authority.antt", "ranges 7 120 128", "ranges 7 121 128", "packet 12, V_MAIN: "),
     (LEVEL, "last 4 empty", "last 5 empty", "packet 41, M_LEVELTR: "),
     ("telegram/specs/Header.antt", "fixed 1 0 Loop", "fixed 1 0 Spare", "header, Q_MEDIA: "),
-    (BITS, "dirs.Reverse = 0\ndir_number dirs.Nominal = 1", "dirs.Nominal = 0\ndir_number dirs.Reverse = 1", "0 is Nominal"),
+    (BITS, "dirs.Reverse = 0", "dirs.Both = 0", "Q_DIR: 0 is Both, not reverse"),
     (LEVEL, "levels.L0 = inl tt\nlevel_parts (levels.Ntc ntc) = inr (inl ntc)",
      "(levels.Ntc ntc) = inl ntc\nlevel_parts levels.L0 = inr (inl tt)", "M_LEVELTR: 0 is Ntc, not level 0"),
-    (INTEGRITY, "either 0 empty (either 1 l_trainint", "either 0 l_trainint (either 1 empty", "packet 1, L_TRAININT: "),
-    ("profile/specs/Terms.antt", "Q_DANGERPOINT and Q_OVERLAP", "Q_OVERLAP and Q_DANGERPOINT", "packet 15, Q_OVERLAP: "),
+    (INTEGRITY, "either 0 empty (either 1 l_trainint", "either 0 l_trainint (either 1 empty", "1, L_TRAININT: "),
+    ("profile/specs/Terms.antt", "Q_DANGERPOINT and Q_OVERLAP", "Q_OVERLAP and Q_DANGERPOINT", "15, Q_OVERLAP: "),
     (TRACK, "q_linkreaction then q_locacc", "q_locacc then q_linkreaction", "packet 5, Q_LOCACC: "),
     (TRACK, "either 41 (rest", "either 42 (rest", "the layouts: "),
-    (TRACK, "-- a link;", "abbrev pub d_more : Format ℕ\nd_more = number 15\n\n-- a link;", "definitions that belong to no row"),
+    (TRACK, "-- a link;", "abbrev pub d_more : Format ℕ\nd_more = number 15\n\n-- a link;", "that belong to no row"),
     (TRACK, "g_a = number 8", "g_a = nothing 8", "g_a has another form: nothing 8"),
     # the comments on them, keys of the JSON, rules and words
     (TRACK, "V_STATIC, 7 bits", "V_STATIC, 8 bits", "V_STATIC: in the comment bits"),
@@ -38,7 +38,7 @@ CHANGES = (
     (TRACK, "place is known, in metres", "place is known, in seconds", "Q_LOCACC: in the comment the unit"),
     (INTEGRITY, "the length of the train", "its length in metres", f"{TABLE} is not what"),
     ("json/specs/Authority.antt", 'codes "l_section"', 'codes "l_sections"', "keys of the table alone"),
-    ("check/specs/Aspects.antt", "an earlier group has", "a later group has", "F14: an earlier group has the identity of"),
+    ("check/specs/Aspects.antt", "an earlier group has", "a later group has", "F14: an earlier group has"),
     ("docs/findings.md", "## F2: total wrong", "## F2: total", "F2: total wrong"),
     (f"{GROUP}/Missed.antt", "and that one is not missed", "and that one is missed", "word covered: the comment on"),
     (f"{GROUP}/Assembly.antt", "pub record IsAccepted ", "pub record Accepted ", "word accepted list: the comment on"),
@@ -79,7 +79,8 @@ def test_table(check):
 def room(tmp_path_factory):
     """A copy of what tests/trace reads."""
     room = tmp_path_factory.mktemp("trace")
-    for path in [*(TOP / "crates").glob("etcs_*/specs"), *(TOP / it for it in ("docs", "schemas", "tests", "companion/src"))]:
+    folders = [TOP / it for it in ("docs", "schemas", "tests", "companion/src")]
+    for path in [*(TOP / "crates").glob("etcs_*/specs"), *folders]:
         shutil.copytree(path, room / path.relative_to(TOP))
     shutil.copy(TOP / "README.md", room)
     return room

@@ -4,16 +4,16 @@ import re
 from balisekit.etcs.layout import bits_of, message_fields, telegram_fields
 from runner import TOP, blocks
 from variables.definitions import COMBINING, KINDS, specs_of
-from variables.table import COUNTED, EACH, END_MARK, Row, Stopped, in_bits, merged
-from variables.trace import COUNT, COUNTING, Trace, said_in, unit_in, words_of
+from variables.table import COUNTED, EACH, END_MARK, Row, in_bits, merged
+from variables.trace import COUNT, COUNTING, said_in, unit_in, words_of
 
 # The keys that are not the variable's name in small letters, and those of no variable.
 OTHER_KEYS = {"V_LOA": "end_speed", "T_LOA": "end_timeout", "NC_CDDIFF": "nc", "NC_DIFF": "nc",
               "NID_LRBG": "nid_c nid_bg", "NID_PRVLRBG": "prv_nid_c prv_nid_bg"}
 NO_VARIABLES = {"packets", "user_bits"}
 # Definitions that no packet of a list, no header and no message has: of packets by themselves, and of values.
-ALONE = set("authority authority_numbered authority_variable cover_marker free medium_variable nid_packet nid_raw only packet "
-            "q_media q_updown raw_packet raw_train_packet report report_numbered report_variable "
+ALONE = set("authority authority_numbered authority_variable cover_marker free medium_variable nid_packet nid_raw only "
+            "packet q_media q_updown raw_packet raw_train_packet report report_numbered report_variable "
             "transmission_variable".split())
 
 
@@ -71,7 +71,8 @@ def check_keys(trace):
         yield from differs(f"{row.title}: key", " ".join(row.keys()) or wanted, wanted)
     known = {it for row in trace.rows for it in re.findall(r"\w+", row.key)} | NO_VARIABLES
     used = {key for _, text in specs_of("etcs_schema", "etcs_json") for key in re.findall(r'\bcodes "(\w+)"', text)}
-    yield from differs("keys of the table alone, and of the definitions alone", [known - used, used - known], [set(), set()])
+    yield from differs("keys of the table alone", known - used, set())
+    yield from differs("keys of the definitions alone", used - known, set())
 
 
 def check_rules(trace):
@@ -97,7 +98,7 @@ def check_words(trace):
     for row in words:
         found = trace.reader.definitions.get(tuple(row.about.split(": ")))
         yield from differs(f"{row.layouts}: the comment on {row.about}", found and found.comment, row.meaning)
-        yield from differs(f"{row.layouts}: has a section of the standard, or whose rule it is", bool(row.section), True)
+        yield from differs(f"{row.layouts}: has a section, or whose rule it is", bool(row.section), True)
 
 
 def check_definitions(trace):
@@ -147,21 +148,20 @@ def check_cases(trace):
         text = "".join(f"{variable}:{len(digits)} " for variable, digits in fields if digits)
         if not re.fullmatch(whole, text):
             yield f"tests/cases, {name}: not the variables of {layout}: {text}"
-    layouts = {it for it in trace.layouts if it.startswith("packet ") and it != END_MARK}
-    yield from differs("layouts in packets.txt", {it for it in met.values() if it.startswith("packet")}, layouts)
+    layouts = {it for it in trace.layouts if it.startswith(("packet", "message")) and it != END_MARK}
+    yield from differs("layouts in tests/cases", {*met.values()}, layouts)
     text = "".join(it.read_text(encoding="utf-8") for it in (TOP / "tests").glob("*documents.py"))
-    names = re.findall('"(.*?)"', re.search(r"(?s)\nLAYOUTS = \((.*?)\)", text)[1])
-    yield from differs("LAYOUTS of tests of documents", {met.get(it) for it in names}, layouts)
+    names = re.findall('"(.*?)"', "".join(re.findall(r"(?s)\nLAYOUTS = \((.*?)\)", text)))
+    packets = {it for it in layouts if it.startswith("packet")}
+    yield from differs("LAYOUTS of tests of documents", {met.get(it) for it in names}, packets)
 
 
 def check_raw(trace):
-    """Variables of packets that are kept as bits are as in other packets. A header has another version than packet 2."""
-    known = {}
-    for row in trace.rows:
-        known.setdefault(row.variable, set()).add((row.bits, row.numbers, row.unit))
+    """Variables of raw packets are as in other packets, except the version, which is not that of a header."""
+    known = {(row.variable, row.bits, row.numbers, row.unit) for row in trace.rows}
+    shared = {row.variable for row in trace.rows} - {"", "M_VERSION"}
     for row in trace.raw:
-        others = known.get(row.variable, ()) if row.variable not in ("", "M_VERSION") else ()
-        if others and (row.bits, row.numbers, row.unit) not in others:
+        if row.variable in shared and (row.variable, row.bits, row.numbers, row.unit) not in known:
             yield f"{row.title} has other bits, numbers or units than elsewhere"
 
 
@@ -171,19 +171,11 @@ def check_texts(trace):
         text = path.read_text(encoding="utf-8") if path.exists() else ""
         lines = [it[:200] for it in wanted.splitlines() if it not in text.splitlines()]
         if text != wanted:
-            yield "\n  ".join([f"{path.relative_to(TOP)} is not what tests/trace --write makes, and lacks:", *lines[:5]])
+            lacks = "".join(f"\n  {it}" for it in lines[:5])
+            yield f"{path.relative_to(TOP)} is not what tests/trace --write makes, and lacks:{lacks}"
         if path in COUNTING and not COUNT.search(text):
             yield f"{path.relative_to(TOP)} does not say how many rows were compared"
 
 
-CHECKS = (check_layouts, check_meanings, check_keys, check_rules, check_words, check_definitions, check_cases, check_raw,
-          check_texts)
-
-
-def differences():
-    """What all checks find."""
-    try:
-        trace = Trace()
-        return [line for check in CHECKS for line in check(trace)]
-    except (Stopped, OSError, UnicodeDecodeError) as why:
-        return [str(why)]
+CHECKS = (check_layouts, check_meanings, check_keys, check_rules, check_words, check_definitions, check_cases,
+          check_raw, check_texts)

@@ -157,7 +157,8 @@ class Reader:
             raise Stopped(f"{place}: nothing is known of {name}")
         self.used.add((found.place, found.name))
         try:
-            made = (self.stated if found.body.startswith("record") else self.term)(found, dict(zip(found.parameters, given)))
+            make = self.stated if found.body.startswith("record") else self.term
+            made = make(found, dict(zip(found.parameters, given)))
         except (AttributeError, IndexError, TypeError, ValueError):
             made = None
         if not isinstance(made, KINDS.get(found.kind, ())):

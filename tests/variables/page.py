@@ -1,7 +1,7 @@
 """Parts of docs/variables.md that are made of the table, each between `<!-- KIND WHAT -->` and `<!-- /KIND -->`:
 
-- `layout LAYOUT rows`: its name, sections and purpose, its variables and its size; `layout LAYOUT after VARIABLE` has only
-  the variables after one, and `layout LAYOUT` has none
+- `layout LAYOUT rows`: its name, sections and purpose, its variables and its size; with `after VARIABLE` only those
+  after one, and with neither none
 - `head LAYOUT to VARIABLE`: its variables up to one
 - `keys KIND`: the JSON of a telegram, or of packets, train packets or messages
 - `raw layouts`, `raw variables`: packets that the program keeps as bits
@@ -46,7 +46,7 @@ def lines_of(nodes, at=0, note=""):
     lines = []
     for node in nodes:
         if isinstance(node, Row):
-            same = [it for it in nodes if isinstance(it, Row) and it.keys() == node.keys() != []]  # NC_CDDIFF and NC_DIFF
+            same = [it for it in nodes if isinstance(it, Row) and it.keys() == node.keys() != []]  # NC_CDDIFF, NC_DIFF
             when = f"only {condition(node.when)}: " if node.when else ""
             place = "next" if at is None else f"{at}{note}"
             lines.append([node.variable, place, node.bits, with_doubt(when + node.meaning, node), numbers_text(node)])
@@ -127,17 +127,17 @@ def raw_part(trace, what):
         return table(["Packet", "Its name, and its variables in the order of the bits", "Doubt"], rows)
     rows = [[it.variable, it.layouts.replace("raw ", ""), it.bits, with_doubt(it.meaning, it), numbers_text(it)]
             for it in trace.raw if it.variable]
-    return table(["Variable", "Packets", "Bits", "Meaning", "Values"], rows)
+    return table(["Variable", "Packets", *COLUMNS[2:]], rows)
 
 
 def names_part(*_):
     """The names that balisekit gives to packets."""
-    lists = (("From track to train", TRACK), ("From train to track", TRAIN))
-    return "".join(f"- *{text}:* {', '.join(f'{number} {it[number]}' for number in it)}.\n" for text, it in lists) + "\n"
+    track, train = (", ".join(f"{number} {name}" for number, name in names.items()) for names in (TRACK, TRAIN))
+    return f"- *From track to train:* {track}.\n- *From train to track:* {train}.\n\n"
 
 
-PARTS = {"head": lambda trace, what: some_lines(trace, what)[1], "layout": layout_part, "keys": keys_part, "raw": raw_part,
-         "names": names_part}
+PARTS = {"head": lambda trace, what: some_lines(trace, what)[1], "layout": layout_part, "keys": keys_part,
+         "raw": raw_part, "names": names_part}
 
 
 def variables_page(trace):

@@ -1,7 +1,7 @@
 """The table of variables, docs/assurance/trace.csv: its rows, and the layouts that they belong to.
 
-docs/variables.md describes the columns. If `numbers` is `counted`, only the count of what is read is right. `links[]` in
-`key` is a list: the row with this key counts its items, or the further ones if rows of the first item precede it.
+docs/variables.md describes the columns. If `numbers` is `counted`, only the count of what is read is right. `links[]`
+in `key` is a list: the row with this key counts its items, or the further ones if rows of the first item precede it.
 """
 import csv
 import hashlib
@@ -21,8 +21,8 @@ LONGEST_PACKET = 8191
 END_MARK = "packet 255"  # no definition of a layout has it: NID_PACKET states that this number ends a list
 NUMBERS = re.compile(r"(\d+)(?: to (\d+))?(?: (.+))?")
 # The words for units, in comments on definitions and in schemas.
-UNITS = {"5 km/h": "in steps of 5 km/h", "s": "in seconds", "‰": "in metres of height per 1,000 metres", "m": "in metres",
-         "10 ms": "in units of 10 ms", "Q_SCALE": "in the unit of the packet"}
+UNITS = {"5 km/h": "in steps of 5 km/h", "s": "in seconds", "‰": "in metres of height per 1,000 metres",
+         "m": "in metres", "10 ms": "in units of 10 ms", "Q_SCALE": "in the unit of the packet"}
 
 
 class Stopped(Exception):

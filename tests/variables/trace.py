@@ -46,7 +46,7 @@ def said_in(comment):
 
 
 def raw_rows():
-    """Rows about packets that the program keeps as bits: what balisekit believes of them, since no definition has them."""
+    """Rows about packets that the program keeps as bits: no definition has them, and balisekit has its own layouts."""
     data = json.loads(RAW.read_text(encoding="utf-8"))
     for it in data["layouts"]:
         is_track, doubt = it["from"] == "track", "; ".join([f"{it['sure']} % sure", *filter(None, [it.get("doubt")])])
@@ -68,7 +68,7 @@ def raw_names(layouts):
 
 
 def fields_text(fields):
-    """Fields of a raw packet in the order of the bits: variables, lists, fields under a condition, texts, and the rest."""
+    """Fields of a raw packet in the order of the bits, with their conditions."""
     texts = []
     for it in ({"variable": it} if isinstance(it, str) else it for it in fields):
         text = f"({fields_text(it.get('fields', []))})"
@@ -118,7 +118,8 @@ class Trace:
         """The text of each file that has something made of the table."""
         counts = [f"{sum(bool(it.compared) for it in rows)} of {len(rows)} rows" for rows in (self.rows, self.raw)]
         texts = {path: path.read_text(encoding="utf-8") for path in COUNTING} | {PAGE: variables_page(self)}
-        texts = {path: COUNT.sub(lambda it: f"{it[1]}{counts[1]}" if it[1] else counts[0], texts[path]) for path in texts}
+        for path in texts:
+            texts[path] = COUNT.sub(lambda it: f"{it[1]}{counts[1]}" if it[1] else counts[0], texts[path])
         for name, form in (("telegram", Schema(self).telegram()), ("message", Schema(self).messages())):
             texts[TOP / f"schemas/{name}.json"] = f"{as_json(form)}\n"
         return {TABLE: as_csv(self.rows + self.raw), **texts}
