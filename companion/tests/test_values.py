@@ -9,7 +9,7 @@ import pytest
 from cases_of_program import TOP
 
 from balisekit.engine.records import FROM_TRACK
-from balisekit.etcs.packets import packet_name
+from balisekit.etcs.packets import MESSAGES, packet_name
 from balisekit.etcs.variables import LABELS, VARIABLES, Around, metres, value_texts, value_words, variable_name
 
 pytestmark = pytest.mark.uncovered
@@ -70,36 +70,53 @@ def test_each_number_has_words(whole: Any) -> None:
                 assert not set(words) & set("[]\n") and "  " not in words, (key, number)
 
 
-#: What tells the two variables with the key "nc" apart.
+#: The keys that are not their variable's name in small letters, and what tells the two variables of "nc" apart.
+OTHER_KEYS = {"V_LOA": "end_speed", "T_LOA": "end_timeout", "NC_CDDIFF": "nc", "NC_DIFF": "nc"}
 KINDS = {"NC_CDDIFF": {"q_diff": 0}, "NC_DIFF": {"q_diff": 1}}
-#: Numbers that variables.md has other words for.
+#: The words of numbers for which variables.md has others.
 OTHERWISE = {
-    *(("n_pig", 0), ("m_dup", 1), ("m_dup", 2), ("m_mcount", 255), ("q_dir", 2), ("q_linkreaction", 2), ("v_main", 0)),
-    *(("g_a", 255), ("v_static", 127), ("q_front", 0), ("q_front", 1), ("q_diff", 1), ("q_diff", 2), ("m_ack", 1)),
+    ("n_pig", 0): "first of the group",
+    ("m_dup", 1): "duplicate of the next balise",
+    ("m_dup", 2): "duplicate of the previous balise",
+    ("m_mcount", 255): "fits each telegram of the group",
+    ("q_dir", 2): "both directions",
+    ("q_linkreaction", 2): "none",
+    ("v_main", 0): "0 km/h, train trip",
+    ("end_speed", 0): "0 km/h, stop",
+    ("g_a", 255): "end of the profile",
+    ("v_static", 127): "end of the profile",
+    ("q_front", 0): "holds until the rear has passed",
+    ("q_front", 1): "holds until the front has passed",
+    ("q_diff", 1): "by another category, in place of cant deficiency",
+    ("q_diff", 2): "by another category, beside cant deficiency",
+    ("m_ack", 1): "yes",
 }
+PAGE = (TOP / "docs/variables.md").read_text("utf-8").split("## Packets that the program keeps as bits")[0]
+ROWS = re.findall(r"^\| ([A-Z_]+) \|.*\| ([^|]+) \|$", PAGE, re.MULTILINE)
 
 
-def _key(variable: str) -> str:
-    return "nc" if variable in KINDS else variable.lower()
+@pytest.mark.parametrize("variable, values", sorted({*ROWS}))
+def test_words_are_those_of_the_page(variable: str, values: str) -> None:
+    """The name of each variable in variables.md, the words of its numbers, and the unit of the others."""
+    key, around = OTHER_KEYS.get(variable, variable.lower()), Around({"q_scale": 1}, KINDS.get(variable, {}))
+    if key not in VARIABLES:
+        return
+    assert variable_name(key, around.parent) == variable
+    for digits, words in re.findall(r"(?:^|; )([0-9,]+) = ([^;]+)", values):
+        number = int(digits.replace(",", ""))
+        said, other = value_words(key, number, around), OTHERWISE.get((key, number))
+        assert said == other if other else said.endswith(words)
+    for first, factor, unit in re.findall(r"(\d+) to [0-9,]+(?: × (\d+))? (units|km/h|ms|s|m|‰)(?:;|$)", values):
+        amount = max(1, int(first)) * int(factor or 1)
+        wanted = {"units": f"{amount} m", "ms": f"{amount / 1000:.2f} s"}.get(unit, f"{amount} {unit}")
+        assert wanted in value_words(key, max(1, int(first)), around)
 
 
-def _named_in_page() -> Iterator[Tuple[str, int, str]]:
-    """The variables and numbers that the tables of variables.md name, with their names."""
-    page = (TOP / "docs/variables.md").read_text("utf-8").split("## Packets that the program keeps as bits")[0]
-    rows = re.findall(r"^\| ([A-Z_]+) \|.*\|([^|]+)\|$", page, re.MULTILINE)
-    for variable, values in rows:
-        if _key(variable) in VARIABLES:
-            for number, words in re.findall(r"(?:^|; )([0-9,]+) = ([^;]+)", values.strip()):
-                yield variable, int(number.replace(",", "")), words
-
-
-def test_names_are_those_of_the_page() -> None:
-    named, others = list(_named_in_page()), set()
-    for variable, number, words in named:
-        parent = KINDS.get(variable, {})
-        if not value_words(_key(variable), number, Around({"q_scale": 0}, parent)).endswith(words):
-            others.add((_key(variable), number))
-    assert len(named) > 90 and others == OTHERWISE
+def test_names_of_packets_are_those_of_the_page() -> None:
+    headings = re.findall(r"^### (Packet|Message) (\d+)(?:, | (from train) to track, )(.*)$", PAGE, re.MULTILINE)
+    for kind, number, is_train, name in headings:
+        assert name in (MESSAGES[int(number)] if kind == "Message" else packet_name(int(number), not is_train))
+    assert len(headings) > 10 and len({*ROWS}) > 60
 
 
 WORDS: Dict[Tuple[str, int], str] = {
