@@ -1,8 +1,13 @@
-"""Copies of the tree, in which a tool changes a crate and checks it: for tests/edits and tests/plants."""
+"""Copies of the tree, in which tests/edits and tests/plants run `rt`."""
 import os
 import pathlib
 import re
 import shutil
+import signal
+import subprocess
+import tempfile
+import threading
+import time
 
 from runner import TOP, crate_uses
 
@@ -57,3 +62,34 @@ def lanes():
     memory = pathlib.Path("/proc/meminfo").read_text(encoding="utf-8")
     free = int(re.search(r"MemAvailable:\s+(\d+)", memory)[1]) * 1024
     return max(min(processors(), free // BYTES), 1)
+
+
+class Runs:
+    """Runs commands. They end with the tool if it is stopped, and so does the folder of the copies."""
+
+    def __init__(self, room):
+        self.room, self.running = room, set()
+        for it in (signal.SIGTERM, signal.SIGHUP, signal.SIGINT):
+            signal.signal(it, self.stop)
+
+    def stop(self, *_):
+        for it in list(self.running):
+            it.terminate()
+        shutil.rmtree(self.room, ignore_errors=True)
+        os._exit(1)
+
+    def run(self, command, folder, seconds):
+        """Runs the command, for so many seconds at most: its lines, its exit status, and what it took."""
+        with tempfile.TemporaryFile("w+", errors="replace") as out:
+            began = time.monotonic()
+            ran = subprocess.Popen(command, cwd=folder, stdin=subprocess.DEVNULL, stdout=out, stderr=subprocess.STDOUT)
+            self.running.add(ran)
+            timer = threading.Timer(seconds, ran.terminate)
+            timer.start()
+            _, status, used = os.wait4(ran.pid, 0)
+            timer.cancel()
+            self.running.discard(ran)
+            ran.returncode = os.waitstatus_to_exitcode(status)
+            out.seek(0)
+            wall, processor = time.monotonic() - began, used.ru_utime + used.ru_stime
+            return out.read().splitlines(), ran.returncode, f"{wall:.0f} s, {processor:.0f} s of processor time"
