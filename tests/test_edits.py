@@ -159,7 +159,7 @@ def each(why):
     (checked("fn tinier::half: proved\n", **LAYER), 1, []),
     (checked(**{**LAYER, "next": "no proof: it is late"}), 1, [f"{LATE}not refused: its verdict has another form: no"]),
     (checked(**{**LAYER, "next": "proved"}), 1, [f"{LATE}not refused: it is proved"]),
-    (checked(GONE, **{**LAYER, "next": WAITS}), 1, [f"{LATE}refused only because its proof file names what is gone: `"]),
+    (checked(GONE, **{**LAYER, "next": WAITS}), 1, [f"{LATE}refused only because its proof file names what is"]),
     (checked(**LAYER, sum="not proved"), 1, ["tiny, layer 1: sum is refused too, and no edit names it"]),
     (checked(**LAYER, sum="could not tell"), 1, ["tiny, layer 1: sum is refused too, and no edit names it"]),
     (FIRST, 3, each("the check ended with status 3 and without a verdict")),
