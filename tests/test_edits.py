@@ -12,7 +12,7 @@ SOURCE = """//! Small functions over numbers.
 
 ghost use Rattle.std.specs.Prelude.{◌≡◌, ◌≤◌, ◌+◌, ◌*◌};
 
-pub fn greater(a: u32, b: u32) -> u32 ensures { a ≤ result } ensures { b ≤ result } { if a < b { b } else { a } }
+pub fn greater(a: u32, b: u32) -> u32 ensures x { a ≤ result } ensures y { b ≤ result } { if a < b { b } else { a } }
 pub fn sum(a: u8, b: u8) -> u32 ensures { result ≡ a + b } { a as u32 + b as u32 }
 pub fn twice(n: u8) -> u32 ensures { result ≡ n + n } { sum(n, n) }
 pub fn four_times(n: u8) -> u32 ensures { result ≡ (n + n) + (n + n) } { 2 * twice(n) }
@@ -86,14 +86,13 @@ BAD = {
 
 @pytest.mark.slow
 @pytest.mark.skipif(not shutil.which("rt"), reason="tests of edits (toolchain)")
-def test_edits_by_the_prover(says, tmp_path):
+def test_edits_by_the_prover(says):
     """Good edits pass, two of one function in turn. Whatever is wrong with an edit is reported."""
     failures, passed, lines = says("edits", "--all", **{EDITS: GOOD})
     assert (failures, passed) == ([], 4)
-    assert [it.split(":")[0] for it in lines] == ["tiny, no edit", "tiny, layer 1, 3 edits", "tiny, layer 2, 1 edit"]
+    assert {it.split(":")[0] for it in lines} == {"tiny, no edit", "tiny, layer 1, 3 edits", "tiny, layer 2, 1 edit"}
     failures, passed, _ = says("edits", **{EDITS: "".join(BAD)})
     assert passed == 1 and begin(failures, BAD.values())
-    assert (tmp_path / "out/edits").read_text(encoding="utf-8") == ""
 
 
 @pytest.mark.parametrize("text, wanted", [
