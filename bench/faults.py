@@ -1,31 +1,22 @@
 """Random documents of railway lines for `check`: sound ones, and ones with faults that break F1 to F16.
 
-All that is random comes from `packets.numbers`, so its seed decides what comes out. A fault is put in blindly: it may
-add findings of other rules, or none. Which ones there are is for the program to say.
+All that is random comes from `records.numbers`, so its seed decides what comes out. A fault is put in blindly: it may
+add findings of other rules, or none.
 """
+import collections
 import copy
 import json
 from dataclasses import dataclass
-from typing import NamedTuple
 
-from documents import BOTH, GRADIENT_END, SPEED_END, authority, gradient, profile, put_packet, speed, telegram_text
-from packets import END_BITS, HEAD_BITS, OTHERS, USER_BITS, Spelling, numbers, packet
+from documents import ANY_MESSAGE, BOTH, PROFILES, authority, balise_text, profile
+from records import END_BITS, HEAD_BITS, LAYOUTS, OTHERS, USER_BITS, Writer, message_text, numbers, packet
 
-SHORT_BITS, TELEGRAM_HEAD_BITS, MESSAGE_HEAD_BITS = 210, 50, 75
+SHORT_BITS, TELEGRAM_HEAD_BITS = 210, 50
 ROOM = USER_BITS - TELEGRAM_HEAD_BITS - END_BITS
 LEVEL_1, LEVEL_2, GRADIENT, SPEED, LINKING, TRANSITION = 12, 15, 21, 27, 5, 41
 UNMODELLED = (0, 136, 254)
 RAW = [number for number in OTHERS if number not in UNMODELLED]
-DEFAULT_COUNTER, NO_COUNTER = 254, 255
-# of a profile: what writes an element, the number of an end mark, and one that leaves the profile open
-PROFILES = {GRADIENT: (gradient, GRADIENT_END, 10), SPEED: (speed, SPEED_END, 20)}
 MOST_METRES = 3000
-
-
-class Packet(NamedTuple):
-    """A packet's number and its bits."""
-    number: int
-    bits: Spelling
 
 
 @dataclass
@@ -36,116 +27,70 @@ class Balise:
     is_long: bool
 
 
-@dataclass
-class Group:
-    """A group: the places that say the same, one or a pair of duplicates each, and the balises of each aspect."""
-    speakers: list
-    aspects: list
-
-    def any_balise(self):
-        """A balise of some aspect."""
-        return numbers.choice(numbers.choice(self.aspects))
+# The places that send the same, one or a pair of duplicates each, and the balises of each aspect.
+Group = collections.namedtuple("Group", "speakers aspects")
+# Groups, and the packets of each message 3.
+Document = collections.namedtuple("Document", "groups messages")
 
 
-@dataclass
-class Document:
-    """Groups, and the packets of each message 3."""
-    groups: list
-    messages: list
-
-
-# ---- packets
-
-
-def size(those):
+def size(packets):
     """How many bits these packets have."""
-    return sum(it.bits.bits for it in those)
-
-
-def put(number, body, direction, scale):
-    """The packet with this body."""
-    out = Spelling()
-    put_packet(out, number, body, direction, scale)
-    return Packet(number, out)
+    return sum(it.bits for it in packets)
 
 
 def profile_to(kind, direction, metres):
-    """A profile that ends at this distance, in any scale that can express it, or a longer or an open one."""
-    element, end_mark, other = PROFILES[kind]
+    """A profile that ends at this distance or later, in any scale that can express it, or an open one."""
     scale = numbers.choice((0, 1, 2) if metres % 10 == 0 else (0, 1))
-    units = metres * 10 // 10 ** scale
-    longer = numbers.choice((0, numbers.randrange(1000)))
-    is_open = numbers.random() < 0.1
-    end, last = (numbers.randrange(units + 1), other) if is_open else (units + longer, end_mark)
-    return put(kind, profile(end, last, element), direction, scale)
-
-
-def short_profile(kind, direction, metres):
-    """A profile that ends before this distance."""
-    element, end_mark, _ = PROFILES[kind]
-    return put(kind, profile(max(0, metres - numbers.choice((1, 10, metres))), end_mark, element), direction, 1)
-
-
-def authority_to(number, direction, metres):
-    """An authority that ends at this distance."""
-    return put(number, authority(metres, number == LEVEL_1), direction, 1)
+    units, is_open = metres * 10 // 10 ** scale, numbers.random() < 0.1
+    end = numbers.randint(0, units) if is_open else units + numbers.choice((0, numbers.randrange(1000)))
+    return profile(kind, end, direction, scale, is_open)
 
 
 def with_profiles(number, lacking=None, short=None):
     """An authority and the profiles that it needs, in any order, without `lacking`, and with another `short` one."""
     direction, metres = numbers.randrange(3), numbers.randrange(1, MOST_METRES)
-    those = [authority_to(number, direction, metres)]
-    for kind in PROFILES:
-        if kind == lacking:
-            continue
+    packets = [authority(number, metres, direction)]
+    for kind in {*PROFILES} - {lacking}:
         parts = (0, 1) if direction == BOTH and numbers.random() < 0.3 else (direction,)
-        those += [profile_to(kind, part, metres) for part in parts]
-        if kind == short:
-            those.append(short_profile(kind, direction, metres))
-    numbers.shuffle(those)
-    return those
+        packets += [profile_to(kind, part, metres) for part in parts]
+    if short:
+        packets.append(profile(short, max(0, metres - numbers.choice((1, 10, metres))), direction))
+    numbers.shuffle(packets)
+    return packets
+
+
+def any_packets(kinds, room):
+    """A packet of each of these kinds, unless it has no room."""
+    return [it for it in (packet(kind, room) for kind in kinds) if it]
 
 
 def harmless(kinds=(LINKING, TRANSITION)):
     """Up to three packets without an authority: raw ones, and ones of these kinds."""
-    those = []
-    for _ in range(numbers.randrange(4)):
-        out, number = Spelling(), numbers.choice((numbers.choice(RAW), *kinds))
-        packet(out, number, numbers.choice((90, 110, 150)))
-        those.append(Packet(number, out))
-    return those
+    return any_packets([numbers.choice((numbers.choice(RAW), *kinds)) for _ in range(numbers.randrange(4))],
+                       numbers.choice((90, 110, 150)))
 
 
 def unmodelled():
     """A packet 0, 136 or 254."""
-    out, number = Spelling(), numbers.choice(UNMODELLED)
-    packet(out, number, HEAD_BITS + numbers.randrange(40))
-    return Packet(number, out)
+    return packet(numbers.choice(UNMODELLED), HEAD_BITS + numbers.randrange(40))
 
 
-def unplanned(authority_number):
+def unplanned(number):
     """An authority and other packets at random, which may or may not fit together."""
-    those, others = [], (LINKING, LEVEL_1, LEVEL_2, GRADIENT, SPEED, TRANSITION)
-    for number in (authority_number, *numbers.sample(others, numbers.randrange(1, 4))):
-        out = Spelling()
-        packet(out, number, 200)
-        those.append(Packet(number, out))
-    return those
+    others = (LINKING, LEVEL_1, LEVEL_2, GRADIENT, SPEED, TRANSITION)
+    return any_packets([number, *numbers.sample(others, numbers.randrange(1, 4))], 200)
 
 
-def within_room(make, *given):
+def within_room(make, *given, **more):
     """The first of what this makes that fits into a telegram."""
     while True:
-        those = make(*given)
-        if size(those) <= ROOM:
-            return those
-
-
-# ---- sound documents
+        packets = make(*given, **more)
+        if size(packets) <= ROOM:
+            return packets
 
 
 def speakers_of(count):
-    """The places of `count` balises, some of them in pairs of duplicates."""
+    """The places of so many balises, some of them in pairs of duplicates."""
     places, speakers = list(range(count)), []
     while places:
         paired = len(places) > 1 and numbers.random() < 0.5
@@ -167,17 +112,14 @@ def contents_of(speakers, is_authority_allowed):
 
 def aspect_of(speakers, header, contents, counters, long):
     """The balises of an aspect, those at the places of `long` with long telegrams."""
-    balises = []
     for places, packets, counter in zip(speakers, contents, counters):
-        for place in places:
-            mark = 0 if len(places) == 1 else 1 + (place == places[1])
+        for mark, place in enumerate(places, len(places) > 1):
             own = {**header, "n_pig": place, "m_dup": mark, "m_mcount": counter}
-            balises.append(Balise(own, list(packets), place in long))
-    return balises
+            yield Balise(own, list(packets), place in long)
 
 
 def sound_group(identity, aspects):
-    """A group with `aspects` aspects. If several, each speaker sends the same in all, or has a counter for each."""
+    """A group with so many aspects. If several, each speaker sends the same in all, or has a counter for each."""
     count = numbers.choice((1, 1, 2, 2, 2, 3, 3, 4, 5, 8))
     speakers = speakers_of(count)
     header = {"m_version": numbers.choice((32, 33)), "n_total": count - 1, "q_link": numbers.randrange(2),
@@ -185,13 +127,13 @@ def sound_group(identity, aspects):
     long = {place for place in range(count) if numbers.random() < 0.3}
     fixed = [numbers.random() < 0.4 for _ in speakers]
     first, found = contents_of(speakers, True), []
-    kept = {it.number for is_fixed, those in zip(fixed, first) if is_fixed for it in those}
+    kept = {it.number for is_fixed, packets in zip(fixed, first) if is_fixed for it in packets}
     for counter in numbers.sample(range(254), aspects):
-        # no authority beside profiles that another aspect has too: they may be too short for it
+        # (no authority beside profiles that another aspect has too: they may be too short for it)
         own = contents_of(speakers, kept.isdisjoint(PROFILES)) if found and LEVEL_1 not in kept else first
         packets = [one if is_fixed else other for is_fixed, one, other in zip(fixed, first, own)]
-        counters = [NO_COUNTER if is_fixed else counter for is_fixed in fixed]
-        found.append(aspect_of(speakers, header, packets, counters, long))
+        counters = [ANY_MESSAGE if is_fixed else counter for is_fixed in fixed]
+        found.append(list(aspect_of(speakers, header, packets, counters, long)))
     return Group(speakers, found)
 
 
@@ -206,35 +148,30 @@ def sound_document(has_aspects):
     return Document(groups, messages)
 
 
-# ---- faults of headers
-
-
 def some_group(document, least=1, aspects=1):
-    """A group with at least this many balises and aspects, or None."""
+    """A group with at least so many balises and aspects, or any group."""
     those = [it for it in document.groups if len(it.aspects[0]) >= least and len(it.aspects) >= aspects]
-    return numbers.choice(those) if those else None
+    return numbers.choice(those or document.groups)
 
 
-def position(document):
-    """N_PIG of another place, or two balises that change places."""
-    aspect = numbers.choice(some_group(document).aspects)
-    if numbers.random() < 0.7:
-        numbers.choice(aspect).header["n_pig"] = numbers.randrange(8)
-    else:
-        one, other = numbers.randrange(len(aspect)), numbers.randrange(len(aspect))
-        aspect[one], aspect[other] = aspect[other], aspect[one]
-
-
-def total(document):
-    """N_TOTAL of another count."""
-    some_group(document).any_balise().header["n_total"] = numbers.randrange(8)
+def any_balise(document):
+    return numbers.choice(numbers.choice(some_group(document).aspects))
 
 
 def header_differs(document):
-    """Another version, identity or link flag."""
-    header = some_group(document).any_balise().header
-    key, most = numbers.choice((("m_version", 0), ("nid_c", 1023), ("nid_bg", 16383), ("q_link", 1)))
-    header[key] = numbers.randrange(most + 1) if most else 65 - header[key]
+    """Another number in a header, in most cases of a group of several balises. Two counters may differ."""
+    aspect = numbers.choice(some_group(document, least=numbers.choice((1, 2, 2))).aspects)
+    key, count = numbers.choice((("n_pig", 8), ("n_total", 8), ("m_dup", 3), ("m_dup", 3), ("m_mcount", 255),
+                                 ("nid_c", 1024), ("nid_bg", 16384), ("q_link", 2), ("m_version", 2)))
+    for _ in range(1 + (key == "m_mcount")):
+        numbers.choice(aspect).header[key] = numbers.randrange(count) + 32 * (key == "m_version")
+
+
+def position(document):
+    """Two balises that change places."""
+    aspect = numbers.choice(some_group(document, least=2).aspects)
+    one, other = numbers.randrange(len(aspect)), numbers.randrange(len(aspect))
+    aspect[one], aspect[other] = aspect[other], aspect[one]
 
 
 def mark_outside(document):
@@ -244,23 +181,9 @@ def mark_outside(document):
     aspect[place].header["m_dup"] = 2 if place == 0 else 1
 
 
-def mark_unanswered(document):
-    """Any duplicate flag, in most cases of a group of several balises."""
-    group = some_group(document, least=2) or some_group(document)
-    group.any_balise().header["m_dup"] = numbers.randrange(3)
-
-
 def default_counter(document):
     """Counter 254."""
-    some_group(document).any_balise().header["m_mcount"] = DEFAULT_COUNTER
-
-
-def counters_differ(document):
-    """Another counter in one or two balises."""
-    group = some_group(document, least=2) or some_group(document)
-    aspect = numbers.choice(group.aspects)
-    for _ in range(2):
-        numbers.choice(aspect).header["m_mcount"] = numbers.randrange(256)
+    any_balise(document).header["m_mcount"] = 254
 
 
 def identity_used(document):
@@ -269,36 +192,24 @@ def identity_used(document):
     if one is other:
         one = copy.deepcopy(other)
         document.groups.insert(numbers.randrange(len(document.groups) + 1), one)
-    header = other.aspects[0][0].header
     for balise in (it for aspect in one.aspects for it in aspect):
-        balise.header.update(nid_c=header["nid_c"], nid_bg=header["nid_bg"])
-
-
-def marks_differ(document):
-    """Another duplicate flag in an aspect."""
-    group = some_group(document, aspects=2)
-    if group:
-        numbers.choice(numbers.choice(group.aspects[1:])).header["m_dup"] = numbers.randrange(3)
+        balise.header.update({key: other.aspects[0][0].header[key] for key in ("nid_c", "nid_bg")})
 
 
 def aspects_alike(document):
-    """In a later aspect a counter or balises of an earlier one, or a counter or telegram of another kind."""
+    """In a later aspect another duplicate flag, a counter or balises of an earlier one, or a longer telegram."""
     group = some_group(document, aspects=2)
-    if not group:
+    if len(group.aspects) < 2:
         return
     earlier, later = sorted(numbers.sample(range(len(group.aspects)), 2))
-    way, one, other = numbers.randrange(4), numbers.choice(group.aspects[earlier]), numbers.choice(group.aspects[later])
+    way, one, other = numbers.randrange(5), numbers.choice(group.aspects[earlier]), numbers.choice(group.aspects[later])
     if way == 0:
-        other.header["m_mcount"] = one.header["m_mcount"]
-    elif way == 1:
         group.aspects[later] = copy.deepcopy(group.aspects[earlier])
-    elif way == 2:
-        other.header["m_mcount"] = NO_COUNTER
-    else:
+    elif way == 1:
         other.is_long = not other.is_long
-
-
-# ---- faults of packets
+    else:
+        other.header.update(({"m_mcount": one.header["m_mcount"]}, {"m_mcount": ANY_MESSAGE},
+                             {"m_dup": numbers.randrange(3)})[way - 2])
 
 
 def packets_differ(document):
@@ -307,10 +218,10 @@ def packets_differ(document):
     if not pairs:
         return
     group, places = numbers.choice(pairs)
-    balise = numbers.choice(group.aspects)[numbers.choice(places)]
-    if balise.packets and numbers.random() < 0.5:
+    balise, way = numbers.choice(group.aspects)[numbers.choice(places)], numbers.random()
+    if balise.packets and way < 0.5:
         balise.packets.pop(numbers.randrange(len(balise.packets)))
-    elif len(balise.packets) > 1 and numbers.random() < 0.5:
+    elif way < 0.75:
         balise.packets.reverse()
     else:
         put_more(balise, within_room(harmless)[:1])
@@ -319,7 +230,7 @@ def packets_differ(document):
 def put_more(balise, packets):
     """Adds these packets at any index, if they fit."""
     if size(balise.packets) + size(packets) <= ROOM:
-        at = numbers.randrange(len(balise.packets) + 1)
+        at = numbers.randint(0, len(balise.packets))
         balise.packets[at:at] = packets
 
 
@@ -328,93 +239,48 @@ def not_modelled(document):
     if document.messages and numbers.random() < 0.4:
         numbers.choice(document.messages).append(unmodelled())
     else:
-        put_more(some_group(document).any_balise(), [unmodelled()])
+        put_more(any_balise(document), [unmodelled()])
 
 
-def say(document, make, **given):
-    """Other packets, with an authority: of a message, or of a balise or a pair in an aspect."""
+def other_packets(document):
+    """Other packets with an authority, of a message, or of a balise or a pair in an aspect: a profile lacks or is too
+    short, or the packets were made independently of each other."""
+    way, kind = numbers.randrange(5), numbers.choice((GRADIENT, SPEED))
+    make, given = (unplanned, {}) if way == 0 else (with_profiles, {"lacking" if way < 3 else "short": kind})
     if document.messages and numbers.random() < 0.3:
         document.messages[numbers.randrange(len(document.messages))] = make(LEVEL_2, **given)
         return
     group = some_group(document)
-    packets, balises = within_room(lambda: make(LEVEL_1, **given)), numbers.choice(group.aspects)
+    packets, balises = within_room(make, LEVEL_1, **given), numbers.choice(group.aspects)
     for place in numbers.choice(group.speakers):
         balises[place].packets = list(packets)
 
 
-def no_gradient(document):
-    """An authority without gradients."""
-    say(document, with_profiles, lacking=GRADIENT)
+# (more often if a fault has several kinds)
+FAULTS = (*(header_differs,) * 5, position, mark_outside, default_counter, identity_used, *(aspects_alike,) * 2,
+          packets_differ, not_modelled, *(other_packets,) * 5)
 
 
-def gradient_short(document):
-    """An authority beyond the end of the gradients."""
-    say(document, with_profiles, short=GRADIENT)
-
-
-def no_speed(document):
-    """An authority without speeds."""
-    say(document, with_profiles, lacking=SPEED)
-
-
-def speed_short(document):
-    """An authority beyond the end of the speeds."""
-    say(document, with_profiles, short=SPEED)
-
-
-def any_packets(document):
-    """Packets that were made independently of each other."""
-    say(document, unplanned)
-
-
-FAULTS = (position, total, header_differs, mark_outside, mark_unanswered, default_counter, counters_differ,
-          packets_differ, not_modelled, no_gradient, gradient_short, no_speed, speed_short, identity_used,
-          marks_differ, aspects_alike, any_packets)
-
-
-# ---- texts
-
-
-def joined(packets):
-    """The bits of all these packets."""
-    out = Spelling()
-    for one in packets:
-        out.put(one.bits.value, one.bits.bits)
-    return out
-
-
-def balise_text(balise):
+def text_of(balise):
     """The text of the balise's telegram."""
-    bits = joined(balise.packets)
-    is_short = TELEGRAM_HEAD_BITS + bits.bits + END_BITS <= SHORT_BITS and not balise.is_long
-    text = telegram_text(balise.header, bits, SHORT_BITS if is_short else USER_BITS)
+    is_short = TELEGRAM_HEAD_BITS + size(balise.packets) + END_BITS <= SHORT_BITS and not balise.is_long
+    text = balise_text(balise.header, balise.packets, SHORT_BITS if is_short else USER_BITS)
     return text.upper() if numbers.random() < 0.05 else text
 
 
-def message_text(packets):
+def message_of(packets):
     """The text of a message 3 with these packets."""
-    out, bits = Spelling(), joined(packets)
-    length = (MESSAGE_HEAD_BITS + bits.bits + 7) // 8
-    out.put(3, 8)  # NID_MESSAGE
-    out.put(length, 10)  # L_MESSAGE
-    out.any(57)  # T_TRAIN, M_ACK, NID_C, NID_BG
-    out.put(bits.value, bits.bits)
-    return f"{out.value << 8 * length - out.bits:0{2 * length}x}"
+    out = Writer({"NID_MESSAGE": 3})
+    out.object(LAYOUTS["message 3"], {}, {})
+    for one in packets:
+        out.put(one.value, one.bits)
+    return message_text(out)
 
 
 def group_json(group):
     """The group's object; a list of one aspect is one way to write a group without aspects."""
-    aspects = [{"balises": [balise_text(it) for it in aspect]} for aspect in group.aspects]
+    aspects = [{"balises": [text_of(it) for it in aspect]} for aspect in group.aspects]
     return aspects[0] if len(aspects) == 1 and numbers.random() < 0.9 else {"aspects": aspects}
-
-
-def document_json(document):
-    """The document, the messages before the groups or after them."""
-    members = [("groups", [group_json(it) for it in document.groups]),
-               ("messages", [message_text(it) for it in document.messages])]
-    if numbers.random() < 0.2:
-        members.reverse()
-    return json.dumps(dict(members), separators=(",", ":"))
 
 
 def random_document(has_aspects, is_faulty):
@@ -422,4 +288,6 @@ def random_document(has_aspects, is_faulty):
     document = sound_document(has_aspects)
     for _ in range(numbers.choice((1, 1, 1, 1, 2, 2, 3, 5, 12, 40)) if is_faulty else 0):
         numbers.choice(FAULTS)(document)
-    return document_json(document)
+    members = [("groups", [group_json(it) for it in document.groups]),
+               ("messages", [message_of(it) for it in document.messages])]
+    return json.dumps(dict(members[::numbers.choice((1, 1, 1, 1, -1))]), separators=(",", ":"))

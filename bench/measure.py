@@ -1,38 +1,156 @@
-"""Runs a command and writes one line of what it took: measure.py INPUT OUTPUT COMMAND WORD..
+#!/usr/bin/env python3
+"""Measures the commands of the program: bench/measure.py speed|instructions|memory [--count N] [PROGRAM..]
 
-The line is its exit status, seconds elapsed, seconds of processor time (user and system), and peak memory in MiB.
-The peak is looked up every millisecond while the command runs: what the kernel reports of it afterwards also covers
-this script, of which the command's process is a copy at first.
+    speed          seconds of the processor by hyperfine, the mean of ten runs, and megabytes of input a second
+    instructions   a byte of input, by valgrind, without those for an empty input; no load of the machine changes them
+    memory         the peak of `check` by GNU time, in MiB, and by the size of the document
+
+The inputs are N telegrams, messages and groups: 10,000, or 500 for instructions. Without a PROGRAM it is the one that
+./balisecheck would run. Each program has a column, and the last column divides the last program by the first one. A
+wrong answer ends the run. 100,000 groups take 250 MB of the temporary folder, which TMPDIR names.
 """
+import argparse
+import json
 import os
+import pathlib
+import re
+import shlex
 import subprocess
 import sys
-import time
+import tempfile
+
+from documents import ANY_MESSAGE, GROUPS_OF_COUNTRY, balise_text, pair
+
+HERE = pathlib.Path(__file__).resolve().parent
+NO_MESSAGE, SHORT, CUT = 254, 210, 254  # M_MCOUNT, user bits, digits of a line
+DECODE, ENCODE, CHECK, RADIO = ["decode"], ["encode"], ["check"], ["--radio"]
+NO_GROUPS = '{"groups":[],"messages":[]}\n'
 
 
-def peak_memory(process):
-    """The most memory that the process has held so far, in KiB, or None if it has ended."""
-    try:
-        with open(f"/proc/{process}/status") as status:
-            found = [line.split()[1] for line in status if line.startswith("VmHWM:")]
-    except (FileNotFoundError, ProcessLookupError):
-        return None
-    return int(found[0]) if found else None
+def made(script, *words):
+    """What a script of this folder writes."""
+    return subprocess.run([sys.executable, "-B", HERE / script, *map(str, words)], check=True, text=True,
+                          stdout=subprocess.PIPE).stdout
+
+
+def inputs(room, count):
+    """The name, the words, the input and the wanted output of each run."""
+    for kind, words in (("telegrams", []), ("messages", RADIO)):
+        texts = made("records.py", kind, count, room / "forms")
+        forms = (room / "forms").read_text(encoding="utf-8")
+        yield kind, DECODE + words, texts, forms
+        yield kind, ENCODE + words, forms, texts
+    digits = texts.replace("\n", "")
+    yield "cut", DECODE + RADIO, "".join(f"{digits[at:at + CUT]}\n" for at in range(0, len(digits), CUT)), forms
+    for aspects in (2, 1):
+        document, yes = made("documents.py", count, aspects), f"yes: groups {count}, messages 0\n"
+        yield f"aspects {aspects}", CHECK, document, yes
+    head = '{"messages":[],'
+    yield "messages first", CHECK, head + document.strip()[1:].removesuffix(',"messages":[]}') + "}\n", yes
+    texts = "".join(f"{it}\n" for it in re.findall('"([0-9a-f]{208})"', document))
+    yield "of groups", DECODE, texts, None
+    yield "of groups", ENCODE, None, texts
+
+
+def answer(command, text, wanted=None):
+    """What a command writes, which must be as wanted."""
+    written = subprocess.run(command, input=text, stdout=subprocess.PIPE, text=True, check=True).stdout
+    if wanted is not None and written != wanted:
+        sys.exit(f"{' '.join(command)} writes another answer: {written[:200]}")
+    return written
+
+
+def seconds(commands, path):
+    """The seconds of the processor that each command takes for the input."""
+    lines, found = [f"{shlex.join(it)} <{shlex.quote(str(path))}" for it in commands], path.with_suffix(".json")
+    subprocess.run(["hyperfine", "--warmup=1", "--runs=10", "--export-json", found, *lines], check=True,
+                   stdout=subprocess.DEVNULL, stderr=subprocess.DEVNULL)
+    return [it["user"] + it["system"] for it in json.loads(found.read_text(encoding="utf-8"))["results"]]
+
+
+def instructions(command, path):
+    """How many instructions a command takes for the input."""
+    with open(path, "rb") as file:
+        said = subprocess.run(["valgrind", "--tool=callgrind", "--callgrind-out-file=/dev/null", *command], stdin=file,
+                              stdout=subprocess.DEVNULL, stderr=subprocess.PIPE, text=True, check=True).stderr
+    return int(re.search(r"Collected : (\d+)", said)[1])
+
+
+def measure(what, programs, count, room):
+    """Prints a line for each input."""
+    print(f"{'':28} {'MB':>8}", *programs)
+    forms = ""
+    for name, words, text, wanted in inputs(room, count):
+        text, path, start = forms if text is None else text, room / "input", room / "start"
+        commands = [[program, *words] for program in programs]
+        forms = [answer(it, text, wanted) for it in commands][0]
+        path.write_text(text, encoding="utf-8")
+        start.write_text(NO_GROUPS if words == CHECK else "", encoding="utf-8")
+        if what == "speed":
+            found = seconds(commands, path)
+            shown = [f"{it:9.4f} s {len(text) / 1e6 / max(it, 1e-4):7.1f} MB/s" for it in found]
+        else:
+            found = [(instructions(it, path) - instructions(it, start)) / len(text) for it in commands]
+            shown = [f"{it:9.1f}" for it in found]
+        shown += [f"{found[-1] / found[0]:9.3f}"] * (len(programs) > 1)
+        print(f"{' '.join(words) + ', ' + name:28} {len(text) / 1e6:8.2f}", *shown, flush=True)
+
+
+def single(place, counter=ANY_MESSAGE):
+    """The short telegram of the group at this place, with this M_MCOUNT."""
+    country, number = divmod(place, GROUPS_OF_COUNTRY)
+    return [balise_text({"nid_c": country, "nid_bg": number, "m_mcount": counter}, [], SHORT)]
+
+
+def documents(make, count):
+    """Documents of groups that this makes: the name, the text, and how the answer begins."""
+    def document(*counter):
+        groups = ",".join('{"balises":["%s"]}' % '","'.join(make(place, *counter)) for place in range(count))
+        return NO_GROUPS.replace("[]", f"[{groups}]", 1)
+
+    sound, yes = document(), f"yes: groups {count}, messages 0"
+    begin, end, after = sound.rpartition('"]}],')
+    size = len(make(0)[0])
+    yield "sound", sound, yes
+    yield "a finding a telegram", document(NO_MESSAGE), "no: findings "
+    yield "an escape", f"{begin[:-size]}\\u0061{begin[1 - size:]}{end}{after}", yes
+    yield "last telegram refused", f"{begin[:-1]}1{end}{after}", "refused: group "
+    yield "a key twice", sound.replace('"messages":[]', '"messages":[],"messages":[]'), yes
+
+
+def memory(programs, count, room):
+    """Prints a line for each kind of document: the peak of each program, and the peak divided by the size."""
+    for kind, make in (("pairs of long telegrams", pair), ("short telegrams", single)):
+        for name, text, wanted in documents(make, count):
+            path, taken, peaks = room / "document", room / "taken", []
+            path.write_text(text, encoding="utf-8")
+            for program in programs:
+                with open(path, "rb") as file:
+                    command = ["/usr/bin/time", "-q", "-f", "%M", "-o", taken, program, "check"]
+                    said = subprocess.run(command, stdin=file, stdout=subprocess.PIPE, text=True, check=False).stdout
+                if not said.startswith(wanted):
+                    sys.exit(f"{kind}, {name}: {said[:200]}")
+                peaks.append(int(taken.read_text(encoding="utf-8").split()[-1]) / 1024)
+            shown = [f"{it:8.1f} MiB {it * 2**20 / len(text):6.1f} times" for it in peaks]
+            print(f"{count} {kind + ', ' + name:48} {len(text) / 1e6:8.2f} MB", *shown, flush=True)
 
 
 def main():
-    input_path, output_path, *command = sys.argv[1:]
-    with open(input_path, "rb") as source, open(output_path, "wb") as target:
-        began = time.perf_counter()
-        process = subprocess.Popen(command, stdin=source, stdout=target)
-        peak, ended = 0, 0
-        while not ended:
-            peak = peak_memory(process.pid) or peak
-            time.sleep(0.001)
-            ended, status, used = os.wait4(process.pid, os.WNOHANG)
-        elapsed = time.perf_counter() - began
-    process.returncode = os.waitstatus_to_exitcode(status)
-    print(process.returncode, f"{elapsed:.3f} {used.ru_utime + used.ru_stime:.3f} {peak / 1024:.1f}")
+    parser = argparse.ArgumentParser(description=__doc__.partition("\n")[0])
+    parser.add_argument("what", choices=("speed", "instructions", "memory"))
+    parser.add_argument("--count", type=int, help="telegrams, messages and groups")
+    parser.add_argument("programs", nargs="*", metavar="PROGRAM")
+    words = parser.parse_intermixed_args()
+    if not words.programs:
+        asked = subprocess.run([HERE.parent / "balisecheck"], env={**os.environ, "BALISECHECK_PATH": "1"}, check=True,
+                               text=True, stdout=subprocess.PIPE)
+        words.programs = [os.environ.get("BALISECHECK") or asked.stdout.strip()]
+    with tempfile.TemporaryDirectory(prefix="measure-") as room:
+        count, room = words.count or (500 if words.what == "instructions" else 10_000), pathlib.Path(room)
+        if words.what == "memory":
+            memory(words.programs, count, room)
+        else:
+            measure(words.what, words.programs, count, room)
 
 
 if __name__ == "__main__":
