@@ -1,7 +1,7 @@
-//! Library calls whose requests for memory are refused. `tests/hostile` runs these tests with each request
-//! refused in turn, by itself and with all later ones. Each call then gives its usual result, or reports that
-//! memory ran out, and its borrowed arguments are unchanged. If no request is refused, `ample_memory`
-//! requires every result.
+//! Library calls whose requests for memory are refused. `tests/test_memory.py` runs these tests with each
+//! request refused in turn, by itself and with all later ones. Each call then gives its usual result, or
+//! reports that memory ran out, and its borrowed arguments are unchanged. If no request is refused,
+//! `ample_memory` requires every result.
 
 pub mod assembly;
 pub mod bits;

@@ -1,7 +1,7 @@
-//! Calls on documents and forms whose requests for memory are refused. `tests/hostile` runs these tests with
-//! each request refused in turn, by itself and with all later ones. Each call then gives its usual result, or
-//! reports that memory ran out. If no request is refused, `ample_memory` requires every result. Calls of the
-//! crates below are in `trials_groups`.
+//! Calls on documents and forms whose requests for memory are refused. `tests/test_memory.py` runs these tests
+//! with each request refused in turn, by itself and with all later ones. Each call then gives its usual result,
+//! or reports that memory ran out. If no request is refused, `ample_memory` requires every result. Calls of
+//! the crates below are in `trials_groups`.
 
 pub mod documents;
 
