@@ -5,14 +5,14 @@
 #     scripts/release.sh store        stores the program, the library for C and their ABOUT in dist/x86_64-linux, and
 #                                     adds a line to dist/RELEASES
 #     scripts/release.sh              writes the release into out/release: tarball and its checksum, wheel, .deb, SPDX,
-#                                     the logs of the gate and of all edits, a README and SHA256SUMS
+#                                     the logs of the gate, of edits and plants, a README and SHA256SUMS
 #     scripts/release.sh --try DIR    the same into an empty DIR, with the program that ./balisecheck would run, without
 #                                     logs and without judged edits: the names of its packages have "untested"
 #
 # `store` takes what the gate, or scripts/build and then scripts/library, have built from these sources in out/, and runs
 # tests/dist. A program that differs from the stored one needs a new version number. A release needs out/edits of
-# `tests/edits --all`, and the output of `.ci/run` in out/gate.log and of `tests/edits --all` in out/edits.log. Two runs on
-# one commit with the same tools give the same bytes. They need git, python3-hatchling, advancecomp, help2man and dpkg-deb.
+# `tests/edits --all`, and the output of `.ci/run` in out/gate.log, of `tests/edits --all` in out/edits.log and of
+# `tests/plants` in out/plants.log. Two runs on one commit with the same tools give the same bytes. They need git, python3-hatchling, advancecomp, help2man and dpkg-deb.
 set -euo pipefail
 
 cd "$(dirname "${BASH_SOURCE[0]}")/.."
@@ -172,9 +172,10 @@ release() {
     is_passed out/gate.log .ci/run
     grep -qx "== sources $(said sources "$dist")" out/gate.log || fail 'out/gate.log is from other sources: .ci/run | tee out/gate.log'
     is_passed out/edits.log 'tests/edits --all'
+    is_passed out/plants.log tests/plants
     rm -rf out/release
     pack out/release "$dist/balisecheck" "$dist/ABOUT" ''
-    cp out/gate.log out/edits.log out/release
+    cp out/gate.log out/edits.log out/plants.log out/release
     sums out/release
 }
 

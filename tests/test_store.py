@@ -100,6 +100,7 @@ def test_release(tree):
             ("echo '10 passed, 0 failed' >out/gate.log", "out/gate.log is from other sources: .ci/run"),
             ("sed -i \"1i== sources $(dist/sources)\" out/gate.log", "no out/edits.log in which everything passed: "),
             ("echo 'the edits: 0 passed, 0 failed' >out/edits.log", "no out/edits.log in which everything passed: "),
+            ("echo 'the edits: 9 passed, 0 failed' >out/edits.log", "no out/plants.log in which everything passed: "),
             ("sed -i 's/^version .*/version 1.2.8/' $stored/ABOUT; save", "the stored program is not 1.2.9: ")):
         sh(tree, command)
         assert refused(tree, why) is True
