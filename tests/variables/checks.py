@@ -150,10 +150,6 @@ def check_cases(trace):
             yield f"tests/cases, {name}: not the variables of {layout}: {text}"
     layouts = {it for it in trace.layouts if it.startswith(("packet", "message")) and it != END_MARK}
     yield from differs("layouts in tests/cases", {*met.values()}, layouts)
-    text = "".join(it.read_text(encoding="utf-8") for it in (TOP / "tests").glob("*documents.py"))
-    names = re.findall('"(.*?)"', "".join(re.findall(r"(?s)\nLAYOUTS = \((.*?)\)", text)))
-    packets = {it for it in layouts if it.startswith("packet")}
-    yield from differs("LAYOUTS of tests of documents", {met.get(it) for it in names}, packets)
 
 
 def check_raw(trace):
