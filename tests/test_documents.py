@@ -84,7 +84,9 @@ def test_many():
         place = f"group {group} balise 0"
         lines += [f"F1 {place}: position wrong", f"F2 {place}: total wrong", f"F4 {place}: mark points outside"]
         lines += [f"F14 group {group}: identity used before"] * (group > 0)
-    assert check(json.dumps(document)) == answered("\n".join(lines) + "\n")
+    answer = check(json.dumps(document))
+    assert (answer.status, answer.stderr) == (1, "")
+    assert answer.stdout.split("\n") == [*lines, ""]  # (texts that differ in many lines would take pytest minutes)
 
 
 @pytest.mark.elsewhere
