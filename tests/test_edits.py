@@ -264,12 +264,14 @@ FAR = KEPT.partition("\n")[0]
 
 @pytest.mark.parametrize("log, kept, passed, wanted", [
     (PLANTS, KEPT, 5, []),
-    (PLANTS.replace(":12 ", ":13 "), KEPT, 5, []),
+    (PLANTS.replace(":12 ", ":13 ") + "rc 0\n", KEPT, 5, []),
     (PLANTS, KEPT.replace(FAR, ""), 4, [f"tiny: new: {FAR}"]),
     (PLANTS.replace("not-run=0", "not-run=1"), KEPT, 4, ["tiny: it counts not-run=1, and has 0 such rows"]),
     (PLANTS.replace("proves=1", "proves=2"), KEPT, 4, ["tiny: it counts proves=2, and has 1 such rows"]),
     (f"note: the crate is not proved, and\n{PLANTS}", KEPT, 4, ["tiny: note: the crate is not proved"]),
     (PLANTS.partition("\nplants")[0], KEPT, 0, ["log: it ends without a count"]),
+    (PLANTS + PLANTS.partition("\n")[0], KEPT, 5, ["log: it ends without a count"]),
+    ("", KEPT, 0, ["log: it ends without a count"]),
 ])
 def test_plants(says, log, kept, passed, wanted):
     """Rows are compared with the kept list, and a run that did not try everything fails."""
