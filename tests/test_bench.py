@@ -8,13 +8,11 @@ from runner import TOP, answered, run
 
 def test_generators(monkeypatch):
     monkeypatch.syspath_prepend(str(TOP / "bench"))
-    packets, messages = map(importlib.import_module, ("packets", "messages"))
-    telegrams = [packets.telegram() for _ in range(100)]
-    lines = "".join(f"{packets.FORM.encode(form)}\n" for _, form in telegrams)
-    assert run(["decode"], "".join(f"{value:0208x}\n" for value, _ in telegrams)) == answered(lines)
-    drawn = [messages.message(kind) for kind in (messages.MOVEMENT, messages.POSITION) * 50]
-    lines = "".join(f"{packets.FORM.encode(form)}\n" for _, form in drawn)
-    assert run(["decode", "--radio"], "".join(f"{value.hex()}\n" for value, _ in drawn)) == answered(lines)
+    records = importlib.import_module("records")
+    for words, make in ((["decode"], records.telegram), (["decode", "--radio"], records.message)):
+        drawn = [make() for _ in range(100)]
+        lines = "".join(f"{records.FORM.encode(record)}\n" for _, record in drawn)
+        assert run(words, "".join(f"{text}\n" for text, _ in drawn)) == answered(lines)
 
 
 def test_documents():

@@ -72,7 +72,7 @@ def test_each_number_has_words(whole: Any) -> None:
 
 #: The keys that are not their variable's name in small letters, and what tells the two variables of "nc" apart.
 OTHER_KEYS = {"V_LOA": "end_speed", "T_LOA": "end_timeout", "NC_CDDIFF": "nc", "NC_DIFF": "nc"}
-KINDS = {"NC_CDDIFF": {"q_diff": 0}, "NC_DIFF": {"q_diff": 1}}
+KINDS: Dict[str, Dict[str, Any]] = {"NC_CDDIFF": {"q_diff": 0}, "NC_DIFF": {"q_diff": 1}}
 #: The words of numbers for which variables.md has others.
 OTHERWISE = {
     ("n_pig", 0): "first of the group",
