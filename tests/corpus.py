@@ -111,30 +111,27 @@ def kinds(words):
     return sorted(found | ({RECORDS[words]} if words in RECORDS else set()))
 
 
-def is_record(words, line):
-    """Whether the command writes this line for a record."""
-    if words[0] == "encode":
-        return bool(re.fullmatch(RECORDS[words], line))
-    try:
-        return cases.FORM.encode(json.loads(line)) == line
-    except ValueError:
-        return False
+def are_records(words, lines):
+    """Whether the command writes these lines for records."""
+    fit = words in RECORDS and all(re.fullmatch(RECORDS[words], line) for line in lines)
+    return fit and (words[0] == "encode" or all(cases.FORM.encode(json.loads(line)) == line for line in lines))
 
 
 def is_documented(words, answer):
     """Whether the documents name this answer of a program whose memory and devices do not fail."""
+    words = words[:-1] if words[-1:] == ("--",) else words
     *lines, rest = answer.stdout.split("\n")
-    if rest or answer.stderr and words in COMMANDS or answer.status not in (0, 1, 2):
+    if rest or answer.stderr and words in COMMANDS:
         return False
     if answer.status == 2:
+        *lines, last = lines or [""]
         name = " ".join(words) if words in COMMANDS else "words"
-        return (bool(lines) and grammar.refusal(name, lines.pop()) is not None
-                and all(words != CHECK and is_record(words, line) for line in lines))
+        return grammar.refusal(name, last) is not None and (not lines or are_records(words, lines))
     if words == CHECK:
         verdict = grammar.verdict(lines[0]) if lines else None
-        return (verdict is not None and verdict.yes == (answer.status == 0) and verdict.findings == len(lines) - 1
+        return (verdict is not None and answer.status == int(not verdict.yes) and verdict.findings == len(lines) - 1
                 and all(map(grammar.finding, lines[1:])))
-    return answer.status == 0 and all(is_record(words, line) for line in lines)
+    return answer.status == 0 and are_records(words, lines)
 
 
 def undisturbed(program, some):
