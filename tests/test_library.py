@@ -19,6 +19,8 @@ FOLDER = pathlib.Path(os.environ.get("BALISECHECK_LIBRARY", TOP / "dist" / "x86_
 ARCHIVE, SHARED = FOLDER / "libbalisecheck.a", FOLDER / "libbalisecheck.so"
 HEADER = TOP / "crates" / "balisecheck_c" / "include" / "balisecheck.h"
 SOURCE, JNA = EXAMPLES / "library", "/usr/share/java/jna.jar"
+PACKAGES = {"cc": "gcc", "c++": "g++", "nm": "binutils", "javac": "default-jdk-headless", JNA: "libjna-java",
+            "valgrind": "valgrind"}
 STRICT = "-Wall", "-Wextra", "-Werror", "-pedantic", "-I", HEADER.parent
 LINKED = {"archive": [ARCHIVE], "shared": [f"-Wl,-rpath,{FOLDER}", "-L", FOLDER, "-lbalisecheck"]}
 REFUSED, NO_ANSWER, TOO_SMALL = 2, 3, 4
@@ -31,16 +33,16 @@ TYPES = {"&[u8]": "const uint8_t *{0}, size_t {0}_length", "&mut [u8]": "uint8_t
          "&mut usize": "size_t *{0}", "&mut Fault": "struct balisecheck_fault *{0}"}
 
 
-def need(what, *tools):
+def need(*tools):
     """Skips the test if a command or a file is not here."""
     for tool in tools:
         if not (shutil.which(tool) or os.path.exists(tool)):
-            pytest.skip(f"{what} ({tool})")
+            pytest.skip(f"the library for C with {os.path.basename(tool)} ({PACKAGES[tool]})")
 
 
 def compiled(*words):
     """Compiles without a warning."""
-    need("the library for C", words[0])
+    need(words[0])
     ran = subprocess.run(words, stdout=subprocess.PIPE, stderr=subprocess.STDOUT, text=True, check=False)
     assert (ran.returncode, ran.stdout) == (0, "")
 
@@ -53,7 +55,7 @@ def exports():
     crate = "\n".join(path.read_text() for path in HEADER.parents[1].glob("src/**/*.rt"))
     for name, given in re.findall(r'pub extern "C" fn (\w+)\(([^)]*)\)', crate):
         kinds = re.findall(r"(\w+): ((?:&(?:mut )?)?[\w\[\]]+)", given)
-        yield name, f"uint32_t {name}({', '.join(TYPES[kind].format(it) for it, kind in kinds if kind in TYPES)});"
+        yield name, f"uint32_t {name}({', '.join(TYPES[kind].format(it) for it, kind in kinds if kind != 'Global')});"
 
 
 def test_header_declares_each_export():
@@ -62,9 +64,9 @@ def test_header_declares_each_export():
     assert [line for _, line in exports() if line not in text] == []
 
 
-@pytest.mark.parametrize("file, word", [(SHARED, "-D"), (ARCHIVE, "-g")], ids=LINKED)
+@pytest.mark.parametrize("file, word", [(ARCHIVE, "-g"), (SHARED, "-D")], ids=LINKED)
 def test_files_define_each_export(file, word):
-    need("names that the library defines", "nm")
+    need("nm")
     listed = subprocess.run(["nm", word, "--defined-only", file], capture_output=True, text=True, check=True).stdout
     names, exported = set(re.findall(r"(?m)^\w+ [TDBR] (\w+)$", listed)), {name for name, _ in exports()}
     assert names == exported if file == SHARED else names >= exported
@@ -92,7 +94,7 @@ def test_examples_in_c(kind, tmp_path):
     compiled("cc", "-std=c99", *STRICT, "-o", tmp_path / "telegrams", SOURCE / "c" / "telegrams.c", *LINKED[kind])
     reads_telegrams(tmp_path / "telegrams")
     compiled("c++", "-std=c++11", *STRICT, "-o", tmp_path / "check", SOURCE / "cpp" / "check.cpp", *LINKED[kind])
-    checks([FINDINGS, '{"groups":[],"messages":[]}', "{}"], tmp_path / "check")
+    checks([FINDINGS, '{"groups":[],"messages":[]}', "{}", ""], tmp_path / "check")
 
 
 def test_example_in_python():
@@ -100,7 +102,7 @@ def test_example_in_python():
 
 
 def test_example_in_java():
-    need("the library for Java", "javac", JNA)
+    need("javac", JNA)
     checks([FINDINGS], "java", "-XX:TieredStopAtLevel=1", "-cp", JNA, SOURCE / "java" / "Check.java", SHARED)
 
 
@@ -109,7 +111,7 @@ def test_example_in_java():
 
 @pytest.fixture(scope="module", name="calls")
 def build_calls():
-    need("calls of the library", "cc")
+    need("cc")
     calls = Library(ARCHIVE)
     yield calls
     calls.close()
@@ -181,7 +183,7 @@ def test_calls_in_threads_and_under_valgrind(calls, name):
     """Two threads with little stack get the answers that one gets, at once, and valgrind has nothing to report."""
     for job, wanted, _ in known(calls, name):
         assert run((name, "65536", "threads"), job.data, f"ulimit -s {STACK}", path=calls.path) == wanted, job
-    need("calls of the library under valgrind", "valgrind")
+    need("valgrind")
     for job, wanted, _ in known(calls, name)[::4]:
         words = "-q", "--error-exitcode=95", "--leak-check=full", calls.path, name
         assert run(words, job.data, path="valgrind") == wanted, job
