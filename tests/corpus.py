@@ -1,4 +1,4 @@
-"""The runs that hostile tests begin with, and what may be written for them. Nothing is random."""
+"""The runs that hostile tests begin with, from the cases and examples, and which answers the documents name."""
 import functools
 import json
 import re
@@ -135,7 +135,7 @@ def is_documented(words, answer):
 
 
 def undisturbed(program, some):
-    """These jobs, each with its answer, which is documented, and its counts. Another run has the same."""
+    """These jobs, each with its documented answer and its counts. A second run has the same."""
     found, again = program.play(some), program.play(some)
     for job, (answer, counts), (other, others) in zip(some, found, again):
         assert is_documented(job.words, answer), (job, answer)

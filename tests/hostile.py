@@ -19,7 +19,7 @@ INVERSE = {DECODE: ENCODE, ENCODE: DECODE, DECODE_RADIO: ENCODE_RADIO, ENCODE_RA
 STACK = 512  # KiB of stack that docs/contributing/architecture.md names
 GROUPS = 20000  # of the long document that docs/assurance/proofs.md names
 SECONDS = int(os.environ.get("HOSTILE_SECONDS", "60"))  # that a run may take
-WHOLE = bool(os.environ.get("HOSTILE_WHOLE"))  # whether everything is tried, which takes an hour of a processor
+WHOLE = bool(os.environ.get("HOSTILE_WHOLE"))  # whether all inputs are tried, which takes an hour of processor time
 JOB, ANSWER = struct.Struct("<17Q"), struct.Struct("<10Q")
 # From call `first` on, counted from 1, the first `run` of each `every` calls fail by this error, or move no byte if it
 # is 0. None fails if `first` is 0. Any other call moves at most `piece` bytes, if that is not 0.
@@ -29,7 +29,7 @@ Counts = collections.namedtuple("Counts", "nanoseconds requests refused reads fa
 
 
 class Program:
-    """The program, or another one. If it is a script, or there is no compiler, nothing fails and nothing is counted."""
+    """The program, or another one. For a script, or without a C compiler, nothing fails and nothing is counted."""
 
     def __init__(self, path=None):
         self.path, self.shim = path or program(), None
@@ -104,7 +104,7 @@ def shared():
 
 
 def disturbed():
-    """The same, if memory and devices can fail. Otherwise the test is skipped."""
+    """The same, if its memory and devices can fail. Otherwise the test is skipped."""
     if shared().shim is None:
         import pytest  # (bench/ does without it)
         pytest.skip("refused memory and failing devices (gcc)")

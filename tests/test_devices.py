@@ -14,12 +14,12 @@ WORDS = pytest.mark.parametrize("words", [*COMMANDS, ()], ids=" ".join)
 
 
 def played(program, cases):
-    """Each case, which is a job and what else is known of it, with the answer and the counts."""
+    """Each case, a job and what else is known of it, with the answer and the counts."""
     return zip(cases, program.play([job for job, *_ in cases]))
 
 
 def in_pieces(program, known, given, taken):
-    """The same runs with devices that move that many bytes a call, with their counts. They answer as with others."""
+    """The same runs with devices that move at most so many bytes a call, with their counts. No answer changes."""
     cases = [(job._replace(reader=Plan(piece=given), writer=Plan(piece=taken)), wanted) for job, wanted, _ in known]
     found = [(*case, *it) for case, it in played(program, cases)]
     for job, wanted, answer, counts in found:
@@ -105,8 +105,8 @@ def test_long_runs(words):
 
 
 def of_the_system(path, known):
-    """With a full device, a closed one and a pipe that nobody reads, who wants to write reports it, and who has nothing
-    to write answers. Then standard input is a folder, or there is nothing to read and nothing to report to."""
+    """Into a full device, a closed one and a pipe that nobody reads, a run that writes reports it, and one that writes
+    nothing answers. A folder as standard input cannot be read. Without standard input and error only the status is left."""
     for job, wanted, _ in known:
         alone = functools.partial(run, job.words, job.data, seconds=SECONDS, path=path)
         read, pipe = os.pipe()

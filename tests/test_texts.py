@@ -60,7 +60,7 @@ def change(program, words, inputs, some):
             forms += [it for it in answer.stdout.splitlines() if it[0] == "{"]
         elif words != CHECK and answer.status == 0:
             forms += [it.decode() for it in line.split(b"\n") if it.strip(b"\r")]
-        elif b"\n" not in line and is_no_json(line):
+        elif (words == CHECK or b"\n" not in line) and is_no_json(line):
             assert answer.stdout in NOT_JSON, (line, answer)
     if words != CHECK:
         come_back(program, DECODE_RADIO if "--radio" in words else DECODE, forms)
@@ -114,13 +114,15 @@ def test_turned_bits(words):
     assert past > 100
 
 
-@pytest.mark.parametrize("words", [DECODE, DECODE_RADIO], ids=" ".join)
+@pytest.mark.parametrize("words", INVERSE, ids=" ".join)
 def test_fronts(words):
     fronts = [text[:size] for text in SIMPLE[words] for size in range(1, len(text))]
     for front, answer in zip(fronts, answers(shared(), words, fronts)):
-        why = "message 0: cut off" if words == DECODE_RADIO else "line 1: wrong size"
-        why = "line 1: not hexadecimal" if len(front) % 2 else why
-        why = "line 1: pad bits set" if words == DECODE and len(front) == 54 else why
+        why = {DECODE: "line 1: wrong size", DECODE_RADIO: "message 0: cut off"}.get(words, "line 1: not JSON")
+        if words[0] == "decode" and len(front) % 2:
+            why = "line 1: not hexadecimal"
+        elif words == DECODE and len(front) == 54:
+            why = "line 1: pad bits set"
         assert answer.stdout == f"refused: {why}\n", front
 
 

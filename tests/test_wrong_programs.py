@@ -33,7 +33,7 @@ def known():
 
 
 def judge(judge_runs, *more):
-    """The judgement of a program by what becomes of a known run."""
+    """A judge of programs: this function on a run whose answer is known."""
     return lambda program: judge_runs(program, known(), *more)
 
 
