@@ -105,8 +105,8 @@ def test_long_runs(words):
 
 
 def of_the_system(path, known):
-    """Into a full device, a closed one and a pipe that nobody reads, a run that writes reports it, and one that writes
-    nothing answers. A folder as standard input cannot be read. Without standard input and error only the status is left."""
+    """With a full or closed output, or a pipe that nobody reads, a run that writes reports it, and one that writes
+    nothing answers. A folder as input is a failed read. Without input and standard error the status is right."""
     for job, wanted, _ in known:
         alone = functools.partial(run, job.words, job.data, seconds=SECONDS, path=path)
         read, pipe = os.pipe()
