@@ -1,13 +1,12 @@
-"""The runs that hostile tests begin with, and what may be written for them. Nothing is random."""
+"""The runs that hostile tests begin with, from the cases and examples, and which answers the documents name."""
 import functools
 import json
 import re
-import shlex
 import sys
 
 import cases
 from hostile import CHECK, COMMANDS, DECODE, DECODE_RADIO, ENCODE, ENCODE_RADIO, INVERSE, WHOLE, Job, shared
-from runner import EXAMPLES, TOP, blocks, filled, in_full
+from runner import EXAMPLES, TOP, blocks, filled, in_bytes
 
 sys.path.insert(0, str(TOP / "companion" / "src"))
 from balisekit.engine import grammar  # noqa: E402  (the path comes first)
@@ -16,15 +15,10 @@ SHORT = filled("a1007f802000..f c0")
 LONG = filled("a1007f802000c31024a5007fe007d002a813a000105080647f8da0560000140029c43f81...f fc")
 MESSAGE = "03048000001900080021e810901ff801f400"
 REPORT = "8807000000320000004000e480200081f450014002830832c00ed280"
-FORM = cases.answer(210, [])
-MESSAGE_FORM = (EXAMPLES / "radio-movement-authority.json").read_text().strip()
-REPORT_FORM = (EXAMPLES / "radio-position-report.json").read_text().strip()
-RAW = '{"nid_packet":44,"q_dir":2,"l_packet":%d,"body":"%s"}'
-GREATEST_FORM = MESSAGE_FORM.replace("}],", f"}},{RAW % (8043, '00' * 1003)}],")
+FORM, MESSAGE_FORM, REPORT_FORM = cases.answer(210, []), cases.MOVEMENT, cases.POSITION
+GREATEST = '},{"nid_packet":44,"q_dir":2,"l_packet":8043,"body":"%s"}],' % ("00" * 1003)
+GREATEST_FORM = MESSAGE_FORM.replace("}],", GREATEST)
 BALISE, LIST = '{"groups":[{"balises":["%s"]}],"messages":[]}', '{"groups":[],"messages":["%s"]}'
-# what is around the packets of forms.txt
-AROUND = {"line": "%s", "--radio": "%s", "short": cases.answer(210, ["%s"]), "telegram": cases.answer(830, ["%s"]),
-          "movement": MESSAGE_FORM.replace("[{", "[%s,{"), "position": re.sub(r"\[.*\]", "[%s]", REPORT_FORM)}
 # what is written for records
 RECORDS = {DECODE: r"\{.*", DECODE_RADIO: r"\{.*", ENCODE: "a[01][0-9a-f]{50}[048c]0|a[01][0-9a-f]{205}[048c]",
            ENCODE_RADIO: "(03|88)([0-9a-f]{2}){2,1022}"}
@@ -34,30 +28,16 @@ SLOW, START = 100, 2000  # a run is slow past that many times the median a byte;
 # ---- runs
 
 
-def from_runs():
-    """Words and inputs of runs.txt."""
-    (_, *names), *others = blocks("runs.txt")
-    names = dict(line.split(" ", 1) for line in names)
-    for _, *lines in others:
-        lines = [re.sub("|".join(names), lambda found: names[found[0]], line) for line in lines]
-        given = "".join(in_full(line.lstrip("<")[1:]) + "\n" * (line[1:2] != "<") for line in lines if line[0] == "<")
-        given = given.encode().decode("unicode_escape")
-        yield from ((tuple(shlex.split(line[1:])), given) for line in lines if line[0] == "$")
-
-
 def from_cases():
-    """Words and inputs of the other cases, and of the examples."""
-    for _, given, *_ in blocks("forms.txt"):
-        kind, _, rest = given.partition(" ")
-        words = ENCODE_RADIO if kind in ("--radio", "movement", "position") else ENCODE
-        yield words, in_full(AROUND[kind].replace("%s", rest))
+    """Words and inputs of the cases and of the examples."""
+    for _, words, given, _ in (*cases.forms(), *cases.documents(), *cases.runs()):
+        yield tuple(words), given
+        if words == ["check"]:
+            yield from ((DECODE_RADIO, text) for text in re.findall(r'"messages":\["(\w+)"', given))
     for _, line, _ in blocks("telegrams.txt"):
         yield from ((DECODE, filled(line)), (CHECK, BALISE % filled(line)))
-    for _, line, form, *_ in blocks("messages.txt"):
+    for _, line, form, _ in cases.messages():
         yield from ((DECODE_RADIO, line), (ENCODE_RADIO, form), (CHECK, LIST % line))
-    for _, line, *_ in blocks("documents.txt"):
-        yield CHECK, in_full(line)
-        yield from ((DECODE_RADIO, text) for text in re.findall(r'"messages":\["(\w+)"', in_full(line)))
     yield from ((CHECK, path.read_text()) for path in EXAMPLES.glob("check/*.json"))
     for ending, word in ("txt", "decode"), ("json", "encode"):
         for path in EXAMPLES.glob(f"*.{ending}"):
@@ -93,9 +73,8 @@ def greatest_lists():
 def jobs():
     """All of these runs, the shortest first."""
     more = ((ENCODE_RADIO, "{"), (ENCODE_RADIO, GREATEST_FORM), (ENCODE_RADIO, GREATEST_FORM.replace("8043", "8044")),
-            (CHECK, "[" * 200 + "]" * 200), (CHECK, "\xff"), (("help",), ""))
-    found = {Job(words, data.encode("latin-1"))
-             for words, data in (*from_runs(), *from_cases(), *greatest_lists(), *more)}
+            (CHECK, "[" * 200 + "]" * 200), (CHECK, b"\xff"), (("help",), ""))
+    found = {Job(words, in_bytes(data)) for words, data in (*from_cases(), *greatest_lists(), *more)}
     return sorted(found, key=lambda job: (job.words, len(job.data), job.data))
 
 
@@ -132,34 +111,31 @@ def kinds(words):
     return sorted(found | ({RECORDS[words]} if words in RECORDS else set()))
 
 
-def is_record(words, line):
-    """Whether the command writes this line for a record."""
-    if words[0] == "encode":
-        return bool(re.fullmatch(RECORDS[words], line))
-    try:
-        return cases.FORM.encode(json.loads(line)) == line
-    except ValueError:
-        return False
+def are_records(words, lines):
+    """Whether the command writes these lines for records."""
+    fit = words in RECORDS and all(re.fullmatch(RECORDS[words], line) for line in lines)
+    return fit and (words[0] == "encode" or all(cases.FORM.encode(json.loads(line)) == line for line in lines))
 
 
 def is_documented(words, answer):
     """Whether the documents name this answer of a program whose memory and devices do not fail."""
+    words = words[:-1] if words[-1:] == ("--",) else words
     *lines, rest = answer.stdout.split("\n")
-    if rest or answer.stderr and words in COMMANDS or answer.status not in (0, 1, 2):
+    if rest or answer.stderr and words in COMMANDS:
         return False
     if answer.status == 2:
+        *lines, last = lines or [""]
         name = " ".join(words) if words in COMMANDS else "words"
-        return (bool(lines) and grammar.refusal(name, lines.pop()) is not None
-                and all(words != CHECK and is_record(words, line) for line in lines))
+        return grammar.refusal(name, last) is not None and (not lines or are_records(words, lines))
     if words == CHECK:
         verdict = grammar.verdict(lines[0]) if lines else None
-        return (verdict is not None and verdict.yes == (answer.status == 0) and verdict.findings == len(lines) - 1
+        return (verdict is not None and answer.status == int(not verdict.yes) and verdict.findings == len(lines) - 1
                 and all(map(grammar.finding, lines[1:])))
-    return answer.status == 0 and all(is_record(words, line) for line in lines)
+    return answer.status == 0 and are_records(words, lines)
 
 
 def undisturbed(program, some):
-    """These jobs, each with its answer, which is documented, and its counts. Another run has the same."""
+    """These jobs, each with its documented answer and its counts. A second run has the same."""
     found, again = program.play(some), program.play(some)
     for job, (answer, counts), (other, others) in zip(some, found, again):
         assert is_documented(job.words, answer), (job, answer)
@@ -182,10 +158,9 @@ def runs_of(program, words, each_kind=not WHOLE):
 
 def answers(program, words, inputs):
     """The answers to these inputs, each documented and in time for its length. A slow run is tried again."""
-    some = [Job(words, data if isinstance(data, bytes) else data.encode("latin-1")) for data in inputs]
-
     def costs(some, found):
         return [counts.nanoseconds / (len(job.data) + START) if counts else 0 for job, (_, counts) in zip(some, found)]
+    some = [Job(words, in_bytes(data)) for data in inputs]
     found = program.play(some)
     spent = costs(some, found)
     most = SLOW * sorted(spent)[len(spent) // 2] if spent else 0

@@ -1,4 +1,4 @@
-/* Calls the library once, for tests/test_library.py, and allocates nothing by itself:
+/* Calls the library once, for tests/hostile.py, and allocates nothing by itself:
  *
  *     library_calls NAME [CAPACITY [threads]]
  *
@@ -9,12 +9,14 @@
 #include "balisecheck.h"
 
 #include <pthread.h>
+#include <stddef.h>
 #include <stdio.h>
 #include <stdlib.h>
 #include <string.h>
 #include <unistd.h>
 
-enum { MOST = 1 << 16, TIMES = 200, UNTOUCHED = 0xa5, OTHER_ANSWER = 96, WRITTEN = 97, NOT_FREED = 98, WRONG_USE = 99 };
+enum { MOST = 1 << 18, AFTER = 64, TIMES = 200, UNTOUCHED = 0xa5 };
+enum { OTHER_ANSWER = 96, WRITTEN = 97, NOT_FREED = 98, WRONG_USE = 99 };
 
 typedef uint32_t command(const uint8_t *, size_t, uint8_t *, size_t, size_t *);
 typedef uint32_t record(const uint8_t *, size_t, uint8_t *, size_t, size_t *, struct balisecheck_fault *);
@@ -37,7 +39,7 @@ struct answer {
     uint32_t status;
     size_t length;
     struct balisecheck_fault fault;
-    uint8_t text[MOST];
+    uint8_t text[MOST + AFTER];
 };
 
 static size_t count, capacity = MOST;
@@ -61,7 +63,7 @@ void __wrap_free(void *at) {
 }
 
 static void call(struct answer *to) {
-    memset(to->text, UNTOUCHED, MOST);
+    memset(to->text, UNTOUCHED, capacity + AFTER);
     memset(&to->fault, 0, sizeof to->fault);
     to->status = chosen->command ? chosen->command(input, count, to->text, capacity, &to->length)
                                  : chosen->record(input, count, to->text, capacity, &to->length, &to->fault);
@@ -70,7 +72,7 @@ static void call(struct answer *to) {
 static void *call_often(void *to) {
     for (int i = 0; i < TIMES; i++) {
         call(to);
-        if (memcmp(to, &first, sizeof first)) return to;
+        if (memcmp(to, &first, offsetof(struct answer, text) + capacity + AFTER)) return to;
     }
     return NULL;
 }
@@ -95,7 +97,7 @@ int main(int argc, char **argv) {
     size_t text = first.status < BALISECHECK_MEMORY ? first.length : 0;
     if (write(1, first.text, text) != (ssize_t)text) return WRONG_USE;
     if (first.fault.reason) dprintf(2, "%u %zu %zu\n", (unsigned)first.fault.reason, first.fault.at, first.fault.end);
-    for (size_t i = text; i < MOST; i++) {
+    for (size_t i = text; i < capacity + AFTER; i++) {
         if (first.text[i] != UNTOUCHED) return WRITTEN;
     }
     if (argc > 3 && differs_in_threads()) return OTHER_ANSWER;

@@ -7,21 +7,13 @@ import tempfile
 
 import pytest
 
-from corpus import FORM, MESSAGE, SHORT, long_jobs, runs_of, undisturbed
-from hostile import (CHECK, COMMANDS, DECODE, DECODE_RADIO, ENCODE, ENCODE_RADIO, GROUPS, SECONDS, STACK, WHOLE, Job,
-                     shared, stops)
-from runner import EXAMPLES, MEMORY, TOP, Answer, run
+from corpus import long_jobs, runs_of, undisturbed
+from hostile import CHECK, COMMANDS, ENCODE, ENCODE_RADIO, GROUPS, SECONDS, STACK, WHOLE, Job, shared, stops
+from runner import MEMORY, TOP, answered, run
+from test_texts import LONG_INPUTS
 
 KEPT = 9  # times the size of a document that is kept whole: it takes 8.1, and 10.6 if no list gives back memory
 TWICE = '{"messages":[],'  # before a document without its brace
-GREAT = [  # for which each command asks for much memory
-    (CHECK, '{"groups":[],"messages":[' + "1," * 500000 + "1]}"),
-    (CHECK, '{"groups":[{"balises":["' + "a" * 2000000 + '"]}],"messages":[]}'),
-    (DECODE, f"{SHORT}\n" + "f" * 4000000),
-    (ENCODE, f"{FORM}\n" + "[1," * 100 + "1," * 500000),
-    (DECODE_RADIO, f"{MESSAGE}\n" + "0" * 4000000),
-    (ENCODE_RADIO, '{"nid_message":3,"x":"' + "a" * 4000000 + '"}'),
-]
 
 
 def limited(kind, kilobytes, words, data, path=None):
@@ -52,12 +44,11 @@ def test_two_at_once(words):
 
 @pytest.mark.parametrize("words", [*COMMANDS, ()], ids=" ".join)
 def test_stack(words):
-    """Among the runs are documents with a key twice, which are kept whole, and values with 127 levels."""
-    more = [] if words in (DECODE, DECODE_RADIO, ()) else ["[" * 127 + "]" * 127, '{"a":' * 126 + "{}" + "}" * 126]
-    if words == CHECK:
-        more += [TWICE + path.read_text().lstrip()[1:] for path in EXAMPLES.glob("check/*.json")]
-    known = undisturbed(shared(), [Job(words, data.encode()) for data in more] + long_jobs(words))
+    """Among the runs are values with 127 levels and documents with a key twice, which are kept whole."""
+    levels = ["[" * 127 + "]" * 127, '{"a":' * 126 + "{}" + "}" * 126] if words in (CHECK, ENCODE, ENCODE_RADIO) else []
+    known = undisturbed(shared(), [Job(words, data.encode()) for data in levels] + long_jobs(words))
     known += runs_of(shared(), words, each_kind=False)
+    assert words != CHECK or any(job.data.startswith(b'{"messages":0,') for job, *_ in known)
     for size in (STACK, STACK + 4, 2 * STACK) if WHOLE else (STACK,):
         stack(None, known, size)
 
@@ -67,11 +58,13 @@ def test_memory():
     known = [it for words in COMMANDS for it in runs_of(shared(), words)[::16]] * 3
     start = bisect.bisect_left(range(100000), True, key=lambda size: all(
         limited("v", size, job.words, job.data) == wanted for job, wanted, _ in known))
-    for words, data in GREAT:
-        wanted = run(words, data)
+    refused = 0
+    for words, head, often, count, tail, wanted in LONG_INPUTS:
         for size in range(start + 128, start + 40000, 500 if WHOLE else 13000):
-            answer = limited("v", size, words, data)
-            assert answer == wanted or stops(answer, wanted, MEMORY), (words, size, answer)
+            answer = limited("v", size, words, head + often * count + tail)
+            assert answer == answered(wanted) or stops(answer, answered(wanted), MEMORY), (words, head, size, answer)
+            refused += answer.status == 3
+    assert refused > 0
 
 
 @pytest.mark.parametrize("order, times", [("groups first", 2), ("messages first", 2), ("a key twice", KEPT)])
@@ -85,4 +78,4 @@ def test_long_document(order, times):
     if order == "a key twice":
         text = TWICE + text[1:]
     answer = limited("v", times * len(text) // 1024 + 10000, CHECK, text)
-    assert answer == Answer(0, f"yes: groups {GROUPS}, messages 0\n", "")
+    assert answer == answered(f"yes: groups {GROUPS}, messages 0\n")

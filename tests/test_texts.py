@@ -16,16 +16,29 @@ NOT_JSON = "refused: not JSON\n", "refused: line 1: not JSON\n"
 LONGEST = 1000  # nanoseconds a byte that a long input may take
 SIMPLE = {DECODE: [SHORT, LONG], DECODE_RADIO: [MESSAGE, REPORT], ENCODE: [FORM],
           ENCODE_RADIO: [MESSAGE_FORM, REPORT_FORM], CHECK: []}
+LONG_INPUTS = [  # words, a text, another one and how often it is repeated, the end, and what is written
+    (CHECK, "{", '"x":0,', 10 ** 6, '"x":0}', "refused: form unknown key at /\n"),
+    (CHECK, "{", '"groups":0,', 10 ** 6, '"groups":[],"messages":[]}', "yes: groups 0, messages 0\n"),
+    (CHECK, '{"groups":[],"messages":[', "1,", 5 * 10 ** 5, "1]}", "refused: form kind at /messages/0\n"),
+    (CHECK, '{"groups":[],"messages":[', "1", 10 ** 6, "]}", "refused: not JSON\n"),
+    (CHECK, '{"groups":[],"messages":[0.', "1", 10 ** 6, "]}", "refused: form kind at /messages/0\n"),
+    (CHECK, '{"groups":[],"messages":["', "0", 10 ** 7, '"]}', "refused: message 0: message kind at 0 end 8\n"),
+    (CHECK, '{"groups":[{"balises":["', "a", 10 ** 7, '"]}],"messages":[]}', "refused: group 0 balise 0: wrong size\n"),
+    *((words, "", "\n", 10 ** 6, "", "") for words in INVERSE),
+    (DECODE, f"{SHORT}\n", "f", 4 * 10 ** 6, "", f"{FORM}\nrefused: line 2: wrong size\n"),
+    (DECODE_RADIO, f"{MESSAGE}\n", "0", 4 * 10 ** 6, "", f"{MESSAGE_FORM}\nrefused: message 1: length below 3\n"),
+    (ENCODE, f"{FORM}\n" + "[1," * 100, "1,", 10 ** 6, "", f"{SHORT}\nrefused: line 2: not JSON\n"),
+    (ENCODE, "", "1", 10 ** 6, "", "refused: line 1: not JSON\n"),
+    (ENCODE_RADIO, '{"nid_message":3,"x":"', "a", 4 * 10 ** 6, '"}', "refused: line 1: form unknown key at /\n"),
+]
 
 
 def is_no_json(text):
     """Whether these bytes are no JSON even for a reader that is less strict than the program."""
     try:
         json.loads(text.decode())
-    except RecursionError:
-        return False
-    except ValueError:
-        return True
+    except (ValueError, RecursionError) as why:
+        return isinstance(why, ValueError)
     return False
 
 
@@ -47,7 +60,7 @@ def change(program, words, inputs, some):
             forms += [it for it in answer.stdout.splitlines() if it[0] == "{"]
         elif words != CHECK and answer.status == 0:
             forms += [it.decode() for it in line.split(b"\n") if it.strip(b"\r")]
-        elif b"\n" not in line and is_no_json(line):
+        elif (words == CHECK or b"\n" not in line) and is_no_json(line):
             assert answer.stdout in NOT_JSON, (line, answer)
     if words != CHECK:
         come_back(program, DECODE_RADIO if "--radio" in words else DECODE, forms)
@@ -86,7 +99,7 @@ def turn(program, words, inputs, step, further):
 def test_changed_inputs(words):
     known = [job.data for job, *_ in runs_of(shared(), words, each_kind=False)]
     for inputs in [[data] for data in known] if WHOLE else [known]:
-        change(shared(), words, inputs, 2000 if WHOLE else 12)
+        change(shared(), words, inputs, 2000 if WHOLE else 6)
     for text in SIMPLE[words]:
         change(shared(), words, [text.encode()], 16 * len(text) if WHOLE else 1000)
 
@@ -101,13 +114,15 @@ def test_turned_bits(words):
     assert past > 100
 
 
-@pytest.mark.parametrize("words", [DECODE, DECODE_RADIO], ids=" ".join)
+@pytest.mark.parametrize("words", INVERSE, ids=" ".join)
 def test_fronts(words):
     fronts = [text[:size] for text in SIMPLE[words] for size in range(1, len(text))]
     for front, answer in zip(fronts, answers(shared(), words, fronts)):
-        why = "message 0: cut off" if words == DECODE_RADIO else "line 1: wrong size"
-        why = "line 1: not hexadecimal" if len(front) % 2 else why
-        why = "line 1: pad bits set" if words == DECODE and len(front) == 54 else why
+        why = {DECODE: "line 1: wrong size", DECODE_RADIO: "message 0: cut off"}.get(words, "line 1: not JSON")
+        if words[0] == "decode" and len(front) % 2:
+            why = "line 1: not hexadecimal"
+        elif words == DECODE and len(front) == 54:
+            why = "line 1: pad bits set"
         assert answer.stdout == f"refused: {why}\n", front
 
 
@@ -122,18 +137,7 @@ def test_levels(words):
         assert others == [f"{front}not JSON\n"] * 3
 
 
-@pytest.mark.parametrize("words, head, often, count, tail, wanted", [
-    (CHECK, "{", '"x":0,', 10 ** 6, '"x":0}', "refused: form unknown key at /\n"),
-    (CHECK, "{", '"groups":0,', 10 ** 6, '"groups":[],"messages":[]}', "yes: groups 0, messages 0\n"),
-    (CHECK, '{"groups":[],"messages":[', "1", 10 ** 6, "]}", "refused: not JSON\n"),
-    (CHECK, '{"groups":[],"messages":[0.', "1", 10 ** 6, "]}", "refused: form kind at /messages/0\n"),
-    (CHECK, '{"groups":[],"messages":["', "0", 10 ** 7, '"]}', "refused: message 0: message kind at 0 end 8\n"),
-    (CHECK, '{"groups":[{"balises":["', "a", 10 ** 7, '"]}],"messages":[]}', "refused: group 0 balise 0: wrong size\n"),
-    *((words, "", "\n", 10 ** 6, "", "") for words in INVERSE),
-    (DECODE, "", "f", 2 ** 20, "", "refused: line 1: wrong size\n"),
-    (DECODE_RADIO, "", "0", 2 ** 20, "", "refused: message 0: length below 3\n"),
-    (ENCODE, "", "1", 2 ** 20, "", "refused: line 1: not JSON\n"),
-])
+@pytest.mark.parametrize("words, head, often, count, tail, wanted", LONG_INPUTS)
 def test_long_inputs(words, head, often, count, tail, wanted):
     job = Job(words, (head + often * count + tail).encode())
     (answer, counts), = shared().play([job])

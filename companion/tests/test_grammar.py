@@ -87,7 +87,7 @@ def test_file_has_the_grammar() -> None:
     assert "".join(line for line in lines if not line.startswith("#")) == grammar.GRAMMAR
 
 
-def test_hostile_use_has_the_same_grammar() -> None:
+def test_hostile_tests_have_the_same_grammar() -> None:
     """tests/corpus.py takes the expressions from here."""
     text = (TOP / "tests/corpus.py").read_text("utf-8")
     assert "\nfrom balisekit.engine import grammar" in text and "grammar." in text
