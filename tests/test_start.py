@@ -26,7 +26,7 @@ STORED = "dist/x86_64-linux/balisecheck"
 OTHER = f"out/balisecheck was built from other sources; {STORED} was built from other sources; run scripts/build"
 HERE = f"this is {platform.machine()} with {os.confstr('CS_GNU_LIBC_VERSION')}"
 NEEDS = f"{STORED} does not start here: it needs x86-64-v2 and glibc 2.34 or later, and {HERE}: "
-# Words before a command by which root, too, obeys modes of files, and limits of processes.
+# Before a command, these make root obey the modes of files, and the limits of processes.
 MODES = [] if os.getuid() else [shutil.which("setpriv"), "--bounding-set=-all", "--inh-caps=-all"]
 USER = [] if os.getuid() else [shutil.which("setpriv"), "--reuid=65534", "--clear-groups", "--inh-caps=+dac_override",
                                "--ambient-caps=+dac_override"]
