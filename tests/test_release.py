@@ -44,9 +44,6 @@ def text_of(path):
     return path.read_text("utf-8")
 
 
-# ---- what users of each file see
-
-
 def shows(page, folder, first=""):
     """The commands of a page write in this folder what the page shows."""
     blocks = "".join(re.findall(r"(?ms)^```console\n(.*?)^```$", text_of(page)))
@@ -80,9 +77,6 @@ def has_live_pages(folder, is_installed=True):
         assert [link for link in links if "://" not in link and not (page.parent / link).exists()] == [], page
         for line in filter(re.compile(r"(^|[^.])\./balise").search, text_of(page).splitlines() if is_installed else ()):
             assert line[0] != "$" and re.search("clone|repository", line), (page, line)
-
-
-# ---- the files of a release
 
 
 def check_files(made):
@@ -225,9 +219,6 @@ def check_libraries(made):
     assert {name for names in crates.values() for name in names} - {*crates} <= {name for name, _ in listed}
     called = {*re.findall(r"(?m)^[0-9a-f]* [tTwW] ([a-z]\w*)::", sh(TOP, f"nm '{program()}'"))} - {*crates}
     assert called == {name for name, use in listed if use == "in the program"}
-
-
-# ---- all of it
 
 
 @pytest.mark.slow

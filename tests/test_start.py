@@ -58,9 +58,6 @@ def a_tree(tmp_path):
     subprocess.run(["chmod", "-R", "u+rwX", tmp_path], check=True)
 
 
-# ---- which program answers
-
-
 @pytest.mark.parametrize("command, wanted", [
     ("answers out built", "built"),
     ("answers out built; rm -r $stored", "built"),
@@ -122,9 +119,6 @@ def test_processes(tree):
     assert decode(tree, *USER, shutil.which("bash"), "-c", 'ulimit -u 1; exec "$@"', "-")[0] >= 3
 
 
-# ---- the build
-
-
 def build(tree, command=":"):
     """Status and last line of scripts/build with a toolchain that runs this. Its process is in the file `build`."""
     write(tree.parent / "tools/rt", TOOLCHAIN)
@@ -161,9 +155,6 @@ def test_build_that_fails(tree, before, command, why, wanted):
     for name in files:
         assert (tree / "out" / name).read_bytes() == files[name]
         assert sorted(os.listdir(tree / "out")) == ["ABOUT", "balisecheck", "build.log"]
-
-
-# ---- the installation
 
 
 @pytest.mark.parametrize("before, script", [

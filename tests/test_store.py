@@ -44,9 +44,6 @@ def a_stored_program(tree):
     return tree
 
 
-# ---- what is stored
-
-
 def test_store(stored):
     """Program and library are stored with ABOUT, and with a line in dist/RELEASES for each commit of sources."""
     dist = stored / "dist/x86_64-linux"
@@ -106,8 +103,6 @@ def test_release(tree):
         assert refused(tree, why) is True
     assert refused(tree, "usage: ", "tarball") is True
 
-
-# ---- what tests/dist reports
 
 VERSIONED = ("ABOUT", "../../VERSION", "../../man/balisecheck.1", "../../CHANGELOG.md")
 SOURCES = ("src/lib.rt", "specs/Lib.antt", "proofs/Lib.antt", "../../crates.txt", "../../HANDLES")
