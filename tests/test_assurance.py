@@ -16,9 +16,6 @@ LINES = re.compile(r"(?m)^\| `(etcs_\w+/\w+)\.antt` \| (\d+) \|")
 SIGNATURE = r'(?ms)^ *(pub (?:extern "C" )?)?(?:final )?fn %s\b.*?(?=^ *{}?$|^ *(?:pub )?(?:final )?fn |\Z)'
 
 
-# ---- names on pages
-
-
 @functools.lru_cache(None)
 def source(path):
     """The text of a file of the crates, or of all sources in a folder, if it is there."""
@@ -89,13 +86,11 @@ def unknown(page):
 
 def test_names():
     """All that the page on proofs names is there, and another name would be reported."""
-    assert unknown(PROOFS) == []
+    missing = unknown(PROOFS)
+    assert not missing, missing
     assert len(CALL.findall(PROOFS)) > 20 and len(DEFINED.findall(PROOFS)) > 15 and len(LINES.findall(PROOFS)) > 8
     for span in sorted({*re.findall(r"`([\w/.:]*\w)`", PROOFS)}):
         assert unknown(PROOFS.replace(f"`{span}`", f"`{span}x`")), span
-
-
-# ---- numbers and lists
 
 
 def test_counts_of_proofs():

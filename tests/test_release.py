@@ -44,9 +44,6 @@ def text_of(path):
     return path.read_text("utf-8")
 
 
-# ---- what users of each file see
-
-
 def shows(page, folder, first=""):
     """The commands of a page write in this folder what the page shows."""
     blocks = "".join(re.findall(r"(?ms)^```console\n(.*?)^```$", text_of(page)))
@@ -82,10 +79,7 @@ def has_live_pages(folder, is_installed=True):
             assert line[0] != "$" and re.search("clone|repository", line), (page, line)
 
 
-# ---- the files of a release
-
-
-def look_at_files(made):
+def check_files(made):
     """Two releases are equal, byte for byte. Their README names files that are there. A folder with files is left."""
     assert sh(made.parent, "diff -r made again") == ""
     assert sorted(os.listdir(made)) == [
@@ -101,7 +95,7 @@ def look_at_files(made):
     assert sh(TOP, again, check=False) == f"release: {made} is not empty\n"
 
 
-def look_at_tarball(made, tree):
+def check_tarball(made, tree):
     """What the tarball has, and what its pages name. It is installed, used and uninstalled."""
     assert sh(tree, "sha256sum --quiet -c SHA256SUMS") == ""
     if sum_of(program()) == sum_of(TOP / STORED / "balisecheck"):
@@ -176,7 +170,7 @@ def differences(origin, package):
             yield name
 
 
-def look_at_wheel(made, tree):
+def check_wheel(made, tree):
     """The wheel is installed in a venv without network. It has the code of the tarball, and all names that it uses."""
     venv = made.with_name("a venv")
     assert next(made.glob("*.whl")).stat().st_size <= 700_000
@@ -193,7 +187,7 @@ def look_at_wheel(made, tree):
     serves(made, venv / "bin")
 
 
-def look_at_deb(made):
+def check_deb(made):
     """The .deb is unpacked and used. The recipe of the container fits what it has and recommends."""
     root = made.with_name("a root")
     docs = root / "usr/share/doc/balisecheck"
@@ -214,7 +208,7 @@ def look_at_deb(made):
     assert {*recommended} <= {*re.findall(r"[\w-]+", recipe)}
 
 
-def look_at_libraries(made):
+def check_libraries(made):
     """The SPDX document, THIRD-PARTY.md, the program and crates.txt name the same libraries."""
     document = json.loads(text_of(made / f"balisecheck-{VERSION}-untested.spdx.json"))
     names = {one["SPDXID"] for one in document["packages"]}
@@ -225,9 +219,6 @@ def look_at_libraries(made):
     assert {name for names in crates.values() for name in names} - {*crates} <= {name for name, _ in listed}
     called = {*re.findall(r"(?m)^[0-9a-f]* [tTwW] ([a-z]\w*)::", sh(TOP, f"nm '{program()}'"))} - {*crates}
     assert called == {name for name, use in listed if use == "in the program"}
-
-
-# ---- all of it
 
 
 @pytest.mark.slow
@@ -243,11 +234,11 @@ def test_release(tmp_path):
             for path in made]
     assert [run.communicate()[1] for run in runs] == [f"written: {path}\n" for path in made]
     sh(room, "tar -xzf made/*.tar.gz")
-    look_at_files(made[0])
-    look_at_tarball(made[0], room / NAME)
-    look_at_wheel(made[0], room / NAME)
-    look_at_deb(made[0])
-    look_at_libraries(made[0])
+    check_files(made[0])
+    check_tarball(made[0], room / NAME)
+    check_wheel(made[0], room / NAME)
+    check_deb(made[0])
+    check_libraries(made[0])
 
 
 def test_clone(tmp_path):

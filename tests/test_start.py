@@ -26,7 +26,7 @@ STORED = "dist/x86_64-linux/balisecheck"
 OTHER = f"out/balisecheck was built from other sources; {STORED} was built from other sources; run scripts/build"
 HERE = f"this is {platform.machine()} with {os.confstr('CS_GNU_LIBC_VERSION')}"
 NEEDS = f"{STORED} does not start here: it needs x86-64-v2 and glibc 2.34 or later, and {HERE}: "
-# Words before a command by which root, too, obeys modes of files, and limits of processes.
+# Before a command, these make root obey the modes of files, and the limits of processes.
 MODES = [] if os.getuid() else [shutil.which("setpriv"), "--bounding-set=-all", "--inh-caps=-all"]
 USER = [] if os.getuid() else [shutil.which("setpriv"), "--reuid=65534", "--clear-groups", "--inh-caps=+dac_override",
                                "--ambient-caps=+dac_override"]
@@ -56,9 +56,6 @@ def a_tree(tmp_path):
     sh(tree, "answers $stored stored")
     yield tree
     subprocess.run(["chmod", "-R", "u+rwX", tmp_path], check=True)
-
-
-# ---- which program answers
 
 
 @pytest.mark.parametrize("command, wanted", [
@@ -122,9 +119,6 @@ def test_processes(tree):
     assert decode(tree, *USER, shutil.which("bash"), "-c", 'ulimit -u 1; exec "$@"', "-")[0] >= 3
 
 
-# ---- the build
-
-
 def build(tree, command=":"):
     """Status and last line of scripts/build with a toolchain that runs this. Its process is in the file `build`."""
     write(tree.parent / "tools/rt", TOOLCHAIN)
@@ -161,9 +155,6 @@ def test_build_that_fails(tree, before, command, why, wanted):
     for name in files:
         assert (tree / "out" / name).read_bytes() == files[name]
         assert sorted(os.listdir(tree / "out")) == ["ABOUT", "balisecheck", "build.log"]
-
-
-# ---- the installation
 
 
 @pytest.mark.parametrize("before, script", [

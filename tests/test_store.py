@@ -9,7 +9,7 @@ from tiny import FILES, NUMBERED, attempt, made, sh, write
 pytestmark = [pytest.mark.elsewhere,
               pytest.mark.skipif(not shutil.which("git"), reason="storing and releasing (git)")]
 TODAY = datetime.datetime.now(datetime.timezone.utc).date()
-# A stand-in for `readelf -V` and `readelf -d`.
+# A stand-in for both calls of readelf.
 READELF = """#!/bin/sh
 grep -o 'GLIBC_[0-9.]*' "$2"
 echo ' (NEEDED)  Shared library: [libc.so.6]'
@@ -31,6 +31,7 @@ def releases(tree):
 def a_tree(tmp_path):
     """A tree with a program that was built, and none that is stored."""
     write(tmp_path / "tools/readelf", READELF)
+    write(tmp_path / "tools/rt", "#!/bin/sh\necho a kit\n")
     tree = made(tmp_path / "a tree")
     sh(tree, "git init -q; save; built one")
     return tree
@@ -41,9 +42,6 @@ def a_stored_program(tree):
     """A tree with a stored program."""
     assert "stored: commit dist" in sh(tree, "scripts/release.sh store; save")
     return tree
-
-
-# ---- what is stored
 
 
 def test_store(stored):
@@ -106,8 +104,6 @@ def test_release(tree):
         assert refused(tree, why) is True
     assert refused(tree, "usage: ", "tarball") is True
 
-
-# ---- what tests/dist reports
 
 VERSIONED = ("ABOUT", "../../VERSION", "../../man/balisecheck.1", "../../CHANGELOG.md")
 SOURCES = ("src/lib.rt", "specs/Lib.antt", "proofs/Lib.antt", "../../crates.txt", "../../HANDLES")
