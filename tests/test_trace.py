@@ -6,7 +6,7 @@ import sys
 import pytest
 from runner import TOP
 
-sys.path.append(str(TOP / "companion/src"))
+sys.path.insert(1, str(TOP / "companion/src"))
 from variables.checks import CHECKS  # noqa: E402  (the path comes first)
 from variables.trace import Trace  # noqa: E402
 
@@ -81,8 +81,8 @@ def room(tmp_path_factory):
     room = tmp_path_factory.mktemp("trace")
     folders = [TOP / it for it in ("docs", "schemas", "tests", "companion/src")]
     for path in [*(TOP / "crates").glob("etcs_*/specs"), *folders]:
-        shutil.copytree(path, room / path.relative_to(TOP))
-    shutil.copy(TOP / "README.md", room)
+        shutil.copytree(path, room / path.relative_to(TOP), copy_function=shutil.copyfile)
+    shutil.copyfile(TOP / "README.md", room / "README.md")
     return room
 
 
@@ -105,7 +105,7 @@ def test_difference_is_reported(room, file, before, after, said):
     file = file if (TOP / file).exists() else f"crates/etcs_{file}"
     change(room / file, before, after)
     status, text = trace(room, "--check")
-    shutil.copy(TOP / file, room / file)
+    shutil.copyfile(TOP / file, room / file)
     assert status == 1 and said in text and "Traceback" not in text, text
 
 
@@ -120,5 +120,5 @@ def test_note_stays_as_long_as_its_row(room, row, count, file, before, after):
     change(room / file, before, after)
     assert trace(room)[0] == 1
     assert row.replace(",", ", ") in trace(room, "--write")[1] and "A. Person" not in (room / TABLE).read_text("utf-8")
-    shutil.copy(TOP / file, room / file)
+    shutil.copyfile(TOP / file, room / file)
     assert trace(room, "--write") == (0, "") and trace(room)[0] == 0

@@ -10,7 +10,7 @@ from cases_of_program import TOP
 
 from balisekit.engine.records import FROM_TRACK
 from balisekit.etcs.packets import MESSAGES, packet_name
-from balisekit.etcs.variables import LABELS, VARIABLES, Around, metres, value_texts, value_words, variable_name
+from balisekit.etcs.variables import LABELS, NO_FORM, VARIABLES, Around, metres, value_texts, value_words, variable_name
 
 pytestmark = pytest.mark.uncovered
 SCHEMAS = [json.loads((TOP / "schemas" / f"{name}.json").read_text()) for name in ("telegram", "message")]
@@ -72,7 +72,7 @@ def test_each_number_has_words(whole: Any) -> None:
 
 #: The keys that are not their variable's name in small letters, and what tells the two variables of "nc" apart.
 OTHER_KEYS = {"V_LOA": "end_speed", "T_LOA": "end_timeout", "NC_CDDIFF": "nc", "NC_DIFF": "nc"}
-KINDS: Dict[str, Dict[str, Any]] = {"NC_CDDIFF": {"q_diff": 0}, "NC_DIFF": {"q_diff": 1}}
+KINDS: Dict[str, Dict[str, int]] = {"NC_CDDIFF": {"q_diff": 0}, "NC_DIFF": {"q_diff": 1}}
 #: The words of numbers for which variables.md has others.
 OTHERWISE = {
     ("n_pig", 0): "first of the group",
@@ -92,15 +92,16 @@ OTHERWISE = {
     ("m_ack", 1): "yes",
 }
 PAGE = (TOP / "docs/variables.md").read_text("utf-8").split("## Packets that the program keeps as bits")[0]
-ROWS = re.findall(r"^\| ([A-Z_]+) \|.*\| ([^|]+) \|$", PAGE, re.MULTILINE)
+ROWS = [
+    (OTHER_KEYS.get(variable, variable.lower()), variable, values)
+    for variable, values in sorted({*re.findall(r"^\| ([A-Z_]+) \|.*\| ([^|]+) \|$", PAGE, re.MULTILINE)})
+]
 
 
-@pytest.mark.parametrize("variable, values", sorted({*ROWS}))
-def test_words_are_those_of_the_page(variable: str, values: str) -> None:
+@pytest.mark.parametrize("key, variable, values", [row for row in ROWS if row[0] in VARIABLES])
+def test_words_are_those_of_the_page(key: str, variable: str, values: str) -> None:
     """The name of each variable in variables.md, the words of its numbers, and the unit of the others."""
-    key, around = OTHER_KEYS.get(variable, variable.lower()), Around({"q_scale": 1}, KINDS.get(variable, {}))
-    if key not in VARIABLES:
-        return
+    around = Around({"q_scale": 1}, KINDS.get(variable, NO_FORM))
     assert variable_name(key, around.parent) == variable
     for digits, words in re.findall(r"(?:^|; )([0-9,]+) = ([^;]+)", values):
         number = int(digits.replace(",", ""))
@@ -116,7 +117,8 @@ def test_names_of_packets_are_those_of_the_page() -> None:
     headings = re.findall(r"^### (Packet|Message) (\d+)(?:, | (from train) to track, )(.*)$", PAGE, re.MULTILINE)
     for kind, number, is_train, name in headings:
         assert name in (MESSAGES[int(number)] if kind == "Message" else packet_name(int(number), not is_train))
-    assert len(headings) > 10 and len({*ROWS}) > 60
+    assert len(headings) > 10
+    assert {*VARIABLES} - {key for key, _, _ in ROWS} == {"user_bits", "prv_nid_c", "prv_nid_bg"}
 
 
 WORDS: Dict[Tuple[str, int], str] = {

@@ -5,7 +5,6 @@ in `key` is a list: the row with this key counts its items, or the further ones 
 """
 import csv
 import hashlib
-import io
 import re
 from collections import namedtuple
 from itertools import groupby
@@ -34,11 +33,6 @@ class Row(namedtuple("Row", COLUMNS, defaults=[""] * len(COLUMNS))):
 
     kind = property(lambda self: self.layouts.partition(" ")[0])
     title = property(lambda self: f"{self.layouts}, {self.variable}")
-
-    def names(self):
-        """The layouts that it belongs to, such as 'packet 5'."""
-        kind, _, numbers = self.layouts.partition("s ")
-        return [f"{kind} {it}" for it in numbers.split(", ")] if ", " in numbers else [self.layouts]
 
     def keys(self):
         """Its keys in an object: two of a group's identity, none of a qualifier or a count."""
@@ -92,13 +86,6 @@ def read_rows():
     return [Row(*it) for it in rows]
 
 
-def as_csv(rows):
-    """The text of the table."""
-    file = io.StringIO()
-    csv.writer(file, lineterminator="\n").writerows([COLUMNS, *rows])
-    return file.getvalue()
-
-
 def tree(rows, depth=0):
     """Rows and parts of an object in the order of the bits."""
     def step(row):
@@ -118,11 +105,13 @@ def tree(rows, depth=0):
 
 def layouts_of(rows):
     """The rows and parts of each layout."""
-    found = {name: [] for it in rows if not it.variable and it.kind not in ("rule", "word") for name in it.names()}
-    for row, name in ((row, name) for row in rows if row.variable for name in row.names()):
-        if name not in found:
-            raise Stopped(f"{TABLE.name} has no row about {name} itself")
-        found[name].append(row)
+    found = {it.layouts: [] for it in rows if not it.variable and it.kind not in ("rule", "word")}
+    for row in filter(lambda it: it.variable, rows):
+        kind, _, numbers = row.layouts.partition("s ")
+        for name in [f"{kind} {it}" for it in numbers.split(", ")] if ", " in numbers else [row.layouts]:
+            if name not in found:
+                raise Stopped(f"{TABLE.name} has no row about {name} itself")
+            found[name].append(row)
     return {name: tree(own) for name, own in found.items()}
 
 

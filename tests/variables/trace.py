@@ -1,4 +1,6 @@
 """The table of variables beside the definitions and balisekit's layouts of raw packets, and what is made of them."""
+import csv
+import io
 import json
 import re
 
@@ -7,7 +9,7 @@ from runner import TOP
 from variables.definitions import NAME, PLACE, Reader
 from variables.page import PAGE, variables_page
 from variables.schemas import Schema, as_json
-from variables.table import TABLE, UNITS, Row, as_csv, in_bits, layouts_of, merged, read_rows, shown
+from variables.table import COLUMNS, TABLE, UNITS, Row, in_bits, layouts_of, merged, read_rows, shown
 
 CHOICES = {"packet": ("etcs_profile", "Track", "track_packet"), "message": ("etcs_radio", "Head", "head"),
            "train packet": ("etcs_radio", "TrainPacket", "train_packet")}
@@ -122,7 +124,8 @@ class Trace:
             texts[path] = COUNT.sub(lambda it: f"{it[1]}{counts[1]}" if it[1] else counts[0], texts[path])
         for name, form in (("telegram", Schema(self).telegram()), ("message", Schema(self).messages())):
             texts[TOP / f"schemas/{name}.json"] = f"{as_json(form)}\n"
-        return {TABLE: as_csv(self.rows + self.raw), **texts}
+        csv.writer(file := io.StringIO(), lineterminator="\n").writerows([COLUMNS, *self.rows, *self.raw])
+        return {TABLE: file.getvalue(), **texts}
 
     def write(self):
         """Writes these texts, and names the rows that are no longer compared."""
