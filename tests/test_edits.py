@@ -74,7 +74,7 @@ def edit(name, old, new, *refuses):
 NEXT = edit("next_is_the_number", "1 + n as u32", "0 + n as u32", "next")
 GOOD = (edit("greater_is_smaller", "if a < b {", "if b < a {", "greater") + NEXT
         + edit("ten_is_nine", "n as u32 * 10", "n as u32 * 9", "tenfold")
-        + edit("ten_is_zero", "n as u32 * 10", "n as u32 * 0", "tenfold"))
+        + edit("ten_is_of_a_half", "n * 10 } {", "n * 10 } { let n = n / 2;", "tenfold"))
 BAD = {
     edit("harmless", "1 + n as u32", "n as u32 + 1", "next"): "tiny/harmless: next is not refused: it is proved",
     edit("misspelt", "n as u32 * 10", "n as u32 * 9", "tenfolds"): "tiny/misspelt: the crate has no function tenfolds",
