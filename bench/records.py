@@ -63,24 +63,18 @@ KNOWN = [number for number in range(255) if f"packet {number}" in LAYOUTS]
 OTHERS = [number for number in range(255) if number not in KNOWN]
 
 
-class Bits:
-    """Fields, one after the other: the number that all their bits are, and how many bits there are."""
+class Writer:
+    """Writes the variables of a layout, one after the other, as the number that all their bits are. Numbers are given
+    by the names of variables, as a number or an iterator. All others are random; then lists have at most `most` items,
+    and the end of a body is at most at bit `end`."""
 
-    def __init__(self):
-        self.value, self.bits = 0, 0
+    def __init__(self, given, most=31, end=0):
+        self.given, self.most, self.end = given, most, end
+        self.value, self.bits, self.after_length = 0, 0, None
 
     def put(self, value, bits):
         self.value, self.bits = self.value << bits | value, self.bits + bits
         return value
-
-
-class Writer(Bits):
-    """Writes the variables of a layout. Numbers are given by the names of variables, as a number or an iterator. All
-    others are random; then lists have at most `most` items, and the end of a body is at most at bit `end`."""
-
-    def __init__(self, given, most=31, end=0):
-        super().__init__()
-        self.given, self.most, self.end, self.after_length = given, most, end, None
 
     def number(self, row):
         """The next number of a variable."""

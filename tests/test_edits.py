@@ -41,7 +41,8 @@ def tool_in_a_tiny_repository(tmp_path):
     def says(name, *words, rt="", **texts):
         write(tmp_path, {**texts, "bin/rt": f"#!/bin/sh\ncd {tmp_path}\n{rt}\n", "tmp/empty": ""})
         (tmp_path / "bin/rt").chmod(0o755)
-        env = {**os.environ, "TMPDIR": f"{tmp_path}/tmp", "PATH": f"{tmp_path}/bin:" * bool(rt) + os.environ["PATH"]}
+        env = {**os.environ, "TMPDIR": f"{tmp_path}/tmp", "PATH": f"{tmp_path}/bin:" * bool(rt) + os.environ["PATH"],
+               "EDITS_OUTPUT": "kept"}
         ran = subprocess.run([tmp_path / "tests" / name, *words], cwd=tmp_path, env=env, stdin=subprocess.DEVNULL,
                              stdout=subprocess.PIPE, stderr=subprocess.STDOUT, check=False, text=True)
         *lines, last = ran.stdout.splitlines()
@@ -73,7 +74,7 @@ def edit(name, old, new, *refuses):
 NEXT = edit("next_is_the_number", "1 + n as u32", "0 + n as u32", "next")
 GOOD = (edit("greater_is_smaller", "if a < b {", "if b < a {", "greater") + NEXT
         + edit("ten_is_nine", "n as u32 * 10", "n as u32 * 9", "tenfold")
-        + edit("ten_is_zero", "n as u32 * 10", "n as u32 * 0", "tenfold"))
+        + edit("ten_is_of_a_half", "n * 10 } {", "n * 10 } { let n = n / 2;", "tenfold"))
 BAD = {
     edit("harmless", "1 + n as u32", "n as u32 + 1", "next"): "tiny/harmless: next is not refused: it is proved",
     edit("misspelt", "n as u32 * 10", "n as u32 * 9", "tenfolds"): "tiny/misspelt: the crate has no function tenfolds",
@@ -177,11 +178,12 @@ def test_edits_by_checks(says, first, status, wanted):
     assert passed == 3 - sum("tiny/" in it for it in wanted) and begin(failures, wanted)
 
 
-def test_edits_of_functions_that_wait(says):
-    """They are judged once more, alone."""
+def test_edits_of_functions_that_wait(says, tmp_path):
+    """They are judged once more, alone. What each check wrote is kept."""
     first = checked(**{**LAYER, "next": WAITS})
     failures, passed, lines = replayed(says, first, alone=checked(next=OPEN))
     assert (failures, passed) == ([], 3) and lines[-1].startswith("tiny, layer 1.1, 1 edit: ")
+    assert (tmp_path / "kept/tiny-layer-1.1").read_text(encoding="utf-8") == checked(next=OPEN)
     failures, passed, _ = replayed(says, first, alone=checked(next=WAITS))
     assert (failures, passed) == ([f"{LATE}not refused: it only waits for what it calls"], 2)
 
