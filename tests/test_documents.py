@@ -1,11 +1,11 @@
-"""`balisecheck check` by tests/cases/documents.txt, the documents in examples/check, and docs/findings.md."""
+"""`balisecheck check` of messages, packets and the documents in examples/check, and docs/findings.md."""
 import json
 import re
 
 import pytest
 
 from cases import END_MARK, HEAD, LONG, spelled, text
-from runner import EXAMPLES, TOP, answered, blocks, in_full, respelled, run
+from runner import EXAMPLES, TOP, answered, blocks, in_full, run
 
 FOLDER, PAGE = EXAMPLES / "check", (TOP / "docs/findings.md").read_text(encoding="utf-8")
 # A rule, its title, the first line of a report and the rest of the section.
@@ -19,20 +19,6 @@ PACKETS = {int(bits[:8], 2): bits for bits in (
 def check(document):
     """The answer to a document."""
     return run(("check",), document)
-
-
-@pytest.mark.parametrize("block", blocks("documents.txt"), ids=lambda block: block[0])
-def test_case(block):
-    """A document has the answer of its block, also with a line end, in another spelling, and with a repeated key, with
-    which it is not read group by group."""
-    _, line, *report = block
-    document, wanted = in_full(line), answered("\n".join(report) + "\n")
-    assert check(document) == wanted
-    assert check(f"{document}\r\n") == wanted
-    if report != ["refused: not JSON"]:
-        assert check(respelled(document)) == wanted
-    if not report[0].startswith("refused: "):
-        assert check(document.replace("{", '{"messages":0,', 1)) == wanted
 
 
 @pytest.mark.parametrize("document", [
