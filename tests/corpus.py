@@ -33,7 +33,7 @@ def from_cases():
     for _, words, given, _ in (*cases.forms(), *cases.documents(), *cases.runs()):
         yield tuple(words), given
         if words == ["check"]:
-            yield from ((DECODE_RADIO, text) for text in re.findall(r'"messages":\["(\w+)"', given))
+            yield from ((DECODE_RADIO, text) for text in re.findall(rb'"messages":\["(\w+)"', in_bytes(given)))
     for _, line, _ in blocks("telegrams.txt"):
         yield from ((DECODE, filled(line)), (CHECK, BALISE % filled(line)))
     for _, line, form, _ in cases.messages():
