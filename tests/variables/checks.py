@@ -28,7 +28,7 @@ def check_layouts(trace):
     yield from differs("the layouts", sorted(trace.layouts), sorted([*trace.fields, END_MARK]))
     end = merged(trace.layouts[END_MARK][0].spans())
     yield from differs("the number of the end mark", end, trace.layouts["packet 0"][0].refused())
-    for name in trace.fields.keys() & trace.layouts.keys():
+    for name in sorted(trace.fields.keys() & trace.layouts.keys()):
         rows, named = list(in_bits(trace.layouts[name])), {}
         yield from differs(f"{name}: how many variables", len(rows), len(trace.fields[name]))
         for (row, when), field in zip(rows, trace.fields[name]):
