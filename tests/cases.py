@@ -316,7 +316,7 @@ def runs():
                 words.append(in_full(rest))
             else:
                 texts[mark.replace("<<", "<")] += in_full(rest) + "\n" * (mark != "<<")
-        given = texts["<"].encode().decode("unicode_escape").encode("latin-1")
+        given = texts["<"].encode().decode("unicode_escape").encode("latin-1").decode(errors="surrogateescape")
         yield from ((f"{name}: {one}", shlex.split(one), given, answered(texts[">"], texts["!"])) for one in words)
 
 

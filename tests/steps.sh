@@ -1,5 +1,5 @@
-# What the scripts of the tests and the gate share: steps and their counts, tests, and a folder that is removed at the end.
-# To be read by bash.
+# What the scripts of the tests and the gate share: steps and their counts, tests, and a folder that is removed at the
+# end. To be read by bash.
 room=$(mktemp -d)
 trap 'for job in $(jobs -p); do pkill -P "$job"; kill "$job"; done 2>/dev/null
     chmod -R u+w "$room" 2>/dev/null; rm -rf "$room"' EXIT
@@ -16,8 +16,8 @@ step() {
     } 2>"$room/$1.times"
 }
 
-# count NAME: adds what the last line of the step counts, in the form of `total` or of pytest, and prints it in a line. A
-# status that says otherwise is a failure, and so is a step that gave no count or ran nothing.
+# count NAME: adds what the last line of the step counts, in the form of `total` or of pytest, and prints it in a line.
+# A status that says otherwise is a failure, and so is a step that gave no count or ran nothing.
 count() {
     local status last ran=0 bad=0
     status=$(cat "$room/$1.status" 2>/dev/null)

@@ -8,7 +8,8 @@ import pytest
 from runner import HERE
 
 COMMAND = "apt-get install --no-install-recommends one"
-TEST = "import pytest\ndef test_one(): assert not {}\ndef test_two(): pytest.skip('a view (two)')\n"
+TEST = "import pytest\ndef test_one(): assert not {}\ndef test_two(): pytest.skip('a view (two)')\n" \
+    "@pytest.mark.slow\ndef test_three(): pass\n"
 
 
 @pytest.fixture
@@ -42,14 +43,14 @@ def test_user(play, tmp_path):
     """A user reads the command. What was skipped is in the line before the last."""
     said = play()
     assert said[0] == f"to run all tests: sudo {COMMAND}"
-    assert said[-3:] == ("skipped: a view (two)", "2 passed, 0 failed", 0)
+    assert said[-3:] == ("skipped: a view (two)", "3 passed, 0 failed", 0)
     assert not (tmp_path / "called").exists()
 
 
 @pytest.mark.parametrize("balisekit, fails, last", [
-    ("echo 1 passed, 2 failed; exit 1", 0, "2 passed, 2 failed"), ("echo done", 0, "1 passed, 1 failed"),
-    ("echo 1 passed, 0 failed; exit 1", 0, "2 passed, 1 failed"), ("echo 0 passed, 0 failed", 0, "1 passed, 1 failed"),
-    ("echo 1 passed, 0 failed", "'why'", "1 passed, 1 failed")])
+    ("echo 1 passed, 2 failed; exit 1", 0, "3 passed, 2 failed"), ("echo done", 0, "2 passed, 1 failed"),
+    ("echo 1 passed, 0 failed; exit 1", 0, "3 passed, 1 failed"), ("echo 0 passed, 0 failed", 0, "2 passed, 1 failed"),
+    ("echo 1 passed, 0 failed", "'why'", "2 passed, 1 failed")])
 def test_failed_step(play, balisekit, fails, last):
     """A step also fails by its status, without a count and without a test. Its output is shown."""
     said = play(balisekit=f"echo why; {balisekit}", fails=fails)
