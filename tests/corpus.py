@@ -143,6 +143,7 @@ def undisturbed(program, some):
     return [(job, *it) for job, it in zip(some, found)]
 
 
+@functools.lru_cache(None)
 def runs_of(program, words, each_kind=not WHOLE):
     """Runs of a command, or those without one, undisturbed: one of each kind of answer, or all."""
     known = undisturbed(program, [job for job in jobs() if (job.words if job.words in COMMANDS else ()) == words])
