@@ -190,7 +190,7 @@ def test_calls_in_threads_and_under_valgrind(calls, name):
 
 
 def test_random_inputs_beside_the_program():
-    count = 100000 if WHOLE else 1000
+    count = 100_000 if WHOLE else 10_000
     words = f"--lines={count}", f"--documents={count // 10}", "--jobs=1"
     ran = subprocess.run([sys.executable, "-B", TOP / "bench" / "compare.py", program(), SHARED, *words],
                          stdout=subprocess.PIPE, stderr=subprocess.STDOUT, text=True, check=False)
