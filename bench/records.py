@@ -31,9 +31,9 @@ KNOWN = [number for number in range(255) if f"packet {number}" in LAYOUTS]
 OTHERS = [number for number in range(255) if number not in KNOWN]
 
 
-def is_there(row, known):
-    """Whether a variable is present beside these numbers of other ones."""
-    other, those = row.condition
+def is_there(node, known):
+    """Whether a variable or an object is present beside these numbers of other variables."""
+    other, those = node.condition
     return not other or known.get(other) in those
 
 
@@ -73,7 +73,7 @@ class Writer:
                 items = record[node.key] = []
                 self.items(node, items, node.least)
                 self.items(node, items, self.put(self.number(node.count), node.count.width))
-            elif is_there(node.nodes[0], known):
+            elif is_there(node, known):
                 self.object(node.nodes, record.setdefault(node.key, {}), known)
 
     def items(self, part, items, number):

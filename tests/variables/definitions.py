@@ -51,7 +51,7 @@ def numbers_in(text):
             words = re.sub(r"^ (?:is |are |means )?|, is read$|\.$", "", found[4]) if first == last else ""
             ends = [(first, last)] if found[2] == "to" or first == last else [(first, first), (last, last)]
             kind = refused if re.search(r"\b(is|are) spare\b|is not read", found[4]) else read
-            kind.extend((*it, words) for it in ends)
+            kind.extend((*it, words) if kind is read else it for it in ends)
     return read, refused
 
 

@@ -1,6 +1,7 @@
 """What is made of the table of variables, and the columns of the table that are made of other files."""
 import csv
 import io
+import json
 import re
 
 from runner import TOP
@@ -46,7 +47,8 @@ def made():
     texts = {path: COUNT.sub(count, text) for path, text in texts.items()}
     meanings = {it.layouts: it.meaning for it in rows if not it.variable}
     for name, schema in (("telegram", schemas.telegram), ("message", schemas.message)):
-        texts[TOP / f"schemas/{name}.json"] = schemas.as_json(schema(layouts, meanings))
+        form = json.dumps(schema(layouts, meanings), indent=2, ensure_ascii=False)
+        texts[TOP / f"schemas/{name}.json"] = f"{form}\n"
     csv.writer(file := io.StringIO(), lineterminator="\n").writerows([COLUMNS, *rows])
     lost = [now.title for before, now in zip(read, rows) if before.compared and not now.compared]
     return {TABLE: file.getvalue(), **texts}, lost

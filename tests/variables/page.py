@@ -1,28 +1,23 @@
 """Parts of docs/variables.md that are made of other files, each between `<!-- KIND WHAT -->` and `<!-- /KIND -->`:
 
-- `layout LAYOUT rows`: its name, sections and purpose, and its variables; with `after VARIABLE` only those after one,
-  and with neither none
-- `head LAYOUT to VARIABLE`: its variables up to one
+- `layout LAYOUT`: its name, sections and purpose, and its variables
 - `raw layouts`, `raw variables`: packets that the program keeps as bits, by balisekit
-- `names packets`: what balisekit calls packets
 """
 import json
 import re
 
-from balisekit.etcs.packets import TRACK, TRAIN, packet_name
+from balisekit.etcs.packets import packet_name
 from runner import TOP
-from variables.table import COUNTED, Row
+from variables.table import COUNTED, END_MARK, Row
 
 PAGE = TOP / "docs/variables.md"
-RAW = TOP / "companion/src/balisekit/etcs/raw_layouts.json"
+RAW = json.loads((TOP / "companion/src/balisekit/etcs/raw_layouts.json").read_text(encoding="utf-8"))
 PART = re.compile(r"(?s)(<!-- (\w+) ([\w ]+) -->\n).*?(?=<!-- /\2 -->\n)")
-COLUMNS = ["Variable", "First bit", "Bits", "Meaning", "Values"]
 
 
 def table(columns, rows):
     """A table of the page."""
-    lines = ["| " + " | ".join(it) + " |\n" for it in (columns, ["---"] * len(columns), *rows)]
-    return "".join([*lines, "\n"])
+    return "".join("| " + " | ".join(it) + " |\n" for it in (columns, ["---"] * len(columns), *rows)) + "\n"
 
 
 def shown(first, last):
@@ -30,9 +25,9 @@ def shown(first, last):
     return " to ".join(dict.fromkeys(f"{it:,}" if it > 9999 else str(it) for it in (first, last)))
 
 
-def condition(when):
-    """A condition in words."""
-    return "if {} is {}".format(*when.split(" ", 1)) if when else ""
+def condition(row):
+    """The condition of a row in words."""
+    return "if {} is {}".format(*row.when.split(" ", 1)) if row.when else ""
 
 
 def numbers_text(row):
@@ -58,14 +53,12 @@ def lines_of(nodes, at=0):
     for node in nodes:
         if isinstance(node, Row):
             key = f"`{node.key}`: " if node.keys else ""
-            when = f"only {condition(node.when)}: " if node.when else ""
+            meaning = key + (f"only {condition(node)}: " if node.when else "") + node.meaning
             place = "next" if at is None else str(at)
-            meaning = with_doubt(key + when + node.meaning, node.doubt)
-            lines.append([node.variable, place, node.bits, meaning, numbers_text(node)])
+            lines.append([node.variable, place, node.bits, with_doubt(meaning, node.doubt), numbers_text(node)])
             at = None if at is None or node.when else at + node.width
         elif node.count and not node.least:
-            own, at = lines_of([node.count], at)
-            lines, at = lines + own + lines_of(node.nodes, None)[0], None
+            lines, at = [*lines, *lines_of([node.count], at)[0], *lines_of(node.nodes, None)[0]], None
         else:
             own, at = lines_of(node.nodes, at)
             lines += own
@@ -75,24 +68,15 @@ def lines_of(nodes, at=0):
     return lines, at
 
 
-def some_lines(layouts, what):
-    """The name of a layout, and the table of its variables: of all, or of those to or after one."""
-    layout, which, variable = re.fullmatch(r"(.*?)(?: (rows|to|after) ?(\w*))?", what).groups()
-    lines = lines_of(layouts[layout])[0] if which else []
-    border = [it[0] for it in lines].index(variable) + 1 if variable else 0
-    lines = lines[:border] if which == "to" else lines[border:]
-    return layout, table(COLUMNS, lines) if lines else ""
-
-
-def layout_part(rows, layouts, what):
+def layout_part(rows, layouts, name):
     """The heading of a layout with a number, its sections, purpose and doubt, and its variables."""
-    name, lines = some_lines(layouts, what)
     row = next(it for it in rows if it.layouts == name and not it.variable)
     kind, _, number = name.rpartition(" ")
     origin = " from train to track" * (kind == "train packet")
     heading = f"### {kind.removeprefix('train ').capitalize()} {number}{origin}, {row.meaning}\n\n" * number.isdigit()
     text = with_doubt(" ".join(filter(None, [f"SUBSET-026, {row.section}.", row.about])), row.doubt)
-    return f"{heading}{text}\n\n{lines}"
+    lines = lines_of(layouts[name])[0] if name != END_MARK else []
+    return f"{heading}{text}\n\n" + (table(["Variable", "First bit", "Bits", "Meaning", "Values"], lines) if lines else "")
 
 
 def fields_text(fields):
@@ -110,7 +94,7 @@ def fields_text(fields):
 
 def raw_rows():
     """The variables of packets that the program keeps as bits, as rows."""
-    for it in json.loads(RAW.read_text(encoding="utf-8"))["variables"]:
+    for it in RAW["variables"]:
         own = {key: it.get(key, "") for key in ("numbers", "unit", "meaning", "doubt")}
         row = Row(layouts="raw", variable=it["name"], bits=str(it["bits"]), **own)
         yield row._replace(fault="spare" if row.refused else "")
@@ -120,9 +104,9 @@ def raw_part(_, __, what):
     """The layouts, or the variables, of packets that the program keeps as bits."""
     if what == "variables":
         rows = [[it.variable, it.bits, with_doubt(it.meaning, it.doubt), numbers_text(it)] for it in raw_rows()]
-        return table(["Variable", *COLUMNS[2:]], rows)
+        return table(["Variable", "Bits", "Meaning", "Values"], rows)
     rows = []
-    for it in json.loads(RAW.read_text(encoding="utf-8"))["layouts"]:
+    for it in RAW["layouts"]:
         is_track = it["from"] == "track"
         text = f"{packet_name(it['packet'], is_track)}: {fields_text(it['fields']) or 'no variable'}"
         doubt = "; ".join([f"{it['sure']} % sure", *filter(None, [it.get("doubt")])])
@@ -130,20 +114,11 @@ def raw_part(_, __, what):
     return table(["Packet", "Its name, and its variables in the order of the bits", "Doubt"], rows)
 
 
-def names_part(*_):
-    """The names that balisekit gives to packets."""
-    track, train = (", ".join(f"{number} {name}" for number, name in names.items()) for names in (TRACK, TRAIN))
-    return f"- *From track to train:* {track}.\n- *From train to track:* {train}.\n\n"
-
-
-PARTS = {"head": lambda rows, layouts, what: some_lines(layouts, what)[1], "layout": layout_part, "raw": raw_part,
-         "names": names_part}
-
-
 def variables_page(rows, layouts):
     """The page of variables with its parts as they are made now."""
     text = PAGE.read_text(encoding="utf-8")
-    on_page = {re.sub(" (rows|after .*)$", "", what) for _, kind, what in PART.findall(text) if kind == "layout"}
+    on_page = {what for _, kind, what in PART.findall(text) if kind == "layout"}
     if on_page != {*layouts}:
         raise SystemExit(f"only {PAGE.name} or only the table has {', '.join(sorted(on_page ^ {*layouts}))}")
-    return PART.sub(lambda it: f"{it[1]}\n{PARTS[it[2]](rows, layouts, it[3])}", text)
+    parts = {"layout": layout_part, "raw": raw_part}
+    return PART.sub(lambda it: f"{it[1]}\n{parts[it[2]](rows, layouts, it[3])}", text)

@@ -20,8 +20,6 @@ SPAN = r"(\d+)(?: to (\d+))?(?: ([^;]+))?"
 FORMS = {"bits": r"\d*", "numbers": rf"|{COUNTED}|{SPAN}(; {SPAN})*", "when": r"|\w+ \d+( or \d+)*",
          "key": r"([a-z_]+(\[\])?/)*([a-z_ ]*|[a-z_]+\[\])"}
 END_MARK = "packet 255"  # no definition of a layout has it: NID_PACKET states that this number ends a list
-# An object inside an object, or a list of at least so many items with the row that counts the others.
-Part = namedtuple("Part", "key count least nodes")
 
 
 class Row(namedtuple("Row", COLUMNS, defaults=[""] * len(COLUMNS))):
@@ -40,7 +38,7 @@ class Row(namedtuple("Row", COLUMNS, defaults=[""] * len(COLUMNS))):
     @cached_property
     def refused(self):
         """The numbers that are not read, as spans."""
-        ends = [-1, *(end for first, last, _ in self.spans for end in (first, last)), 2 ** self.width]
+        ends = [-1, *(end for span in self.spans for end in span[:2]), 2 ** self.width if self.bits else 0]
         return [(low + 1, high - 1) for low, high in zip(ends[::2], ends[1::2]) if low + 1 < high]
 
     @cached_property
@@ -60,6 +58,13 @@ class Row(namedtuple("Row", COLUMNS, defaults=[""] * len(COLUMNS))):
         digest = hashlib.sha256("\n".join(self[:COLUMNS.index("unstated")]).encode()).hexdigest()[:8]
         is_same = self.compared and self.sum in ("", digest)
         return self._replace(sum=digest) if is_same else self._replace(compared="", date="", sum="")
+
+
+class Part(namedtuple("Part", "key count least nodes")):
+    """An object inside an object, or a list of at least so many items with the row that counts the others."""
+
+    keys = property(lambda self: [self.key])
+    condition = property(lambda self: ("", []) if self.count else self.nodes[0].condition)
 
 
 def read_rows(text=None):
