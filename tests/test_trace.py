@@ -16,7 +16,7 @@ from balisekit.etcs.layout import bits_of, message_fields, telegram_fields  # no
 from variables.definitions import about, names, numbers_in, unit_in  # noqa: E402
 from variables.made import FINDINGS, made  # noqa: E402
 from variables.page import raw_rows  # noqa: E402
-from variables.table import COUNTED, END_MARK, TABLE, Part, Row, read_rows  # noqa: E402
+from variables.table import COUNTED, TABLE, Part, Row, read_rows  # noqa: E402
 
 ROWS, LAYOUTS = read_rows(), records.LAYOUTS
 VARIABLES = [it for it in ROWS if it.variable]
@@ -25,23 +25,22 @@ OTHER_KEYS = {"V_LOA": "end_speed", "T_LOA": "end_timeout", "NC_CDDIFF": "nc", "
               "NID_LRBG": "nid_c nid_bg", "NID_PRVLRBG": "prv_nid_c prv_nid_bg"}
 
 
-def parts(nodes):
-    """All rows and parts of a layout."""
+def all_of(nodes):
+    """The rows and parts of a layout, and those within its parts."""
     for node in nodes:
         yield node
         if isinstance(node, Part):
-            yield from parts([*node.nodes, *filter(None, [node.count])])
+            yield from all_of([*node.nodes, *filter(None, [node.count])])
 
 
-def fields_of(text, is_telegram):
+def fields_of(text):
     """The variables that balisekit finds in a telegram or message, each after the name of its layout."""
-    fields = (telegram_fields if is_telegram else message_fields)(bits_of(text))
-    head = "header" if is_telegram else f"message {fields[0].value}"
+    fields = (telegram_fields if text[0] == "a" else message_fields)(bits_of(text))
+    head = "header" if text[0] == "a" else f"message {fields[0].value}"
     kind = "train packet" if head == "message 136" else "packet"
     for it in fields:
         own = head if it.packet is None else f"{kind} {it.number}"
-        if it.name != "fill" and (it.packet is not None or it.name != "NID_PACKET"):
-            yield own if own in LAYOUTS else f"{kind} other", it
+        yield own if own in LAYOUTS else f"{kind} other", it
 
 
 def wrong_texts(text, field, row):
@@ -56,22 +55,22 @@ def wrong_texts(text, field, row):
         yield Job(CHECK, json.dumps(document).encode()), f"refused: {title}: {row.fault} at {field.at} end {end}"
 
 
-@pytest.mark.parametrize("words, make", [(DECODE, records.telegram), (DECODE_RADIO, records.message)])
-def test_program(words, make):
+def test_program():
     """The program reads random records of the table. It refuses any other number, for the fault in the table."""
-    drawn = [make() for _ in range(500)]
-    lines = "".join(f"{records.FORM.encode(record)}\n" for _, record in drawn)
-    assert shared().answer(words, "\n".join(text for text, _ in drawn)).stdout == lines
-    rows = {(name, it.variable): it for name, nodes in LAYOUTS.items() for it in parts(nodes) if isinstance(it, Row)}
+    rows = {(name, it.variable): it for name, nodes in LAYOUTS.items() for it in all_of(nodes) if isinstance(it, Row)}
     met, wrong = set(), []
-    for text, _ in drawn:
-        for place, field in fields_of(text, words == DECODE):
-            row = rows[place, field.name]
-            assert field.width == row.width or field.name == "body"
-            wrong += wrong_texts(text, field, row) if (place, field.name) not in met else ()
-            met.add((place, field.name))
-    heads = ("header", "packet") if words == DECODE else ("message", "packet", "train packet")
-    assert met == {it for it in rows if it[0].rpartition(" ")[0] in heads or it[0] in heads} - {(END_MARK, "NID_PACKET")}
+    for words, make in (DECODE, records.telegram), (DECODE_RADIO, records.message):
+        drawn = [make() for _ in range(500)]
+        lines = "".join(f"{records.FORM.encode(record)}\n" for _, record in drawn)
+        assert shared().answer(words, "\n".join(text for text, _ in drawn)).stdout == lines
+        for text, (layout, field) in ((text, it) for text, _ in drawn for it in fields_of(text)):
+            place = layout, field.name
+            if place in rows and place not in met:
+                assert rows[place].width == field.width or field.name == "body"
+                assert bool(rows[place].fault) == bool(rows[place].refused)
+                wrong += wrong_texts(text, field, rows[place])
+                met.add(place)
+    assert met == {*rows}
     for (answer, _), (_, said) in zip(shared().play([job for job, _ in wrong]), wrong):
         assert answer.stdout.startswith(said)
 
@@ -81,19 +80,12 @@ def test_names():
     tests/cases/packets.txt have the names that balisekit gives them."""
     for row in VARIABLES:
         assert " ".join(row.keys) in ("", OTHER_KEYS.get(row.variable, row.variable.lower())), row.title
-    for part in (it for nodes in LAYOUTS.values() for it in parts(nodes) if isinstance(it, Part) and not it.count):
-        assert part.nodes[0].condition == (f"Q_{part.key.replace('_', '').upper()}", [1])
+    for part in (it for nodes in LAYOUTS.values() for it in all_of(nodes) if isinstance(it, Part) and not it.count):
+        assert part.condition == (f"Q_{part.key.replace('_', '').upper()}", [1])
     for name, *lines in blocks("packets.txt"):
         fields = re.findall(r"(?m)^ +([01]+) +(?:the )?(\w+)", "\n".join(lines))
         found = telegram_fields("0" * 50 + "".join(digits for digits, _ in fields))[10:]
         assert [(it.digits, it.name) for it in found if it.digits] == fields, name
-
-
-def test_end_mark():
-    """NID_PACKET refuses only the number that ends the packets of a telegram."""
-    [mark] = LAYOUTS[END_MARK]
-    for row in VARIABLES:
-        assert row.variable != "NID_PACKET" or [it[:2] for it in mark.spans] in ([it[:2] for it in row.spans], row.refused)
 
 
 @pytest.mark.parametrize("row", [it for it in VARIABLES if it.variable != "NID_PACKET"], ids=lambda it: it.title)
@@ -140,7 +132,6 @@ def test_note():
 
 @pytest.mark.parametrize("before, after, said", [
     ("D_GRADIENT,15", "D_GRADIENT,x", "packet 21, D_GRADIENT: bits of another form: x"),
-    ("0 the first; 1 to 7", "none; 1 to 7", "header, N_PIG: numbers of another form: none"),
     ("layouts,variable", "layout,variable", "other columns"),
     ("packet 0,NID_VBCMK", "packet 1,NID_VBCMK", "no row about packet 1 itself")])
 def test_wrong_form(before, after, said):

@@ -8,7 +8,7 @@ import re
 
 from balisekit.etcs.packets import packet_name
 from runner import TOP
-from variables.table import COUNTED, END_MARK, Row
+from variables.table import COUNTED, Row
 
 PAGE = TOP / "docs/variables.md"
 RAW = json.loads((TOP / "companion/src/balisekit/etcs/raw_layouts.json").read_text(encoding="utf-8"))
@@ -75,8 +75,8 @@ def layout_part(rows, layouts, name):
     origin = " from train to track" * (kind == "train packet")
     heading = f"### {kind.removeprefix('train ').capitalize()} {number}{origin}, {row.meaning}\n\n" * number.isdigit()
     text = with_doubt(" ".join(filter(None, [f"SUBSET-026, {row.section}.", row.about])), row.doubt)
-    lines = lines_of(layouts[name])[0] if name != END_MARK else []
-    return f"{heading}{text}\n\n" + (table(["Variable", "First bit", "Bits", "Meaning", "Values"], lines) if lines else "")
+    lines = table(["Variable", "First bit", "Bits", "Meaning", "Values"], lines_of(layouts[name])[0])
+    return f"{heading}{text}\n\n{lines if layouts[name] else ''}"
 
 
 def fields_text(fields):

@@ -1,6 +1,6 @@
 """The JSON schemas of telegrams and radio messages, made of the table of variables."""
 from variables.page import condition
-from variables.table import END_MARK, Part
+from variables.table import Part
 
 DRAFT = "https://json-schema.org/draft/2020-12/schema"
 TITLE = "A {0}, as balisecheck decode{1} writes it and balisecheck encode{1} reads it"
@@ -58,7 +58,7 @@ def form_of(nodes, header, first=(), last=(), given="", **more):
 def packets(layouts, about, kind):
     """The schema of packets of any number, and those of the layouts by their names."""
     forms, choices, known = {}, [], []
-    for name in (it for it in layouts if it.rpartition(" ")[0] == kind and it != END_MARK):
+    for name in (it for it in layouts if it.rpartition(" ")[0] == kind and layouts[it]):
         what, reference = name.rpartition(" ")[2], {"$ref": f"#/$defs/{name.replace(' ', '_')}"}
         is_other = what == "other"
         head = {"nid_packet": {"type": "integer"} if is_other else {"const": int(what)}}

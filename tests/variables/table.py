@@ -19,7 +19,6 @@ COUNTED = "counted"
 SPAN = r"(\d+)(?: to (\d+))?(?: ([^;]+))?"
 FORMS = {"bits": r"\d*", "numbers": rf"|{COUNTED}|{SPAN}(; {SPAN})*", "when": r"|\w+ \d+( or \d+)*",
          "key": r"([a-z_]+(\[\])?/)*([a-z_ ]*|[a-z_]+\[\])"}
-END_MARK = "packet 255"  # no definition of a layout has it: NID_PACKET states that this number ends a list
 
 
 class Row(namedtuple("Row", COLUMNS, defaults=[""] * len(COLUMNS))):
