@@ -16,21 +16,14 @@ from balisekit.etcs.layout import bits_of, message_fields, telegram_fields  # no
 from variables.definitions import about, names, numbers_in, unit_in  # noqa: E402
 from variables.made import FINDINGS, made  # noqa: E402
 from variables.page import raw_rows  # noqa: E402
-from variables.table import COUNTED, TABLE, Part, Row, read_rows  # noqa: E402
+from variables.table import COUNTED, TABLE, Row, read_rows, rows_of  # noqa: E402
 
-ROWS, LAYOUTS = read_rows(), records.LAYOUTS
+ROWS = read_rows()
 VARIABLES = [it for it in ROWS if it.variable]
+LAYOUTS = rows_of(ROWS)
 # The keys that are not the variable's name in small letters.
 OTHER_KEYS = {"V_LOA": "end_speed", "T_LOA": "end_timeout", "NC_CDDIFF": "nc", "NC_DIFF": "nc",
               "NID_LRBG": "nid_c nid_bg", "NID_PRVLRBG": "prv_nid_c prv_nid_bg"}
-
-
-def all_of(nodes):
-    """The rows and parts of a layout, and those within its parts."""
-    for node in nodes:
-        yield node
-        if isinstance(node, Part):
-            yield from all_of([*node.nodes, *filter(None, [node.count])])
 
 
 def fields_of(text):
@@ -57,7 +50,7 @@ def wrong_texts(text, field, row):
 
 def test_program():
     """The program reads random records of the table. It refuses any other number, for the fault in the table."""
-    rows = {(name, it.variable): it for name, nodes in LAYOUTS.items() for it in all_of(nodes) if isinstance(it, Row)}
+    rows = {(layout, it.variable): it for layout, own in LAYOUTS.items() for it in own}
     met, wrong = set(), []
     for words, make in (DECODE, records.telegram), (DECODE_RADIO, records.message):
         drawn = [make() for _ in range(500)]
@@ -80,8 +73,8 @@ def test_names():
     tests/cases/packets.txt have the names that balisekit gives them."""
     for row in VARIABLES:
         assert " ".join(row.keys) in ("", OTHER_KEYS.get(row.variable, row.variable.lower())), row.title
-    for part in (it for nodes in LAYOUTS.values() for it in all_of(nodes) if isinstance(it, Part) and not it.count):
-        assert part.condition == (f"Q_{part.key.replace('_', '').upper()}", [1])
+        for part in re.findall(r"(\w+)/\w+$", row.key):
+            assert row.when == f"Q_{part.replace('_', '').upper()} 1"
     for name, *lines in blocks("packets.txt"):
         fields = re.findall(r"(?m)^ +([01]+) +(?:the )?(\w+)", "\n".join(lines))
         found = telegram_fields("0" * 50 + "".join(digits for digits, _ in fields))[10:]

@@ -43,7 +43,7 @@ def made():
     rows = [made_row(it, read) for it in read]
     layouts = layouts_of(rows)
     count = f"{sum(bool(it.compared) for it in rows)} of {len(rows)} rows"
-    texts = {path: path.read_text(encoding="utf-8") for path in COUNTING} | {PAGE: variables_page(rows, layouts)}
+    texts = {path: path.read_text(encoding="utf-8") for path in COUNTING} | {PAGE: variables_page(rows)}
     texts = {path: COUNT.sub(count, text) for path, text in texts.items()}
     meanings = {it.layouts: it.meaning for it in rows if not it.variable}
     for name, schema in (("telegram", schemas.telegram), ("message", schemas.message)):

@@ -8,7 +8,7 @@ import re
 
 from balisekit.etcs.packets import packet_name
 from runner import TOP
-from variables.table import COUNTED, Row
+from variables.table import COUNTED, Row, rows_of
 
 PAGE = TOP / "docs/variables.md"
 RAW = json.loads((TOP / "companion/src/balisekit/etcs/raw_layouts.json").read_text(encoding="utf-8"))
@@ -47,36 +47,29 @@ def with_doubt(text, doubt):
     return f"{text}{'.' * (text[-1:] != '.')} *Doubt: {doubt}.*" if doubt else text
 
 
-def lines_of(nodes, at=0):
-    """A line for each variable with its first bit, from this one on, and the bit after them; None if it varies."""
-    lines = []
-    for node in nodes:
-        if isinstance(node, Row):
-            key = f"`{node.key}`: " if node.keys else ""
-            meaning = key + (f"only {condition(node)}: " if node.when else "") + node.meaning
-            place = "next" if at is None else str(at)
-            lines.append([node.variable, place, node.bits, with_doubt(meaning, node.doubt), numbers_text(node)])
-            at = None if at is None or node.when else at + node.width
-        elif node.count and not node.least:
-            lines, at = [*lines, *lines_of([node.count], at)[0], *lines_of(node.nodes, None)[0]], None
-        else:
-            own, at = lines_of(node.nodes, at)
-            lines += own
-            if node.count:
-                further = [f"{own[0][0]} to {own[-1][0]}", "next", "", "each further one, as the first", ""]
-                lines, at = [*lines, *lines_of([node.count], at)[0], further], None
-    return lines, at
+def lines_of(rows):
+    """A line for each variable of a layout, with its first bit unless that varies."""
+    lines, at = [], 0
+    for place, row in enumerate(rows):
+        key, is_count = f"`{row.key}`: " if row.keys else "", row.key.endswith("[]")
+        meaning = with_doubt(key + (f"only {condition(row)}: " if row.when else "") + row.meaning, row.doubt)
+        lines.append([row.variable, "next" if at is None else str(at), row.bits, meaning, numbers_text(row)])
+        at = None if at is None or row.when or is_count else at + row.width
+        first = [it.variable for it in rows[:place] if is_count and it.key.startswith(f"{row.key}/")]
+        if first:
+            lines.append([f"{first[0]} to {first[-1]}", "next", "", "each further one, as the first", ""])
+    return lines
 
 
-def layout_part(rows, layouts, name):
+def layout_part(rows, name):
     """The heading of a layout with a number, its sections, purpose and doubt, and its variables."""
     row = next(it for it in rows if it.layouts == name and not it.variable)
     kind, _, number = name.rpartition(" ")
     origin = " from train to track" * (kind == "train packet")
     heading = f"### {kind.removeprefix('train ').capitalize()} {number}{origin}, {row.meaning}\n\n" * number.isdigit()
     text = with_doubt(" ".join(filter(None, [f"SUBSET-026, {row.section}.", row.about])), row.doubt)
-    lines = table(["Variable", "First bit", "Bits", "Meaning", "Values"], lines_of(layouts[name])[0])
-    return f"{heading}{text}\n\n{lines if layouts[name] else ''}"
+    lines = table(["Variable", "First bit", "Bits", "Meaning", "Values"], lines_of(rows_of(rows)[name]))
+    return f"{heading}{text}\n\n{lines if rows_of(rows)[name] else ''}"
 
 
 def fields_text(fields):
@@ -100,7 +93,7 @@ def raw_rows():
         yield row._replace(fault="spare" if row.refused else "")
 
 
-def raw_part(_, __, what):
+def raw_part(_, what):
     """The layouts, or the variables, of packets that the program keeps as bits."""
     if what == "variables":
         rows = [[it.variable, it.bits, with_doubt(it.meaning, it.doubt), numbers_text(it)] for it in raw_rows()]
@@ -114,11 +107,11 @@ def raw_part(_, __, what):
     return table(["Packet", "Its name, and its variables in the order of the bits", "Doubt"], rows)
 
 
-def variables_page(rows, layouts):
+def variables_page(rows):
     """The page of variables with its parts as they are made now."""
     text = PAGE.read_text(encoding="utf-8")
     on_page = {what for _, kind, what in PART.findall(text) if kind == "layout"}
-    if on_page != {*layouts}:
-        raise SystemExit(f"only {PAGE.name} or only the table has {', '.join(sorted(on_page ^ {*layouts}))}")
+    if on_page != {*rows_of(rows)}:
+        raise SystemExit(f"only {PAGE.name} or only the table has {', '.join(sorted(on_page ^ {*rows_of(rows)}))}")
     parts = {"layout": layout_part, "raw": raw_part}
-    return PART.sub(lambda it: f"{it[1]}\n{parts[it[2]](rows, layouts, it[3])}", text)
+    return PART.sub(lambda it: f"{it[1]}\n{parts[it[2]](rows, it[3])}", text)

@@ -79,8 +79,8 @@ def read_rows(text=None):
     return rows
 
 
-def layouts_of(rows):
-    """The rows and parts of each layout, by its name."""
+def rows_of(rows):
+    """The rows about variables of each layout, by its name."""
     found = {it.layouts: [] for it in rows if not it.variable and it.kind not in ("rule", "word")}
     for row in filter(lambda it: it.variable, rows):
         kind, _, numbers = row.layouts.partition("s ")
@@ -88,7 +88,12 @@ def layouts_of(rows):
             if name not in found:
                 raise SystemExit(f"{TABLE.name} has no row about {name} itself")
             found[name].append(row)
-    return {name: tree(own) for name, own in found.items()}
+    return found
+
+
+def layouts_of(rows):
+    """The rows and parts of each layout, by its name."""
+    return {name: tree(own) for name, own in rows_of(rows).items()}
 
 
 def tree(rows, depth=0):
