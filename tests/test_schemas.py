@@ -8,7 +8,7 @@ import re
 import pytest
 
 from hostile import CHECK, ENCODE, ENCODE_RADIO, Job, shared
-from runner import EXAMPLES, TOP, flipped
+from runner import EXAMPLES, TOP, blocks, flipped
 from variables.table import read_rows
 
 jsonschema = pytest.importorskip("jsonschema", reason="JSON schemas (python3-jsonschema)")
@@ -24,25 +24,17 @@ for row in read_rows():
         NUMBERS[own] |= {end + more for span in row.spans for end in span[:2] for more in (-1, 0, 1)}
 
 
-def examples(names):
-    """The values in the examples of these names."""
-    paths = sorted(EXAMPLES.glob(f"{names}.json"))
-    lines = [line for path in paths for line in ([path.read_text()] if "/" in names else path.read_text().splitlines())]
-    return [json.loads(line) for line in lines]
-
-
-def messages():
-    """Radio messages, also with all packets, and with a report that has all parts."""
-    [authority], [report] = examples("radio-movement-authority"), examples("radio-position-report")
-    packets = [packet for form in examples("*") if "nid_message" not in form for packet in form["packets"]]
-    whole = {**report["packets"][0], "q_length": 1, "l_trainint": 200, "m_level": 1, "nid_ntc": 9}
-    return [*examples("radio-*"), {**authority, "packets": packets}, {**report, "packets": [whole]}]
+def documents(*names):
+    """The documents of these names in the examples."""
+    return [json.loads(path.read_text()) for name in names for path in sorted(EXAMPLES.glob(f"check/{name}.json"))]
 
 
 # The program's words, the values that are changed, and the refusals that the schema cannot express.
-KINDS = {"telegram": (ENCODE, [it for it in examples("*") if "nid_message" not in it], FORM),
-         "message": (ENCODE_RADIO, messages(), FORM),
-         "line": (CHECK, [*examples("check/sound-line"), *examples("check/controlled-group")], TEXT)}
+FORMS = [json.loads(line) for path in sorted(EXAMPLES.glob("*.json")) for line in path.read_text().splitlines()]
+MESSAGES = [json.loads(form) for _, _, form, *_ in blocks("messages.txt") if form.startswith("{")]
+KINDS = {"telegram": (ENCODE, [it for it in FORMS if "nid_message" not in it], FORM),
+         "message": (ENCODE_RADIO, MESSAGES + [it for it in FORMS if "nid_message" in it], FORM),
+         "line": (CHECK, documents("sound-line", "controlled-group"), TEXT)}
 
 
 def others(item, key):
@@ -81,9 +73,9 @@ def test_changed(name):
     jsonschema.Draft202012Validator.check_schema(schema)
     validator = jsonschema.Draft202012Validator(schema)
     words, values, untold = KINDS[name]
-    for value in examples("check/*") if name == "line" else values:
+    for value in documents("*") if name == "line" else values:
         validator.validate(value)
-    documents = [*{key: json.dumps(other) for value in values for key, other in changes(value)}.values()]
-    for document, (answer, _) in zip(documents, shared().play([Job(words, it.encode()) for it in documents])):
+    changed = [*{key: json.dumps(other) for value in values for key, other in changes(value)}.values()]
+    for document, (answer, _) in zip(changed, shared().play([Job(words, it.encode()) for it in changed])):
         if answer.status < 2 or not untold.fullmatch(answer.stdout) or '"aspects": []' in document:
             assert validator.is_valid(json.loads(document)) == (answer.status < 2), f"{document}\n{answer.stdout}"
