@@ -72,19 +72,6 @@ def layout_part(rows, name):
     return f"{heading}{text}\n\n{lines if rows_of(rows)[name] else ''}"
 
 
-def fields_text(fields):
-    """Fields of a raw packet in the order of the bits, with their conditions."""
-    texts = []
-    for it in ({"variable": it} if isinstance(it, str) else it for it in fields):
-        text = f"({fields_text(it.get('fields', []))})"
-        if "list" in it:
-            text = f"{text}, N_ITER, as many more" if it["least"] else f"N_ITER, as many {text}"
-        if "text" in it:
-            text = f"{it['text']} as many times as {it['count']} says"
-        texts.append(it.get("variable", it.get("rest", text)) + (f" only if {it['when']}" if "when" in it else ""))
-    return ", ".join(texts)
-
-
 def raw_rows():
     """The variables of packets that the program keeps as bits, as rows."""
     for it in RAW["variables"]:
@@ -98,13 +85,9 @@ def raw_part(_, what):
     if what == "variables":
         rows = [[it.variable, it.bits, with_doubt(it.meaning, it.doubt), numbers_text(it)] for it in raw_rows()]
         return table(["Variable", "Bits", "Meaning", "Values"], rows)
-    rows = []
-    for it in RAW["layouts"]:
-        is_track = it["from"] == "track"
-        text = f"{packet_name(it['packet'], is_track)}: {fields_text(it['fields']) or 'no variable'}"
-        doubt = "; ".join([f"{it['sure']} % sure", *filter(None, [it.get("doubt")])])
-        rows.append([f"{'' if is_track else 'train '}packet {it['packet']}", text, doubt])
-    return table(["Packet", "Its name, and its variables in the order of the bits", "Doubt"], rows)
+    rows = [[f"{it['packet']} from {it['from']}", packet_name(it["packet"], it["from"] == "track"),
+             f"`{json.dumps(it['fields'])}`", with_doubt(f"{it['sure']} %", it.get("doubt"))] for it in RAW["layouts"]]
+    return table(["Packet", "Name", "Fields", "Certainty"], rows)
 
 
 def variables_page(rows):
