@@ -13,7 +13,7 @@ from runner import TOP, blocks
 sys.path[1:1] = [str(TOP / "companion/src"), str(TOP / "bench")]
 import records  # noqa: E402  (the path comes first)
 from balisekit.etcs.layout import bits_of, message_fields, telegram_fields  # noqa: E402
-from variables.definitions import about, names, numbers_in, unit_in  # noqa: E402
+from variables.definitions import NUMBERING, about, names, numbers_in, unit_in  # noqa: E402
 from variables.made import FINDINGS, made  # noqa: E402
 from variables.page import raw_rows  # noqa: E402
 from variables.table import COUNTED, TABLE, Row, read_rows, rows_of  # noqa: E402
@@ -85,6 +85,7 @@ def test_names():
 def test_comments(row):
     """Comments on definitions have the width, numbers, meanings and unit of the row, but need not have all of them."""
     meanings = {first: words for first, _, words in row.spans}
+    assert names(row.variable) or row.variable not in NUMBERING
     for number, word in names(row.variable).items():
         assert re.search(rf"\b{re.escape(word)}\b", meanings[number])
     for text in about(row.variable):
@@ -109,7 +110,7 @@ def test_raw():
             assert (row.variable, row.bits, row.numbers, row.unit) in known
 
 
-@pytest.mark.parametrize("path, text", made()[0].items(), ids=lambda it: getattr(it, "name", ""))
+@pytest.mark.parametrize("path, text", made().items(), ids=lambda it: getattr(it, "name", ""))
 def test_made(path, text):
     """What is made of the table is what `tests/trace --write` makes now."""
     there = path.read_text(encoding="utf-8").splitlines()

@@ -2,7 +2,6 @@
 
 That the program reads the bits as the definitions state is proved; tests/test_trace.py compares the table with it.
 """
-import functools
 import re
 
 from runner import TOP
@@ -21,23 +20,16 @@ UNITS = {"5 km/h": "in steps of 5 km/h", "s": "in seconds", "‰": "in metres of
          "m": "in metres", "10 ms": "in units of 10 ms", "Q_SCALE": "in the unit of the packet"}
 
 
-@functools.lru_cache(None)
-def specs():
-    """The text of each file of definitions, by its path from the top."""
-    return {str(it.relative_to(TOP)): it.read_text("utf-8") for it in sorted(TOP.glob("crates/etcs_*/specs/**/*.antt"))}
-
-
-@functools.lru_cache(None)
-def comments():
-    """The comment above each definition in one line, by `FILE: NAME`."""
-    return {f"{place}: {name}": re.sub(r"\s*\n?-- ", " ", comment).strip()
-            for place, text in specs().items() for comment, name in COMMENTED.findall(text)}
+SPECS = {str(it.relative_to(TOP)): it.read_text("utf-8") for it in sorted(TOP.glob("crates/etcs_*/specs/**/*.antt"))}
+# The comment above each definition in one line, by `FILE: NAME`.
+COMMENTS = {f"{place}: {name}": re.sub(r"\s*\n?-- ", " ", comment).strip()
+            for place, text in SPECS.items() for comment, name in COMMENTED.findall(text)}
 
 
 def about(variable):
     """What comments state about a variable, from its width on, such as '2 bits: 0 is reverse, 1 is nominal'."""
     found = re.findall(rf"(?m)^(?:{NAME}(?:, | and ))*{variable}(?:(?:, | and ){NAME})*, (\d+ bits?\b.*)",
-                       "\n".join(comments().values()))
+                       "\n".join(COMMENTS.values()))
     return found + [it for text in found for other in re.findall(rf", as ({NAME})$", text) for it in about(other)]
 
 
@@ -63,6 +55,6 @@ def unit_in(text):
 def names(variable):
     """The words that the constructors of a variable's type have, by their numbers."""
     function = NUMBERING.get(variable)
-    lines = re.findall(rf"(?m)^{function} \(?\w+\.(\w+).* = (.*)$", "\n".join(specs().values())) if function else []
+    lines = re.findall(rf"(?m)^{function} \(?\w+\.(\w+).* = (.*)$", "\n".join(SPECS.values())) if function else []
     return {int(number) if number.isdigit() else number.count("inr"):
             WORDS.get(name, re.sub("(?<=[a-z])(?=[A-Z])", " ", name).lower()) for name, number in lines}

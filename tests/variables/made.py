@@ -6,7 +6,7 @@ import re
 
 from runner import TOP
 from variables import schemas
-from variables.definitions import about, comments, names, numbers_in, unit_in
+from variables.definitions import COMMENTS, about, names, numbers_in, unit_in
 from variables.page import PAGE, shown, variables_page
 from variables.table import COLUMNS, TABLE, layouts_of, read_rows
 
@@ -29,18 +29,18 @@ def unstated(row, rows):
 def made_row(row, rows):
     """The row with what definitions and docs/findings.md state: rules and words consist of it."""
     if row.kind in ("rule", "word"):
-        found = [comments().get(it, f"no comment on {it}") for it in row.about.split("; ")]
-        meaning = "; or ".join(re.sub(r"^F\d+(?: and F\d+)?: ", "", it) for it in found)
+        if {*row.about.split("; ")} - {*COMMENTS}:
+            raise SystemExit(f"{TABLE.name}, {row.title}: no comment on {row.about}")
+        found = [re.sub(r"^F\d+(?: and F\d+)?: ", "", COMMENTS[it]) for it in row.about.split("; ")]
         name, section = {rule: its for rule, *its in FINDINGS}.get(row.layouts.removeprefix("rule "), ("", row.section))
-        row = row._replace(meaning=f"{name}: {meaning}" if name else meaning, section=section)
+        row = row._replace(meaning=(f"{name}: " if name else "") + "; or ".join(found), section=section)
     return row._replace(unstated=unstated(row, rows)).sealed()
 
 
 def made():
-    """The text of each file that has something made of the table or is the table, and its rows that are no longer
-    compared."""
-    read = read_rows()
-    rows = [made_row(it, read) for it in read]
+    """The text of each file that has something made of the table, and of the table itself."""
+    rows = read_rows()
+    rows = [made_row(it, rows) for it in rows]
     layouts = layouts_of(rows)
     count = f"{sum(bool(it.compared) for it in rows)} of {len(rows)} rows"
     texts = {path: path.read_text(encoding="utf-8") for path in COUNTING} | {PAGE: variables_page(rows)}
@@ -50,5 +50,4 @@ def made():
         form = json.dumps(schema(layouts, meanings), indent=2, ensure_ascii=False)
         texts[TOP / f"schemas/{name}.json"] = f"{form}\n"
     csv.writer(file := io.StringIO(), lineterminator="\n").writerows([COLUMNS, *rows])
-    lost = [now.title for before, now in zip(read, rows) if before.compared and not now.compared]
-    return {TABLE: file.getvalue(), **texts}, lost
+    return {TABLE: file.getvalue(), **texts}

@@ -17,13 +17,6 @@ def number(rows):
             **({"not": {"anyOf": gaps}} if gaps else {})}
 
 
-def body(nodes):
-    """The schema of a packet's bits after these variables."""
-    digits = 2 * -(-(LONGEST_PACKET - sum(it.width for it in nodes)) // 8)
-    return {"description": "the packet's bits after its head, and zeros up to a whole byte, as hexadecimal digits",
-            "type": "string", "maxLength": digits, "pattern": "^(?:[0-9A-Fa-f]{2})*(?![\\s\\S])"}
-
-
 def value(key, own, nodes, header):
     """The schema of a member: a list, an object, a body or a number."""
     node = own[0]
@@ -31,7 +24,9 @@ def value(key, own, nodes, header):
         one = form_of(node.nodes, header, given=node.condition[0])
         return {"type": "array", "items": one, "minItems": node.least, "maxItems": node.least + 31} if node.count else one
     if key == "body":
-        return body(nodes)
+        digits = 2 * -(-(LONGEST_PACKET - sum(it.width for it in nodes)) // 8)
+        return {"description": "the packet's bits after its head, and zeros up to a whole byte, as hexadecimal digits",
+                "type": "string", "maxLength": digits, "pattern": "^(?:[0-9A-Fa-f]{2})*(?![\\s\\S])"}
     if node.keys[1:]:  # NID_C and NID_BG in one variable
         own = [it for it in header if it.key == key.removeprefix("prv_")]
     return number(own)
