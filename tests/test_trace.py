@@ -65,7 +65,7 @@ def test_program():
                 met.add(place)
     assert met == {*rows}
     for (answer, _), (_, said) in zip(shared().play([job for job, _ in wrong]), wrong):
-        assert answer.stdout.startswith(said)
+        assert answer.stdout[:len(said)] == said
 
 
 def test_names():
