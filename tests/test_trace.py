@@ -53,7 +53,7 @@ def test_program():
     rows = {(layout, it.variable): it for layout, own in LAYOUTS.items() for it in own}
     met, wrong = set(), []
     for words, make in (DECODE, records.telegram), (DECODE_RADIO, records.message):
-        drawn = [make() for _ in range(500)]
+        drawn = [make() for _ in range(300)]
         lines = "".join(f"{records.FORM.encode(record)}\n" for _, record in drawn)
         assert shared().answer(words, "\n".join(text for text, _ in drawn)).stdout == lines
         for text, (layout, field) in ((text, it) for text, _ in drawn for it in fields_of(text)):

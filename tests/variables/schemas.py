@@ -22,7 +22,8 @@ def value(key, own, nodes, header):
     node = own[0]
     if isinstance(node, Part):
         one = form_of(node.nodes, header, given=node.condition[0])
-        return {"type": "array", "items": one, "minItems": node.least, "maxItems": node.least + 31} if node.count else one
+        sizes = {"minItems": node.least, "maxItems": node.least + 31}
+        return {"type": "array", "items": one, **sizes} if node.count else one
     if key == "body":
         digits = 2 * -(-(LONGEST_PACKET - sum(it.width for it in nodes)) // 8)
         return {"description": "the packet's bits after its head, and zeros up to a whole byte, as hexadecimal digits",
