@@ -6,7 +6,7 @@ import pytest
 
 from corpus import (FORM, LONG, MESSAGE, MESSAGE_FORM, REPORT, REPORT_FORM, SHORT, answers, come_back, is_documented,
                     runs_of)
-from hostile import CHECK, COMMANDS, DECODE, DECODE_RADIO, ENCODE, ENCODE_RADIO, INVERSE, WHOLE, Job, shared
+from hostile import CHECK, COMMANDS, DECODE, DECODE_RADIO, ENCODE, ENCODE_RADIO, INVERSE, Job, shared
 from runner import flipped
 
 REPLACING = b'"', b"{", b"[", b",", b"0", b"\x01", b"\xff"
@@ -98,19 +98,18 @@ def turn(program, words, inputs, step, further):
 @pytest.mark.parametrize("words", COMMANDS, ids=" ".join)
 def test_changed_inputs(words):
     known = [job.data for job, *_ in runs_of(shared(), words, each_kind=False)]
-    for inputs in [[data] for data in known] if WHOLE else [known]:
-        change(shared(), words, inputs, 2000 if WHOLE else 6)
+    change(shared(), words, known, 6)
     for text in SIMPLE[words]:
-        change(shared(), words, [text.encode()], 16 * len(text) if WHOLE else 1000)
+        change(shared(), words, [text.encode()], 1000)
 
 
 @pytest.mark.parametrize("words", [DECODE, DECODE_RADIO, CHECK], ids=" ".join)
 def test_turned_bits(words):
     known = [job.data.decode().strip() for job, it, _ in runs_of(shared(), words, each_kind=False) if it.status < 2]
     known = [text for text in known if words == CHECK or text.isalnum()]
-    past = turn(shared(), words, known, 1 if WHOLE else 41, 97)
+    past = turn(shared(), words, known, 41, 97)
     for text in SIMPLE[words]:
-        past += turn(shared(), words, [text], 1, 1 if WHOLE else len(text) ** 2 // 500)
+        past += turn(shared(), words, [text], 1, len(text) ** 2 // 500)
     assert past > 100
 
 
