@@ -10,7 +10,6 @@ from runner import EXAMPLES, TOP, crate_uses
 
 USES = {name: {*used} & {*crate_uses()} for name, used in crate_uses().items()}
 TELEGRAM = "a1007f802000ffffffffffffffffffffffffffffffffffffffffc0"
-HOOK = dict(re.findall(r"(?m)^(?:- |  )(\w+): (.+)$", (TOP / ".pre-commit-hooks.yaml").read_text("utf-8")))
 
 
 def all_uses(names):
@@ -30,31 +29,26 @@ def test_crates():
     assert all(height[name] < height[used] for name in height for used in direct[name])
 
 
-@pytest.fixture(name="hook")
-def a_hook(tmp_path, program):
-    """The status of the hook, or of a command, in a folder with tables."""
-    for name, rows in (("a sound", [TELEGRAM]), ("found", [TELEGRAM, TELEGRAM]), ("refused", ["a1"])):
-        table = "".join(f"{group},{telegram}\n" for group, telegram in zip("AB", rows))
-        (tmp_path / f"{name}.csv").write_text(f"group,telegram\n{table}", "utf-8")
-        assert re.search(HOOK["files"], f"{name}.csv")
-    return lambda *words, command=HOOK["entry"]: subprocess.run(
-        [TOP / command, *words], cwd=tmp_path, env={**os.environ, "BALISECHECK": program}, check=False).returncode
-
-
 @pytest.mark.parametrize("words, wanted", [
     (["a sound.csv"], 0), (["found.csv", "a sound.csv"], 1), (["found.csv", "refused.csv", "a sound.csv"], 2),
-    (["--by-position", "a sound.csv"], 0), (["missing.csv"], 2)])
-def test_hook(hook, words, wanted):
-    """The hook ends with the greatest status of its tables."""
-    assert hook(*words) == wanted and " ".join(HOOK) == "id name description entry language files require_serial"
+    (["--by-position", "a sound.csv"], 0), (["missing.csv"], 2), (["accepted.csv", "accepted.accepted.csv"], 0)])
+def test_hook(words, wanted, tmp_path, program):
+    """The hook has these keys, and ends with the greatest status of its tables. An accepted finding is none."""
+    hook = dict(re.findall(r"(?m)^(?:- |  )(\w+): (.+)$", (TOP / ".pre-commit-hooks.yaml").read_text("utf-8")))
+    assert " ".join(hook) == "id name description entry language files require_serial"
 
+    def status(command, *words):
+        known = {**os.environ, "BALISECHECK": program}
+        return subprocess.run([TOP / command, *words], cwd=tmp_path, env=known, check=False).returncode
 
-def test_accepted(hook, tmp_path):
-    """A finding that is accepted is none."""
-    assert hook("check", "found.csv", "--propose", "found.accepted.csv", command="balisekit") == 1
-    accepted = tmp_path / "found.accepted.csv"
-    accepted.write_text(re.sub(r",{5}(\w{64})", r",a test,A. Tester,2026-11-28,,\1", accepted.read_text("utf-8")))
-    assert hook("found.csv", "found.accepted.csv") == 0
+    for name, others in (("a sound", []), ("found", [TELEGRAM]), ("accepted", [TELEGRAM]), ("refused", ["a1"])):
+        rows = [f"{group},{text}\n" for group, text in zip("AB", [TELEGRAM, *others])]
+        (tmp_path / f"{name}.csv").write_text("group,telegram\n" + "".join(rows), "utf-8")
+    accepted = tmp_path / "accepted.accepted.csv"
+    if accepted.name in words:
+        assert status("balisekit", "check", "accepted.csv", "--propose", accepted) == 1
+        accepted.write_text(re.sub(r",{5}(\w{64})", r",a test,A. Tester,2026-11-28,,\1", accepted.read_text("utf-8")))
+    assert status(hook["entry"], *words) == wanted and re.search(hook["files"], words[-1])
 
 
 def test_job():

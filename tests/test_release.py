@@ -100,7 +100,9 @@ def check_tarball(made, tree):
         is_there = (tree / name).exists() or not (TOP / name).exists() or name == f"{STORED}/balisecheck"
         assert is_there or f"`{name.split('/')[0]}/`" in only, name
     prefix = made.with_name("a prefix")
-    sh(tree, f"./install.sh '{prefix}'")
+    older = prefix / "share/balisecheck/companion/src/balisekit/older.py"
+    sh(tree, f"./install.sh '{prefix}' && touch '{older}' && ./install.sh '{prefix}'")
+    assert not older.exists()
     serves(made, prefix)
     uninstall = re.search("To uninstall it from there: `([^`]*)`", readme)[1]
     assert sh(tree, uninstall.replace("PREFIX", f"'{prefix}'")) == sh(prefix, "find . ! -type d") == ""
