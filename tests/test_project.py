@@ -1,12 +1,11 @@
-"""What the repository has for those who read, fork or call it: crates, hook, job file, and the form of its texts."""
+"""What the repository has for those who read, fork or call it: crates, hook, steps of tests, and the form of its texts."""
 import os
 import re
-import shutil
 import subprocess
 
 import pytest
 
-from runner import EXAMPLES, TOP, crate_uses
+from runner import TOP, crate_uses
 
 USES = {name: {*used} & {*crate_uses()} for name, used in crate_uses().items()}
 TELEGRAM = "a1007f802000ffffffffffffffffffffffffffffffffffffffffc0"
@@ -51,13 +50,15 @@ def test_hook(words, wanted, tmp_path, program):
     assert status(hook["entry"], *words) == wanted and re.search(hook["files"], words[-1])
 
 
-def test_job():
-    """The job file of these tests names commands that exist here or in its systems."""
-    text = (EXAMPLES / "ci/tests/github.yml").read_text("utf-8")
-    steps = re.findall(r"(?m)^      - (?:run: (.+)|uses: actions/checkout@v4)$", text)
-    assert len(steps) == text.count("\n      - ")
-    for word in {part.split()[0] for step in steps for part in step.split(" && ") if part} | {"tests/all"}:
-        assert shutil.which(TOP / word if "/" in word else word, path="/usr/sbin:/usr/bin:/sbin:/bin"), word
+@pytest.mark.parametrize("command, wanted", [
+    ("echo 2 passed, 0 failed", "2 passed, 0 failed"), ("echo 2 passed, 3 failed; exit 1", "2 passed, 3 failed"),
+    ("echo 1 passed, 1 error; exit 1", "1 passed, 1 failed"), ("echo 2 passed, 0 failed; exit 1", "2 passed, 1 failed"),
+    ("echo 0 passed, 0 failed", "0 passed, 1 failed"), ("echo done", "0 passed, 1 failed")])
+def test_step(command, wanted):
+    """A step of the tests or of the gate also fails by its status, without a count and without a test."""
+    script = f". tests/steps.sh\nstep it sh -c '{command}'\ncount it\ntotal"
+    ran = subprocess.run(["bash", "-uc", script], cwd=TOP, capture_output=True, text=True, check=False)
+    assert (ran.stdout.splitlines()[-1], ran.returncode) == (wanted, int("0 failed" not in wanted))
 
 
 def test_texts():
