@@ -26,19 +26,16 @@ is_here() {
 # install PACKAGES: root installs what is not here of these words, without what this release of Debian or Ubuntu lacks.
 # Anybody else gets the command.
 install() {
-    local it sign root= lacks=() known=()
+    local it sign lacks=() known=() command=(apt-get install --no-install-recommends)
     for it in $1; do
         sign=${it#*=}
         is_here "${sign/#python3-/python:}" || lacks+=("${it%%=*}")
     done
     [ "${#lacks[@]}" -gt 0 ] || return 0
-    [ "$(id -u)" != 0 ] || ! command -v apt-get >/dev/null || root=yes
-    [ -z "$root" ] || timeout 300 apt-get update >"$room/installed" 2>&1
+    [ "$(id -u)" = 0 ] || { echo "to run all tests: sudo ${command[*]} ${lacks[*]}" && return; }
+    timeout 300 apt-get update >"$room/installed" 2>&1
     for it in "${lacks[@]}"; do ! apt-cache show "$it" >/dev/null 2>&1 || known+=("$it"); done
-    # (before the first `apt-get update` no package is known)
-    set -- apt-get install --no-install-recommends "${known[@]:-${lacks[@]}}"
-    [ -n "$root" ] || { echo "to run all tests: sudo $*"; return; }
-    echo "== $*"
-    DEBIAN_FRONTEND=noninteractive timeout 600 "$@" -y >"$room/installed" 2>&1 ||
-        { tail -n 3 "$room/installed"; echo 'not installed: what needs them is skipped'; }
+    echo "== ${command[*]} ${known[*]}"
+    DEBIAN_FRONTEND=noninteractive timeout 600 "${command[@]}" -y "${known[@]}" >"$room/installed" 2>&1 ||
+        { tail -n 3 "$room/installed" && echo 'not installed: what needs them is skipped'; }
 }

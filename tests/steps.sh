@@ -19,20 +19,19 @@ step() {
 # count NAME: adds what the last line of the step counts, in the form of `total` or of pytest, and prints it in a line.
 # A status that says otherwise is a failure, and so is a step that gave no count or ran nothing.
 count() {
-    local status last ran=0 bad=0
+    local status last ran bad
     status=$(cat "$room/$1.status" 2>/dev/null)
     last=$(tail -n 1 "$room/$1" 2>/dev/null)
-    [[ " $last" =~ \ ([0-9]+)\ passed ]] && ran=$((10#${BASH_REMATCH[1]}))
-    [[ " $last" =~ \ ([0-9]+)\ failed ]] && bad=$((10#${BASH_REMATCH[1]}))
-    [[ " $last" =~ \ ([0-9]+)\ error ]] && bad=$((bad + 10#${BASH_REMATCH[1]}))
-    if [ "$bad" -eq 0 ] && { [ "$status" != 0 ] || [ "$ran" -eq 0 ]; }; then
+    ran=$(grep -oP '\d+(?= passed)' <<<"$last")
+    bad=$(grep -oP '\d+(?= (failed|error))' <<<"$last" | awk '{ sum += $1 } END { print sum + 0 }')
+    if [ "$bad" = 0 ] && { [ "$status" != 0 ] || [ "${ran:-0}" = 0 ]; }; then
         bad=1
         last="failed with status ${status:-unknown} after the line: $last"
     fi
     passed=$((passed + ran))
     failed=$((failed + bad))
     printf '%-12s %s: %s\n' "$1" "$(tail -n 1 "$room/$1.times" 2>/dev/null)" "$last"
-    return "$((bad > 0))"
+    [ "$bad" = 0 ]
 }
 
 # holds NAME DIFFERENCE: a test, which an empty difference passes.

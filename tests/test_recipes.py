@@ -9,7 +9,6 @@ import pytest
 
 from runner import EXAMPLES, TOP, program, run
 
-pytestmark = pytest.mark.elsewhere
 PAGES = ("README.md", "examples/README.md", "examples/parallel.sh", *(f"docs/{name}.md" for name in (
     "refusals", "formats", "findings", "guide", "commands", "performance")))
 # A tool, the words of commands that need it, and what is skipped without it.
@@ -18,23 +17,16 @@ TOOLS = ("jq", "jq|shared_identities", "recipes by jq"), ("parallel", "check_doc
 ONES = b"f" * 38
 TELEGRAM, MARKED, SPARE = b"a1007f802000ff%bc0" % ONES, b"a1007f802000c011%bc0" % ONES[2:], b"a101ff802000ff%bc0" % ONES
 THREE = TELEGRAM, MARKED, SPARE
-GOOD, MARK = b"%b\n\n%b\n%b\n" % THREE, b"\xef\xbb\xbf"
-UTF16 = ("utf-16", b"", ""), ("utf-16-be", b"\xfe\xff", ""), ("utf-16-le", b"", "LE"), ("utf-16-be", b"", "BE")
+GOOD = b"%b\n\n%b\n%b\n" % THREE
 # The same lines with other characters: the row of docs/refusals.md that corrects them, its byte order, and the file.
 TO_MEND = [
     ("named", "", b"A 1;km 3,2\t0x%b\n\nB-2;%b\r\nC,3,0X%b\t\r\n" % THREE),
     ("returns", "", GOOD.replace(b"\n", b"\r")),
-    *(("utf16", order, mark + GOOD.replace(b"\n", b"\r\n").decode().encode(code)) for code, mark, order in UTF16),
-    *(("several", "", it) for it in (
-        b"%b  \r\n \t \n\t%b\n%b\t\r\n" % THREE,
-        b"%b%b\n\n%b%b\n%b\n" % (MARK, TELEGRAM, MARK, MARKED, SPARE),
-        b"%b # Stra\xdfe 7\n# \xc3\xa4, 0x10\n%b\t#\n%b#c0\n" % THREE,
-        b"0x%b\n\n0X%b\n0x%b\n" % THREE,
-        *(re.sub(b"([0-9a-f]{2})", spaced, GOOD) for spaced in (rb"\1 ", rb":\1", rb"\1-")),
-        b'"%b",\n\n%b;\n"%b"\n' % THREE,
-        b"%b\xc2\xa0\r\n\xa0\n\xa0%b\n%b\n" % THREE,
-        b'%b0x%b\r\n# none \xdf\r\n%b # 3\r\n"0X%b",\xc2\xa0\r\n'
-        % (MARK, TELEGRAM.upper(), re.sub(b"..", rb"\g<0> ", MARKED), SPARE))),
+    ("utf16", "", GOOD.decode().encode("utf-16")),
+    ("utf16", "LE", GOOD.decode().encode("utf-16-le")),
+    ("several", "", b"%b # Stra\xdfe 7\n# \xc3\xa4, 0x10\n%b\t#\n  0X%b#c0\n" % THREE),
+    ("several", "", re.sub(b"([0-9a-f]{2})", rb"\1-", GOOD)),
+    ("several", "", b'\xef\xbb\xbf"%b",\xc2\xa0\r\n \t\r\n%b;\n"%b"\n' % THREE),
 ]
 # Files that the commands name. In long.txt more lines follow the refused one than a pipe holds.
 FILES = {
@@ -49,52 +41,39 @@ FILES = {
     "long.txt": SPARE + b"\n" + (TELEGRAM + b"\n") * 20000,
     "refused.json": b'{"groups":[{"balises":["%b"]}],"messages":[]}' % SPARE,
 }
-NO_DIGIT = "line 1 has no hexadecimal digit for bit"
 CHECK, SOUND = "examples/check/", "examples/check/sound-line.json"
-# Commands after their status, some with their output. T and S are telegrams, E is the end of a line. Work in parts ends
-# with the greatest status, and with 3 if a part is lost.
+# Commands after their status, some with their output. T and S are telegrams, E is the end of a line.
 CALLS = [
     (0, "./balisecheck decode <numbered.txt | json_lines | jq -c .packets | number_lines numbered.txt",
      '1 []\n4 [{"nid_packet":0,"nid_vbcmk":17}]\n5 []'),
     (0, "./balisecheck decode <batch.txt | json_lines 2>said | jq -c .packets | number_lines batch.txt", "1 []"),
+    (1, "number_lines missing.txt <<<'{}'", "missing.txt has no line for answer 1"),
     (1, "put_number 1 15 17 4 <<<$T", "4 is no number of 2 bits"),
-    (1, "put_number 1 15 17 x <<<$T", "x is no number of 2 bits"),
-    (1, "put_number 1 214 218 3 <<<$T", f"{NO_DIGIT} 217"),
-    (1, 'put_number 1 0 4 3 <<<" $T"', f"{NO_DIGIT} 3"),
+    (1, "put_number 1 214 218 3 <<<$T", "line 1 has no hexadecimal digit for bit 217"),
     (1, "put_number 2 15 17 3 <<<$T >/dev/null", "there is no line 2"),
-    (0, "put_number 1 15 17 3 <<<$T", SPARE.decode()),
     (0, "put_number 1 15 17 0 <<<${S^^} | tr A-F a-f", TELEGRAM.decode()),
     (0, 'put_number 1 15 17 3 <<<"$T$E"', f"{SPARE.decode()} \t\r"),
-    (1, "show_bits 1 214 218 <<<$T", f"{NO_DIGIT} 216"),
-    (1, 'show_bits 1 214 218 <<<"$T$E"', f"{NO_DIGIT} 216"),
-    (1, "show_bits 2 0 8 <<<$T", "there is no line 2"),
+    (1, 'show_bits 1 214 218 <<<"$T$E"', "line 1 has no hexadecimal digit for bit 216"),
     (1, "show_bits 0 0 8 <<<$T", "there is no line 0"),
     (0, 'show_bits 1 208 216 <<<"$T$E"', "11000000 is 192"),
-    (1, "list_packets 2 <<<$T", "there is no line 2"),
-    (1, "list_packets 1 <<<${T:0:13}", f"{NO_DIGIT} 52"),
+    (1, "list_packets 1 <<<${T:0:13}", "line 1 has no hexadecimal digit for bit 52"),
     (0, 'list_packets 1 <<<"$T$E"', "packet 255 at bit 50"),
-    (0, "number_lines numbered.txt <<<'{}'", "1 {}"),
-    (1, "number_lines missing.txt <<<'{}'", "missing.txt has no line for answer 1"),
     (2, "./balisecheck decode <uplink.txt", "refused: line 1: down-link at 0 end 1"),
     (0, "move_zeros 1 <uplink.txt | show_bits 1 0 8", "10100000 is 160"),
     (1, "move_zeros 1 <<<$T", "line 1 does not begin with 6 zeros"),
-    (1, "move_zeros 2 <<<$T >/dev/null", "there is no line 2"),
     (2, f"check_documents {CHECK}no-gradient.json {CHECK}no-gradient.txt {SOUND}"),
     (3, f"check_documents {CHECK}no-gradient.txt missing.json {SOUND}"),
     (3, f"check_documents {SOUND} >/dev/full"),
-    (3, "check_documents"),
     (3, f"echo 'kill -9 $PPID' >killing; chmod +x killing; BALISECHECK=./killing check_documents {SOUND}"),
     (2, "run_in_blocks 2M long.txt ./balisecheck decode"),
     (0, "run_in_blocks 60 /dev/null ./balisecheck decode"),
     (3, "run_in_blocks 60 examples ./balisecheck decode"),
-    (3, "cat batch.txt | run_in_blocks 60 /dev/stdin ./balisecheck decode"),
     (3, "run_in_blocks 60 batch.txt 'kill -9 $$'"),
     (3, "run_in_blocks 60 examples/duplicated-pair.txt ./balisecheck decode >/dev/full"),
-    (1, f"shared_identities {CHECK}identity-used-before.json"),
     (1, f"shared_identities {CHECK}controlled-group.json {CHECK}aspects-not-told-apart.json"),
     (2, "shared_identities refused.json"),
     (3, f"shared_identities {SOUND} missing.json"),
-    (3, "shared_identities"),
+    (3, "check_documents; [ $? = 3 ] && shared_identities"),
 ]
 
 
@@ -137,13 +116,9 @@ def test_block(commands, wanted, shell):
 
 
 def test_pages():
-    """Each page has commands, and shows none otherwise. Each kind of file has a row, and each file is used."""
+    """Each page has commands. Each kind of file has a row."""
     assert {page for page, commands, _ in BLOCKS if commands} == {*PAGES}
-    for page in PAGES:
-        assert not re.search(r"(?m)^    \$", (TOP / page).read_text(encoding="utf-8")), page
-    assert sorted(MENDING) == ["named", "returns", "several", "utf16"]
-    for name in FILES:
-        assert any(name in commands for _, commands, *_ in BLOCKS + CALLS), name
+    assert {*MENDING} == {row for row, *_ in TO_MEND}
 
 
 @pytest.mark.parametrize("name", ["line.txt", "aspects.txt"])
@@ -160,9 +135,7 @@ def test_mending(row, order, content, shell, tmp_path):
     assert re.search(r"(?m)^refused: line [12]: not hexadecimal\n\Z", run(("decode",), content).stdout)
     (tmp_path / f"{row}.txt").write_bytes(content)
     shell(MENDING[row].replace("UTF-16 ", f"UTF-16{order} "))
-    mended = (tmp_path / "mended.txt").read_bytes()
-    assert mended.replace(b"\r", b"").lower() == GOOD
-    assert run(("decode",), mended).stdout.endswith("\nrefused: line 4: spare at 15 end 17\n")
+    assert (tmp_path / "mended.txt").read_bytes().replace(b"\r", b"").lower() == GOOD
 
 
 @pytest.mark.parametrize("call", CALLS, ids=lambda call: call[1])
@@ -174,13 +147,12 @@ def test_call(call, shell):
     assert not wanted or ran.stdout + ran.stderr == f"{wanted[0]}\n"
 
 
-@pytest.mark.parametrize("name", ["header-only", "movement-authority-radio", "movement-authority-level-1"])
+@pytest.mark.parametrize("name", ["header-only", "movement-authority-level-1"])
 def test_zeros(name, shell, tmp_path):
     """The zeros in front of a telegram of either size are put after it."""
     good, telegram = (EXAMPLES / f"{name}.txt").read_text().strip(), TELEGRAM.decode()
     shifted = f"{int(good, 16) >> (6 if len(good) == 54 else 2):0{len(good)}x}"
     (tmp_path / "zeros.txt").write_bytes(f"{telegram}\n{shifted}\r\n{good}\n".encode())
-    assert shell("./balisecheck decode <zeros.txt").stdout.endswith("\nrefused: line 2: pad bits set\n")
     assert shell("move_zeros 2 <zeros.txt").stdout == f"{telegram}\n{good}\n{good}\n"
 
 
