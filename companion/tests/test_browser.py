@@ -9,8 +9,9 @@ import re
 import shutil
 import subprocess
 import threading
+from itertools import islice
 from pathlib import Path
-from typing import Any, List, Tuple
+from typing import Any, List, NamedTuple, Tuple
 
 import pytest
 from cases_of_program import TOP
@@ -61,13 +62,6 @@ def test_the_console_is_empty(dumped: "subprocess.CompletedProcess[str]") -> Non
     assert "Report on balise telegrams" in dumped.stdout and dumped.stdout.count('<section class="group"') == 9
 
 
-def test_a_wrong_page_is_reported(page: Path, tmp_path: Path) -> None:
-    """The test does look at the console: a script that the policy refuses is reported there."""
-    wrong = tmp_path / "wrong.html"
-    wrong.write_text(page.read_text("utf-8").replace("<h1>", "<script>1</script><h1>"), "utf-8")
-    assert "CONSOLE" in browse(tmp_path, wrong, "--dump-dom").stderr
-
-
 def test_a_screenshot(page: Path, tmp_path: Path) -> None:
     """The window is not empty."""
     picture = tmp_path / "page.png"
@@ -88,19 +82,6 @@ def test_a_print(page: Path, tmp_path: Path) -> None:
     assert cli.main(["report", str(LINE), "--html", str(full), "--full"]) == 2
     few, many = pages_of(tmp_path, page), pages_of(tmp_path, full)
     assert 3 <= few <= 10 and many >= few + 8
-
-
-def test_what_is_folded_is_opened_at_its_place(
-    page: Path, dumped: "subprocess.CompletedProcess[str]", tmp_path: Path
-) -> None:
-    """A link to a row, or to a packet within it, opens its telegram, and a button to copy the digits appears."""
-    assert '<details id="r3">' in dumped.stdout
-    for place in ("#r3", "#r23p1"):
-        seen = browse(tmp_path, page, "--dump-dom", "--virtual-time-budget=2000", place=place).stdout
-        row = place.split("p", maxsplit=1)[0][1:]
-        opened = seen[seen.index(f'<details id="{row}" open="">') :]
-        assert '<button type="button">copy the digits</button><pre>' in opened[:400]
-        assert seen.count("copy the digits</button>") == 2, "of this row, and of the refused one"
 
 
 FOLLOWED = """<img src="http://127.0.0.1:PORT/"><script>
@@ -155,23 +136,6 @@ def test_links_lead_to_their_places(page: Path, tmp_path: Path) -> None:
     assert len(tops) == 6 and all(40 <= top < 200 for top in tops), tops
 
 
-PRINTED = """<script>
-const looks = (selector, name) => [...document.querySelectorAll(selector)].map((one) => getComputedStyle(one)[name]);
-document.title = JSON.stringify([
-  looks("details[open] button", "display"), looks("#papers", "breakInside"), looks("#yes p:has(+ ul)", "breakAfter"),
-]);
-</script></body>"""
-
-
-def test_the_styles_of_a_print(page: Path, tmp_path: Path) -> None:
-    """No button is printed, and no page ends within the papers, or between a paragraph and its list."""
-    text = re.sub('<meta http-equiv="Content-Security-Policy"[^>]*>', "", page.read_text("utf-8"))
-    text = text.replace("@media print", "@media all").replace("</body>", PRINTED)
-    (tmp_path / "page.html").write_text(text, "utf-8")
-    seen = browse(tmp_path, tmp_path / "page.html", "--dump-dom").stdout
-    assert json.loads(seen.partition("<title>")[2].partition("</title>")[0]) == [["none"], ["avoid"], ["avoid"] * 4]
-
-
 SORTED = """
 const button = [...document.querySelectorAll("thead button")].find((each) => each.textContent === "%s");
 for (let click = 0; click < %d; click++) button.click();
@@ -193,6 +157,18 @@ OVERVIEWS: List[Tuple[str, List[str]]] = [
 ]
 """Steps of a user, and the groups that are shown after them."""
 WIDTHS = [500, 800, 1400]
+PLACES = ["#r3", "#r23p1"]
+"""A row, and a packet within another one."""
+OPENED = """
+setTimeout(() => parent.postMessage([%d, document.body.innerHTML], "*"), 300);
+"""
+"""Telegrams get their buttons after they have been opened."""
+PRINTED = """
+const looks = (selector, name) => [...document.querySelectorAll(selector)].map((one) => getComputedStyle(one)[name]);
+parent.postMessage([%d,
+  looks("details[open] button", "display"), looks("#papers", "breakInside"), looks("#yes p:has(+ ul)", "breakAfter"),
+], "*");
+"""
 SAYS = """
 const remarks = [...document.querySelectorAll("thead th")].find((each) => each.textContent === "remarks");
 document.querySelector("#found").scrollIntoView();
@@ -207,45 +183,86 @@ onmessage = ({data}) => { said[data[0]] = data; document.title = JSON.stringify(
 """
 
 
-@pytest.fixture(scope="module")
-def frames(page: Path, tmp_path_factory: pytest.TempPathFactory) -> List[Any]:
-    """How wide each copy of the page, its window, and its overview up to the remarks are, and its body.
+class Frames(NamedTuple):
+    """What a browser with a frame for each copy of the page has."""
 
-    That is after the steps of its user. One browser has them all in frames of these widths. The policy of the page
-    itself would refuse the steps.
-    """
+    overviews: List[Any]
+    """How wide each page, its window, and its overview up to the remarks are, and its body: after a user's steps."""
+    widths: List[Any]
+    """The same in windows of each width."""
+    places: List[List[str]]
+    """The body at each place."""
+    printed: List[List[str]]
+    """What a print would look like."""
+    console: str
+
+
+@pytest.fixture(scope="module")
+def frames(page: Path, tmp_path_factory: pytest.TempPathFactory) -> Frames:
+    """One browser has all copies. The policy of the page would refuse their scripts, and only the last one keeps it."""
     room = tmp_path_factory.mktemp("frames")
-    text = re.sub('<meta http-equiv="Content-Security-Policy"[^>]*>', "", page.read_text("utf-8"))
+    kept = page.read_text("utf-8")
+    text = re.sub('<meta http-equiv="Content-Security-Policy"[^>]*>', "", kept)
+    shown = [
+        *((text, steps + SAYS, 1100, "") for steps, _ in OVERVIEWS),
+        *((text, SAYS, width, "") for width in WIDTHS),
+        *((text, OPENED, 1100, place) for place in PLACES),
+        (text.replace("@media print", "@media all"), PRINTED, 1100, ""),
+        (kept, SAYS, 1100, ""),
+    ]
     whole = f"<title></title><script>{HEARS}</script>"
-    for index, (steps, width) in enumerate(
-        [*((steps, 1100) for steps, _ in OVERVIEWS), *(("", each) for each in WIDTHS)]
-    ):
-        script = f"<script>{{{steps}}}{SAYS % index}</script></body>"
-        (room / f"{index}.html").write_text(text.replace("</body>", script), "utf-8")
-        whole += f'<iframe src="{index}.html" width="{width}" height="900" style="border: 0"></iframe>'
+    for index, (copy, script, width, place) in enumerate(shown):
+        (room / f"{index}.html").write_text(
+            copy.replace("</body>", f"<script>{{{script % index}}}</script></body>"), "utf-8"
+        )
+        whole += f'<iframe src="{index}.html{place}" width="{width}" height="900" style="border: 0"></iframe>'
     (room / "whole.html").write_text(whole, "utf-8")
-    seen = browse(room, room / "whole.html", "--dump-dom", "--virtual-time-budget=5000").stdout
-    (title,) = re.findall("<title>(.+?)</title>", seen)
-    said = json.loads(html.unescape(title))
-    return [said[str(index)][1:] for index in range(len(OVERVIEWS) + len(WIDTHS))]
+    seen = browse(room, room / "whole.html", "--dump-dom", "--virtual-time-budget=5000")
+    (title,) = re.findall("<title>(.+?)</title>", seen.stdout)
+    said = iter([each[1:] for _, each in sorted(json.loads(html.unescape(title)).items(), key=lambda one: int(one[0]))])
+    parts = [list(islice(said, len(each))) for each in (OVERVIEWS, WIDTHS, PLACES)]
+    (printed,) = said
+    return Frames(*parts, printed, seen.stderr)
+
+
+def test_a_wrong_page_is_reported(frames: Frames) -> None:
+    """The console is looked at: a script that the policy refuses is reported there."""
+    assert "CONSOLE" in frames.console and "Content Security Policy" in frames.console
+
+
+@pytest.mark.parametrize("index, place", enumerate(PLACES))
+def test_what_is_folded_is_opened_at_its_place(
+    frames: Frames, dumped: "subprocess.CompletedProcess[str]", index: int, place: str
+) -> None:
+    """A link to a row, or to a packet within it, opens its telegram, and a button to copy the digits appears."""
+    row, (seen,) = place.split("p", maxsplit=1)[0][1:], frames.places[index]
+    assert f'<details id="{row}">' in dumped.stdout
+    opened = seen[seen.index(f'<details id="{row}" open="">') :]
+    assert '<button type="button">copy the digits</button><pre>' in opened[:400]
+    assert seen.count("copy the digits</button>") == 2, "of this row, and of the refused one"
+
+
+def test_the_styles_of_a_print(frames: Frames) -> None:
+    """No button is printed, and no page ends within the papers, or between a paragraph and its list."""
+    assert frames.printed == [["none"], ["avoid"], ["avoid"] * 4]
 
 
 @pytest.mark.parametrize("index", range(len(OVERVIEWS)))
-def test_the_overview_is_sorted_and_searched(frames: List[Any], index: int) -> None:
+def test_the_overview_is_sorted_and_searched(frames: Frames, index: int) -> None:
     """By the headings, as numbers where they are numbers, and by words; empty cells come last."""
-    seen = frames[index][-1]
+    seen = frames.overviews[index][-1]
     body = seen[seen.index('id="overview"') : seen.index('id="tracks"')]
     rows = [row for row in re.findall("<tr.*?</tr>", body)[1:] if 'hidden=""' not in row]
     assert [re.findall("<bdi>(?:Signal )?([A-Za-z]+)", row)[0] for row in rows] == OVERVIEWS[index][1]
 
 
-@pytest.mark.parametrize("place, width", enumerate(WIDTHS, len(OVERVIEWS)))
-def test_nothing_is_wider_than_the_window(frames: List[Any], place: int, width: int) -> None:
+@pytest.mark.parametrize("index, width", enumerate(WIDTHS))
+def test_nothing_is_wider_than_the_window(frames: Frames, index: int, width: int) -> None:
     """What is wider, as pictures and tables may be, is scrolled by itself. Findings and remarks are seen at once.
 
     A heading that a link leads to is not behind the links.
     """
-    needed, there, remarks, below, _ = frames[place]
+    needed, there, remarks, below, _ = frames.widths[index]
     assert needed <= there and abs(there - width) <= 20 and remarks <= there
     assert 0 <= below < 60
 

@@ -28,8 +28,16 @@ from balisekit.rules.rule import Options
 from balisekit.tables import messages as messages_file, reader
 
 Write = Callable[..., Path]
-MANY = 3500
-"""This many groups are some seconds of work for the workers."""
+FEW, MANY = 250, 1000
+"""From how many groups on commands share their work in these tests, and how many are a second of work for workers."""
+START = f"""
+import sys
+sys.path.insert(0, {str(TOP / "companion" / "src")!r})
+from balisekit.io import workers
+workers.LEAST = {FEW}
+from balisekit.cli.main import main
+sys.exit(main())
+"""
 
 
 def _numbers(part: int, count: int) -> Iterator[int]:
@@ -191,7 +199,7 @@ def test_no_process(monkeypatch: pytest.MonkeyPatch) -> None:
         pass
 
 
-def _lines(tracks: int, groups: int = workers.LEAST + 40) -> List[str]:
+def _lines(tracks: int, groups: int = FEW + 40) -> List[str]:
     """A table whose groups have names, kilometres and tracks of their own. The last one of each track is far away."""
     rows = ["group,km,track,telegram"]
     for number in range(groups):
@@ -209,7 +217,7 @@ def _begin(processors: int, *words: object) -> "subprocess.Popen[bytes]":
         signal.signal(signal.SIGINT, signal.SIG_DFL)  # (a job in the background ignores it)
 
     return subprocess.Popen(
-        [sys.executable, str(TOP / "companion" / "start.py"), *map(str, words)],
+        [sys.executable, "-c", START, *map(str, words)],
         stdout=subprocess.PIPE,
         stderr=subprocess.PIPE,
         env={**os.environ, "SOURCE_DATE_EPOCH": "1700000000"},
@@ -239,7 +247,7 @@ def test_the_same_page(tracks: int, table: Write, tmp_path: Path) -> None:
 @needs_two
 def test_the_same_remarks(program: Program, tmp_path: Path) -> None:
     """Whether one process applies all rules or several, with all that is said of groups, rows and messages."""
-    path, said = table_of(tmp_path / "table.csv", program, workers.LEAST + 20), []
+    path, said = table_of(tmp_path / "table.csv", program, FEW + 20), []
     (tmp_path / "m.txt").write_text(f"{MESSAGE}\n")
     for processors in (1, 2):
         target = tmp_path / f"{processors}.json"
