@@ -7,12 +7,11 @@
 #     scripts/release.sh              writes the release into out/release: tarball and its checksum, wheel, .deb, SPDX,
 #                                     the logs of the gate, of edits and plants, a README and SHA256SUMS
 #     scripts/release.sh --try DIR    the same into an empty DIR, with the program that ./balisecheck would run, without
-#                                     logs and without judged edits: the names of its packages have "untested"
+#                                     logs: the names of its packages have "untested"
 #
 # `store` takes what the gate, or scripts/build and then scripts/library, have built from these sources in out/, and runs
-# tests/dist. A program that differs from the stored one needs a new version number. A release needs out/edits of
-# `tests/edits --all`, and the output of `.ci/run` in out/gate.log, of `tests/edits --all` in out/edits.log and of
-# `tests/plants` in out/plants.log. Two runs on one commit with the same tools give the same bytes. They need git, python3-hatchling, advancecomp, help2man and dpkg-deb.
+# tests/dist. A program that differs from the stored one needs a new version number. A release needs the output of
+# `.ci/run` in out/gate.log, of `tests/edits --all` in out/edits.log and of `tests/plants` in out/plants.log. Two runs on one commit with the same tools give the same bytes. They need git, python3-hatchling, advancecomp, help2man and dpkg-deb.
 set -euo pipefail
 
 cd "$(dirname "${BASH_SOURCE[0]}")/.."
@@ -60,12 +59,6 @@ has_library() {
 # is_passed LOG COMMAND: fails if there is no log, or its last line does not report that everything passed.
 is_passed() {
     tail -n 1 "$1" 2>/dev/null | grep -qE '(^|[ :])[1-9][0-9]* passed, 0 failed$' || fail "no $1 in which everything passed: $2 | tee $1"
-}
-
-# are_judged: fails if tests/edits --all has not judged every edit of these sources.
-are_judged() {
-    [ -e out/edits ] && [ "$(cut -d ' ' -f 1,2 out/edits)" = "$(tests/edits --sums)" ] ||
-        fail 'not every edit of these sources was judged: tests/edits --all'
 }
 
 # The least C library that has all that a program calls.
@@ -168,10 +161,11 @@ release() {
     is_committed "${handed[@]}" VERSION dist crates.txt HANDLES crates
     is_right "$dist" 'scripts/release.sh store'
     [ "$(said version "$dist")" = "$version" ] || fail "the stored program is not $version: scripts/release.sh store"
-    are_judged
     is_passed out/gate.log .ci/run
     grep -qx "== sources $(said sources "$dist")" out/gate.log || fail 'out/gate.log is from other sources: .ci/run | tee out/gate.log'
     is_passed out/edits.log 'tests/edits --all'
+    grep -qx "== crates $(git rev-parse HEAD:crates)" out/edits.log ||
+        fail 'out/edits.log is from other sources: tests/edits --all | tee out/edits.log'
     is_passed out/plants.log tests/plants
     rm -rf out/release
     pack out/release "$dist/balisecheck" "$dist/ABOUT" ''

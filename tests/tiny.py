@@ -15,7 +15,7 @@ EMPTY += [f"crates/{crate}/{name}" for crate in ("etcs_low", "etcs_high", "trial
 FILES = {**dict.fromkeys(EMPTY, ""), **dict.fromkeys(NUMBERED, '.TH X 1 "not 1.219" "balisecheck 1.2.9" ""\n'),
          "crates.txt": CRATES, "HANDLES": "none\n", "VERSION": "1.2.9\n", "balisekit": "#!/bin/sh\necho a kit\n",
          "CHANGELOG.md": "# Changelog\n\n## Unreleased\n- more\n\n## 1.2.9 - 2026-01-01\n", ".gitignore": "out/\n",
-         "dist/RELEASES": "# heads\n", "tests/edits": "#!/bin/sh\necho one 1\n"}
+         "dist/RELEASES": "# heads\n"}
 # What commands in the tree can call: `program FOLDER SCRIPT [LINE]` writes a program and its ABOUT with this line,
 # `answers FOLDER WORDS` one that writes the words before each line, `built WORDS` one to be stored, with its library.
 SHELL = r"""
