@@ -1,15 +1,15 @@
 #!/usr/bin/env python3
 """Compares what two programs answer to random inputs: output, standard error and status.
 
-    bench/compare.py OLD NEW [--documents N] [--lines N] [--seed S] [--command WORDS] [--jobs N]
-    bench/compare.py PROGRAM ..    whether each answer is documented and in time, and whether each record comes back
+    bench/compare.py OLD NEW [--inputs N] [--seed S] [--command WORDS] [--jobs N]
+    bench/compare.py PROGRAM ..    whether each answer is documented, and whether each record comes back
 
-A path that ends in .so is the library for C. `check` gets N documents (bench/faults.py): half of them have a group with
-aspects, a third have faults, and a tenth are mutated. Each other command gets N lines, a third of which are spoiled. A
-process takes some lines, of which only the last one is spoiled. The inputs depend only on the seed, and on which inputs
-of the tests the first program accepts.
+A path that ends in .so is the library for C. Each command gets N inputs. Those of `check` are documents
+(bench/faults.py): half of them have a group with aspects, a third have faults, and a tenth are mutated. Those of other
+commands are up to four lines, of which only the last one is spoiled. The inputs depend only on the seed, and on which
+inputs of the tests the first program accepts.
 
-The first differences are printed. The last line counts documents, lines, refusals, findings and differences. The exit
+The first differences are printed. The last line counts the statuses of each command, findings and differences. The exit
 status is 1 if an answer differs.
 """
 import argparse
@@ -31,15 +31,8 @@ from records import message, numbers, telegram  # noqa: E402
 from runner import respelled  # noqa: E402
 
 FAULTY, MUTATED, RESPELLED, KNOWN = 0.33, 0.1, 0.15, 0.1  # shares
-BATCH, SHOWN = 500, 10  # documents or lines of a batch, and differences that are printed
+BATCH, SHOWN = 500, 10  # inputs of a batch, and differences that are printed
 BY_NAME = {" ".join(words): words for words in COMMANDS}
-
-
-def any_order(value):
-    """The same JSON value, the keys of each object in any order."""
-    if isinstance(value, dict):
-        return {key: any_order(value[key]) for key in numbers.sample(list(value), len(value))}
-    return [any_order(it) for it in value] if isinstance(value, list) else value
 
 
 def right_line(words, known):
@@ -49,7 +42,7 @@ def right_line(words, known):
     text, record = message() if "--radio" in words else telegram()
     if words[0] == "decode":
         return text.encode()
-    line = json.dumps(any_order(record), separators=(",", ":"))
+    line = json.dumps(dict(numbers.sample([*record.items()], len(record))), separators=(",", ":"))
     return (respelled(line) if numbers.random() < RESPELLED else line).encode()
 
 
@@ -80,7 +73,7 @@ def spoiled_line(words, known):
 
 
 def some_lines(words, known):
-    """Up to three lines that are accepted and in most cases a spoiled one, as the bytes of an input; their number."""
+    """Up to three lines that are accepted and in most cases a spoiled one, as the bytes of an input."""
     lines = [right_line(words, known) for _ in range(numbers.choice((0, 1, 1, 2, 3)))]
     if numbers.random() < 0.95:
         lines.append(spoiled_line(words, known).replace(b"\n", b" "))
@@ -89,40 +82,24 @@ def some_lines(words, known):
         data = re.sub(b"[\r\n]", b"", data)
         place = 2 * numbers.randint(0, len(data) // 2)
         data = data[:place] + b"\n" + data[place:]
-    return data + b"\n" * (numbers.random() < 0.8), len(lines)
+    return data + b"\n" * (numbers.random() < 0.8)
 
 
 def some_document(known):
-    """A document, and whether a group has aspects."""
+    """A document, with aspects or without."""
     has_aspects, way = numbers.random() < 0.5, numbers.random()
     document = random_document(has_aspects, way < FAULTY).encode()
     if way > 1 - MUTATED:
-        document = mutated(CHECK, [document, numbers.choice(known)])
-    elif numbers.random() < RESPELLED:
-        document = respelled(document.decode()).encode()
-    elif numbers.random() < RESPELLED:
-        document = document.replace(b"{", b'{"messages":0,', 1)
-    return document, has_aspects
+        return mutated(CHECK, [document, numbers.choice(known)])
+    if numbers.random() < RESPELLED:
+        return respelled(document.decode()).encode()
+    return document.replace(b"{", b'{"messages":0,', 1) if numbers.random() < RESPELLED else document
 
 
-def inputs(words, known, count, met):
-    """Jobs with so many documents or lines."""
-    made = 0
-    while made < count:
-        data, what = some_document(known) if words == CHECK else some_lines(words, known)
-        met["check: aspects"] += what * (words == CHECK)
-        made += 1 if words == CHECK else what
-        yield Job(words, data)
-
-
-def noted(met, words, answer):
-    """Counts what was answered to an input."""
-    name = " ".join(words)
-    met[f"{name}: refused"] += answer.status == 2
-    met[name] += 1 if words == CHECK else len(answer.stdout.splitlines())
-    if words == CHECK:
-        met["check: no"] += answer.status == 1
-        met.update(set(re.findall(r"(?m)^(F\d+) ", answer.stdout)))
+def inputs(words, known, count):
+    """So many jobs of a command."""
+    make = (lambda: some_document(known)) if words == CHECK else (lambda: some_lines(words, known))
+    return [Job(words, make()) for _ in range(count)]
 
 
 def wrong_with(program, words, jobs):
@@ -150,9 +127,9 @@ def compare(programs, jobs, met):
     else:
         both = zip(*([answer for answer, _ in program.play(jobs)] for program in programs))
     for job, (old, new) in zip(jobs, both):
-        noted(met, words, old)
+        met.update([f"{' '.join(words)}: {old.status}", *{*re.findall(r"(?m)^(F\d+) ", old.stdout)}])
         if old != new:
-            met[f"{' '.join(words)}: differ"] += 1
+            met["different"] += 1
             yield words, job.data, old, new
 
 
@@ -161,12 +138,10 @@ def share(said, process):
     met, differences = collections.Counter(), []
     programs = [opened(path) for path in said.programs]
     for words in [BY_NAME[said.command]] if said.command else COMMANDS:
-        known, count = accepted_of(programs[0], words), said.documents if words == CHECK else said.lines
-        for first in range(process * BATCH, count, said.jobs * BATCH):
+        known = accepted_of(programs[0], words)
+        for first in range(process * BATCH, said.inputs, said.jobs * BATCH):
             numbers.seed(f"{said.seed} {words} {first}")
-            differences += compare(programs, list(inputs(words, known, min(BATCH, count - first), met)), met)
-    for program in programs:
-        program.close()
+            differences += compare(programs, inputs(words, known, min(BATCH, said.inputs - first)), met)
     return met, differences[:SHOWN]
 
 
@@ -174,8 +149,7 @@ def main():
     """Compares as the command line says."""
     parser = argparse.ArgumentParser(description="Compares two programs on random inputs.")
     parser.add_argument("programs", nargs="+", type=lambda path: str(pathlib.Path(path).resolve(strict=True)))
-    parser.add_argument("--documents", type=int, default=100_000, help="for check, 100000 if not given")
-    parser.add_argument("--lines", type=int, default=100_000, help="for each other command, 100000 if not given")
+    parser.add_argument("--inputs", type=int, default=30_000, help="for each command, 30000 if not given")
     parser.add_argument("--seed", type=int, default=1, help="of the inputs, 1 if not given")
     parser.add_argument("--command", choices=BY_NAME, help="only this command")
     parser.add_argument("--jobs", type=int, default=2, help="processes side by side, 2 if not given")

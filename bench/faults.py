@@ -9,7 +9,7 @@ import json
 from dataclasses import dataclass
 
 from documents import ANY_MESSAGE, BOTH, PROFILES, authority, balise_text, profile
-from records import END_BITS, HEAD_BITS, LAYOUTS, OTHERS, USER_BITS, Writer, message_text, numbers, packet
+from records import END_BITS, HEAD_BITS, OTHERS, USER_BITS, begun, message_text, numbers, packet
 
 SHORT_BITS, TELEGRAM_HEAD_BITS = 210, 50
 ROOM = USER_BITS - TELEGRAM_HEAD_BITS - END_BITS
@@ -270,8 +270,7 @@ def text_of(balise):
 
 def message_of(packets):
     """The text of a message 3 with these packets."""
-    out = Writer({"NID_MESSAGE": 3})
-    out.object(LAYOUTS["message 3"], {}, {})
+    out, _ = begun(3)
     for one in packets:
         out.put(one.value, one.bits)
     return message_text(out)

@@ -178,13 +178,24 @@ def message_text(out):
     return f"{out.value | out.bits // 8 << out.bits - out.after_length:0{out.bits // 4}x}"
 
 
+def begun(kind):
+    """A message of this kind up to its packets, and its record."""
+    out, record = Writer({"NID_MESSAGE": kind}), {}
+    out.object(LAYOUTS[f"message {kind}"], record, {})
+    return out, record
+
+
+def written(kind, end):
+    """A message of this kind of at most so many bits, without its length, and its record."""
+    first = ("packet", [AUTHORITY, *some_known()]) if kind == MOVEMENT else ("train packet", [numbers.randint(0, 1)])
+    out, record = begun(kind)
+    record["packets"] = list(packets(out, end, *first))
+    return out, record
+
+
 def message():
     """The text of a message, and its record."""
-    kind, record = numbers.choice((MOVEMENT, POSITION)), {}
-    out, end = Writer({"NID_MESSAGE": kind}), 8 * numbers.randint(LEAST, MOST)
-    out.object(LAYOUTS[f"message {kind}"], record, {})
-    first = ("packet", [AUTHORITY, *some_known()]) if kind == MOVEMENT else ("train packet", [numbers.randint(0, 1)])
-    record["packets"] = list(packets(out, end, *first))
+    out, record = written(numbers.choice((MOVEMENT, POSITION)), 8 * numbers.randint(LEAST, MOST))
     return message_text(out), record
 
 

@@ -3,20 +3,26 @@ numbers that were put into the fields.
 
     tests/cases.py    prints the cases of `decode`, one a line: name, input line and answer, with tabs between them
 """
-import functools
+import copy
 import itertools
 import json
-import operator
 import re
 import shlex
+import sys
 
-from runner import EXAMPLES, answered, blocks, filled, in_full, respelled
+from runner import EXAMPLES, TOP, answered, blocks, in_full, respelled
 
+sys.path.append(str(TOP / "bench"))
+import records  # noqa: E402  (the path comes first)
+
+FORM = records.FORM
 SHORT, LONG, END_MARK = 210, 830, "11111111"
 # The header's variables after Q_UPDOWN: key, width, number in the telegram of group 1 in country 1.
 HEADER = (("m_version", 7, 33), ("q_media", 1, 0), ("n_pig", 3, 0), ("n_total", 3, 0), ("m_dup", 2, 0),
           ("m_mcount", 8, 255), ("nid_c", 10, 1), ("nid_bg", 14, 1), ("q_link", 1, 1))
-FORM = json.JSONEncoder(separators=(",", ":"), sort_keys=True)
+TELEGRAM, MESSAGE = in_full("a1007f802000..f c0"), "03048000001900080021e810901ff801f400"
+MOVEMENT, POSITION = ((EXAMPLES / f"radio-{name}.json").read_text().strip()
+                      for name in ("movement-authority", "position-report"))
 
 
 # ---- bits, and what is written for them
@@ -27,12 +33,7 @@ def spelled(*fields):
     return "".join(f"{number:0{width}b}" for width, number in fields)
 
 
-def both(*fields):
-    """The digits of fields, each its key, its width and its number, and the form of those that have a key."""
-    return spelled(*(field[1:] for field in fields)), {key: number for key, _, number in fields if key}
-
-
-HEAD = "1" + both(*HEADER)[0]
+HEAD = "1" + spelled(*(field[1:] for field in HEADER))
 
 
 def text(bits):
@@ -51,11 +52,6 @@ def sizes(bits):
     return [size for size in (SHORT, LONG) if len(HEAD + bits + END_MARK) <= size]
 
 
-def with_packets(form, forms):
-    """The line of a telegram or message with packets of these forms."""
-    return FORM.encode({**form, "packets": []}).replace('"packets":[]', f'"packets":[{",".join(forms)}]')
-
-
 def refusal(why, start=0):
     """The line of a refusal, its places counted from a packet that begins at `start`."""
     return "refused: line 1: " + re.sub(r"\d+", lambda place: str(int(place[0]) + start), why)
@@ -70,13 +66,12 @@ def answer(size, forms, head=HEAD):
                        ("loop at 8 end 9", form.pop("q_media")), ("spare at 15 end 17", form["m_dup"] == 3)):
         if holds:
             return refusal(why)
-    return with_packets({**form, "user_bits": size}, forms)
+    return FORM.encode({**form, "user_bits": size, "packets": []}).replace("[]", f"[{','.join(forms)}]")
 
 
 def accepted(name, bits, forms):
     """The packets in a telegram of each size that has room for them."""
-    for size in sizes(bits):
-        yield f"{name}, {size} bits", telegram(bits, size), answer(size, forms)
+    return [(f"{name}, {size} bits", telegram(bits, size), answer(size, forms)) for size in sizes(bits)]
 
 
 # ---- packets.txt
@@ -93,185 +88,142 @@ def cut(name, fields):
     """The packet after a packet 44, up to the end of a telegram, which cuts it at each of its bits."""
     bits, ends = "".join(fields), [0, *itertools.accumulate(map(len, fields))]
     for width in range(len(bits)):
-        size = SHORT if width <= SHORT - len(HEAD) - 23 else LONG
-        start = size - width
+        start = (SHORT if width <= SHORT - len(HEAD) - 23 else LONG) - width
         at = start + max(end for end in ends if end <= width)
-        why = f"short at {at} end {size}" if width >= 8 else f"no end at {start} end {start}"
+        why = f"short at {at} end {start + width}" if width >= 8 else f"no end at {start} end {start}"
         yield f"{name}, cut after {width} bits", text(HEAD + filler(start - len(HEAD))[0] + bits[:width]), refusal(why)
 
 
-def faults(name, ahead, fields, others):
-    """The packet with other digits in one field."""
-    for place, digits, why in others:
-        bits = ahead + "".join([*fields[:place], digits, *fields[place + 1:]])
-        yield f"{name}: field {place + 1} is {digits}", telegram(bits, sizes(bits)[0]), refusal(why, len(HEAD + ahead))
-
-
-def replaced(form, path, number):
-    """The form with the number at the end of these keys and places."""
-    value = json.loads(form)
-    *outer, last = (int(step) if step.isdigit() else step for step in path.split("/"))
-    functools.reduce(operator.getitem, outer, value)[last] = number
-    return FORM.encode(value)
-
-
-def each_number(name, fields, form, allowed):
-    """The packet, as the only one of a telegram, with each number that a field of its width can have."""
-    for place, path, numbers in allowed:
-        front, width = "".join(fields[:place]), len(fields[place])
-        ranges = [[int(end) for end in one.split("-")] for one in numbers.split()]
-        for number in range(2 ** width):
-            bits = front + spelled((width, number)) + "".join(fields[place + 1:])
-            size, wanted = sizes(bits)[0], refusal(f"spare at {len(front)} end {len(front) + width}", len(HEAD))
-            if any(one[0] <= number <= one[-1] for one in ranges):
-                wanted = answer(size, [replaced(form, path, number)])
-            yield f"{name}: {path} {number}", telegram(bits, size), wanted
+def others(name, ahead, fields, forms, changes):
+    """The packet with other digits in one field, behind other packets: those of each line `not` or `each`."""
+    for place, word, what, said in changes:
+        front, width, rows = "".join(fields[:place]), len(fields[place]), [(what, said, "")]
+        if word == "each":
+            ranges = re.findall(r"(\d+)-?(\d*)", said)
+            allowed = {number for low, high in ranges for number in range(int(low), int(high or low) + 1)}
+            rows = [(spelled((width, number)), f"spare at {len(front)} end {len(front) + width}", number in allowed and
+                     re.sub(f'"{what}":.*?(?=[,}}])', f'"{what}":{number}', forms[-1])) for number in range(2 ** width)]
+        for digits, why, form in rows:
+            bits = ahead + front + digits + "".join(fields[place + 1:])
+            wanted = answer(sizes(bits)[0], [*forms[:-1], form]) if form else refusal(why, len(HEAD + ahead))
+            yield f"{name}, {place}: {digits}", telegram(bits, sizes(bits)[0]), wanted
 
 
 def packets():
     """The packets of packets.txt: complete, with other digits, and cut."""
     known = {}
     for name, *lines in blocks("packets.txt"):
-        ahead, fields, others, allowed, forms = "", [], [], [], []
+        ahead, fields, changes, forms = "", [], [], []
         for line in map(str.strip, lines):
             word, _, rest = line.partition(" ")
             if word == "+":
                 ahead, forms = ahead + known[rest][0], forms + known[rest][1]
             elif word in ("not", "each"):
-                (others if word == "not" else allowed).append((len(fields) - 1, *rest.split(": ")))
+                changes.append((len(fields) - 1, word, *rest.split(": ")))
             elif line.startswith("{"):
                 forms.append(line)
             else:
                 fields.append(word)
         known[name] = ahead + "".join(fields), forms
-        yield from accepted(name, *known[name])
-        yield from faults(name, ahead, fields, others)
-        yield from each_number(name, fields, forms[-1], allowed)
-        yield from cut(name, fields)
+        yield from (*accepted(name, *known[name]), *others(name, ahead, fields, forms, changes), *cut(name, fields))
 
 
-# ---- telegrams without packets
+# ---- telegrams and messages that are made
 
 
-def turned(bits, place):
-    """The digits with one of them turned."""
-    return bits[:place] + "01"[bits[place] == "0"] + bits[place + 1:]
-
-
-def headers():
-    """A header with each of its bits turned, and with each number of M_VERSION and of M_DUP."""
-    heads = [turned(HEAD, place) for place in range(len(HEAD))]
+def turned_bits():
+    """A telegram with each of its bits turned, and with each number of M_VERSION and of M_DUP. The end mark counts,
+    what is after it does not, and pad bits have to be zeros."""
+    mark = len(HEAD)
+    for size in (SHORT, LONG):
+        bits = (HEAD + END_MARK).ljust(size, "1").ljust(size + -size % 8, "0")
+        for place, bit in enumerate(bits):
+            other = bits[:place] + "10"[int(bit)] + bits[place + 1:]
+            why = "pad bits set" if place >= size else "spare at 58 end 60" * (mark <= place < mark + 8)  # (a packet)
+            yield f"bit {place} of {size} turned", text(other), refusal(why) if why else answer(size, [], other[:mark])
     for at, width in ((1, 7), (15, 2)):
-        heads += [HEAD[:at] + spelled((width, number)) + HEAD[at + width:] for number in range(2 ** width)]
-    for head in heads:
-        yield f"the header {head}", telegram("", SHORT, head), answer(SHORT, [], head)
+        for digits in (spelled((width, number)) for number in range(2 ** width)):
+            head = HEAD[:at] + digits + HEAD[at + width:]
+            yield f"the header {head}", telegram("", SHORT, head), answer(SHORT, [], head)
 
 
 def no_digits():
     """Bytes that are no digits, each at each index of a short telegram, and one at each index of a long one."""
-    beside = "/:@G`g"
+    beside = "/:@G`g\0é"
     for size, few in ((SHORT, len(beside)), (LONG, 1)):
         line = telegram("", size)
-        for place in range(len(line)):
-            for byte in (beside[place % 6:] + beside)[:few]:
-                other = line[:place] + byte + line[place + 1:]
-                yield f"{byte} as digit {place} of {len(line)}", other, refusal("not hexadecimal")
-
-
-def turned_bits():
-    """Each bit of the end mark counts, none after it does, and pad bits have to be zeros."""
-    mark, other = len(HEAD), refusal("spare at 58 end 60")  # another packet, whose Q_DIR is 3
-    for name, size, places, wanted in (("the end mark", SHORT, range(mark, mark + 8), other),
-                                       ("the fill", SHORT, range(mark + 8, SHORT), answer(SHORT, [])),
-                                       ("the pad bits", SHORT, range(SHORT, 216), refusal("pad bits set")),
-                                       ("the fill of a long telegram", LONG, range(mark + 8, LONG), answer(LONG, []))):
-        bits = (HEAD + END_MARK).ljust(size, "1").ljust(size + -size % 8, "0")
-        yield from ((f"{name}, bit {place} turned", text(turned(bits, place)), wanted) for place in places)
-
-
-# ---- the greatest lists and messages
-
-
-def joined(*parts):
-    """The digits of several parts, and their form."""
-    return "".join(bits for bits, _ in parts), {key: value for _, form in parts for key, value in form.items()}
-
-
-def listed(key, items):
-    """The digits of items, and a form that has a list of theirs."""
-    return "".join(bits for bits, _ in items), {key: [form for _, form in items]}
-
-
-def packet(number, *parts):
-    """A packet for the nominal direction in metres, of these parts after Q_SCALE, with its form."""
-    rest, form = joined(both(("q_scale", 2, 1)), *parts)
-    form = {"nid_packet": number, "q_dir": 1, **form}
-    return spelled((8, number), (2, 1), (13, 23 + len(rest))) + rest, [FORM.encode(form)]
+        for place, byte in itertools.product(range(len(line)), range(few)):
+            other = line[:place] + beside[(place + byte) % len(beside)] + line[place + 1:]
+            yield f"digit {place} of {other}", other, refusal("not hexadecimal")
 
 
 def greatest_lists():
-    """As many items as N_ITER counts, or as a telegram has room for; each item has its own number."""
-    covers = [both(("nid_packet", 8, 0), ("nid_vbcmk", 6, cover)) for cover in range(55)]
-    yield from accepted("55 packets 0", "".join(bits for bits, _ in covers), [FORM.encode(form) for _, form in covers])
-    authority = (both(("end_speed", 7, 6), ("end_timeout", 10, 30), ("", 5, 31)),
-                 listed("sections", [both(("l_section", 15, length), ("", 1, 0)) for length in range(31)]),
-                 both(("l_endsection", 15, 70), ("", 4, 0)))
-    yield from accepted("packet 12, 31 sections", *packet(12, both(("v_main", 7, 20)), *authority))
-    yield from accepted("packet 15, 31 sections", *packet(15, *authority))
-    differences = [both(("q_diff", 2, item % 3), ("nc", 4, item % 16), ("v_diff", 7, item)) for item in range(31)]
-    speed = joined(both(("d_static", 15, 9), ("v_static", 7, 20), ("q_front", 1, 0), ("", 5, 31)),
-                   listed("differences", differences))
-    yield from accepted("packet 27, 31 differences", *packet(27, listed("elements", [speed]), both(("", 5, 0))))
-    levels = [both(("m_leveltr", 3, (0, 2, 3, 4)[item % 4]), ("l_ackleveltr", 15, item), *[("", 5, 31)][:item == 0])
-              for item in range(32)]
-    yield from accepted("packet 41, 31 further levels",
-                        *packet(41, both(("d_leveltr", 15, 950)), listed("transitions", levels)))
+    """Packets with as many items as a telegram has room for, each item with random numbers."""
+    records.numbers.seed(1)
+    some = [[records.packet(0, 14, NID_VBCMK=cover) for cover in range(55)],
+            [records.packet(27, LONG, N_ITER=iter((31, 0)))]]  # (31 differences of one element)
+    for number, most in {5: 17, 12: 31, 15: 31, 21: 26, 27: 6, 41: 31}.items():
+        tried = (records.packet(number, LONG - len(HEAD + END_MARK), N_ITER=count) for count in range(most, 0, -1))
+        some.append([next(filter(None, tried))])
+    for several in some:
+        bits = "".join(f"{one.value:0{one.bits}b}" for one in several)
+        forms = [FORM.encode(one.record) for one in several]
+        yield from accepted(f"the greatest lists of packet {several[0].number}", bits, forms)
 
 
-def last_bits():
-    """A packet 44 that leaves room only for the end mark, and one that leaves a bit less."""
-    for size in (SHORT, LONG):
-        width = size - len(HEAD + END_MARK)
-        yield from accepted("packet 44 up to the end mark", *filler(width))
-        bits = HEAD + filler(width + 1)[0] + END_MARK[1:]
-        yield f"a bit less, {size} bits", text(bits), refusal(f"no end at {size - 7} end {size - 7}")
+def made_messages():
+    """Messages of up to 1,023 bytes. Ones up to a byte behind their packets mean nothing, and an end mark and zeros
+    neither."""
+    records.numbers.seed(1)
+    for size, free, kind in itertools.product((60, 1020), range(8), (records.MOVEMENT, records.POSITION)):
+        out, record = records.written(kind, 8 * size - free)
+        for ones, zeros in ((0, 0), (-out.bits % 8, 0), (8 + -out.bits % 8, 16)):
+            more = copy.copy(out)
+            more.put((1 << ones) - 1 << zeros, ones + zeros)
+            lines = records.message_text(more), FORM.encode(record), records.message_text(copy.copy(out))
+            yield f"message {kind} of {size} bytes less {free} bits, and {ones + zeros}", *lines
 
 
-def message_ends():
-    """Packets after which up to seven bits of the last byte are left."""
-    head, form = both(("t_train", 32, 100), ("m_ack", 1, 0), ("nid_c", 10, 1), ("nid_bg", 14, 1))
-    authority = packet(15, both(("end_speed", 7, 0), ("end_timeout", 10, 1023)), listed("sections", []),
-                       both(("", 5, 0), ("l_endsection", 15, 1000), ("", 4, 0)))
-    for body in range(8):
-        bits, forms = map(operator.add, authority, filler(23 + body))
-        ones = "1" * (-(18 + len(head + bits)) % 8)
-        ends = {"zeros": "", "ones": ones, "ones and 16 zeros after an end mark": END_MARK + ones + "0" * 16}
-        whole = [head + bits + end for end in ends.values()]
-        texts = [text(spelled((8, 3), (10, (18 + len(it) + 7) // 8)) + it) for it in whole]
-        for name, given in zip(ends, texts):
-            line = with_packets({"nid_message": 3, **form}, forms)
-            yield f"{len(ones)} {name} behind the packets", given, line, texts[0]
+def streams():
+    """Two messages that are cut anywhere into lines, and long lines and telegrams across the blocks of 65,536 bytes
+    that the program reads, as runs."""
+    two, form = MESSAGE * 2, answer(SHORT, [])
+    for end in range(2, 73, 2):
+        folded = "\n".join(two[at:at + end] for at in range(0, len(two), end))
+        for data in (f"{folded}\n", f"{two[:end]}\r\n\n{two[end:]}\n"):
+            yield f"cut after {end} digits", ["decode", "--radio"], data, answered(f"{MOVEMENT}\n" * 2)
+    for length in (65534, 65535, 65536, 65537, 65538, 131072, 1000000):
+        name, digits, why = f"{length} digits", "f" * length, "not hexadecimal" if length % 2 else "wrong size"
+        yield name, ["decode"], f"{digits}\n{TELEGRAM}\n", answered(f"refused: line 1: {why}\n")
+        yield name, ["decode"], f"{TELEGRAM}\n{digits}", answered(f"{form}\nrefused: line 2: {why}\n")
+    for before in (65424, 65480, 65481, 65482, 65483, 65509, 65534, 65535, 65536):
+        data = "\n" * before + f"{TELEGRAM}\r\n{TELEGRAM}\n"
+        yield f"{before} empty lines", ["decode"], data, answered(f"{form}\n" * 2)
 
 
 # ---- all cases
 
 
+def some_telegrams():
+    """Cases of `decode`, among them those of telegrams.txt: a name, an input line, and the line that is written."""
+    yield from ((name, in_full(line), in_full(wanted)) for name, line, wanted in blocks("telegrams.txt"))
+    yield from greatest_lists()
+    for number, (line, record) in enumerate(records.telegram() for _ in range(20)):
+        yield f"random telegram {number}", line, FORM.encode(record)
+
+
 def telegrams():
-    """The cases of `decode`: a name, an input line, and the line that is written for it."""
-    yield from ((name, filled(line), wanted) for name, line, wanted in blocks("telegrams.txt"))
-    for several in (packets, headers, no_digits, turned_bits, greatest_lists, last_bits):
-        yield from several()
+    """All cases of `decode`."""
+    yield from (*some_telegrams(), *packets(), *turned_bits(), *no_digits())
 
 
 def messages():
     """The cases of `decode --radio`, each with what `encode --radio` writes for its JSON."""
     for name, line, wanted, *again in blocks("messages.txt"):
         yield name, line, wanted, *(again or [line])
-    yield from message_ends()
+    yield from made_messages()
 
 
-MOVEMENT, POSITION = ((EXAMPLES / f"radio-{name}.json").read_text().strip()
-                      for name in ("movement-authority", "position-report"))
 # What a line of forms.txt stands for by its first word. @ is the rest of the line.
 KINDS = {"line": "@", "--radio": "@", "telegram": answer(LONG, ["@"]), "short": answer(SHORT, ["@"]),
          "movement": MOVEMENT.replace("[{", "[@,{", 1), "position": re.sub(r"\[.*\]", "[@]", POSITION)}
@@ -282,7 +234,7 @@ def forms():
     for name, given, wanted, *other in blocks("forms.txt"):
         kind, _, rest = given.partition(" ")
         flag = ["--radio"] * (kind in ("--radio", "movement", "position"))
-        line, wanted = in_full(KINDS[kind].replace("@", rest)), filled(wanted)
+        line, wanted = in_full(KINDS[kind].replace("@", rest)), in_full(wanted)
         yield name, ["encode", *flag], f"{line}\n", answered(f"{wanted}\n")
         if not wanted.endswith("not JSON"):
             yield f"{name}, spelled in another way", ["encode", *flag], f"{respelled(line)}\n", answered(f"{wanted}\n")
@@ -320,6 +272,16 @@ def runs():
         yield from ((f"{name}: {one}", shlex.split(one), given, answered(texts[">"], texts["!"])) for one in words)
 
 
+def examples():
+    """Each example of a telegram or a message as runs: it is decoded to the lines beside it, and they are encoded to
+    it, also in another spelling."""
+    for path in sorted(EXAMPLES.glob("*.json")):
+        flag, given, wanted = ["--radio"] * path.name.startswith("radio-"), path.with_suffix(".txt"), path.read_text()
+        given, other = given.read_text(), "".join(f"{respelled(line)}\n" for line in wanted.splitlines())
+        yield path.name, ["decode", *flag], given, answered(wanted)
+        yield from ((path.name, ["encode", *flag], form, answered(given)) for form in (wanted, other))
+
+
 def every():
     """Each case as a run of the program: a name, words, input and answer."""
     for name, line, wanted in telegrams():
@@ -327,7 +289,7 @@ def every():
     for name, line, wanted, again in messages():
         yield name, ["decode", "--radio"], f"{line}\n", answered(f"{wanted}\n")
         yield f"{name}, encoded", ["encode", "--radio"], f"{wanted}\n", answered(f"{again}\n")
-    for several in (forms, documents, runs):
+    for several in (forms, documents, runs, examples, streams):
         yield from several()
 
 

@@ -1,6 +1,7 @@
 """Runs a program many times, each in its own process, with refused memory and failing devices on request (shim.c)."""
 import collections
 import contextlib
+import ctypes
 import errno
 import functools
 import itertools
@@ -10,7 +11,7 @@ import struct
 import subprocess
 import tempfile
 
-from runner import HERE, TOP, Answer, program, run
+from runner import HERE, SECONDS, Answer, program, run
 
 DECODE, ENCODE, CHECK = ("decode",), ("encode",), ("check",)
 DECODE_RADIO, ENCODE_RADIO = ("decode", "--radio"), ("encode", "--radio")
@@ -18,12 +19,11 @@ COMMANDS = (DECODE, ENCODE, CHECK, DECODE_RADIO, ENCODE_RADIO)
 INVERSE = {DECODE: ENCODE, ENCODE: DECODE, DECODE_RADIO: ENCODE_RADIO, ENCODE_RADIO: DECODE_RADIO}
 STACK = 512  # KiB of stack that docs/contributing/architecture.md names
 GROUPS = 20000  # of the long document that docs/assurance/proofs.md names
-SECONDS = int(os.environ.get("HOSTILE_SECONDS", "60"))  # that a run may take
-WHOLE = bool(os.environ.get("HOSTILE_WHOLE"))  # whether all inputs are tried, which takes an hour of processor time
-JOB, ANSWER = struct.Struct("<17Q"), struct.Struct("<10Q")
-# From call `first` on, counted from 1, the first `run` of each `every` calls fail by this error, or move no byte if it
-# is 0. None fails if `first` is 0. Any other call moves at most `piece` bytes, if that is not 0.
-Plan = collections.namedtuple("Plan", "first run every error piece", defaults=(0, 1, 1 << 62, errno.ENOMEM, 0))
+JOB, ANSWER = struct.Struct("<14Q"), struct.Struct("<10Q")
+# From call `first` on, counted from 1, `count` calls fail by this error, or move no byte if it is 0. Any other call
+# moves at most `piece` bytes, if that is not 0.
+Plan = collections.namedtuple("Plan", "first count error piece", defaults=(0, 0, errno.ENOMEM, 0))
+ALL = 1 << 62  # (the count of a call and all later ones)
 Job = collections.namedtuple("Job", "words data memory reader writer", defaults=(Plan(), Plan(), Plan()))
 Counts = collections.namedtuple("Counts", "nanoseconds requests refused reads failed_reads writes failed_writes")
 
@@ -41,23 +41,15 @@ class Program:
             self.shim = f"{self.folder.name}/shim.so"
             subprocess.run([compiler, "-O2", "-shared", "-fPIC", "-o", self.shim, HERE / "shim.c"], check=True)
 
-    def close(self):
-        """Removes what the runs left."""
-        self.folder.cleanup()
-
     def play(self, jobs):
         """The answers to these jobs, each with its counts."""
         groups = itertools.groupby(jobs, lambda job: job.words)
         return [answer for words, some in groups for answer in self.played(words, list(some))]
 
-    def answer(self, words, data):
-        """The answer to this text."""
-        return self.play([Job(words, data.encode())])[0][0]
-
     def played(self, words, jobs):
         """The answers to jobs with the same words, each with its counts. The end by a signal is a negative status."""
         if self.shim is None:
-            return [(run(words, job.data, seconds=SECONDS, path=self.path), None) for job in jobs]
+            return [(run(words, job.data, path=self.path), None) for job in jobs]
         with contextlib.ExitStack() as files:
             given, taken, out, err = (files.enter_context(tempfile.TemporaryFile()) for _ in range(4))
             for job in jobs:
@@ -76,20 +68,28 @@ class Program:
         return found
 
 
-class Library(Program):
-    """The library for C at this path, in a program that makes one call (library_calls.c)."""
+class Library:
+    """The library for C at this path."""
 
     def __init__(self, path):
-        self.built = tempfile.TemporaryDirectory(prefix="library-")
-        header, calls = TOP / "crates" / "balisecheck_c" / "include", f"{self.built.name}/calls"
-        subprocess.run(["cc", "-std=gnu11", "-O2", "-Wall", "-Wextra", "-Werror", "-pedantic", "-pthread", "-I", header,
-                        "-Wl,--wrap=malloc,--wrap=realloc,--wrap=free", f"-Wl,-rpath,{os.path.dirname(path)}",
-                        "-o", calls, HERE / "library_calls.c", path], check=True)
-        super().__init__(calls)
+        self.calls = ctypes.CDLL(str(path))
 
-    def played(self, words, jobs):
-        """The answers to jobs with the same words."""
-        return super().played(("_".join(words).replace("--", ""),), jobs)
+    def call(self, name, data, capacity=1 << 16):
+        """The answer of a call, with the fault of a record as standard error. The buffer's rest stays as it was."""
+        size, length, fault = capacity + 64, ctypes.c_size_t(), (ctypes.c_size_t * 3)()
+        buffer = ctypes.create_string_buffer(b"\xa5" * size, size)
+        given = data, ctypes.c_size_t(len(data)), buffer, ctypes.c_size_t(capacity), ctypes.byref(length)
+        record = [fault] * (name in ("telegram", "message"))
+        status = getattr(self.calls, f"balisecheck_{name}")(*given, *record)
+        found = buffer.raw
+        text = found[:length.value] if status < 3 else b""
+        assert found[len(text):] == b"\xa5" * (size - len(text)), (name, data)
+        said = "{} {} {}\n".format(*fault) if fault[0] else ""
+        return Answer(status, text.decode(errors="surrogateescape"), said)
+
+    def play(self, jobs):
+        """The answers to these jobs, as `Program.play` gives them."""
+        return [(self.call("_".join(job.words).replace("--", ""), job.data), None) for job in jobs]
 
 
 def opened(path):

@@ -13,7 +13,7 @@ import subprocess
 HERE = pathlib.Path(__file__).resolve().parent
 TOP, CASES, EXAMPLES = HERE.parent, HERE / "cases", HERE.parent / "examples"
 MEMORY, DEVICE = "balisecheck: memory\n", "balisecheck: device\n"
-LONGEST = 120  # seconds that a run may take
+SECONDS = 60  # that a run may take
 Answer = collections.namedtuple("Answer", "status stdout stderr")
 
 
@@ -44,16 +44,16 @@ def in_bytes(text):
     return text if isinstance(text, bytes) else text.encode(errors="surrogateescape")
 
 
-def run(words, data=b"", limits="", seconds=LONGEST, path=None, **files):
+def run(words, data=b"", limits="", path=None, **files):
     """The answer of the program, or of the one at `path`, to this input or with these files, after the shell commands
     in `limits`. Its status is None if it takes too long."""
     command = [path or program(), *words]
     command = ["sh", "-c", f'{limits}\nexec "$0" "$@"', *command] if limits else command
     files = {"stdout": subprocess.PIPE, "stderr": subprocess.PIPE, **(files or {"input": in_bytes(data)})}
     try:
-        ran = subprocess.run(command, check=False, timeout=seconds, **files)
+        ran = subprocess.run(command, check=False, timeout=SECONDS, **files)
     except subprocess.TimeoutExpired:
-        return Answer(None, "", f"no answer in {seconds} s\n")
+        return Answer(None, "", f"no answer in {SECONDS} s\n")
     out, err = ((it or b"").decode(errors="surrogateescape") for it in (ran.stdout, ran.stderr))
     return Answer(ran.returncode, out, err)
 
@@ -74,18 +74,14 @@ def blocks(name):
     return [block.split("\n") for block in "\n".join(lines).strip("\n").split("\n\n")]
 
 
-def filled(line):
-    """The line, its dots replaced by digits up to a short or a long telegram."""
-    found = re.fullmatch(r"(\w*?)(\.{2,3})(\w) ?(.*)", line)
-    return found[1].ljust(52 if found[2] == ".." else 206, found[3]) + found[4] if found else line
-
-
 def in_full(line):
-    """The line in full: `<TEXT N>` is the text N times, innermost first, and dots in digits go on with a digit."""
+    """The line in full: `<TEXT N>` is the text N times, innermost first, and dots are a digit up to the next part of a
+    short or a long telegram."""
     repeated = re.compile(r"<([^<>]*) (\d+)>")
     while repeated.search(line):
         line = repeated.sub(lambda found: found[1] * int(found[2]), line)
-    return re.sub(r"\w+\.{2,3}\w \w*", lambda found: filled(found[0]), line)
+    return re.sub(r"\b(\w+)(\.{2,3})(\w) ?(\w*)", lambda found: found[1].ljust(
+        52 if found[2] == ".." else 206, found[3]) + found[4], line)
 
 
 def flipped(digits, place):

@@ -1,7 +1,7 @@
 /* Runs a program many times with memory and devices that fail as told, for tests/hostile.py. It is loaded before the
- * program (LD_PRELOAD), starts ahead of `main`, and forks for each job a process that goes on to `main`. HOSTILE_JOBS is
- * the number of an open file of jobs, each with the bytes of its standard input after it, HOSTILE_ANSWERS that of one
- * that gets a `struct answer` for each. */
+ * program (LD_PRELOAD), starts ahead of `main`, and forks for each job a process that goes on to `main`. HOSTILE_JOBS
+ * is the number of an open file of jobs, each with the bytes of its standard input after it, HOSTILE_ANSWERS that of
+ * one that gets a `struct answer` for each. */
 #define _GNU_SOURCE
 #include <errno.h>
 #include <stdint.h>
@@ -16,11 +16,11 @@
 
 enum what { MEMORY, READER, WRITER, ALL };
 
-/* From call `first` on, counted from 1, the first `run` of each `every` calls fail; none if `first` is 0. They give
- * this error, or move no byte if it is 0. Any other call of a device moves at most `piece` bytes, if that is not 0. */
+/* From call `first` on, counted from 1, `count` calls fail. They give this error, or move no byte if it is 0. Any other
+ * call of a device moves at most `piece` bytes, if that is not 0. */
 struct job {
     uint64_t length, seconds;
-    struct { uint64_t first, run, every, error, piece; } plans[ALL];
+    struct { uint64_t first, count, error, piece; } plans[ALL];
 };
 
 struct answer {
@@ -28,7 +28,7 @@ struct answer {
     struct count { uint64_t calls, failed; } counts[ALL];
 };
 
-extern void *__libc_malloc(size_t), *__libc_calloc(size_t, size_t), *__libc_realloc(void *, size_t);
+extern void *__libc_malloc(size_t), *__libc_realloc(void *, size_t);
 
 static int runs; /* whether this process runs a job */
 static struct job job;
@@ -38,38 +38,33 @@ static struct count *counts;
 
 static int fails(enum what what) {
     uint64_t call = ++counts[what].calls, first = job.plans[what].first;
-    if (!first || call < first || (call - first) % job.plans[what].every >= job.plans[what].run) return 0;
+    if (call < first || call - first >= job.plans[what].count) return 0;
     counts[what].failed++;
     errno = job.plans[what].error;
     return 1;
 }
 
-static size_t moved(enum what what, size_t size) {
-    size_t piece = job.plans[what].piece;
-    return piece && size > piece ? piece : size;
-}
-
 void *malloc(size_t size) { return runs && fails(MEMORY) ? NULL : __libc_malloc(size); }
-void *calloc(size_t count, size_t size) { return runs && fails(MEMORY) ? NULL : __libc_calloc(count, size); }
 void *realloc(void *old, size_t size) { return runs && fails(MEMORY) ? NULL : __libc_realloc(old, size); }
 
-ssize_t read(int file, void *buffer, size_t size) {
-    if (!runs || file != 0 || size == 0) return syscall(SYS_read, file, buffer, size);
-    if (fails(READER)) return job.plans[READER].error ? -1 : 0;
-    size = moved(READER, size);
+/* A call of a device by a job, or one that is none of its business. */
+static ssize_t moved(enum what what, int file, void *buffer, size_t size) {
+    size_t piece = job.plans[what].piece;
+    if (!runs || file != (what == READER ? 0 : 1) || size == 0) {
+        return syscall(what == READER ? SYS_read : SYS_write, file, buffer, size);
+    }
+    if (fails(what)) return job.plans[what].error ? -1 : 0;
+    if (piece && size > piece) size = piece;
+    if (what == WRITER) return syscall(SYS_write, file, buffer, size);
     if (size > job.length - at) size = job.length - at;
     memcpy(buffer, input + at, size);
     at += size;
     return size;
 }
 
-ssize_t write(int file, const void *buffer, size_t size) {
-    if (!runs || file != 1 || size == 0) return syscall(SYS_write, file, buffer, size);
-    if (fails(WRITER)) return job.plans[WRITER].error ? -1 : 0;
-    return syscall(SYS_write, file, buffer, moved(WRITER, size));
-}
-
-ssize_t __write(int file, const void *buffer, size_t size) { return write(file, buffer, size); }
+ssize_t read(int file, void *buffer, size_t size) { return moved(READER, file, buffer, size); }
+ssize_t write(int file, const void *buffer, size_t size) { return moved(WRITER, file, (void *)buffer, size); }
+ssize_t __write(int file, const void *buffer, size_t size) { return moved(WRITER, file, (void *)buffer, size); }
 
 static uint64_t nanoseconds(struct timeval time) { return time.tv_sec * 1000000000ull + time.tv_usec * 1000ull; }
 
@@ -84,7 +79,7 @@ __attribute__((constructor)) static void run_jobs(void) {
     if (next == MAP_FAILED || counts == MAP_FAILED) _exit(99);
     while (next < end) {
         struct rusage used;
-        int status;
+        struct answer answer = {0};
         memcpy(&job, next, sizeof job);
         input = next + sizeof job;
         next = input + job.length;
@@ -95,9 +90,10 @@ __attribute__((constructor)) static void run_jobs(void) {
             runs = 1;
             return;
         }
-        if (child < 0 || wait4(child, &status, 0, &used) != child) _exit(99);
-        struct answer answer = {status, lseek(1, 0, SEEK_END), lseek(2, 0, SEEK_END),
-                                nanoseconds(used.ru_utime) + nanoseconds(used.ru_stime), {{0}}};
+        if (child < 0 || wait4(child, (int *)&answer.status, 0, &used) != child) _exit(99);
+        answer.stdout_end = lseek(1, 0, SEEK_END);
+        answer.stderr_end = lseek(2, 0, SEEK_END);
+        answer.nanoseconds = nanoseconds(used.ru_utime) + nanoseconds(used.ru_stime);
         memcpy(answer.counts, counts, sizeof answer.counts);
         if (syscall(SYS_write, atoi(answers), &answer, sizeof answer) != sizeof answer) _exit(99);
     }

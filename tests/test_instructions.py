@@ -45,26 +45,24 @@ def packet(name, key, count, **others):
     return {**form, key: [{**form[key][0], **others}] * count}
 
 
-SINGLE, PAIR = example("header-only"), (example("duplicated-pair"), example("duplicated-pair", 1))
-AUTHORITY, *PROFILES = example("authority-with-profiles")["packets"]
-PARTS = {**packet("movement-authority-level-1", "sections", 31, l_section=10), "l_endsection": 10}
-DIFFERENCE = example("speeds")["packets"][0]["elements"][0]["differences"][0]
-# A packet of each kind, and how many of them a message has.
-KINDS = {
-    "links": (packet("linking", "links", 32), 6),
-    "gradients": (packet("gradients", "elements", 32), 9),
-    "speeds": (packet("speeds", "elements", 32, differences=[]), 8),
-    "differences": (packet("speeds", "elements", 1, differences=[DIFFERENCE] * 31), 17),
-    "level orders": (packet("level-transition", "transitions", 32), 12),
-    "sections": (PARTS, 5),
-    "parts": ({**PARTS, "sections": []}, 40),
-}
-
-
 def encoded(forms, *option):
     """The texts of telegrams or messages, and their lines of JSON."""
     lines = "".join(f"{FORM.encode(form)}\n" for form in forms)
     return run(("encode", *option), lines).stdout, lines
+
+
+SINGLE, PAIR = example("header-only"), (example("duplicated-pair"), example("duplicated-pair", 1))
+AUTHORITY, *PROFILES = example("authority-with-profiles")["packets"]
+PARTS = {**packet("movement-authority-level-1", "sections", 31, l_section=10), "l_endsection": 10}
+DIFFERENCES = example("speeds")["packets"][0]["elements"][0]["differences"][:1] * 31
+# A packet of each kind, and how many of them a message has.
+KINDS = {
+    "links": (packet("linking", "links", 32), 6), "gradients": (packet("gradients", "elements", 32), 9),
+    "speeds": (packet("speeds", "elements", 32, differences=[]), 8),
+    "differences": (packet("speeds", "elements", 1, differences=DIFFERENCES), 17),
+    "level orders": (packet("level-transition", "transitions", 32), 12),
+    "sections": (PARTS, 5), "parts": ({**PARTS, "sections": []}, 40),
+}
 
 
 def pairs(packets, heads=PAIR):
@@ -81,22 +79,21 @@ def inputs():
     for name, (form, count) in KINDS.items():
         packets = [*message["packets"], *PROFILES, *[form] * count]
         texts, _ = encoded([{**message, "packets": packets}] * 20, "--radio")
-        found[name] = ["check"], FORM.encode({"groups": [], "messages": texts.split()}), "yes: groups 0, messages 20\n"
+        found[name] = "check", FORM.encode({"groups": [], "messages": texts.split()}), "yes: groups 0, messages 20\n"
     equal = pairs([{"body": "", "l_packet": 23, "nid_packet": 44, "q_dir": it % 2} for it in range(33)])
-    found["pairs"] = ["check"], json.dumps({"messages": [], "groups": equal}, indent=1), "yes: groups 100, messages 0\n"
+    found["pairs"] = "check", json.dumps({"messages": [], "groups": equal}, indent=1), "yes: groups 100, messages 0\n"
     short = [{**AUTHORITY, "l_endsection": 1010}, *PROFILES]
     groups = pairs(short)[:50] + pairs(short, (SINGLE, {**SINGLE, "m_mcount": 254}))[50:]
-    found["findings"] = ["check"], FORM.encode({"groups": groups, "messages": []}), "no: findings 500\n"
+    found["findings"] = "check", FORM.encode({"groups": groups, "messages": []}), "no: findings 500\n"
     gradients = packet("gradients", "elements", 30, d_gradient=30000, g_a=200)
     texts, forms = encoded([{**SINGLE, "packets": [gradients], "user_bits": 830}] * 20)
-    found["decode"] = ["decode"], texts * 5, forms * 5
+    found["decode"] = "decode", texts * 5, forms * 5
     # Of a repeated key the last one counts.
-    found["encode"] = ["encode"], forms.replace('"packets"', f'"packets":{[int("1" * 19)] * 20},"packets"'), texts
-    texts, forms = encoded([{**SINGLE, "packets": [{"nid_packet": 0, "nid_vbcmk": 17}] * 5}] * 100)
-    found["decode short"] = ["decode"], texts, forms
+    found["encode"] = "encode", forms.replace('"packets"', f'"packets":{[int("1" * 19)] * 20},"packets"'), texts
+    found["decode short"] = "decode", *encoded([{**SINGLE, "packets": [{"nid_packet": 0, "nid_vbcmk": 17}] * 5}] * 100)
     texts, forms = encoded([example("radio-two-groups-report")] * 100, "--radio")
-    found["decode --radio"] = ["decode", "--radio"], texts, forms
-    found["encode --radio"] = ["encode", "--radio"], forms, texts
+    found["decode --radio"] = "decode --radio", texts, forms
+    found["encode --radio"] = "encode --radio", forms, texts
     return found
 
 
@@ -118,7 +115,7 @@ def test_budget(name, tmp_path):
     (tmp_path / "input").write_text(given)
     options = "--tool=callgrind", "--compress-strings=no", "--compress-pos=no", f"--callgrind-out-file={counts}"
     with open(tmp_path / "input", "rb") as file:
-        answer = run((*options, path, *words), path="valgrind", stdin=file)
+        answer = run((*options, path, *words.split()), path="valgrind", stdin=file)
     count = cost(counts.read_text(), path)
     assert answer.stdout.startswith(wanted)
     assert 0.97 * BUDGETS[name] < count < 1.03 * BUDGETS[name], f"{name}: {count} instructions"

@@ -1,5 +1,8 @@
-"""The library for C: its header, examples in four languages, calls with refused memory, with small buffers, in threads
-and under valgrind, and its answers beside those of the program. BALISECHECK_LIBRARY names its folder."""
+"""The library for C: its header, examples in four languages, its answers beside those of the program, and calls with
+refused memory, with small buffers and in threads. BALISECHECK_LIBRARY names its folder."""
+import concurrent.futures
+import ctypes
+import functools
 import json
 import os
 import pathlib
@@ -7,69 +10,55 @@ import re
 import shutil
 import subprocess
 import sys
+import threading
 
 import pytest
 
-from corpus import LONG, SHORT, jobs, runs_of
-from hostile import CHECK, COMMANDS, DECODE, DECODE_RADIO, STACK, WHOLE, Job, Library, Plan, shared
-from runner import EXAMPLES, TOP, Answer, program, run
-from test_texts import changed
+from corpus import LONG, SHORT, runs_of
+from hostile import ALL, CHECK, COMMANDS, DECODE, DECODE_RADIO, STACK, Job, Library, shared
+from runner import EXAMPLES, HERE, TOP, Answer, program, run
+
+sys.path.append(str(TOP / "bench"))
+from compare import accepted_of, inputs  # noqa: E402  (the path comes first)
 
 FOLDER = pathlib.Path(os.environ.get("BALISECHECK_LIBRARY", TOP / "dist" / "x86_64-linux")).resolve()
 ARCHIVE, SHARED = FOLDER / "libbalisecheck.a", FOLDER / "libbalisecheck.so"
 HEADER = TOP / "crates" / "balisecheck_c" / "include" / "balisecheck.h"
 SOURCE, JNA = EXAMPLES / "library", "/usr/share/java/jna.jar"
-PACKAGES = {"cc": "gcc", "c++": "g++", "nm": "binutils", "javac": "default-jdk-headless", JNA: "libjna-java",
-            "valgrind": "valgrind"}
 STRICT = "-Wall", "-Wextra", "-Werror", "-pedantic", "-I", HEADER.parent
 LINKED = {"archive": [ARCHIVE], "shared": [f"-Wl,-rpath,{FOLDER}", "-L", FOLDER, "-lbalisecheck"]}
+WHOLE = "-Wl,--whole-archive", ARCHIVE, "-Wl,--no-whole-archive", "-Wl,--wrap=malloc,--wrap=realloc,--wrap=free"
 REFUSED, NO_ANSWER, TOO_SMALL = 2, 3, 4
 RECORDS = {"telegram": DECODE, "message": DECODE_RADIO}
 CALLS = {**{"_".join(words).replace("--", ""): words for words in COMMANDS}, **RECORDS}
 REASONS = dict(re.findall(r"BALISECHECK_\w+ = (\d+),? +/\* (.*?) \*/", HEADER.read_text()))
-FINDINGS = (EXAMPLES / "check" / "many-findings.json").read_text()
 # How a parameter is written in C, by its type in Rattle.
 TYPES = {"&[u8]": "const uint8_t *{0}, size_t {0}_length", "&mut [u8]": "uint8_t *{0}, size_t capacity",
          "&mut usize": "size_t *{0}", "&mut Fault": "struct balisecheck_fault *{0}"}
 
 
-def need(*tools):
+def need(tool, package):
     """Skips the test if a command or a file is not here."""
-    for tool in tools:
-        if not (shutil.which(tool) or os.path.exists(tool)):
-            pytest.skip(f"the library for C with {os.path.basename(tool)} ({PACKAGES[tool]})")
+    if not (shutil.which(tool) or os.path.exists(tool)):
+        pytest.skip(f"the library for C with {os.path.basename(tool)} ({package})")
 
 
 def compiled(*words):
     """Compiles without a warning."""
-    need(words[0])
-    ran = subprocess.run(words, stdout=subprocess.PIPE, stderr=subprocess.STDOUT, text=True, check=False)
-    assert (ran.returncode, ran.stdout) == (0, "")
-
-
-# ---- the files
-
-
-def exports():
-    """The functions that the crate exports, each with its declaration in C."""
-    crate = "\n".join(path.read_text() for path in HEADER.parents[1].glob("src/**/*.rt"))
-    for name, given in re.findall(r'pub extern "C" fn (\w+)\(([^)]*)\)', crate):
-        kinds = re.findall(r"(\w+): ((?:&(?:mut )?)?[\w\[\]]+)", given)
-        yield name, f"uint32_t {name}({', '.join(TYPES[kind].format(it) for it, kind in kinds if kind != 'Global')});"
+    need("c++", "g++")
+    ran = subprocess.run([*words[:1], *STRICT, *words[1:]], stderr=subprocess.PIPE, check=False)
+    assert (ran.returncode, ran.stderr) == (0, b"")
 
 
 def test_header_declares_each_export():
     text = re.sub(r"\s+", " ", HEADER.read_text())
-    assert sorted(re.findall(r"uint32_t (balisecheck_\w+)\(const", text)) == sorted(name for name, _ in exports())
-    assert [line for _, line in exports() if line not in text] == []
-
-
-@pytest.mark.parametrize("file, word", [(ARCHIVE, "-g"), (SHARED, "-D")], ids=LINKED)
-def test_files_define_each_export(file, word):
-    need("nm")
-    listed = subprocess.run(["nm", word, "--defined-only", file], capture_output=True, text=True, check=True).stdout
-    names, exported = set(re.findall(r"(?m)^\w+ [TDBR] (\w+)$", listed)), {name for name, _ in exports()}
-    assert names == exported if file == SHARED else names >= exported
+    declared = re.findall(r"uint32_t (balisecheck_\w+)\(const", text)
+    crate = "\n".join(path.read_text() for path in HEADER.parents[1].glob("src/**/*.rt"))
+    exports = {name: re.findall(r"(\w+): ((?:&(?:mut )?)?[\w\[\]]+)", given)
+               for name, given in re.findall(r'pub extern "C" fn (\w+)\(([^)]*)\)', crate)}
+    assert {*exports} == {f"balisecheck_{name}" for name in CALLS} == {*declared}
+    for name, given in exports.items():
+        assert f"{name}({', '.join(TYPES[kind].format(it) for it, kind in given if kind != 'Global')});" in text
 
 
 # ---- examples
@@ -83,18 +72,23 @@ def reads_telegrams(command, *words):
     assert run(words, given, path=command) == Answer(2, wanted, "")
 
 
-def checks(documents, *words):
+def checks(command, *words):
     """An example answers as `check`."""
-    for data in documents:
-        assert run(words[1:], data, path=words[0]) == run(CHECK, data)
+    for data in (EXAMPLES / "check" / "many-findings.json").read_text(), '{"groups":[],"messages":[]}', "{}", "":
+        assert run(words, data, path=command) == run(CHECK, data)
 
 
 @pytest.mark.parametrize("kind", LINKED)
 def test_examples_in_c(kind, tmp_path):
-    compiled("cc", "-std=c99", *STRICT, "-o", tmp_path / "telegrams", SOURCE / "c" / "telegrams.c", *LINKED[kind])
+    """They answer, and valgrind has nothing to report."""
+    compiled("cc", "-std=c99", "-o", tmp_path / "telegrams", SOURCE / "c" / "telegrams.c", *LINKED[kind])
+    compiled("c++", "-std=c++11", "-o", tmp_path / "check", SOURCE / "cpp" / "check.cpp", *LINKED[kind])
     reads_telegrams(tmp_path / "telegrams")
-    compiled("c++", "-std=c++11", *STRICT, "-o", tmp_path / "check", SOURCE / "cpp" / "check.cpp", *LINKED[kind])
-    checks([FINDINGS, '{"groups":[],"messages":[]}', "{}", ""], tmp_path / "check")
+    checks(tmp_path / "check")
+    need("valgrind", "valgrind")
+    watched = "valgrind", "-q", "--error-exitcode=95", "--leak-check=full"
+    reads_telegrams(*watched, tmp_path / "telegrams")
+    checks(*watched, tmp_path / "check")
 
 
 def test_example_in_python():
@@ -102,53 +96,41 @@ def test_example_in_python():
 
 
 def test_example_in_java():
-    need("javac", JNA)
-    checks([FINDINGS], "java", "-XX:TieredStopAtLevel=1", "-cp", JNA, SOURCE / "java" / "Check.java", SHARED)
+    need("javac", "default-jdk-headless")
+    need(JNA, "libjna-java")
+    checks("java", "-XX:TieredStopAtLevel=1", "-cp", JNA, SOURCE / "java" / "Check.java", SHARED)
 
 
-# ---- calls in C
+# ---- calls
 
 
-@pytest.fixture(scope="module", name="calls")
-def build_calls():
-    need("cc")
-    calls = Library(ARCHIVE)
-    yield calls
-    calls.close()
+@pytest.fixture(scope="module", name="library")
+def build(tmp_path_factory):
+    """The library with a heap that counts and refuses requests (library_heap.c)."""
+    path = tmp_path_factory.mktemp("library") / "heap.so"
+    compiled("cc", "-O2", "-fPIC", "-shared", "-o", path, HERE / "library_heap.c", *WHOLE)
+    return Library(path)
 
 
-def inputs(name, some):
-    """These runs of a command as calls, those of records without line ends."""
-    if name not in RECORDS:
-        return [job for job in some if job.words == CALLS[name]]
-    lines = {re.sub(rb"[\r\n]", b"", job.data): None for job in some if job.words == CALLS[name]}
-    return [Job((name,), line) for line in lines]
-
-
-def known(calls, name):
-    """A few calls, each with its answer and counts."""
-    some = inputs(name, [job for job, *_ in runs_of(shared(), CALLS[name], each_kind=True)][::3])
-    return [(job, *it) for job, it in zip(some, calls.play(some))]
-
-
-@pytest.mark.parametrize("name", [name for name in CALLS if name not in RECORDS])
-def test_commands_beside_the_program(calls, name):
-    some = inputs(name, jobs())
-    for job, (answer, _), (wanted, _) in zip(some, calls.play(some), shared().play(some)):
-        assert answer == wanted, job
+def data_of(name, some):
+    """What a call gets for these runs: records without line ends."""
+    data = [job.data for job, *_ in some if job.words == CALLS[name]]
+    return list({re.sub(rb"[\r\n]", b"", it): None for it in data}) if name in RECORDS else data
 
 
 @pytest.mark.parametrize("name", RECORDS)
-def test_records_beside_the_program(calls, name):
-    """A record, also a changed one, has the program's line or fault."""
-    lines = {job.data for job in inputs(name, jobs())}
-    lines |= {changed(line, number) for line in lines for number in range(0, 16 * len(line), 1 if WHOLE else 401)}
-    lines = [line for line in lines if line and not {*b"\r\n"} & {*line}]
+def test_records_beside_the_program(name):
+    """A record of the tests, or a random one, has the program's line or fault."""
+    words = RECORDS[name]
+    more = inputs(words, accepted_of(shared(), words), 1000)
+    lines = data_of(name, runs_of(shared(), words, each_kind=False))
+    lines = [line for line in (*lines, *(line for job in more for line in job.data.split())) if line]
     documents = (json.dumps({"groups": [], "messages": [line.decode("latin-1")]}).encode() for line in lines)
-    wanted = shared().play([Job(RECORDS[name], line + b"\n") for line in lines])
+    wanted = shared().play([Job(words, line + b"\n") for line in lines])
     refused = wanted if name == "telegram" else shared().play([Job(CHECK, document) for document in documents])
-    found = calls.play([Job((name,), line) for line in lines])
-    for line, (answer, _), (record, _), (refusal, _) in zip(lines, found, wanted, refused):
+    library = Library(SHARED)
+    for line, (record, _), (refusal, _) in zip(lines, wanted, refused):
+        answer = library.call(name, line)
         if answer.status == REFUSED:
             reason, at, end = answer.stderr.split()
             why = REASONS[reason] + (f" at {at} end {end}" if int(reason) >= 10 else "")
@@ -158,40 +140,41 @@ def test_records_beside_the_program(calls, name):
 
 
 @pytest.mark.parametrize("name", CALLS)
-def test_calls_with_refused_memory(calls, name):
-    """With a request refused, by itself or with all later ones, a call answers as before, or 3 and no text."""
-    no_answer, met = Answer(NO_ANSWER, "", ""), 0
-    for job, wanted, counts in known(calls, name):
-        plans = [Plan(call, every=every) for call in range(1, counts.requests + 1) for every in (1, 1 << 62)]
-        found = [answer for answer, _ in calls.play([job._replace(memory=plan) for plan in plans])]
-        assert {*found} <= {wanted, no_answer}, job
-        met += found.count(no_answer)
-    assert met > 0
+def test_refused_memory(library, name):
+    """With a request refused, by itself or with all later ones, a call answers as before, or 3 and no text. It frees
+    all that it allocated."""
+    requests, first, last, blocks = (ctypes.c_long.in_dll(library.calls, f"heap_{it}")
+                                     for it in ("requests", "first", "last", "blocks"))
+    found = set()
+    for data in data_of(name, runs_of(shared(), CALLS[name]))[::3]:
+        requests.value = last.value = 0
+        wanted = library.call(name, data)
+        for request in range(1, requests.value + 1):
+            for end in request, ALL:
+                requests.value, first.value, last.value = 0, request, end
+                answer = library.call(name, data)
+                assert answer in (wanted, Answer(NO_ANSWER, "", "")) and not blocks.value, (data, request, end)
+                found.add(answer.status)
+    assert NO_ANSWER in found
 
 
 @pytest.mark.parametrize("name", CALLS)
-def test_calls_with_small_buffers(calls, name):
-    """A buffer that is too small is left as it was. One that is just large enough suffices."""
-    for job, wanted, _ in known(calls, name):
+def test_small_buffers_and_threads(name):
+    """A buffer that is too small is left as it was. One that is just large enough suffices, also for two threads with
+    little stack at once."""
+    library, size = Library(SHARED), threading.stack_size((STACK + 128) * 1024)  # (128 KiB for Python)
+    for data in data_of(name, runs_of(shared(), CALLS[name]))[::3]:
+        wanted = library.call(name, data)
         for less in (0, 1, 10) if wanted.stdout else ():
-            found = run((name, str(max(0, len(wanted.stdout) - less))), job.data, path=calls.path)
-            assert found == (Answer(TOO_SMALL, "", "") if less else wanted), job
-
-
-@pytest.mark.parametrize("name", CALLS)
-def test_calls_in_threads_and_under_valgrind(calls, name):
-    """Two threads with little stack get the answers that one gets, at once, and valgrind has nothing to report."""
-    for job, wanted, _ in known(calls, name):
-        assert run((name, "65536", "threads"), job.data, f"ulimit -s {STACK}", path=calls.path) == wanted, job
-    need("valgrind")
-    for job, wanted, _ in known(calls, name)[::4]:
-        words = "-q", "--error-exitcode=95", "--leak-check=full", calls.path, name
-        assert run(words, job.data, path="valgrind") == wanted, job
+            found = library.call(name, data, max(0, len(wanted.stdout) - less))
+            assert found == (Answer(TOO_SMALL, "", "") if less else wanted), data
+        with concurrent.futures.ThreadPoolExecutor(2) as pool:
+            assert {*pool.map(functools.partial(library.call, name), [data] * 100)} == {wanted}, data
+    threading.stack_size(size)
 
 
 def test_random_inputs_beside_the_program():
-    count = 100_000 if WHOLE else 10_000
-    words = f"--lines={count}", f"--documents={count // 10}", "--jobs=1"
-    ran = subprocess.run([sys.executable, "-B", TOP / "bench" / "compare.py", program(), SHARED, *words],
+    words = program(), SHARED, "--inputs=1500", "--jobs=1"
+    ran = subprocess.run([sys.executable, "-B", TOP / "bench" / "compare.py", *words],
                          stdout=subprocess.PIPE, stderr=subprocess.STDOUT, text=True, check=False)
     assert ran.returncode == 0, ran.stdout

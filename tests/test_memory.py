@@ -9,7 +9,7 @@ import subprocess
 import pytest
 
 from corpus import long_jobs, runs_of, undisturbed
-from hostile import COMMANDS, WHOLE, Job, Plan, Program, disturbed, stops
+from hostile import ALL, COMMANDS, Job, Plan, Program, disturbed, stops
 from runner import MEMORY, TOP, Answer
 
 NAMED = os.environ.get("BALISECHECK_TESTS")  # what `rt ci` builds of these two crates, with a colon between them
@@ -17,9 +17,8 @@ CRATES = [str(TOP / "crates" / crate / "out" / f"{crate}_tests") for crate in ("
 
 
 def in_turn(requests, step=1):
-    """Plans that refuse each request, or one in `step`, up to one more than there are, or each nth request."""
-    numbers = [*range(1, requests + 1, step), requests + 1]
-    return [*map(Plan, numbers), *(Plan(it, every=1) for it in numbers), *(Plan(it, every=it) for it in (1, 2, 3, 7))]
+    """Plans that refuse each request, or one in `step`, up to one more than there are."""
+    return [Plan(number, count) for number in (*range(1, requests + 1, step), requests + 1) for count in (1, ALL)]
 
 
 def refuse(program, known, plans):
@@ -27,27 +26,19 @@ def refuse(program, known, plans):
     cases = [(job._replace(memory=plan), wanted, counts.requests) for job, wanted, counts in known
              for plan in plans(counts.requests)]
     for (job, wanted, requests), (answer, counts) in zip(cases, program.play([job for job, *_ in cases])):
-        refused = counts.refused > 0
-        assert refused == (job.memory.first <= requests), (job, counts)
-        assert answer == wanted or refused and stops(answer, wanted, MEMORY), (job, answer, wanted)
+        assert (counts.refused > 0) == (job.memory.first <= requests), (job, counts)
+        assert answer == wanted or counts.refused and stops(answer, wanted, MEMORY), (job, answer, wanted)
 
 
 @pytest.mark.parametrize("words", [*COMMANDS, ()], ids=" ".join)
-def test_each_request(words):
-    refuse(disturbed(), runs_of(disturbed(), words), in_turn)
-
-
-@pytest.mark.parametrize("words", COMMANDS, ids=" ".join)
-def test_some_requests(words):
+def test_requests(words):
+    """Each request of a few runs is refused, a random one and some later ones of many, and some of long runs."""
     choice, known = random.Random(1), runs_of(disturbed(), words, each_kind=False)
-    refuse(disturbed(), choice.choices(known, k=1000 if WHOLE else 100),
-           lambda requests: [Plan(choice.randint(1, requests), 1, choice.randint(1, requests))])
-
-
-@pytest.mark.parametrize("words", COMMANDS, ids=" ".join)
-def test_long_runs(words):
+    refuse(disturbed(), runs_of(disturbed(), words), in_turn)
+    refuse(disturbed(), choice.choices(known, k=100),
+           lambda requests: [Plan(choice.randint(1, requests), choice.randint(1, requests))])
     refuse(disturbed(), undisturbed(disturbed(), long_jobs(words)),
-           lambda requests: in_turn(requests, max(1, requests // (400 if WHOLE else 10))))
+           lambda requests: in_turn(requests, max(1, requests // 10)))
 
 
 @pytest.mark.parametrize("path", NAMED.split(":") if NAMED else CRATES, ids=os.path.basename)

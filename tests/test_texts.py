@@ -7,6 +7,7 @@ import pytest
 from corpus import (FORM, LONG, MESSAGE, MESSAGE_FORM, REPORT, REPORT_FORM, SHORT, answers, come_back, is_documented,
                     runs_of)
 from hostile import CHECK, COMMANDS, DECODE, DECODE_RADIO, ENCODE, ENCODE_RADIO, INVERSE, Job, shared
+from runner import flipped
 
 REPLACING = b'"', b"{", b"[", b",", b"0", b"\x01", b"\xff"
 FAULT = re.compile(r"refused: (line 1|message 0): [a-z -]+ at \d+ end (\d+)\n")
@@ -62,12 +63,6 @@ def test_changed_inputs(words):
             assert answer.stdout in ("refused: not JSON\n", "refused: line 1: not JSON\n"), (line, answer)
     if words != CHECK:
         come_back(shared(), DECODE_RADIO if "--radio" in words else DECODE, forms)
-
-
-def flipped(text, bit):
-    """The text with a bit of its digits turned."""
-    place, below = divmod(bit, 4)
-    return f"{text[:place]}{int(text[place], 16) ^ 8 >> below:x}{text[place + 1:]}"
 
 
 @pytest.mark.parametrize("words", [DECODE, DECODE_RADIO], ids=" ".join)
