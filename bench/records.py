@@ -9,58 +9,32 @@ only on COUNT.
 """
 import collections
 import contextlib
-import csv
 import itertools
 import json
 import pathlib
 import random
 import sys
 
-TABLE = pathlib.Path(__file__).resolve().parents[1] / "docs/assurance/trace.csv"
+sys.dont_write_bytecode = True  # so that no folder for it is made beside the tests
+sys.path.append(str(pathlib.Path(__file__).resolve().parents[1] / "tests"))
+
+from variables.table import Row, layouts_of, read_rows  # noqa: E402  (the path comes first)
+
 MOVEMENT, POSITION, AUTHORITY = 3, 136, 15
 USER_BITS, HEAD_BITS, END_BITS = 830, 23, 8
 LEAST, MOST = 40, 120  # bytes of a message
 FORM = json.JSONEncoder(separators=(",", ":"), sort_keys=True)
 numbers = random.Random(USER_BITS)
-# A variable: its numbers as spans, each with its first number and its size, and the numbers of another variable that it
-# depends on.
-Row = collections.namedtuple("Row", "name bits spans other others keys path")
-# An object, or a list with the row that counts its items after the first `least` ones.
-Part = collections.namedtuple("Part", "key count least nodes")
 Packet = collections.namedtuple("Packet", "number value bits record")
-
-
-def read_layouts():
-    """The rows and parts of each layout, by its name in the table."""
-    layouts = collections.defaultdict(list)
-    for line in csv.DictReader(TABLE.read_text(encoding="utf-8").splitlines()):
-        kind, _, each = line["layouts"].partition("s ") if ", " in line["layouts"] else (line["layouts"], "", "")
-        words = [it.split(" ") for it in line["numbers"].split("; ") if it[:1].isdigit()]
-        spans = [(int(it[0]), 1 + int(it[2]) - int(it[0]) if it[1:2] == ["to"] else 1) for it in words]
-        other, _, those = line["when"].partition(" ")
-        others, path = {int(it) for it in those.split(" or ") if it.isdigit()}, line["key"].split("/")
-        row = Row(line["variable"], int(line["bits"] or 0), spans, other, others, path[-1].split(), path)
-        for name in [f"{kind} {it}" for it in each.split(", ")] if each else [kind]:
-            layouts[name] += [row] * bool(row.name)
-    return {name: tree(rows, 0) for name, rows in layouts.items()}
-
-
-def tree(rows, depth):
-    """The rows and parts of an object."""
-    def part(row):
-        return row.path[depth] if row.path[depth].endswith("[]") or row.path[depth + 1:] else ""
-
-    nodes = []
-    for key, own in ((key, list(own)) for key, own in itertools.groupby(rows, part)):
-        count = next((it for it in own if len(it.path) == depth + 1), None)
-        inner = [it for it in own if it is not count]
-        nodes += [Part(key.removesuffix("[]"), count, own[0] is not count, tree(inner, depth + 1))] if key else own
-    return nodes
-
-
-LAYOUTS = read_layouts()
+LAYOUTS = layouts_of(read_rows())
 KNOWN = [number for number in range(255) if f"packet {number}" in LAYOUTS]
 OTHERS = [number for number in range(255) if number not in KNOWN]
+
+
+def is_there(node, known):
+    """Whether a variable or an object is present beside these numbers of other variables."""
+    other, those = node.condition
+    return not other or known.get(other) in those
 
 
 class Writer:
@@ -78,27 +52,28 @@ class Writer:
 
     def number(self, row):
         """The next number of a variable."""
-        given = self.given.get(row.name)
+        given = self.given.get(row.variable)
         if given is not None:
             return given if isinstance(given, int) else next(given)
-        if row.name == "N_ITER":
+        if row.variable == "N_ITER":
             return numbers.randint(0, self.most)
-        first, size = row.spans[0]
-        if row.spans[1:]:  # (a special number is as likely as a usual one, or sometimes as all usual ones)
-            first, size = numbers.choices(row.spans, [it[1] for it in row.spans] if numbers.random() < 0.9 else None)[0]
+        spans = [(first, last + 1 - first) for first, last, _ in row.spans]
+        first, size = spans[0]
+        if spans[1:]:  # (a special number is as likely as a usual one, or sometimes as all usual ones)
+            first, size = numbers.choices(spans, [it[1] for it in spans] if numbers.random() < 0.9 else None)[0]
         return first + int(numbers.random() * size)
 
     def object(self, nodes, record, known):
         """Writes an object. `known` has its numbers, on which others depend."""
         for node in nodes:
             if isinstance(node, Row):
-                if not node.other or known.get(node.other) in node.others:
+                if is_there(node, known):
                     self.variable(node, record, known)
             elif node.count:
                 items = record[node.key] = []
                 self.items(node, items, node.least)
-                self.items(node, items, self.put(self.number(node.count), node.count.bits))
-            elif known.get(node.nodes[0].other) in node.nodes[0].others:
+                self.items(node, items, self.put(self.number(node.count), node.count.width))
+            elif is_there(node, known):
                 self.object(node.nodes, record.setdefault(node.key, {}), known)
 
     def items(self, part, items, number):
@@ -109,15 +84,15 @@ class Writer:
 
     def variable(self, row, record, known):
         """Writes a variable, which is in the record too if it has keys: both parts of an identity have one."""
-        if row.name == "body":
+        if row.variable == "body":
             bits = numbers.choice((self.end - self.bits, numbers.randint(0, self.end - self.bits)))
             text = self.put(numbers.getrandbits(bits), bits) << -bits % 8
             record["body"] = f"{text:0{(bits + 7) // 8 * 2}x}" * bool(bits)
-        elif row.name in ("L_PACKET", "L_MESSAGE"):
-            self.put(0, row.bits)
+        elif row.variable in ("L_PACKET", "L_MESSAGE"):
+            self.put(0, row.width)
             self.after_length = self.bits
         else:
-            known[row.name] = value = self.put(self.number(row), row.bits)
+            known[row.variable] = value = self.put(self.number(row), row.width)
             record.update(zip(row.keys, divmod(value, 1 << 14) if row.keys[1:] else [value]))
 
 
