@@ -1,4 +1,4 @@
-"""What the repository has for those who read, fork or call it: crates, hook, steps of tests, and the form of its texts."""
+"""The list of crates, the hook for commits, steps of tests, and the form of texts."""
 import os
 import re
 import subprocess
