@@ -58,7 +58,8 @@ def test_names():
 def test_sources():
     """No source has an `unsafe`, and the crate of `main` has no clauses."""
     assert "unsafe" not in words() and "No source has an `unsafe`" in PROOFS
-    assert source("balisecheck/src/*.rt") and not re.search(r"(?m)^ *(?:ensures|requires)\b", source("balisecheck/src/*.rt"))
+    main = source("balisecheck/src/*.rt")
+    assert "fn main" in main and not re.search(r"(?m)^ *(?:ensures|requires)\b", main)
 
 
 def test_yes():

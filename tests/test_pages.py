@@ -103,7 +103,8 @@ def test_site(tmp_path):
             name, _, place = link.partition("#")
             target = (path.parent / name).resolve() if name else path
             assert target.exists() and place in places.get(target, {place}), (path, link)
-        assert not re.search(r'<(?:link(?![^>]* rel="canonical")|script|img|iframe)\b[^>]*? (?:href|src)="(?:https?:)?//', text)
+        fetched = r'<(?:link(?![^>]* rel="canonical")|script|img|iframe)\b[^>]*? (?:href|src)="(?:https?:)?//'
+        assert not re.search(fetched, text), path
     for path in site.rglob("*.css"):
         assert not re.search(r"(?:@import|url\()\s*[\"']?(https?:)?//", path.read_text("utf-8")), path
     found = (site / "search/search_index.json").read_text("utf-8")

@@ -56,6 +56,11 @@ def serves(made, prefix):
     assert f"balisekit {VERSION}\nbalisecheck {VERSION}, sources {sources}, program {whole}\n" in said
     assert said.count(sources) > 1 and said.count(whole) > 1
     assert sh(TOP, f"cmp '{commands}/balisecheck' '{program()}'") == ""
+    has_manuals(prefix)
+
+
+def has_manuals(prefix):
+    """Both manual pages can be read."""
     for name in ("balisecheck", "balisekit"):
         assert re.search(r"(?m)^\.TH ", sh(prefix / "share/man/man1", f"zcat -f {name}.1*"))
 
@@ -201,6 +206,7 @@ def test_release(tmp_path, monkeypatch):
     assert sh(TOP, f"{release} '{made}' & {release} '{made.with_name('again')}'; wait").count("written: ") == 2
     assert sh(TOP, f"{release} '{made}'", check=False) == f"release: {made} is not empty\n"
     sh(TOP, f"scripts/install.sh '{clone}'")
+    has_manuals(clone)
     monkeypatch.delenv("BALISECHECK")
     sh(made.parent, "tar -xzf made/*.tar.gz")
     tree = next(made.parent.glob("balisecheck-*"))
@@ -209,4 +215,3 @@ def test_release(tmp_path, monkeypatch):
     check_wheel(made, tree)
     check_deb(made)
     check_libraries(made)
-    serves(made, clone)

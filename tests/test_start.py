@@ -1,7 +1,6 @@
 """The scripts that start and build the program, in a tiny tree with stand-ins for program and toolchain."""
 import os
 import platform
-import shutil
 import subprocess
 import tempfile
 

@@ -98,7 +98,7 @@ def test_release(tree):
             ("sed -i \"1i== sources $(dist/sources)\" out/gate.log", "no out/edits.log in which everything passed: "),
             ("echo 'the edits: 0 passed, 0 failed' >out/edits.log", "no out/edits.log in which everything passed: "),
             ("echo 'the edits: 9 passed, 0 failed' >out/edits.log", "out/edits.log is from other sources: "),
-            ("sed -i \"1i== crates $(git rev-parse HEAD:crates)\" out/edits.log", "no out/plants.log in which everything "),
+            ("sed -i \"1i== crates $(git rev-parse HEAD:crates)\" out/edits.log", "no out/plants.log in which "),
             ("sed -i 's/^version .*/version 1.2.8/' $stored/ABOUT; save", "the stored program is not 1.2.9: ")):
         sh(tree, command)
         assert refused(tree, why) is True
