@@ -154,17 +154,14 @@ def some_group(document, least=1, aspects=1):
     return numbers.choice(those or document.groups)
 
 
-def any_balise(document):
-    return numbers.choice(numbers.choice(some_group(document).aspects))
-
-
 def header_differs(document):
     """Another number in a header, in most cases of a group of several balises. Two counters may differ."""
     aspect = numbers.choice(some_group(document, least=numbers.choice((1, 2, 2))).aspects)
-    key, count = numbers.choice((("n_pig", 8), ("n_total", 8), ("m_dup", 3), ("m_dup", 3), ("m_mcount", 255),
-                                 ("nid_c", 1024), ("nid_bg", 16384), ("q_link", 2), ("m_version", 2)))
+    key, several = numbers.choice((("n_pig", range(8)), ("n_total", range(8)), ("m_dup", range(3)), ("m_dup", (1, 2)),
+                                   ("m_mcount", range(255)), ("m_mcount", (254,)), ("nid_c", range(1024)),
+                                   ("nid_bg", range(16384)), ("q_link", (0, 1)), ("m_version", (32, 33))))
     for _ in range(1 + (key == "m_mcount")):
-        numbers.choice(aspect).header[key] = numbers.randrange(count) + 32 * (key == "m_version")
+        numbers.choice(aspect).header[key] = numbers.choice(several)
 
 
 def position(document):
@@ -172,18 +169,6 @@ def position(document):
     aspect = numbers.choice(some_group(document, least=2).aspects)
     one, other = numbers.randrange(len(aspect)), numbers.randrange(len(aspect))
     aspect[one], aspect[other] = aspect[other], aspect[one]
-
-
-def mark_outside(document):
-    """A duplicate flag of the first or last balise that names one that is not there."""
-    aspect = numbers.choice(some_group(document).aspects)
-    place = numbers.choice((0, -1))
-    aspect[place].header["m_dup"] = 2 if place == 0 else 1
-
-
-def default_counter(document):
-    """Counter 254."""
-    any_balise(document).header["m_mcount"] = 254
 
 
 def identity_used(document):
@@ -239,7 +224,7 @@ def not_modelled(document):
     if document.messages and numbers.random() < 0.4:
         numbers.choice(document.messages).append(unmodelled())
     else:
-        put_more(any_balise(document), [unmodelled()])
+        put_more(numbers.choice(numbers.choice(some_group(document).aspects)), [unmodelled()])
 
 
 def other_packets(document):
@@ -257,8 +242,8 @@ def other_packets(document):
 
 
 # (more often if a fault has several kinds)
-FAULTS = (*(header_differs,) * 5, position, mark_outside, default_counter, identity_used, *(aspects_alike,) * 2,
-          packets_differ, not_modelled, *(other_packets,) * 5)
+FAULTS = (*(header_differs,) * 7, position, identity_used, *(aspects_alike,) * 2, packets_differ, not_modelled,
+          *(other_packets,) * 5)
 
 
 def text_of(balise):

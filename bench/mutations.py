@@ -4,8 +4,8 @@ All that is random comes from `records.numbers`. Whoever imports this has put te
 """
 import re
 
-from corpus import jobs
-from hostile import CHECK, DECODE, DECODE_RADIO, Job
+from corpus import runs_of
+from hostile import CHECK, DECODE, DECODE_RADIO
 from records import numbers
 
 NUMBERS = (b"0", b"1", b"2", b"3", b"7", b"31", b"32", b"120", b"127", b"255", b"1023", b"8191", b"32767", b"65536",
@@ -17,13 +17,11 @@ PIECES = (b'"', b"{", b"}", b"[", b"]", b",", b":", b"0", b"\\", b"\\u0000", b"\
 
 def accepted_of(program, words):
     """The documents or lines of the tests that the program accepts."""
-    texts = [job.data for job in jobs() if job.words == words and len(job.data) < (2000 if words == CHECK else 5000)]
+    known = runs_of(program, words, each_kind=False)
+    texts = [job.data for job, answer, _ in known if answer.status < 2 and len(job.data) < 5000]
     if words == DECODE_RADIO:
         texts = [re.sub(b"[\r\n]", b"", text) for text in texts]
-    elif words != CHECK:
-        texts = [line for text in texts for line in text.splitlines()]
-    answers = program.play([Job(words, text) for text in texts])
-    return [text for text, (answer, _) in zip(texts, answers) if text and answer.status in (0, 1)]
+    return [line for text in texts for line in ([text] if words == CHECK else text.splitlines()) if line]
 
 
 def turned(line, first=0):

@@ -247,13 +247,13 @@ def documents():
     """The documents of documents.txt as runs, each also in other spellings: one with a key twice is not read group by
     group."""
     for name, line, *report in blocks("documents.txt"):
-        document, wanted = in_full(line), answered("\n".join(report) + "\n")
-        others = {"": document, ", and a line end": f"{document}\r\n"}
+        document, others = in_full(line), []
         if report != ["refused: not JSON"]:
-            others[", spelled in another way"] = respelled(document)
+            others.append(respelled(document))
         if not report[0].startswith("refused: "):
-            others[", a key twice"] = document.replace("{", '{"messages":0,', 1)
-        yield from ((name + how, ["check"], other, wanted) for how, other in others.items())
+            others.append(document.replace("{", '{"messages":0,', 1))
+        for given in (document, f"{document}\r\n", *others):
+            yield f"{name}: {given[:99]}", ["check"], given, answered("\n".join(report) + "\n")
 
 
 def runs():

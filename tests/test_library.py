@@ -146,7 +146,7 @@ def test_refused_memory(library, name):
     requests, first, last, blocks = (ctypes.c_long.in_dll(library.calls, f"heap_{it}")
                                      for it in ("requests", "first", "last", "blocks"))
     found = set()
-    for data in data_of(name, runs_of(shared(), CALLS[name]))[::3]:
+    for data in data_of(name, runs_of(shared(), CALLS[name])):
         requests.value = last.value = 0
         wanted = library.call(name, data)
         for request in range(1, requests.value + 1):
@@ -163,13 +163,13 @@ def test_small_buffers_and_threads(name):
     """A buffer that is too small is left as it was. One that is just large enough suffices, also for two threads with
     little stack at once."""
     library, size = Library(SHARED), threading.stack_size((STACK + 128) * 1024)  # (128 KiB for Python)
-    for data in data_of(name, runs_of(shared(), CALLS[name]))[::3]:
+    for data in data_of(name, runs_of(shared(), CALLS[name])):
         wanted = library.call(name, data)
         for less in (0, 1, 10) if wanted.stdout else ():
             found = library.call(name, data, max(0, len(wanted.stdout) - less))
             assert found == (Answer(TOO_SMALL, "", "") if less else wanted), data
         with concurrent.futures.ThreadPoolExecutor(2) as pool:
-            assert {*pool.map(functools.partial(library.call, name), [data] * 100)} == {wanted}, data
+            assert {*pool.map(functools.partial(library.call, name), [data] * 40)} == {wanted}, data
     threading.stack_size(size)
 
 

@@ -1,14 +1,12 @@
 """Limits of memory and of the stack, without the shim."""
-import bisect
 import subprocess
 import sys
 
 import pytest
 
 from corpus import FORM, MESSAGE, MESSAGE_FORM, SHORT, long_jobs, runs_of, undisturbed
-from hostile import CHECK, COMMANDS, DECODE_RADIO, ENCODE, ENCODE_RADIO, GROUPS, STACK, Job, shared, stops
+from hostile import CHECK, COMMANDS, DECODE_RADIO, ENCODE, ENCODE_RADIO, GROUPS, STACK, Job, shared
 from runner import MEMORY, TOP, answered, run
-from test_texts import LONG_INPUTS
 
 KEPT = 9  # times the size of a document that is kept complete: it takes 8.1, and 10.6 if no list gives back memory
 
@@ -25,20 +23,6 @@ def test_stack(words):
     some = [Job(words, data.encode()) for data in levels if words in (CHECK, ENCODE, ENCODE_RADIO)] + long_jobs(words)
     for job, wanted, _ in undisturbed(shared(), some) + runs_of(shared(), words, each_kind=False):
         assert limited("s", STACK, job.words, job.data) == wanted, job
-
-
-def test_memory():
-    """From the least limit on with which the system starts the program, each limit gives the wanted text, or memory."""
-    known = [it for words in COMMANDS for it in runs_of(shared(), words)[::16]] * 3
-    start = bisect.bisect_left(range(100000), True, key=lambda size: all(
-        limited("v", size, job.words, job.data) == wanted for job, wanted, _ in known))
-    refused = 0
-    for words, head, often, count, tail, wanted in LONG_INPUTS:
-        for size in range(start + 128, start + 40000, 13000):
-            answer = limited("v", size, words, head + often * count + tail)
-            assert answer == answered(wanted) or stops(answer, answered(wanted), MEMORY), (words, head, size, answer)
-            refused += answer.status == 3
-    assert refused > 0
 
 
 @pytest.mark.parametrize("order, times", [("groups first", 2), ("messages first", 2), ("a key twice", KEPT)])
