@@ -100,25 +100,23 @@ def shortest() -> List[Tuple[str, str]]:
 
 
 def keys(form: Any, path: Tuple[Any, ...]) -> Tuple[Any, ...]:
-    """The keys of a path, after the number of its packet."""
+    """The keys of a path, after the number of its packet. Of lists only the first item differs from the others."""
     number = form["packets"][path[1]]["nid_packet"] if len(path) > 1 and path[0] == "packets" else None
-    return (number, *(step for step in path if isinstance(step, str)))
+    return (number, *(step if isinstance(step, str) else min(step, 1) for step in path))
 
 
-def first_and_other() -> Iterator[Any]:
-    """The shortest lines, each with the places that are the first ones of their keys, and with the others, as slow."""
+def first_places() -> Iterator[Tuple[str, str, List[Tuple[Any, ...]]]]:
+    """The shortest lines, each with the places that are the first ones of their keys."""
     seen: Set[Tuple[Any, ...]] = set()
     for name, text in shortest():
         form = json.loads(text)
-        all_places = list(places(form))
-        firsts = {keys(form, path): path for path in all_places if (name, keys(form, path)) not in seen}
+        firsts = {keys(form, path): path for path in places(form) if (name, keys(form, path)) not in seen}
         seen.update((name, each) for each in firsts)
-        others = [path for path in all_places if path not in firsts.values()]
-        yield from [(name, text, list(firsts.values()))] if firsts else []
-        yield from [pytest.param(name, text, others, marks=pytest.mark.slow)] if others else []
+        if firsts:
+            yield name, text, list(firsts.values())
 
 
-@pytest.mark.parametrize("name, text, paths", first_and_other())
+@pytest.mark.parametrize("name, text, paths", first_places())
 def test_each_key_is_needed_and_each_value_has_its_range(name: str, text: str, paths: List[Tuple[Any, ...]]) -> None:
     """Without each key, with an additional one, and with each of some values instead of its own."""
     form = json.loads(text)
