@@ -99,7 +99,7 @@ def test_site(tmp_path):
     texts = {path: path.read_text("utf-8") for path in site.rglob("*.html")}
     places = {path: {"", *re.findall(r'\bid="([^"]+)"', text)} for path, text in texts.items()}
     for path, text in texts.items():
-        for link in map(html.unescape, re.findall(r'<a\b[^>]*? href="(?![a-z]+:|#")([^"]+)"', text)):
+        for link in re.findall(r'<a\b[^>]*? href="(?![a-z]+:|#")([^"]+)"', html.unescape(text)):
             name, _, place = link.partition("#")
             target = (path.parent / name).resolve() if name else path
             assert target.exists() and place in places.get(target, {place}), (path, link)

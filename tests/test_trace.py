@@ -55,7 +55,8 @@ def test_program():
     for words, make in (DECODE, records.telegram), (DECODE_RADIO, records.message):
         drawn = [make() for _ in range(300)]
         lines = "".join(f"{records.FORM.encode(record)}\n" for _, record in drawn)
-        assert shared().answer(words, "\n".join(text for text, _ in drawn)).stdout == lines
+        (answer, _), = shared().play([Job(words, "\n".join(text for text, _ in drawn).encode())])
+        assert answer.stdout == lines
         for text, (layout, field) in ((text, it) for text, _ in drawn for it in fields_of(text)):
             place = layout, field.name
             if place in rows and place not in met:
