@@ -173,16 +173,10 @@ marks r page = option_map_or (λ page. is_marked page.items r) page false
 abbrev in_page : List (Vec ℕ) → ℕ → ℕ → Bool
 in_page pages i r = marks r (slice_get pages i)
 
-page_more : (pages : List (Vec ℕ)) (page : Vec ℕ) (i r : ℕ) → page.items ≡ [] → in_page (pages ++ page ∷ []) i r ≡ in_page pages i r
-page_more [] page zero r none = ap (λ t. is_marked t r) none ∙ ap (λ v. eqb v 1) (bit_at-zero (r % 64))
-page_more [] page (suc i) r none = refl
-page_more (x ∷ xs) page zero r none = refl
-page_more (x ∷ xs) page (suc i) r none = page_more xs page i r none
-
 page_set : (pages : List (Vec ℕ)) (page : Vec ℕ) (i r : ℕ) → i < length pages → in_page (set pages i page) i r ≡ is_marked page.items r
-page_set [] page i r lt = absurd (omega arith)
 page_set (x ∷ xs) page zero r lt = refl
 page_set (x ∷ xs) page (suc i) r lt = page_set xs page i r (omega arith)
+page_set [] page i r lt = absurd (omega arith)
 
 page_other : (pages : List (Vec ℕ)) (page : Vec ℕ) (q i r : ℕ) → i ≢ q → in_page (set pages q page) i r ≡ in_page pages i r
 page_other [] page q i r ne = refl
@@ -190,10 +184,6 @@ page_other (x ∷ xs) page zero zero r ne = absurd (ne refl)
 page_other (x ∷ xs) page zero (suc i) r ne = refl
 page_other (x ∷ xs) page (suc q) zero r ne = refl
 page_other (x ∷ xs) page (suc q) (suc i) r ne = page_other xs page q i r (λ e. ne (ap suc e))
-
--- one more page, with no mark
-pub kept_grown : (old new : List (Vec ℕ)) (page : Vec ℕ) → page.items ≡ [] → new ≡ old ++ page ∷ [] → (n : ℕ) → is_kept new n ≡ is_kept old n
-kept_grown old new page none is n = ap (λ pages. is_kept pages n) is ∙ page_more old page (n / 4096) (n % 4096) none
 
 -- a page with the same words
 pub kept_same : (start pages : List (Vec ℕ)) (was is : Vec ℕ) (i : ℕ) → slice_get pages i ≡ Some was → is.items ≡ was.items → ((n : ℕ) → is_kept pages n ≡ is_kept start n) → (n : ℕ) → is_kept (set pages i is) n ≡ is_kept start n
