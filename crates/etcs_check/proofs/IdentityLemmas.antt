@@ -1,13 +1,14 @@
 -- One more bit in a table, one more group that was seen, and what the bits show.
-use Rattle.std.proofs.Common.{◌≡◌, ◌≢◌, ℕ, zero, suc, ◌+◌, ◌*◌, ◌/◌, ◌%◌, ◌^◌, ◌<◌, ◌≤◌, Bool, true, false, ◌&&◌, ◌||◌, eqb, List, [], ◌∷◌, ◌++◌, length, get_or, set, replicate, take, Option, Some, None, bit_or, slice_get, refl, sym, ap, ap₂, subst, ◌∙◌, arith}
+use Rattle.std.proofs.Common.{◌≡◌, ◌≢◌, ℕ, zero, suc, ◌+◌, ◌*◌, ◌/◌, ◌%◌, ◌^◌, ◌<◌, ◌≤◌, Bool, true, false, ◌&&◌, ◌||◌, eqb, List, [], ◌∷◌, ◌++◌, length, get_or, map, set, vec_items, replicate, take, Option, Some, None, bit_or, slice_get, refl, sym, ap, ap₂, subst, ◌∙◌, arith}
 use Rattle.std.specs.Global.{Vec}
 use Rattle.std.specs.Int.{w64}
 use Rattle.std.specs.Option.{option_map_or}
 use Rattle.std.proofs.Math.Bool.{or_comm, or-false}
+use Rattle.std.proofs.Math.Seq.{map-set_same}
 use Rattle.std.proofs.lemmas.Nat.{div-add-mod', mod_below, div_below}
 use Rattle.std.proofs.lemmas.Nat.Bits.{bit_at_set_same, bit_at_set_other, bit_at-zero}
 use Rattle.std.proofs.lemmas.Bool.{both_ways, cases_eq, cases_lt, ne_eqb, eq-eqb, or_parts, false_from_ne_true}
-use Rattle.std.proofs.lemmas.List.{get_or_past, get_or-set_same, get_or-set_other, get_or-replicate, length-replicate, take_all}
+use Rattle.std.proofs.lemmas.List.{get_or_past, get_or-set_same, get_or-set_other, get_or-replicate, get_or-map, length-map, length-replicate, map-set, take_all}
 use Rattle.std.proofs.lemmas.List.Folds.{list_any-append, list_any_more}
 use Rattle.std.proofs.lemmas.Option.{none-some, slice_get_within, get_or_from_slice_get, same_Some}
 use mathlib.Core.Logic.{inl, inr}
@@ -166,41 +167,23 @@ pub marked_grown : (old new : List ℕ) (n k : ℕ) → length old ≤ n → new
 marked_grown old new n k le is p =
     ap (λ t. is_marked t p) (is ∙ ap (λ t. t ++ replicate k 0) (take_all n old le)) ∙ ap (λ v. has_bit v (p % 64)) (zeros_more old k (p / 64))
 
--- whether place r of a page is marked, and of page i
-abbrev marks : ℕ → Option (Vec ℕ) → Bool
-marks r page = option_map_or (λ page. is_marked page.items r) page false
-
+-- whether place r of page i is marked
 abbrev in_page : List (Vec ℕ) → ℕ → ℕ → Bool
-in_page pages i r = marks r (slice_get pages i)
-
-page_set : (pages : List (Vec ℕ)) (page : Vec ℕ) (i r : ℕ) → i < length pages → in_page (set pages i page) i r ≡ is_marked page.items r
-page_set (x ∷ xs) page zero r lt = refl
-page_set (x ∷ xs) page (suc i) r lt = page_set xs page i r (omega arith)
-page_set [] page i r lt = absurd (omega arith)
-
-page_other : (pages : List (Vec ℕ)) (page : Vec ℕ) (q i r : ℕ) → i ≢ q → in_page (set pages q page) i r ≡ in_page pages i r
-page_other [] page q i r ne = refl
-page_other (x ∷ xs) page zero zero r ne = absurd (ne refl)
-page_other (x ∷ xs) page zero (suc i) r ne = refl
-page_other (x ∷ xs) page (suc q) zero r ne = refl
-page_other (x ∷ xs) page (suc q) (suc i) r ne = page_other xs page q i r (λ e. ne (ap suc e))
+in_page pages i r = is_marked (get_or (map vec_items pages) i []) r
 
 -- a page with the same words
-pub kept_same : (start pages : List (Vec ℕ)) (was is : Vec ℕ) (i : ℕ) → slice_get pages i ≡ Some was → is.items ≡ was.items → ((n : ℕ) → is_kept pages n ≡ is_kept start n) → (n : ℕ) → is_kept (set pages i is) n ≡ is_kept start n
-kept_same start pages was is i at same so_far n = elim (cases_eq (n / 4096) i) [
-  | inl e ↦
-      let r = n % 4096 in
-      ap (λ j. in_page (set pages i is) j r) e ∙ page_set pages is i r (slice_get_within pages i was at) ∙ ap (λ t. is_marked t r) same ∙ sym (ap (λ j. in_page pages j r) e ∙ ap (marks r) at) ∙ so_far n
-  | inr ne ↦ page_other pages is i (n / 4096) (n % 4096) ne ∙ so_far n
-]
+pub kept_same : (start pages : List (Vec ℕ)) (was is : Vec ℕ) (i : ℕ) → get_or pages i was ≡ was → is.items ≡ was.items → ((n : ℕ) → is_kept pages n ≡ is_kept start n) → (n : ℕ) → is_kept (set pages i is) n ≡ is_kept start n
+kept_same start pages was is i at same so_far n = ap (λ words. is_marked (get_or words (n / 4096) []) (n % 4096)) (map-set_same vec_items pages i is was (same ∙ ap vec_items (sym at))) ∙ so_far n
 
 -- one more mark in its page
-pub kept_marked : (pages : List (Vec ℕ)) (was is : Vec ℕ) (q : ℕ) → slice_get pages (q / 4096) ≡ Some was → ((p : ℕ) → is_marked is.items p ≡ (eqb (q % 4096) p || is_marked was.items p))
+pub kept_marked : (pages : List (Vec ℕ)) (was is : Vec ℕ) (q : ℕ) → q / 4096 < length pages → get_or pages (q / 4096) was ≡ was → ((p : ℕ) → is_marked is.items p ≡ (eqb (q % 4096) p || is_marked was.items p))
     → (n : ℕ) → is_kept (set pages (q / 4096) is) n ≡ (eqb q n || is_kept pages n)
-kept_marked pages was is q at marked =
-    part_marked (in_page pages) (in_page (set pages (q / 4096) is)) 4096 q (omega arith)
-    (λ r _. page_set pages is (q / 4096) r (slice_get_within pages (q / 4096) was at) ∙ marked r ∙ ap (λ page. eqb (q % 4096) r || marks r page) (sym at))
-    (λ i r ne. page_other pages is (q / 4096) i r ne)
+kept_marked pages was is q lt at marked n =
+    let words = map vec_items pages in
+    ap (λ words. is_marked (get_or words (n / 4096) []) (n % 4096)) (map-set vec_items pages (q / 4096) is)
+    ∙ part_marked (in_page pages) (λ i r. is_marked (get_or (set words (q / 4096) is.items) i []) r) 4096 q (omega arith)
+    (λ r _. ap (λ t. is_marked t r) (get_or-set_same words (q / 4096) is.items [] (rw length-map lt)) ∙ marked r ∙ ap (λ t. eqb (q % 4096) r || is_marked t r) (ap vec_items (sym at) ∙ sym (get_or-map vec_items pages (q / 4096) was [] lt)))
+    (λ i r ne. ap (λ t. is_marked t r) (get_or-set_other words (q / 4096) i is.items [] ne)) n
 
 -- one more group of a list, whose identity is kept now
 pub kept_more : (groups : List (List (List Telegram))) (i : ℕ) (g : List (List Telegram)) (was is : ℕ → Bool) → At groups i g → ((n : ℕ) → is n ≡ (eqb (identity_number g) n || was n)) → HasKept was (take i groups) → HasKept is (take (i + 1) groups)

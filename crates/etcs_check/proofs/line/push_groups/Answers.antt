@@ -1,4 +1,5 @@
-use Rattle.std.proofs.Common.{◌++◌, ap, refl, ◌∙◌, arith}
+use Rattle.std.proofs.Common.{◌++◌, ◌%◌, ap, eqb, refl, ◌∙◌, arith}
+use Rattle.std.proofs.lemmas.Nat.Bits.{bit_at-zero}
 use Rattle.std.proofs.lemmas.Option.{slice_get_within}
 use Rattle.etcs_group.specs.Controlled.{IsControlled}
 use Rattle.etcs_check.specs.Identities.{HasIdentity, is_kept}
@@ -20,7 +21,7 @@ places-init c = record {
   all = refl;
   controlled = λ k g lt. absurd (omega arith);
   numbered = λ k g lt. absurd (omega arith);
-  kept = λ again n. ap (λ pages. is_kept pages n) c.new-kept.ensures.items;
+  kept = λ again n. ap (λ pages. is_kept pages n) c.new-kept.ensures.items ∙ ap (λ v. eqb v 1) (bit_at-zero (n % 4096 % 64));
 }
 
 -- The findings of this group were appended, and its identity was kept.
