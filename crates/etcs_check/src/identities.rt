@@ -43,9 +43,7 @@ pub(crate) fn identity_number(aspects: &[Group]) -> u32
 pub(crate) fn is_marked(table: &[u64], place: usize) -> bool
     ensures { result ≡ is_marked table.now place }
 {
-    table
-        .get(place / 64)
-        .is_some_and(|word| (*word >> (place % 64)) & 1 == 1)
+    place / 64 < table.len() && (table[place / 64] >> (place % 64)) & 1 == 1
 }
 
 // Marks the place, and returns whether it was marked before.
@@ -74,10 +72,8 @@ fn mark_in(page: &mut Vec<u64>, place: usize) -> Result<(), Memory>
 pub(crate) fn is_kept(pages: &[Vec<u64>], number: u32) -> bool
     ensures { result ≡ is_kept pages.now number }
 {
-    let place = number as usize;
-    pages
-        .get(place / PAGE)
-        .is_some_and(|page| is_marked(page, place % PAGE))
+    let page = number as usize / PAGE;
+    page < pages.len() && is_marked(&pages[page], number as usize % PAGE)
 }
 
 // Keeps the number. If memory runs out, the same numbers are kept.
