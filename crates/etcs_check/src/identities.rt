@@ -2,12 +2,11 @@
 //! groups by a table of bits without heap memory.
 
 ghost use Rattle.std.specs.Prelude.{◌≡◌, ℕ, ◌+◌, ◌*◌, ◌^◌, ◌<◌, ◌||◌, ◌==◌, false, length, IsTrue, IsFalse, OnOk, OnErr};
-ghost use Rattle.etcs_check.specs.Identities.{HaveIdentities, HasNoRepeat, HasRepeat, HasIdentity, identity_number, is_kept, is_marked, number_of_identity};
+ghost use Rattle.etcs_check.specs.Identities.{HaveIdentities, HasNoRepeat, HasRepeat, HasIdentity, identity_number, is_kept, is_marked};
 
 use crate::aspects::first_aspect;
 use etcs_bits::Memory;
 use etcs_group::{Controlled, Group};
-use etcs_telegram::Telegram;
 use std::alloc::Global;
 
 // The number of identities that one pass over the groups considers, 64 to a word of the table.
@@ -16,18 +15,6 @@ const PART: u32 = 2_097_152;
 // The number of bits to a page.
 const PAGE: usize = 4_096;
 
-// The number of the identity in a telegram.
-fn number_of_identity(telegram: &Telegram) -> u32
-    ensures value { result ≡ number_of_identity telegram.now.header.identity }
-    ensures country { telegram.now.header.identity.country < 1024 }
-    ensures group { telegram.now.header.identity.group < 16384 }
-    ensures small { result < 16777216 }
-{
-    let country = telegram.header.identity.country.number();
-    let group = telegram.header.identity.group.number();
-    country * 16_384 + group
-}
-
 // The number of the identity of a group with these aspects.
 pub(crate) fn identity_number(aspects: &[Group]) -> u32
     requires { 0 < length aspects.now }
@@ -35,8 +22,8 @@ pub(crate) fn identity_number(aspects: &[Group]) -> u32
     ensures small { result < 16777216 }
     ensures numbered { HasIdentity aspects.now }
 {
-    let first = first_aspect(aspects);
-    number_of_identity(&first[0])
+    let balise = &first_aspect(aspects)[0];
+    balise.header.identity.country.number() * 16_384 + balise.header.identity.group.number()
 }
 
 // Whether the place is marked.
