@@ -7,7 +7,6 @@ ghost use Rattle.etcs_check.specs.Identities.{HaveIdentities, HasNoRepeat, HasRe
 use crate::aspects::first_aspect;
 use etcs_bits::Memory;
 use etcs_group::{Controlled, Group};
-use std::alloc::Global;
 
 // The number of identities that one pass over the groups considers, 64 to a word of the table.
 const PART: u32 = 2_097_152;
@@ -64,13 +63,13 @@ pub(crate) fn is_kept(pages: &[Vec<u64>], number: u32) -> bool
 }
 
 // Keeps the number. If memory runs out, the same numbers are kept.
-pub(crate) fn keep(alloc: Global, pages: &mut Vec<Vec<u64>>, number: u32) -> Result<(), Memory>
+pub(crate) fn keep(pages: &mut Vec<Vec<u64>>, number: u32) -> Result<(), Memory>
     ensures ok { OnOk result ((n : ℕ) → is_kept pages.new.items n ≡ (number == n || is_kept pages.old.items n)) }
     ensures err { OnErr result ((n : ℕ) → is_kept pages.new.items n ≡ is_kept pages.old.items n) }
 {
     let page = number as usize / PAGE;
     'pages: while pages.len() <= page {
-        pages.push(Vec::new(alloc))?;
+        pages.push(Vec::new(*pages.allocator()))?;
     }
     mark_in(&mut pages[page], number as usize % PAGE)?;
     Ok(())

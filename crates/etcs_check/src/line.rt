@@ -57,11 +57,7 @@ fn push_next(
     let used = again && is_kept(kept, identity);
     let more = group_findings(alloc, place, used, aspects)?;
     append(found, more)?;
-    if again {
-        keep(alloc, kept, identity)
-    } else {
-        Ok(())
-    }
+    if again { keep(kept, identity) } else { Ok(()) }
 }
 
 // Appends the findings about the groups.

@@ -100,7 +100,7 @@ impl LineChecker {
         let found = group_findings(alloc, self.groups, used, aspects)?;
         let before = self.about_groups.len();
         append(&mut self.about_groups, found)?;
-        if keep(alloc, &mut self.identities, identity).is_err() {
+        if keep(&mut self.identities, identity).is_err() {
             self.about_groups.truncate(before);
             return Err(CheckError::Memory);
         }
