@@ -1,6 +1,5 @@
-use Rattle.std.proofs.Common.{◌≡◌, subst}
+use Rattle.std.proofs.Common.{subst}
 use Rattle.etcs_check.specs.Laws.{AreControlled}
-use Rattle.etcs_check.specs.Line.{findings}
 use Rattle.etcs_check.proofs.AspectLemmas.{aspect_long, sound_mixtures_are_decided}
 use Rattle.etcs_check.proofs.SoundLemmas.{sound_groups_are_decided}
 use Rattle.etcs_check.proofs.SayingLemmas.{findings_noted, found_violates, found_list, found_sound, found_unnamed}
