@@ -21,12 +21,14 @@ pub(crate) trait FromTokens: Drop {
         ensures { IfSome result (λ x. IsFirst is_value depth reader.old x reader.new) };
 }
 
-// Reads a list.
+// Reads a list. Most have few items: a group has one to eight balises.
 fn list<T: FromTokens>(alloc: Global, reader: &mut TokenReader<'_>, depth: usize) -> Option<Vec<T>>
     ensures { IfSome result (λ v. IsFirst (IsList T.is_value) depth reader.old v.items reader.new) }
 {
     let inner = reader.pass_open(b'[', depth)?;
-    let mut found = Vec::new(alloc);
+    let Ok(mut found) = Vec::with_capacity(alloc, 8) else {
+        return None;
+    };
     'items: while !reader.pass_close(b']') {
         let item = T::from_tokens(alloc, reader, inner)?;
         found.push(item).ok()?;

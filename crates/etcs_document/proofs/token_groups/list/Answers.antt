@@ -3,7 +3,7 @@ use Rattle.etcs_document.proofs.DocumentTokenLemmas.{first_more, first_shorter, 
 use Rattle.etcs_document.proofs.token_groups.list.Goals as goal
 
 pub items-init : goal.items-init
-items-init g c = rw c.new-found.ensures.items (none_first g.T.FromTokens.is_value _ _)
+items-init g c = rw c.in-Ok.ensures.items (none_first g.T.FromTokens.is_value _ _)
 
 pub items-smaller : goal.items-smaller
 items-smaller g c =
