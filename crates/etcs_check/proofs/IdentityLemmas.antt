@@ -1,11 +1,14 @@
 -- One more bit in a table, one more group that was seen, and what the bits show.
-use Rattle.std.proofs.Common.{◌≡◌, ◌≢◌, ℕ, suc, ◌+◌, ◌*◌, ◌/◌, ◌%◌, ◌^◌, ◌<◌, ◌≤◌, Bool, true, false, ◌&&◌, ◌||◌, eqb, List, [], ◌∷◌, ◌++◌, length, get_or, set, replicate, take, Option, Some, None, bit_or, slice_get, refl, sym, ap, ap₂, subst, ◌∙◌, arith}
+use Rattle.std.proofs.Common.{◌≡◌, ◌≢◌, ℕ, zero, suc, ◌+◌, ◌*◌, ◌/◌, ◌%◌, ◌^◌, ◌<◌, ◌≤◌, Bool, true, false, ◌&&◌, ◌||◌, eqb, List, [], ◌∷◌, ◌++◌, length, get_or, map, set, vec_items, replicate, take, Option, Some, None, bit_or, slice_get, refl, sym, ap, ap₂, subst, ◌∙◌, arith}
+use Rattle.std.specs.Global.{Vec}
 use Rattle.std.specs.Int.{w64}
 use Rattle.std.specs.Option.{option_map_or}
+use Rattle.std.proofs.Math.Bool.{or_comm, or-false}
+use Rattle.std.proofs.Math.Seq.{map-set_same}
 use Rattle.std.proofs.lemmas.Nat.{div-add-mod', mod_below, div_below}
 use Rattle.std.proofs.lemmas.Nat.Bits.{bit_at_set_same, bit_at_set_other, bit_at-zero}
-use Rattle.std.proofs.lemmas.Bool.{both_ways, cases_eq, cases_lt, ne_eqb, eq-eqb, or_parts, false_from_ne_true}
-use Rattle.std.proofs.lemmas.List.{get_or-set_same, get_or-set_other, get_or-replicate}
+use Rattle.std.proofs.lemmas.Bool.{both_ways, cases_eq, cases_lt, ne_eqb, eq-eqb, eqb-true, or_parts, false_from_ne_true}
+use Rattle.std.proofs.lemmas.List.{get_or_past, get_or-set_same, get_or-set_other, get_or-replicate, get_or-map, length-map, length-replicate, map-set, take_all}
 use Rattle.std.proofs.lemmas.List.Folds.{list_any-append, list_any_more}
 use Rattle.std.proofs.lemmas.Option.{none-some, slice_get_within, get_or_from_slice_get, same_Some}
 use mathlib.Core.Logic.{inl, inr}
@@ -22,10 +25,10 @@ use Rattle.etcs_check.specs.declared.finding.Rule.TheVariants as rules
 use Rattle.etcs_check.specs.declared.finding.Site.TheVariants as sites
 use Rattle.etcs_check.proofs.CellLemmas.{group_silent}
 use Rattle.etcs_check.proofs.FindingLemmas.{for_each-says}
-use Rattle.etcs_check.specs.Identities.{number_of_identity, identity_number, HasIdentity, HaveIdentities, has_bit, is_marked, has_identity_number, HasNoRepeat, HasRepeat}
+use Rattle.etcs_check.specs.Identities.{number_of_identity, identity_number, HasIdentity, HaveIdentities, has_bit, is_kept, is_marked, has_identity_number, HasNoRepeat, HasRepeat}
 use Rattle.etcs_check.specs.Soundness.{aspect_identity, group_identity}
 use Rattle.etcs_check.proofs.NoteLemmas.{each_stands}
-use Rattle.etcs_check.proofs.NumberLemmas.{identity_same, Decides-same_identity}
+use Rattle.etcs_check.proofs.NumberLemmas.{identity_same, same_bool, Decides-same_identity}
 
 -- ---- identities and their numbers
 
@@ -41,10 +44,7 @@ one_number g h a b =
     ∙ test ∙ sym (ap₂ eqb (number-is g a.0 a.1) (number-is h b.0 b.1))
   where
     test : same_identity a.0 b.0 ≡ eqb (number_of_identity a.0) (number_of_identity b.0)
-    test = elim (cases_eq (number_of_identity a.0) (number_of_identity b.0)) [
-      | inl e ↦ (Decides-same_identity a.0 b.0).1 (same_number a.0 b.0 a.3 b.3 e) ∙ sym (eq-eqb (number_of_identity a.0) (number_of_identity b.0) e)
-      | inr ne ↦ false_from_ne_true _ (λ same. ne (ap number_of_identity ((Decides-same_identity a.0 b.0).0 same))) ∙ sym (ne_eqb (number_of_identity a.0) (number_of_identity b.0) ne)
-    ]
+    test = same_bool _ _ (λ h. eq-eqb _ _ (ap number_of_identity ((Decides-same_identity a.0 b.0).0 h))) (λ h. (Decides-same_identity a.0 b.0).1 (same_number a.0 b.0 a.3 b.3 (eqb-true _ _ h)))
 
 -- an earlier group has the identity if and only if one has its number
 pub used-among : (earlier : List (List (List Telegram))) (g : List (List Telegram)) → HaveIdentities earlier → HasIdentity g → is_used earlier g ≡ has_identity_number earlier (identity_number g)
@@ -54,33 +54,34 @@ used-among (h ∷ hs) g all own = ap₂ ◌||◌ (one_number h g (all 0 h refl) 
 pub numbered_before : (groups : List (List (List Telegram))) (i : ℕ) → ((k : ℕ) (h : List (List Telegram)) → k < i → At groups k h → HasIdentity h) → HaveIdentities (take i groups)
 numbered_before groups i before k h at = let t = At-take i groups k h at in before k h t.0 t.1
 
--- the word of place q with its bit set
-abbrev pub with_bit : List ℕ → ℕ → ℕ
-with_bit table q = bit_or (get_or table (q / 64) 0) (1 * 2 ^ (q % 64) % 2 ^ 64)
+-- one more mark in parts of b places each: in part q / b, and in no other part
+part_marked : (was now : ℕ → ℕ → Bool) (b q : ℕ) → 0 < b → ((r : ℕ) → r < b → now (q / b) r ≡ (eqb (q % b) r || was (q / b) r)) → ((i r : ℕ) → i ≢ q / b → now i r ≡ was i r)
+    → (p : ℕ) → now (p / b) (p % b) ≡ (eqb q p || was (p / b) (p % b))
+part_marked was now b q some own others p = elim (cases_eq (p / b) (q / b)) [
+  | inl same ↦
+      let whole : q % b ≡ p % b → q ≡ p = λ r. sym (div-add-mod' q b) ∙ ap₂ (λ x y. x * b + y) (sym same) r ∙ div-add-mod' p b in
+      let rest : eqb (q % b) (p % b) ≡ eqb q p = same_bool _ _ (λ h. eq-eqb q p (whole (eqb-true _ _ h))) (λ h. eq-eqb _ _ (ap (λ x. x % b) (eqb-true q p h))) in
+      ap (λ i. now i (p % b)) same ∙ own (p % b) (mod_below p b some) ∙ ap₂ ◌||◌ rest (ap (λ i. was i (p % b)) (sym same))
+  | inr other ↦ others (p / b) (p % b) other ∙ ap (λ e. e || was (p / b) (p % b)) (sym (ne_eqb q p (λ e. other (ap (λ x. x / b) (sym e)))))
+]
 
-pub marked_after : (table : List ℕ) (q : ℕ) → q < 64 * length table → (p : ℕ) → is_marked (set table (q / 64) (with_bit table q)) p ≡ (eqb p q || is_marked table p)
-marked_after table q lt p =
+-- a word with bit k set
+abbrev with_bit : ℕ → ℕ → ℕ
+with_bit word k = bit_or word (1 * 2 ^ k % 2 ^ 64)
+
+bit_marked : (word k r : ℕ) → k < 64 → has_bit (with_bit word k) r ≡ (eqb k r || has_bit word r)
+bit_marked word k r lt = elim (cases_eq k r) [
+  | inl e ↦ subst (λ r. has_bit (with_bit word k) r ≡ (eqb k r || has_bit word r)) e (ap (λ v. eqb v 1) (bit_at_set_same w64 word k lt) ∙ sym (ap (λ b. b || has_bit word k) (eq-eqb k k refl)))
+  | inr ne ↦ ap (λ v. eqb v 1) (bit_at_set_other w64 word k lt r (λ e. ne (sym e))) ∙ sym (ap (λ b. b || has_bit word r) (ne_eqb k r ne))
+]
+
+pub marked_after : (table : List ℕ) (q : ℕ) → q < 64 * length table → (p : ℕ) → is_marked (set table (q / 64) (with_bit (get_or table (q / 64) 0) (q % 64))) p ≡ (eqb q p || is_marked table p)
+marked_after table q lt =
     let word : q / 64 < length table = div_below q 64 (length table) (omega arith) (omega arith) in
-    let bit : q % 64 < 64 = mod_below q 64 (omega arith) in
-    elim (cases_eq p q) [
-      | inl e ↦
-          ap (is_marked (set table (q / 64) (with_bit table q))) e
-          ∙ ap (λ v. has_bit v (q % 64)) (get_or-set_same table (q / 64) (with_bit table q) 0 word)
-          ∙ ap (λ v. eqb v 1) (bit_at_set_same w64 (get_or table (q / 64) 0) (q % 64) bit)
-          ∙ sym (ap (λ b. b || is_marked table p) (eq-eqb p q e))
-      | inr ne ↦ elim (cases_eq (p / 64) (q / 64)) [
-        | inl same ↦
-            let other : p % 64 ≢ q % 64 = λ r. ne (sym (div-add-mod' p 64) ∙ ap (λ x. x * 64 + p % 64) same ∙ ap (λ x. q / 64 * 64 + x) r ∙ div-add-mod' q 64) in
-            ap (λ x. has_bit (get_or (set table (q / 64) (with_bit table q)) x 0) (p % 64)) same
-            ∙ ap (λ v. has_bit v (p % 64)) (get_or-set_same table (q / 64) (with_bit table q) 0 word)
-            ∙ ap (λ v. eqb v 1) (bit_at_set_other w64 (get_or table (q / 64) 0) (q % 64) bit (p % 64) other)
-            ∙ ap (λ x. has_bit (get_or table x 0) (p % 64)) (sym same)
-            ∙ sym (ap (λ b. b || is_marked table p) (ne_eqb p q ne))
-        | inr other ↦
-            ap (λ v. has_bit v (p % 64)) (get_or-set_other table (q / 64) (p / 64) (with_bit table q) 0 other)
-            ∙ sym (ap (λ b. b || is_marked table p) (ne_eqb p q ne))
-      ]
-    ]
+    let set_word = with_bit (get_or table (q / 64) 0) (q % 64) in
+    part_marked (λ i r. has_bit (get_or table i 0) r) (λ i r. has_bit (get_or (set table (q / 64) set_word) i 0) r) 64 q (omega arith)
+    (λ r _. ap (λ v. has_bit v r) (get_or-set_same table (q / 64) set_word 0 word) ∙ bit_marked (get_or table (q / 64) 0) (q % 64) r (mod_below q 64 (omega arith)))
+    (λ i r ne. ap (λ v. has_bit v r) (get_or-set_other table (q / 64) i set_word 0 ne))
 
 pub unmarked : (n p : ℕ) → p < 64 * n → is_marked (replicate n 0) p ≡ false
 unmarked n p lt =
@@ -98,35 +99,22 @@ among_more groups i g x at =
     list_any_more (λ h. eqb (identity_number h) x) groups i g (slice_get_within groups i g at)
     ∙ ap (λ h. has_identity_number (take i groups) x || eqb (identity_number h) x) (get_or_from_slice_get groups i g g at)
 
-pub or_swap : (a b : Bool) → (a || b) ≡ (b || a)
-or_swap true true = refl
-or_swap true false = refl
-or_swap false true = refl
-or_swap false false = refl
-
-or_false : (a b : Bool) → b ≡ false → (a || b) ≡ a
-or_false true b e = refl
-or_false false b e = e
-
-eqb_moved : (base p q : ℕ) → eqb p q ≡ eqb (base + q) (base + p)
-eqb_moved base p q = elim (cases_eq p q) [
-  | inl e ↦ eq-eqb p q e ∙ sym (eq-eqb (base + q) (base + p) (ap (λ x. base + x) (sym e)))
-  | inr ne ↦ ne_eqb p q ne ∙ sym (ne_eqb (base + q) (base + p) (λ e. ne (omega arith)))
-]
+eqb_moved : (base q p : ℕ) → eqb q p ≡ eqb (base + q) (base + p)
+eqb_moved base q p = same_bool _ _ (λ h. eq-eqb _ _ (ap (λ x. base + x) (eqb-true q p h))) (λ h. let e = eqb-true (base + q) (base + p) h in eq-eqb q p (omega arith))
 
 -- its identity is of this part, and was marked
 pub seen_marked : (base n : ℕ) (table new : List ℕ) (groups : List (List (List Telegram))) (i : ℕ) (g : List (List Telegram)) (q : ℕ) → At groups i g → identity_number g ≡ base + q
-    → ((p : ℕ) → is_marked new p ≡ (eqb p q || is_marked table p)) → HasSeen base n table (take i groups) → HasSeen base n new (take (i + 1) groups)
+    → ((p : ℕ) → is_marked new p ≡ (eqb q p || is_marked table p)) → HasSeen base n table (take i groups) → HasSeen base n new (take (i + 1) groups)
 seen_marked base n table new groups i g q at is marked seen p lt =
-    marked p ∙ ap (λ b. eqb p q || b) (seen p lt) ∙ or_swap (eqb p q) (has_identity_number (take i groups) (base + p))
-    ∙ ap (λ b. has_identity_number (take i groups) (base + p) || b) (eqb_moved base p q ∙ ap (λ x. eqb x (base + p)) (sym is))
+    marked p ∙ ap (λ b. eqb q p || b) (seen p lt) ∙ or_comm (eqb q p) (has_identity_number (take i groups) (base + p))
+    ∙ ap (λ b. has_identity_number (take i groups) (base + p) || b) (eqb_moved base q p ∙ ap (λ x. eqb x (base + p)) (sym is))
     ∙ sym (among_more groups i g (base + p) at)
 
 -- its identity is of another part
 pub seen_other : (base n : ℕ) (table : List ℕ) (groups : List (List (List Telegram))) (i : ℕ) (g : List (List Telegram)) → At groups i g
     → ((p : ℕ) → p < n → identity_number g ≢ base + p) → HasSeen base n table (take i groups) → HasSeen base n table (take (i + 1) groups)
 seen_other base n table groups i g at other seen p lt =
-    seen p lt ∙ sym (among_more groups i g (base + p) at ∙ or_false _ _ (ne_eqb _ _ (other p lt)))
+    seen p lt ∙ sym (among_more groups i g (base + p) at ∙ ap (λ b. has_identity_number (take i groups) (base + p) || b) (ne_eqb _ _ (other p lt)) ∙ or-false _)
 
 -- the bit of its identity shows whether it was used
 pub used_mark : (base n : ℕ) (table : List ℕ) (groups : List (List (List Telegram))) (g : List (List Telegram)) (q : ℕ) → identity_number g ≡ base + q → q < n → HasSeen base n table groups → is_used groups g ≡ has_identity_number groups (identity_number g) → is_used groups g ≡ is_marked table q
@@ -157,17 +145,48 @@ no_repeat_more m n next groups e low high i g at lo hi = elim (cases_lt (identit
 
 -- ---- the identities that are kept
 
+zeros_more : (xs : List ℕ) (k i : ℕ) → get_or (xs ++ replicate k 0) i 0 ≡ get_or xs i 0
+zeros_more [] k i = elim (cases_lt i k) [
+  | inl lt ↦ get_or-replicate k i 0 0 lt
+  | inr ge ↦ get_or_past (replicate k 0) i 0 (rw length-replicate ge)
+]
+zeros_more (x ∷ xs) k zero = refl
+zeros_more (x ∷ xs) k (suc i) = zeros_more xs k i
+
+-- a page that grows marks nothing
+pub marked_grown : (old new : List ℕ) (n k : ℕ) → length old ≤ n → new ≡ take n old ++ replicate k 0 → (p : ℕ) → is_marked new p ≡ is_marked old p
+marked_grown old new n k le is p =
+    ap (λ t. is_marked t p) (is ∙ ap (λ t. t ++ replicate k 0) (take_all n old le)) ∙ ap (λ v. has_bit v (p % 64)) (zeros_more old k (p / 64))
+
+-- whether place r of page i is marked
+abbrev in_page : List (Vec ℕ) → ℕ → ℕ → Bool
+in_page pages i r = is_marked (get_or (map vec_items pages) i []) r
+
+-- a page with the same words
+pub kept_same : (start pages : List (Vec ℕ)) (was is : Vec ℕ) (i : ℕ) → get_or pages i was ≡ was → is.items ≡ was.items → ((n : ℕ) → is_kept pages n ≡ is_kept start n) → (n : ℕ) → is_kept (set pages i is) n ≡ is_kept start n
+kept_same start pages was is i at same so_far n = ap (λ words. is_marked (get_or words (n / 4096) []) (n % 4096)) (map-set_same vec_items pages i is was (same ∙ ap vec_items (sym at))) ∙ so_far n
+
+-- one more mark in its page
+pub kept_marked : (pages : List (Vec ℕ)) (was is : Vec ℕ) (q : ℕ) → q / 4096 < length pages → get_or pages (q / 4096) was ≡ was → ((p : ℕ) → is_marked is.items p ≡ (eqb (q % 4096) p || is_marked was.items p))
+    → (n : ℕ) → is_kept (set pages (q / 4096) is) n ≡ (eqb q n || is_kept pages n)
+kept_marked pages was is q lt at marked n =
+    let words = map vec_items pages in
+    ap (λ words. is_marked (get_or words (n / 4096) []) (n % 4096)) (map-set vec_items pages (q / 4096) is)
+    ∙ part_marked (in_page pages) (λ i r. is_marked (get_or (set words (q / 4096) is.items) i []) r) 4096 q (omega arith)
+    (λ r _. ap (λ t. is_marked t r) (get_or-set_same words (q / 4096) is.items [] (rw length-map lt)) ∙ marked r ∙ ap (λ t. eqb (q % 4096) r || is_marked t r) (ap vec_items (sym at) ∙ sym (get_or-map vec_items pages (q / 4096) was [] lt)))
+    (λ i r ne. ap (λ t. is_marked t r) (get_or-set_other words (q / 4096) i is.items [] ne)) n
+
 -- one more group of a list, whose identity is kept now
 pub kept_more : (groups : List (List (List Telegram))) (i : ℕ) (g : List (List Telegram)) (was is : ℕ → Bool) → At groups i g → ((n : ℕ) → is n ≡ (eqb (identity_number g) n || was n)) → HasKept was (take i groups) → HasKept is (take (i + 1) groups)
 kept_more groups i g was is at now before n =
     let own = eqb (identity_number g) n in
-    now n ∙ ap (λ b. own || b) (before n) ∙ or_swap own (has_identity_number (take i groups) n) ∙ sym (among_more groups i g n at)
+    now n ∙ ap (λ b. own || b) (before n) ∙ or_comm own (has_identity_number (take i groups) n) ∙ sym (among_more groups i g n at)
 
 -- one more group at the end
 pub kept_and : (groups : List (List (List Telegram))) (g : List (List Telegram)) (was is : ℕ → Bool) → ((n : ℕ) → is n ≡ (eqb (identity_number g) n || was n)) → HasKept was groups → HasKept is (groups ++ g ∷ [])
 kept_and groups g was is now before n =
     let own = eqb (identity_number g) n in
-    now n ∙ ap (λ b. own || b) (before n) ∙ or_swap own (has_identity_number groups n) ∙ ap (λ b. has_identity_number groups n || b) (sym (or_false own false refl)) ∙ sym (list_any-append (λ h. eqb (identity_number h) n) groups (g ∷ []))
+    now n ∙ ap (λ b. own || b) (before n) ∙ or_comm own (has_identity_number groups n) ∙ ap (λ b. has_identity_number groups n || b) (sym (or-false own)) ∙ sym (list_any-append (λ h. eqb (identity_number h) n) groups (g ∷ []))
 
 -- whether the identity of one more group was used decides its finding
 pub used_told : (groups : List (List (List Telegram))) (i : ℕ) (g : List (List Telegram)) (again : Bool) (is_kept : ℕ → Bool) → At groups i g → HasIdentity g → HaveIdentities (take i groups)

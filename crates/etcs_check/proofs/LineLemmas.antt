@@ -3,7 +3,7 @@
 use Rattle.std.proofs.Common.{◌≡◌, ◌≢◌, ◌↔◌, ℕ, zero, suc, ◌+◌, ◌<◌, Bool, true, false, List, [], ◌∷◌, ◌++◌, length, get_or, take, Option, Some, None, refl, sym, ap, ap₂, subst, ◌∙◌, arith}
 use Rattle.std.specs.List.{filter}
 use Rattle.std.proofs.lemmas.Bool.{both_ways, cases_lt, or_parts, false_from_ne_true}
-use Rattle.std.proofs.lemmas.List.{append-nil, append_assoc, take-append-le}
+use Rattle.std.proofs.lemmas.List.{append-nil, append_assoc, take-append-le, take_at}
 use Rattle.std.proofs.lemmas.Option.{none-some, same_Some, slice_get_within, slice_get-get_or, get_or_from_slice_get}
 use mathlib.Core.Logic.{inl, inr}
 use Rattle.etcs_profile.specs.Track.{holds}
@@ -187,10 +187,6 @@ each_and P [] x all now (suc i) y at = absurd (none-some y at)
 each_and P (z ∷ zs) x all now zero y at = all 0 y at
 each_and P (z ∷ zs) x all now (suc i) y at = each_and P zs x (λ j w at'. all (suc j) w at') now i y at
 
-all_but_last : {X : Type 0} (xs : List X) (x : X) → take (length xs) (xs ++ x ∷ []) ≡ xs
-all_but_last [] x = refl
-all_but_last (y ∷ ys) x = ap (λ l. y ∷ l) (all_but_last ys x)
-
 -- the findings with one more item, if the findings before it are the same
 found_more : {X : Type 0} (f h : ℕ → X → List Finding) (b : ℕ) (xs : List X) (x : X) → ((i : ℕ) (y : X) → i < b + length xs → f i y ≡ h i y)
     → numbered_findings f b (xs ++ x ∷ []) ≡ numbered_findings h b xs ++ f (b + length xs) x
@@ -209,7 +205,7 @@ groups_found gs g =
     let first : 0 + length gs ≡ length gs = omega arith in
     let more : group_list all ≡ group_list gs ++ line_group_findings all (0 + length gs) g =
     found_more (line_group_findings all) (line_group_findings gs) 0 gs g (λ i y lt. ap (λ l. group_findings (sites.Group i) (is_used l y) y) (take-append-le i gs (g ∷ []) (omega arith))) in
-    more ∙ ap (λ n. group_list gs ++ line_group_findings all n g) first ∙ ap (λ l. group_list gs ++ group_findings (sites.Group (length gs)) (is_used l g) g) (all_but_last gs g)
+    more ∙ ap (λ n. group_list gs ++ line_group_findings all n g) first ∙ ap (λ l. group_list gs ++ group_findings (sites.Group (length gs)) (is_used l g) g) (take_at gs (g ∷ []) (length gs) refl)
 
 pub messages_found : (ms : List Message) (m : Message) → message_list (ms ++ m ∷ []) ≡ message_list ms ++ line_message_findings (length ms) m
 messages_found ms m =

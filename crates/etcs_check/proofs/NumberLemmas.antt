@@ -80,7 +80,7 @@ Decides-same_packets xs ys = slice_eq-Decides Decides-same_packet xs ys (pointwi
 pub packets_are_their_numbers : PacketsAreTheirNumbers
 packets_are_their_numbers p q = Decides-same_packet p q
 
-same_bool : (a b : Bool) → (a ≡ true → b ≡ true) → (b ≡ true → a ≡ true) → a ≡ b
+pub same_bool : (a b : Bool) → (a ≡ true → b ≡ true) → (b ≡ true → a ≡ true) → a ≡ b
 same_bool true b f g = sym (f refl)
 same_bool false true f g = g refl
 same_bool false false f g = refl

@@ -1,5 +1,6 @@
 -- The facts at the cells of an aspect, of a group or of a message, place by place as one walk finds them.
-use Rattle.std.proofs.Common.{◌≡◌, ℕ, ◌+◌, ◌<◌, ◌≤◌, ◌&&◌, ◌||◌, Bool, true, false, not, cond, ltb, List, [], ◌∷◌, ◌++◌, length, map, slice_get, take, if◌then◌else◌, Option, Some, None, refl, sym, ap, ap₂, ◌∙◌}
+use Rattle.std.proofs.Common.{◌≡◌, ℕ, ◌+◌, ◌<◌, ◌≤◌, ◌&&◌, ◌||◌, Bool, true, false, not, cond, ltb, List, [], ◌∷◌, ◌++◌, length, map, slice_get, take, if◌then◌else◌, Option, Some, None, refl, ap, ap₂, ◌∙◌}
+use Rattle.std.proofs.Math.Bool.{or-false}
 use Rattle.std.proofs.lemmas.Bool.{and_left, le-ltb, lt-ltb}
 use Rattle.std.specs.List.{filter, flat_map, enumerate_from, range_with_len}
 use Rattle.std.proofs.lemmas.List.{append-nil}
@@ -27,7 +28,6 @@ use Rattle.etcs_check.specs.declared.finding.Site.{Site}
 use Rattle.etcs_check.specs.declared.finding.Spot.{Spot}
 use Rattle.etcs_group.proofs.PlaceLemmas.{element_passes-at, element_passes-none}
 use Rattle.etcs_check.proofs.FactLemmas.{packets_as, packet_as, profile_as}
-use Rattle.etcs_check.proofs.SaidLemmas.{or_false}
 use Rattle.etcs_check.proofs.FindingLemmas.{for_each-same}
 
 -- ---- tests of lists
@@ -276,7 +276,7 @@ module _ (used : Bool) (aspects : Aspects) (site : Site) where
         silent rule = few_is rule None None None ∙ says_none only [] only rule
 
         same : (rule : Rule) → of_group (new_finding rule (site_spot site) None None None) ≡ identity_test rule
-        same rules.IdentityUsed = ap (λ q. used || q) (silent rules.IdentityUsed) ∙ sym (or_false used)
+        same rules.IdentityUsed = ap (λ q. used || q) (silent rules.IdentityUsed) ∙ or-false used
         same rule = silent rule
 
     abbrev pub few_leaves : Leaves of_group (site_spot site) only
@@ -300,7 +300,7 @@ module _ (used : Bool) (aspects : Aspects) (site : Site) where
         (λ rule b k. named_is a group at rule None (Some b) k) (λ rule run b k. named_is a group at rule (Some run) b k)
 
     pub whole_is : (rule : Rule) (run : Option Run) (b k : Option ℕ) → of_group (new_finding rule (site_spot site) run b k) ≡ whole_fact used aspects rule run b k
-    whole_is rule run b k = ap (λ q. whole_fact used aspects rule run b k || (not q && fact_of_aspect aspects 0 rule run b k)) (lt-ltb 1 (length aspects) many) ∙ sym (or_false (whole_fact used aspects rule run b k))
+    whole_is rule run b k = ap (λ q. whole_fact used aspects rule run b k || (not q && fact_of_aspect aspects 0 rule run b k)) (lt-ltb 1 (length aspects) many) ∙ or-false (whole_fact used aspects rule run b k)
 
     abbrev pub ambiguous_test : ℕ → Telegram → Rule → Bool
     ambiguous_test b t rules.NotToldApart = is_ambiguous aspects b t

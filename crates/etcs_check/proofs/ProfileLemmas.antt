@@ -1,5 +1,5 @@
 -- The facts about profiles against packets that are reached.
-use Rattle.std.proofs.Common.{◌≡◌, ℕ, Bool, true, false, not, ◌&&◌, List, Option, Some, None, is_some, refl}
+use Rattle.std.proofs.Common.{◌≡◌, ℕ, Bool, true, false, not, ◌&&◌, List, Option, Some, None, is_some, refl, ap}
 use Rattle.std.specs.List.{list_any}
 use Rattle.std.specs.Option.{option_map_or}
 use Rattle.std.proofs.lemmas.Bool.{ltb-false, le-ltb, both_ways, cases_Bool, and_cases, and_left, and_right, not-false, not_from_true, false_from_ne_true}
@@ -18,9 +18,6 @@ use Rattle.etcs_check.specs.Profiles.{gradient_reach, speed_reach, packet_limit,
 use Rattle.etcs_check.specs.Violation.{HasProfile, IsLong, IsLongProfile}
 use Rattle.etcs_check.specs.Findings.{lacks, falls_short, exceeds, is_short, is_said_and_short}
 use Rattle.etcs_check.proofs.MemberLemmas.{said-site, site-said}
-
-some_is : {X : Type 0} (o : Option X) (x : X) → o ≡ Some x → is_some o ≡ true
-some_is o x e = rw e refl
 
 is_some-says : {X : Type 0} (o : Option X) → is_some o ≡ true → (x : X) × (o ≡ Some x)
 is_some-says None h = cc
@@ -65,7 +62,7 @@ HaveProfiles reach packets = (i : ℕ) (a : TrackPacket) (limit : ℕ) → At pa
 -- if none is lacking, there is one
 pub one-from_lacks : (reach : TrackPacket → Option Reach) (packets : List TrackPacket) → lacks reach packets ≡ false → HasProfile reach packets
 one-from_lacks reach packets there i a limit at is =
-    let some = at_list_any (λ p. is_some (packet_limit p)) packets i a at (some_is (packet_limit a) limit is) in
+    let some = at_list_any (λ p. is_some (packet_limit p)) packets i a at (ap is_some is) in
     list_any-at (λ p. is_some (reach p)) packets (elim (and_cases (list_any (λ p. is_some (packet_limit p)) packets) (not (list_any (λ p. is_some (reach p)) packets)) there) [
       | inl none ↦ absurd (both_ways _ none some)
       | inr none ↦ not-false _ none

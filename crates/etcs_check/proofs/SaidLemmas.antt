@@ -2,7 +2,7 @@
 use Rattle.std.proofs.Common.{◌≡◌, ℕ, ◌+◌, ◌≤◌, Bool, true, false, ◌||◌, ◌&&◌, max, ltb, if◌then◌else◌, List, [], ◌∷◌, ◌++◌, length, drop, filter, reverse, not, Option, Some, None, is_some, refl, sym, ap, ap₂, ◌∙◌, arith}
 use Rattle.std.specs.List.{list_any, flat_map, enumerate_from}
 use Rattle.std.specs.Option.{option_map_or}
-use Rattle.std.proofs.Math.Bool.{or_assoc}
+use Rattle.std.proofs.Math.Bool.{or_assoc, or_comm, or-false}
 use Rattle.std.proofs.lemmas.Bool.{lt-ltb, le-ltb, cases_lt}
 use Rattle.std.proofs.lemmas.List.{drop_all, append-nil, reverse-append}
 use Rattle.std.proofs.lemmas.List.Concat.{flat_map-append}
@@ -40,12 +40,8 @@ greater-comm None (Some n) = refl
 greater-comm (Some m) None = refl
 greater-comm (Some m) (Some n) = ap Some (omega arith)
 
-pub or_false : (a : Bool) → a ≡ (a || false)
-or_false true = refl
-or_false false = refl
-
 pub both-nothing : (s : PacketSummary) → both s nothing ≡ s
-both-nothing s = λ i. record { limit = greater-none s.limit i; has_gradient = sym (or_false s.has_gradient) i; has_speed = sym (or_false s.has_speed) i }
+both-nothing s = λ i. record { limit = greater-none s.limit i; has_gradient = or-false s.has_gradient i; has_speed = or-false s.has_speed i }
 
 pub both-assoc : (a b c : PacketSummary) → both (both a b) c ≡ both a (both b c)
 both-assoc a b c = λ i. record {
@@ -53,12 +49,6 @@ both-assoc a b c = λ i. record {
   has_gradient = or_assoc a.has_gradient b.has_gradient c.has_gradient i;
   has_speed = or_assoc a.has_speed b.has_speed c.has_speed i;
 }
-
-or_comm : (a b : Bool) → (a || b) ≡ (b || a)
-or_comm true true = refl
-or_comm true false = refl
-or_comm false true = refl
-or_comm false false = refl
 
 both-comm : (a b : PacketSummary) → both a b ≡ both b a
 both-comm a b = λ i. record {
@@ -128,7 +118,7 @@ max_past n a b = elim (cases_lt n a) [
 
 past_greater : (r : Reach) (a b : Option ℕ) → option_map_or (falls_short r) (greater a b) false ≡ (option_map_or (falls_short r) a false || option_map_or (falls_short r) b false)
 past_greater r None b = refl
-past_greater r (Some m) None = or_false (falls_short r m)
+past_greater r (Some m) None = sym (or-false (falls_short r m))
 past_greater (Ends n) (Some m) (Some k) = max_past n m k
 past_greater Open (Some m) (Some k) = refl
 

@@ -1,9 +1,11 @@
 -- Which identities were seen, as the bits of a table: an identity is a number of 24 bits, NID_C and
 -- then NID_BG (SUBSET-026, 7.5.1).
-use Rattle.std.specs.Prelude.{◌≡◌, ℕ, ◌+◌, ◌*◌, ◌/◌, ◌%◌, ◌<◌, ◌≤◌, ◌==◌, Bool, true, false, List, Some, slice_index, take}
+use Rattle.std.specs.Prelude.{◌≡◌, ℕ, ◌+◌, ◌*◌, ◌/◌, ◌%◌, ◌<◌, ◌≤◌, ◌==◌, Bool, true, false, List, [], Some, map, slice_index, slice_index_or, take}
+use Rattle.std.specs.Global.{Vec}
 use Rattle.std.specs.Int.{bit_at}
 use Rattle.std.specs.List.{list_any}
 use Rattle.std.specs.Option.{option_map_or}
+use Rattle.std.specs.Vec.{vec_items}
 use Rattle.etcs_bits.specs.declared.variables.identity.Identity.{Identity}
 use Rattle.etcs_group.specs.Places.{At}
 use Rattle.etcs_group.specs.Group.{Aspects}
@@ -32,6 +34,10 @@ has_bit n b = bit_at n b == 1
 
 abbrev pub is_marked : List ℕ → ℕ → Bool
 is_marked table p = has_bit (slice_index table (p / 64)) (p % 64)
+
+-- whether a number is kept in pages of 4,096 bits
+abbrev pub is_kept : List (Vec ℕ) → ℕ → Bool
+is_kept pages n = is_marked (slice_index_or (map vec_items pages) (n / 4096) []) (n % 4096)
 
 -- whether some group has the identity of this number
 abbrev pub has_identity_number : List Aspects → ℕ → Bool

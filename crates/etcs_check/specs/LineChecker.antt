@@ -1,11 +1,10 @@
 -- A checker takes the groups and the messages of a line one by one, and does not keep them. It keeps their
 -- findings, the count of each kind, and the numbers of the groups' identities.
 use Rattle.std.specs.Prelude.{◌≡◌, ℕ, Bool, List, [], ◌++◌, length}
-use Rattle.std.specs.BTreeSet.{BTreeSet, contains}
-use Rattle.std.specs.Ordering.{nat_cmp}
+use Rattle.std.specs.Global.{Vec}
 use Rattle.etcs_radio.specs.declared.message.Message.{Message}
 use Rattle.etcs_group.specs.Group.{Aspects}
-use Rattle.etcs_check.specs.Identities.{HaveIdentities, has_identity_number}
+use Rattle.etcs_check.specs.Identities.{HaveIdentities, has_identity_number, is_kept}
 use Rattle.etcs_check.specs.Laws.{AreControlled}
 use Rattle.etcs_check.specs.Line.{findings}
 use Rattle.etcs_check.specs.declared.finding.Finding.{Finding}
@@ -16,11 +15,11 @@ pub record CheckerState : Type 0 where
   pub about_messages : List Finding
   pub groups : ℕ
   pub messages : ℕ
-  pub identities : BTreeSet ℕ
+  pub identities : List (Vec ℕ)
 
 -- only the numbers of these groups' identities are kept
 abbrev pub HasKept : (ℕ → Bool) → List Aspects → Type 0
-HasKept is_kept groups = (n : ℕ) → is_kept n ≡ has_identity_number groups n
+HasKept kept groups = (n : ℕ) → kept n ≡ has_identity_number groups n
 
 -- The state of a checker that has taken these groups and messages, each kind in this order. Not injective: as
 -- many groups and messages with equal findings and identities lead to the same state.
@@ -29,7 +28,7 @@ pub record HasChecked (state : CheckerState) (groups : List Aspects) (messages :
   pub about_messages : state.about_messages ≡ findings [] messages
   pub groups_counted : state.groups ≡ length groups
   pub messages_counted : state.messages ≡ length messages
-  pub seen : HasKept (contains nat_cmp state.identities) groups
+  pub seen : HasKept (is_kept state.identities) groups
   pub numbered : HaveIdentities groups
   pub controlled : AreControlled groups
 

@@ -1,31 +1,18 @@
-//! Repeated identities: identities kept in a set while groups are read one by one, or found in a list of
+//! Repeated identities: identities kept in pages of bits while groups are read one by one, or found in a list of
 //! groups by a table of bits without heap memory.
 
 ghost use Rattle.std.specs.Prelude.{◌≡◌, ℕ, ◌+◌, ◌*◌, ◌^◌, ◌<◌, ◌||◌, ◌==◌, false, length, IsTrue, IsFalse, OnOk, OnErr};
-ghost use Rattle.std.specs.BTreeSet.{IsUnchanged, contains};
-ghost use Rattle.std.specs.Ordering.{nat_cmp};
-ghost use Rattle.etcs_check.specs.Identities.{HaveIdentities, HasNoRepeat, HasRepeat, HasIdentity, identity_number, is_marked, number_of_identity};
+ghost use Rattle.etcs_check.specs.Identities.{HaveIdentities, HasNoRepeat, HasRepeat, HasIdentity, identity_number, is_kept, is_marked};
 
 use crate::aspects::first_aspect;
 use etcs_bits::Memory;
 use etcs_group::{Controlled, Group};
-use etcs_telegram::Telegram;
-use std::collections::BTreeSet;
 
 // The number of identities that one pass over the groups considers, 64 to a word of the table.
 const PART: u32 = 2_097_152;
 
-// The number of the identity in a telegram.
-fn number_of_identity(telegram: &Telegram) -> u32
-    ensures value { result ≡ number_of_identity telegram.now.header.identity }
-    ensures country { telegram.now.header.identity.country < 1024 }
-    ensures group { telegram.now.header.identity.group < 16384 }
-    ensures small { result < 16777216 }
-{
-    let country = telegram.header.identity.country.number();
-    let group = telegram.header.identity.group.number();
-    country * 16_384 + group
-}
+// The number of bits to a page.
+const PAGE: usize = 4_096;
 
 // The number of the identity of a group with these aspects.
 pub(crate) fn identity_number(aspects: &[Group]) -> u32
@@ -34,26 +21,15 @@ pub(crate) fn identity_number(aspects: &[Group]) -> u32
     ensures small { result < 16777216 }
     ensures numbered { HasIdentity aspects.now }
 {
-    let first = first_aspect(aspects);
-    number_of_identity(&first[0])
-}
-
-// Keeps the number of an identity. Allocates only if the number is new. If memory runs out, nothing changes.
-pub(crate) fn keep(kept: &mut BTreeSet<u32>, number: u32) -> Result<(), Memory>
-    ensures ok { OnOk result ((n : ℕ) → contains nat_cmp kept.new n ≡ (number == n || contains nat_cmp kept.old n)) }
-    ensures err { OnErr result (IsUnchanged kept.old kept.new) }
-    ensures absent { OnErr result (contains nat_cmp kept.old number ≡ false) }
-{
-    kept.insert(number)?;
-    Ok(())
+    let balise = &first_aspect(aspects)[0];
+    balise.header.identity.country.number() * 16_384 + balise.header.identity.group.number()
 }
 
 // Whether the place is marked.
 pub(crate) fn is_marked(table: &[u64], place: usize) -> bool
-    requires { place < 64 * length table.now }
     ensures { result ≡ is_marked table.now place }
 {
-    (table[place / 64] >> (place % 64)) & 1 == 1
+    place / 64 < table.len() && (table[place / 64] >> (place % 64)) & 1 == 1
 }
 
 // Marks the place, and returns whether it was marked before.
@@ -61,11 +37,42 @@ pub(crate) fn is_marked(table: &[u64], place: usize) -> bool
 pub(crate) fn mark(table: &mut [u64], place: usize) -> bool
     requires { place < 64 * length table.old }
     ensures before { result ≡ is_marked table.old place }
-    ensures after { (p : ℕ) → is_marked table.new p ≡ (p == place || is_marked table.old p) }
+    ensures after { (p : ℕ) → is_marked table.new p ≡ (place == p || is_marked table.old p) }
 {
     let marked = is_marked(table, place);
     table[place / 64] |= 1 << (place % 64);
     marked
+}
+
+// Marks the place in a page, which grows to it. If memory runs out, nothing changes.
+fn mark_in(page: &mut Vec<u64>, place: usize) -> Result<(), Memory>
+    ensures ok { OnOk result ((p : ℕ) → is_marked page.new.items p ≡ (place == p || is_marked page.old.items p)) }
+    ensures err { OnErr result (page.new.items ≡ page.old.items) }
+{
+    page.resize(page.len().max(place / 64 + 1), 0)?;
+    mark(page, place);
+    Ok(())
+}
+
+// Whether the number is kept.
+pub(crate) fn is_kept(pages: &[Vec<u64>], number: u32) -> bool
+    ensures { result ≡ is_kept pages.now number }
+{
+    let page = number as usize / PAGE;
+    page < pages.len() && is_marked(&pages[page], number as usize % PAGE)
+}
+
+// Keeps the number. If memory runs out, the same numbers are kept.
+pub(crate) fn keep(pages: &mut Vec<Vec<u64>>, number: u32) -> Result<(), Memory>
+    ensures ok { OnOk result ((n : ℕ) → is_kept pages.new.items n ≡ (number == n || is_kept pages.old.items n)) }
+    ensures err { OnErr result ((n : ℕ) → is_kept pages.new.items n ≡ is_kept pages.old.items n) }
+{
+    let page = number as usize / PAGE;
+    'pages: while pages.len() <= page {
+        pages.push(Vec::new(*pages.allocator()))?;
+    }
+    mark_in(&mut pages[page], number as usize % PAGE)?;
+    Ok(())
 }
 
 // Whether a group with one of the `PART` identities from `base` on has the identity of an earlier group.

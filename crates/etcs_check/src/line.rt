@@ -1,8 +1,6 @@
 //! `Line`: a railway line, its groups and messages. `check` finds all facts against it.
 
 ghost use Rattle.std.specs.Prelude.{◌≡◌, ◌≢◌, ◌↔◌, ◌<◌, ◌++◌, ◌&&◌, ◌||◌, ◌==◌, [], ℕ, Bool, true, false, length, Option, IfOk, OnOk, OnErr};
-ghost use Rattle.std.specs.BTreeSet.{contains};
-ghost use Rattle.std.specs.Ordering.{nat_cmp};
 ghost use Rattle.etcs_profile.specs.declared.run.Run.{Run};
 ghost use Rattle.etcs_group.specs.Places.{At};
 ghost use Rattle.etcs_group.specs.Missed.{IsSetOf};
@@ -11,7 +9,7 @@ ghost use Rattle.etcs_group.specs.Laws.{IsDecided, IsMixtureDecided};
 ghost use Rattle.etcs_group.specs.Mixture.{Fits};
 ghost use Rattle.etcs_group.specs.Group.{Telegrams, Aspects};
 ghost use Rattle.etcs_check.specs.Violation.{Violates};
-ghost use Rattle.etcs_check.specs.Identities.{HasIdentity, identity_number};
+ghost use Rattle.etcs_check.specs.Identities.{HasIdentity, identity_number, is_kept};
 ghost use Rattle.etcs_check.specs.Laws.{AreControlled, NamesTheUnsound};
 ghost use Rattle.etcs_check.specs.Line.{findings, group_findings, group_list, message_list};
 ghost use Rattle.etcs_check.specs.Order.{IsFindings};
@@ -20,13 +18,12 @@ ghost use Rattle.etcs_check.specs.declared.finding.Finding.{Finding};
 ghost use Rattle.etcs_check.specs.declared.finding.Site.TheVariants as sites;
 
 use crate::finding::{Finding, Site, append};
-use crate::identities::{has_repeat, identity_number, keep};
+use crate::identities::{has_repeat, identity_number, is_kept, keep};
 use crate::walk::{group_findings, message_findings};
 use etcs_bits::Memory;
 use etcs_group::{Controlled, Group};
 use etcs_radio::Message;
 use std::alloc::Global;
-use std::collections::BTreeSet;
 
 /// The data of a railway line: its balise groups and its radio messages. A group that no lineside unit
 /// switches has one aspect.
@@ -43,21 +40,21 @@ pub struct Line {
 fn push_next(
     alloc: Global,
     found: &mut Vec<Finding>,
-    kept: &mut BTreeSet<u32>,
+    kept: &mut Vec<Vec<u64>>,
     again: bool,
     place: usize,
     aspects: &[Group],
 ) -> Result<(), Memory>
     requires some { 0 < length aspects.now }
     ensures ok { OnOk result (found.new.items ≡ found.old.items ++ group_findings (sites.Group place)
-        (again && contains nat_cmp kept.old (identity_number aspects.now)) aspects.now) }
-    ensures kept { OnOk result (again ≡ true → (n : ℕ) → contains nat_cmp kept.new n
-        ≡ (identity_number aspects.now == n || contains nat_cmp kept.old n)) }
+        (again && is_kept kept.old.items (identity_number aspects.now)) aspects.now) }
+    ensures kept { OnOk result (again ≡ true → (n : ℕ) → is_kept kept.new.items n
+        ≡ (identity_number aspects.now == n || is_kept kept.old.items n)) }
     ensures memory { OnErr result (again ≡ false → group_findings (sites.Group place) false aspects.now ≢ []) }
     ensures numbered { HasIdentity aspects.now }
 {
     let identity = identity_number(aspects);
-    let used = again && kept.contains(&identity);
+    let used = again && is_kept(kept, identity);
     let more = group_findings(alloc, place, used, aspects)?;
     append(found, more)?;
     if again { keep(kept, identity) } else { Ok(()) }
@@ -70,7 +67,7 @@ fn push_groups(alloc: Global, found: &mut Vec<Finding>, groups: &[Controlled]) -
     ensures controlled { OnOk result (AreControlled groups.now) }
 {
     let again = has_repeat(groups);
-    let mut kept = BTreeSet::new(alloc);
+    let mut kept = Vec::new(alloc);
     'places: for place in 0..groups.len() {
         let aspects = groups[place].aspects();
         push_next(alloc, found, &mut kept, again, place, aspects)?;

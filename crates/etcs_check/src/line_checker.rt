@@ -14,13 +14,12 @@ ghost use Rattle.etcs_check.specs.Soundness.{IsSoundLine};
 ghost use Rattle.etcs_check.specs.declared.finding.Finding.{Finding as SomeFinding};
 
 use crate::finding::{Finding, Site, append};
-use crate::identities::{identity_number, keep};
+use crate::identities::{identity_number, is_kept, keep};
 use crate::walk::{group_findings, message_findings};
 use etcs_bits::Memory;
 use etcs_group::Controlled;
 use etcs_radio::Message;
 use std::alloc::Global;
-use std::collections::BTreeSet;
 use std::marker::Model;
 use thiserror::Error;
 
@@ -55,7 +54,7 @@ pub struct LineChecker {
     about_messages: Vec<Finding>,
     groups: usize,
     messages: usize,
-    identities: BTreeSet<u32>,
+    identities: Vec<Vec<u64>>,
 }
 
 impl Model for LineChecker {
@@ -63,7 +62,7 @@ impl Model for LineChecker {
 
     ghost Value = { CheckerState };
 
-    ghost view = { λ c. record { about_groups = c.about_groups.items; about_messages = c.about_messages.items; groups = c.groups; messages = c.messages; identities = c.identities } };
+    ghost view = { λ c. record { about_groups = c.about_groups.items; about_messages = c.about_messages.items; groups = c.groups; messages = c.messages; identities = c.identities.items } };
 }
 
 impl LineChecker {
@@ -76,7 +75,7 @@ impl LineChecker {
             about_messages: Vec::new(alloc),
             groups: 0,
             messages: 0,
-            identities: BTreeSet::new(alloc),
+            identities: Vec::new(alloc),
         }
     }
 
@@ -97,7 +96,7 @@ impl LineChecker {
         };
         let aspects = group.aspects();
         let identity = identity_number(aspects);
-        let used = self.identities.contains(&identity);
+        let used = is_kept(&self.identities, identity);
         let found = group_findings(alloc, self.groups, used, aspects)?;
         let before = self.about_groups.len();
         append(&mut self.about_groups, found)?;

@@ -1,5 +1,5 @@
 -- Reading a document's values, and when bytes are JSON.
-use Rattle.std.proofs.Common.{◌≡◌, ◌+◌, ℕ, suc, Bool, true, false, List, [], ◌∷◌, ◌++◌, length, Option, Some, None, Result, Ok, Err, refl, ap, sym, subst, ◌∙◌}
+use Rattle.std.proofs.Common.{◌≡◌, ◌+◌, ℕ, suc, Bool, true, false, List, [], ◌∷◌, ◌++◌, codes, length, Option, Some, None, Result, Ok, Err, refl, ap, sym, subst, ◌∙◌}
 use Rattle.std.specs.Prelude.{◌↔◌, IsTrue, if◌then◌else◌}
 use Rattle.std.specs.Option.{ok_or}
 use Rattle.std.specs.Str.{IsUtf8, is_utf8}
@@ -7,8 +7,11 @@ use Rattle.std.proofs.lemmas.Str.{IsUtf8-from_is_utf8, is_utf8-from_IsUtf8}
 use Rattle.serde_json.specs.Data.{Data}
 use Rattle.serde_json.specs.Read.{read as read_text}
 use Rattle.etcs_document.proofs.ResultLemmas.{same_ok}
-use Rattle.etcs_document.specs.Document.{◌then◌, json_value, read_indexed, with_first}
+use Rattle.etcs_document.specs.Document.{◌then◌, document_group, document_line, document_list, document_message, json_value, line_groups, line_messages, read_indexed, with_first}
 use Rattle.etcs_document.specs.DocumentFault.{DocumentFault, no_json}
+use Rattle.etcs_radio.specs.declared.message.Message.{Message}
+use Rattle.etcs_schema.specs.Reading.{only_keys}
+use Rattle.etcs_telegram.specs.Record.{Telegram}
 
 abbrev OnlyFalse : Bool → Type 0
 OnlyFalse true = ⊥
@@ -48,6 +51,12 @@ as_many (Ok x) (Ok ys) n h xs is = ap length (same_ok xs (x ∷ ys) (Ok (x ∷ y
 pub read_count : {A : Type 0} (read : ℕ → Data → Result A DocumentFault) (i : ℕ) (ds : List Data) (xs : List A) → read_indexed read i ds ≡ Ok xs → length xs ≡ length ds
 read_count read i [] xs is = ap length (same_ok xs [] (Ok []) is refl)
 read_count read i (d ∷ ds) xs is = as_many (read i d) (read_indexed read (i + 1) ds) (length ds) (read_count read (i + 1) ds) xs is
+
+-- the groups, and then the messages
+pub line_read : (d : Data) (gs : List (List (List Telegram))) (ms : List Message) → only_keys (codes "groups" ∷ codes "messages" ∷ []) d ≡ Ok tt
+    → (document_list (codes "groups") d then read_indexed document_group 0) ≡ Ok gs → (document_list (codes "messages") d then read_indexed document_message 0) ≡ Ok ms → document_line d ≡ Ok (gs, ms)
+unfolding document_line line_groups line_messages
+line_read d gs ms keys groups messages = rw (keys, groups, messages) refl
 
 -- if the test of a fact fails, the fact does not hold
 pub is_not : {P : Type 0} (b : Bool) → IsTrue b ↔ P → b ≡ false → P → ⊥

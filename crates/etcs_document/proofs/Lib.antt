@@ -1,6 +1,7 @@
 pub mod TokenLemmas
 pub mod TokenReaderLemmas
 pub mod DocumentTokenLemmas
+pub mod TakenLemmas
 pub mod StreamingLemmas
 pub mod ResultLemmas
 pub mod DocumentLemmas

@@ -1,5 +1,5 @@
 -- Bytes without a finding are a line for which everything that a yes states is true.
-use Rattle.std.proofs.Common.{◌≡◌, ◌∙◌, ℕ, Bool, List, [], Option, Result, Ok, Err, refl, ap, sym, subst}
+use Rattle.std.proofs.Common.{◌≡◌, ℕ, Bool, List, [], Option, Result, Ok, Err, refl, sym, subst}
 use Rattle.std.specs.Prelude.{IsOkAnd}
 use Rattle.etcs_check.proofs.AspectLemmas.{aspect_long, sound_mixtures_are_decided}
 use Rattle.etcs_check.proofs.LineLemmas.{no_finding_means_sound_line}
@@ -11,10 +11,10 @@ use Rattle.etcs_check.specs.declared.finding.Finding.{Finding}
 use Rattle.etcs_check.specs.Soundness.{IsSoundControlled, IsSoundGroup, IsSoundLine}
 use Rattle.etcs_document.proofs.SoundLemmas.{line_controlled, no_finding_sound}
 use Rattle.etcs_document.proofs.VerdictLemmas.{says_yes}
-use Rattle.etcs_document.specs.Document.{◌then◌, document_line, line_of_text}
+use Rattle.etcs_document.specs.Document.{◌then◌, line_of_text}
 use Rattle.etcs_document.specs.DocumentFault.{DocumentFault}
 use Rattle.etcs_document.specs.Laws.{NoFindingSaysYes}
-use Rattle.etcs_document.specs.Verdict.{NamesUnsoundParts, SaysYes, Summary, TextSaysYes, judged, summary, summary_of_text}
+use Rattle.etcs_document.specs.Verdict.{NamesUnsoundParts, SaysYes, Summary, judged, summary, summary_of_text}
 use Rattle.etcs_group.specs.Laws.{IsDecided, IsMixtureDecided}
 use Rattle.etcs_group.specs.Missed.{IsSetOf}
 use Rattle.etcs_group.specs.Mixture.{Fits}
@@ -55,12 +55,6 @@ no_finding_says_yes bytes none = yes_or bytes (line_of_text bytes) refl ((no_fin
 
 pub counted_none : (r : Result Summary DocumentFault) (c : Summary) → r ≡ Ok c → c.1 ≡ [] → IsOkAnd r (λ checked. checked.1 ≡ [])
 counted_none r c is none = subst (λ q. IsOkAnd q (λ checked. checked.1 ≡ [])) (sym is) none
-
--- what a yes states is about the line of the bytes
-pub text_says_yes : (bytes : List ℕ) (groups : List (List (List Telegram))) (ms : List Message) → SaysYes bytes groups ms → TextSaysYes bytes
-unfolding line_of_text
-text_says_yes bytes groups ms said =
-    subst (λ r. IsOkAnd r (λ line. SaysYes bytes line.0 line.1)) (sym (ap (λ r. r then document_line) said.json ∙ said.line)) said
 
 -- the findings about the line of the bytes
 counted_in : (bytes : List ℕ) (c : Summary) (r : Result (List (List (List Telegram)) × List Message) DocumentFault) → line_of_text bytes ≡ r

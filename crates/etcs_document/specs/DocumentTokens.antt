@@ -68,19 +68,6 @@ pub record HasGroup (depth : ℕ) (old : List Token) (aspects : Aspects) (new : 
 
 -- ---- what was passed to a checker
 
--- A checker takes these items one after the other, and its state changes from the first to the second.
-abbrev pub TakesEach : {X : Type 0} → (CheckerState → X → CheckerState → Type 0)
-    → CheckerState → List X → CheckerState → Type 0
-TakesEach Takes was [] is = was ≡ is
-TakesEach Takes was (x ∷ xs) is = (next : CheckerState) × Takes was x next × TakesEach Takes next xs is
-
--- Some items are read, and a checker takes them.
-pub record AreTaken {X : Type 0} (AreRead : List X → Type 0)
-    (Takes : CheckerState → X → CheckerState → Type 0) (was is : CheckerState) : Type 0 where
-  pub items : List X
-  pub read : AreRead items
-  pub takes : TakesEach Takes was items is
-
 -- The value is the document of a line, and `state` is the state of a checker that has taken its groups and
 -- messages.
 pub record IsChecked (d : Data) (state : CheckerState) : Type 0 where

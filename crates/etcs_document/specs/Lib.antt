@@ -4,6 +4,7 @@ pub mod DocumentFault
 pub mod Document
 pub mod Verdict
 pub mod DocumentTokens
+pub mod Taken
 pub mod ReportText
 pub mod Laws
 pub mod TokenReader

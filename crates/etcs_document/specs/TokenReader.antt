@@ -1,9 +1,10 @@
 -- A text's tokens, read from its remaining bytes.
-use Rattle.std.specs.Prelude.{◌≡◌, ℕ, ◌==◌, List, Bool, true, false, not, if◌then◌else◌, get_or}
-use Rattle.std.specs.List.{list_all, prefix_len}
+use Rattle.std.specs.Prelude.{◌≡◌, ℕ, ◌==◌, List, Bool, true, false, Option, Some, if◌then◌else◌, get_or}
+use Rattle.std.specs.List.{list_all}
 use Rattle.json.specs.Lex.{between, lex, fresh, after_value, after_comma, punctuate}
 use Rattle.json.specs.Run.{is_plain}
 use Rattle.json.specs.Token.{Token}
+use Rattle.memchr.specs.Find.{IsFirstByte, is_byte}
 use Rattle.etcs_document.specs.declared.token_reader.Place.{Place}
 use Rattle.etcs_document.specs.declared.token_reader.Place.TheVariants.{Fresh, AfterValue, AfterComma}
 use Rattle.etcs_document.specs.declared.token_reader.TextKind.{TextKind}
@@ -31,12 +32,8 @@ can_close AfterComma = false
 abbrev pub ArePlain : List ℕ → Type 0
 ArePlain text = list_all is_plain text ≡ true
 
--- the number of bytes in front of the first quote
-abbrev pub quote_place : List ℕ → ℕ
-quote_place bytes = prefix_len (λ b. not (b == 34)) bytes
-
--- the length of a text of this kind, given the bytes after its opening quote; texts of telegrams have 54 or
--- 208 bytes
-abbrev pub text_len : TextKind → List ℕ → ℕ
-text_len Telegram begun = if get_or begun 54 0 == 34 then 54 else 208
-text_len Message begun = quote_place begun
+-- the length of a text of this kind, given the bytes after its opening quote: a telegram's text has 54 or 208
+-- bytes, and a message's ends at the first quote
+abbrev pub IsTextLen : TextKind → List ℕ → Option ℕ → Type 0
+IsTextLen Telegram begun len = len ≡ Some (if get_or begun 54 0 == 34 then 54 else 208)
+IsTextLen Message begun len = IsFirstByte (is_byte 34) begun len

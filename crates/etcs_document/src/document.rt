@@ -2,44 +2,51 @@
 
 ghost use Rattle.std.specs.Prelude.{◌≡◌, [], false};
 ghost use Rattle.std.specs.Str.{is_utf8};
-ghost use Rattle.serde_json.specs.View.{view};
 ghost use Rattle.etcs_document.specs.Document.{document_line, json_value, line_of_text};
 ghost use Rattle.etcs_document.specs.DocumentFault.{Gives};
+ghost use Rattle.etcs_schema.specs.json_value.Texts.{text_data};
 
-use crate::document_values::{read_each, values_at};
+use crate::document_values::read_list;
 use crate::line_error::LineError;
 use etcs_check::Line;
 use etcs_group::Controlled;
 use etcs_radio::Message;
-use etcs_schema::check_keys;
-use serde_json::Value;
+use etcs_schema::{JsonError, JsonValue, ParsedJson, check_keys};
+use json::Scratch;
 use std::alloc::Global;
 
-// Reads the bytes as one JSON value.
+/// Reads the bytes as one JSON value, on a tape of its tokens.
 #[tactic(auto, unfolding(crate::specs::Document::json_value))]
-fn read_json(alloc: Global, bytes: &[u8]) -> Result<Value, LineError>
-    ensures gives { Gives (λ v. view v) result (json_value bytes.now) }
+pub(crate) fn read_json<'a>(
+    alloc: Global,
+    bytes: &'a [u8],
+    scratch: &'a mut Scratch,
+) -> Result<ParsedJson<'a>, LineError>
+    ensures gives { Gives (λ t. text_data t) result (json_value bytes.now) }
     ensures empty { bytes.now ≡ [] → result ≡ Err LineError.NotJson }
     ensures unreadable { is_utf8 bytes.now ≡ false → result ≡ Err LineError.NotJson }
 {
     let Ok(text) = str::from_utf8(bytes) else {
         return Err(LineError::NotJson);
     };
-    match Value::from_str(alloc, text) {
-        Ok(value) => Ok(value),
-        Err(error) if error.is_memory() => Err(LineError::Memory),
-        Err(_) => Err(LineError::NotJson),
+    match ParsedJson::read(text, scratch, Vec::new(alloc)) {
+        Ok(json) => Ok(json),
+        Err(JsonError::NotJson) => Err(LineError::NotJson),
+        Err(_) if bytes.is_empty() => Err(LineError::NotJson),
+        Err(_) => Err(LineError::Memory),
     }
 }
 
 // Reads the railway line of a document: the groups, and then the messages.
 #[tactic(auto, unfolding(crate::specs::Document::document_line, crate::specs::Document::line_groups, crate::specs::Document::line_messages))]
-fn read_document(alloc: Global, value: &Value) -> Result<Line, LineError>
-    ensures { Gives (λ l. (l.groups.items, l.messages.items)) result (document_line (view value.now)) }
+fn read_document<N: JsonValue>(alloc: Global, value: &N) -> Result<Line, LineError>
+    ensures { Gives (λ l. (l.groups.items, l.messages.items)) result (document_line (N.value value.now)) }
 {
-    check_keys(alloc, &value, &["groups", "messages"])?;
-    let groups = read_each::<Controlled>(alloc, values_at(alloc, value, "groups")?)?;
-    let messages = read_each::<Message>(alloc, values_at(alloc, value, "messages")?)?;
+    check_keys(alloc, value, &["groups", "messages"])?;
+    let mut groups = Vec::new(alloc);
+    read_list::<Controlled, N, Vec<Controlled>>(alloc, value, "groups", &mut groups)?;
+    let mut messages = Vec::new(alloc);
+    read_list::<Message, N, Vec<Message>>(alloc, value, "messages", &mut messages)?;
     Ok(Line { groups, messages })
 }
 
@@ -51,8 +58,9 @@ fn read_document(alloc: Global, value: &Value) -> Result<Line, LineError>
 /// The error is the first fault, depth first: `NotJson`; then the form of the document; then group by group
 /// its form, the number of its balises and each balise, or its list of aspects, aspect by aspect; and only
 /// then the messages. The number of balises of an aspect is compared with aspect 0 before its balises are
-/// read. The only other error is that memory ran out. A fault might then be unreported, except that the input
-/// is empty or not UTF-8. After an error nothing is returned of what was read.
+/// read. The only other error is that memory ran out, which any document longer than 4,294,967,040 bytes gets. A
+/// fault might then be unreported, except that the input is empty or not UTF-8. After an error nothing is
+/// returned of what was read.
 #[tactic(auto, unfolding(crate::specs::Document::line_of_text))]
 pub fn read_line(alloc: Global, bytes: &[u8]) -> Result<Line, LineError>
     ensures exact { Gives (λ l. (l.groups.items, l.messages.items)) result (line_of_text bytes.now) }
@@ -61,6 +69,7 @@ pub fn read_line(alloc: Global, bytes: &[u8]) -> Result<Line, LineError>
     ensures empty { bytes.now ≡ [] → result ≡ Err LineError.NotJson }
     ensures unreadable { is_utf8 bytes.now ≡ false → result ≡ Err LineError.NotJson }
 {
-    let document = read_json(alloc, bytes)?;
-    read_document(alloc, &document)
+    let mut scratch = Scratch::new(alloc);
+    let document = read_json(alloc, bytes, &mut scratch)?;
+    read_document(alloc, &document.root())
 }

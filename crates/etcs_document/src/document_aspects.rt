@@ -1,30 +1,28 @@
 //! `read_aspect`: an aspect of a group in a document, with its balises.
 
 ghost use Rattle.std.specs.Prelude.{map};
-ghost use Rattle.serde_json.specs.View.{view};
 ghost use Rattle.etcs_document.specs.Document.{aspect_telegrams, balise_telegram, group_aspect};
 ghost use Rattle.etcs_document.specs.DocumentFault.{Gives};
 
 use crate::document_values::only_values;
 use crate::line_error::{LineError, in_group};
 use etcs_group::Group;
-use etcs_schema::{FormError, Step};
+use etcs_schema::{FormError, JsonValue, Step};
 use etcs_telegram::{Telegram, TextError, from_hex};
-use serde_json::Value;
 use std::alloc::Global;
 
 // Reads a balise of the group, or of an aspect of the group: the text of a telegram.
 #[tactic(auto, unfolding(crate::specs::Document::balise_telegram))]
-fn read_telegram(
+fn read_telegram<N: JsonValue>(
     alloc: Global,
     group: usize,
     aspect: Option<usize>,
     place: usize,
-    value: &Value,
+    value: &N,
 ) -> Result<Telegram, LineError>
-    ensures { Gives (λ t. t) result (balise_telegram group aspect place (view value.now)) }
+    ensures { Gives (λ t. t) result (balise_telegram group aspect place (N.value value.now)) }
 {
-    let Some(text) = value.as_str() else {
+    let Some(text) = value.text() else {
         let error = FormError::kind(alloc).under(Step::Place(place));
         let error = error.under(Step::Key("balises"));
         return Err(LineError::from(in_group(error, group, aspect)));
@@ -40,14 +38,14 @@ fn read_telegram(
 // Reads the balises of the group, or of an aspect of the group. Their number is checked first: it is
 // one to eight, and the number in the first aspect. The lists of packets are shrunk to fit, because all are kept.
 #[tactic(auto, unfolding(crate::specs::Document::aspect_telegrams))]
-fn read_counted(
+fn read_counted<N: JsonValue>(
     alloc: Global,
     group: usize,
     aspect: Option<usize>,
     first: Option<usize>,
-    values: &[Value],
+    values: &[N],
 ) -> Result<Group, LineError>
-    ensures { Gives (λ g. g) result (aspect_telegrams group aspect first (map view values.now)) }
+    ensures { Gives (λ g. g) result (aspect_telegrams group aspect first (map N.value values.now)) }
 {
     if values.is_empty() || values.len() > 8 {
         return Err(LineError::Count(group));
@@ -66,17 +64,17 @@ fn read_counted(
 
 /// Reads the group, or the aspect of the group: its form, the number of its balises, and then each balise.
 #[tactic(auto, unfolding(crate::specs::Document::group_aspect))]
-pub(crate) fn read_aspect(
+pub(crate) fn read_aspect<N: JsonValue>(
     alloc: Global,
     group: usize,
     first: Option<usize>,
     aspect: Option<usize>,
-    value: &Value,
+    value: &N,
 ) -> Result<Group, LineError>
-    ensures { Gives (λ g. g) result (group_aspect group first aspect (view value.now)) }
+    ensures { Gives (λ g. g) result (group_aspect group first aspect (N.value value.now)) }
 {
     match only_values(alloc, value, "balises") {
-        Ok(balises) => read_counted(alloc, group, aspect, first, balises),
+        Ok(balises) => read_counted(alloc, group, aspect, first, &balises),
         Err(error) => Err(LineError::from(in_group(error, group, aspect))),
     }
 }

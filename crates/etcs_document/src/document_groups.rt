@@ -1,7 +1,6 @@
 //! The balise groups of a document, each with its aspects.
 
 ghost use Rattle.std.specs.Prelude.{◌∷◌, [], map};
-ghost use Rattle.serde_json.specs.View.{view};
 ghost use Rattle.etcs_document.specs.Document.{document_group, listed_aspects};
 ghost use Rattle.etcs_document.specs.DocumentFault.{Gives};
 
@@ -9,13 +8,17 @@ use crate::document_aspects::read_aspect;
 use crate::document_values::{FromValue, only_values};
 use crate::line_error::{LineError, in_group};
 use etcs_group::{Controlled, Group};
-use serde_json::Value;
+use etcs_schema::JsonValue;
 use std::alloc::Global;
 
 // Reads the aspects of the group at this index, one after the other.
 #[tactic(auto, unfolding(crate::specs::Document::listed_aspects))]
-fn read_aspects(alloc: Global, group: usize, values: &[Value]) -> Result<Controlled, LineError>
-    ensures { Gives (λ c. c) result (listed_aspects group (map view values.now)) }
+fn read_aspects<N: JsonValue>(
+    alloc: Global,
+    group: usize,
+    values: &[N],
+) -> Result<Controlled, LineError>
+    ensures { Gives (λ c. c) result (listed_aspects group (map N.value values.now)) }
 {
     let [first, others @ ..] = values else {
         return Err(LineError::Aspects(group));
@@ -41,13 +44,17 @@ pub(crate) fn as_only_aspect(alloc: Global, group: Group) -> Result<Controlled, 
 impl FromValue for Controlled {
     ghost reading = { document_group };
 
-    fn from_value(alloc: Global, place: usize, value: &Value) -> Result<Controlled, LineError> {
-        if value.get("aspects").is_none() {
+    fn from_value<N: JsonValue>(
+        alloc: Global,
+        place: usize,
+        value: &N,
+    ) -> Result<Controlled, LineError> {
+        if value.member("aspects").is_none() {
             let group = read_aspect(alloc, place, None, None, value)?;
             return as_only_aspect(alloc, group);
         }
         match only_values(alloc, value, "aspects") {
-            Ok(aspects) => read_aspects(alloc, place, aspects),
+            Ok(aspects) => read_aspects(alloc, place, &aspects),
             Err(error) => Err(LineError::from(in_group(error, place, None))),
         }
     }

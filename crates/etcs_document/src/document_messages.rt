@@ -5,8 +5,7 @@ ghost use Rattle.etcs_document.specs.Document.{document_message};
 use crate::document_values::FromValue;
 use crate::line_error::LineError;
 use etcs_radio::{Message, RadioTextError, from_hex};
-use etcs_schema::{FormError, Step};
-use serde_json::Value;
+use etcs_schema::{FormError, JsonValue, Step};
 use std::alloc::Global;
 
 // A message is the text of a radio message.
@@ -14,8 +13,12 @@ use std::alloc::Global;
 impl FromValue for Message {
     ghost reading = { document_message };
 
-    fn from_value(alloc: Global, place: usize, value: &Value) -> Result<Message, LineError> {
-        let Some(text) = value.as_str() else {
+    fn from_value<N: JsonValue>(
+        alloc: Global,
+        place: usize,
+        value: &N,
+    ) -> Result<Message, LineError> {
+        let Some(text) = value.text() else {
             let error = FormError::kind(alloc).under(Step::Place(place));
             return Err(LineError::from(error.under(Step::Key("messages"))));
         };

@@ -2,8 +2,8 @@
 //!
 //! [`read_line`] reads the document, and [`check_text`] finds all facts against the line. Read `document.rt`
 //! first, with `specs/Document.antt`, and then `specs/Verdict.antt`, which defines what a yes states.
-//! [`check_in_order`] checks a document group by group, and builds no JSON value. It gives the same answer as
-//! [`check_text`], and calls it for what it cannot decide (`streaming.rt`, `specs/DocumentTokens.antt`).
+//! [`check_in_order`] gives the same answer as [`check_text`], and keeps no group and no message. It reads the
+//! tokens of the text, and JSON values for what it cannot decide so (`streaming.rt`, `specs/DocumentTokens.antt`).
 //! [`report`] writes the findings of a line, and [`refusal_text`] why an input is refused. `etcs_form`
 //! exports the names of this crate and of `etcs_json`.
 #![tactic(auto)]
@@ -18,6 +18,7 @@ pub mod laws;
 mod line_error;
 mod refusal;
 mod report_text;
+mod sink;
 mod streaming;
 mod token_groups;
 mod token_reader;

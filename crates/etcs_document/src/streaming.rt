@@ -1,22 +1,27 @@
 //! Streaming check: `check_in_order` reads the document of a railway line and checks it group by group, with a
 //! `Checked` as its result. `None` means undecided, not refused.
 
-ghost use Rattle.std.specs.Prelude.{◌≡◌, ◌∷◌, [], false, List, Ok, IfOk, IfSome};
+ghost use Rattle.std.specs.Prelude.{◌≡◌, [], false, List, Ok, IfErr, IfOk, IfSome};
 ghost use Rattle.std.specs.Str.{is_utf8};
-ghost use Rattle.etcs_check.specs.LineChecker.{CheckerState, HasChecked, TakesGroups, TakesMessages};
+ghost use Rattle.etcs_check.specs.LineChecker.{HasChecked};
+ghost use Rattle.etcs_document.specs.Document.{◌then◌, document_line};
 ghost use Rattle.etcs_document.specs.DocumentFault.{Gives};
-ghost use Rattle.etcs_document.specs.DocumentTokens.{AreTaken, HasLine, IsFirst, IsList};
+ghost use Rattle.etcs_document.specs.DocumentTokens.{HasLine};
+ghost use Rattle.etcs_document.specs.declared.line_error.LineError.TheVariants as errors;
 ghost use Rattle.etcs_document.specs.Verdict.{NamesUnsoundParts, TextSaysYes, judged, summary, summary_of_text};
 ghost use Rattle.etcs_radio.specs.declared.message.Message.{Message as SomeMessage};
 ghost use Rattle.etcs_group.specs.Group.{Aspects};
 
-use crate::check::check_text;
+use crate::document::read_json;
+use crate::document_values::read_list;
 use crate::line_error::LineError;
-use crate::token_groups::FromTokens;
+use crate::token_groups::items;
 use crate::token_reader::TokenReader;
 use etcs_check::{Finding, LineChecker};
 use etcs_group::Controlled;
 use etcs_radio::Message;
+use etcs_schema::{JsonValue, check_keys};
+use json::Scratch;
 use std::alloc::Global;
 
 // The greatest depth of nesting in a document.
@@ -33,50 +38,6 @@ pub struct Checked {
     pub findings: Vec<Finding>,
 }
 
-/// A group or a message, which is passed to the checker.
-trait Item: FromTokens {
-    /// How the state of the checker that takes it changes.
-    ghost takes: { CheckerState → Self → CheckerState → Type 0 };
-
-    /// Passes it to the checker.
-    fn pass_to(&self, alloc: Global, checker: &mut LineChecker) -> Option<()>
-        ensures { IfSome result (λ _. takes checker.old self.now checker.new) };
-}
-
-impl Item for Controlled {
-    ghost takes = { λ old group new. TakesGroups old (group ∷ []) new };
-
-    fn pass_to(&self, alloc: Global, checker: &mut LineChecker) -> Option<()> {
-        checker.group(alloc, self).ok()
-    }
-}
-
-impl Item for Message {
-    ghost takes = { λ old message new. TakesMessages old (message ∷ []) new };
-
-    fn pass_to(&self, alloc: Global, checker: &mut LineChecker) -> Option<()> {
-        checker.message(alloc, self).ok()
-    }
-}
-
-// Reads the list of groups or of messages, and passes each of them to the checker.
-fn items<T: Item>(
-    alloc: Global,
-    reader: &mut TokenReader<'_>,
-    depth: usize,
-    checker: &mut LineChecker,
-) -> Option<()>
-    ensures { IfSome result (λ _. AreTaken (λ xs. IsFirst (IsList T.is_value) depth reader.old xs reader.new)
-        T.takes checker.old checker.new) }
-{
-    let inner = reader.pass_open(b'[', depth)?;
-    'items: while !reader.pass_close(b']') {
-        let item = T::from_tokens(alloc, reader, inner)?;
-        item.pass_to(alloc, checker)?;
-    }
-    Some(())
-}
-
 // Reads the two members of a document, in either order.
 fn members(
     alloc: Global,
@@ -87,25 +48,26 @@ fn members(
     ensures { HasChecked checker.old [] [] → IfSome result (λ _. HasLine depth reader.old checker.new reader.new) }
 {
     if reader.pass_key("groups") {
-        items::<Controlled>(alloc, reader, depth, checker)?;
+        items::<Controlled, LineChecker>(alloc, reader, depth, checker)?;
         reader.pass_key("messages").then_some(())?;
-        return items::<Message>(alloc, reader, depth, checker);
+        return items::<Message, LineChecker>(alloc, reader, depth, checker);
     }
     reader.pass_key("messages").then_some(())?;
-    items::<Message>(alloc, reader, depth, checker)?;
+    items::<Message, LineChecker>(alloc, reader, depth, checker)?;
     reader.pass_key("groups").then_some(())?;
-    items::<Controlled>(alloc, reader, depth, checker)
+    items::<Controlled, LineChecker>(alloc, reader, depth, checker)
 }
 
 // The result of a checker.
-fn found_by(checker: LineChecker) -> Option<Checked>
-    ensures { IfSome result (λ c. (gs : List Aspects) (ms : List SomeMessage)
+fn found_by(checker: LineChecker) -> Result<Checked, LineError>
+    ensures ok { IfOk result (λ c. (gs : List Aspects) (ms : List SomeMessage)
         → HasChecked checker gs ms → ((c.groups, c.messages), c.findings.items) ≡ summary (judged (gs, ms))) }
+    ensures memory { IfErr result (λ e. e ≡ errors.Memory) }
 {
     let groups = checker.groups();
     let messages = checker.messages();
-    let findings = checker.finish().ok()?;
-    Some(Checked {
+    let findings = checker.finish()?;
+    Ok(Checked {
         groups,
         messages,
         findings,
@@ -113,7 +75,7 @@ fn found_by(checker: LineChecker) -> Option<Checked>
 }
 
 /// Reads and checks a document group by group and message by message. `None` is inconclusive; the caller
-/// then calls [`check_text`].
+/// then reads the document as JSON.
 pub(crate) fn quick_check(alloc: Global, bytes: &[u8]) -> Option<Checked>
     ensures { IfSome result
         (λ c. summary_of_text bytes.now ≡ Ok ((c.groups, c.messages), c.findings.items)) }
@@ -126,18 +88,34 @@ pub(crate) fn quick_check(alloc: Global, bytes: &[u8]) -> Option<Checked>
     if !reader.pass_close(b'}') || !reader.is_at_end() {
         return None;
     }
-    found_by(checker)
+    found_by(checker).ok()
 }
 
-/// Checks the document of a railway line as [`check_text`] does, but keeps no group and no message: only
-/// their counts, and the findings.
+// Checks the line of a document, and keeps no group and no message.
+#[tactic(auto, unfolding(crate::specs::Document::document_line, crate::specs::Document::line_groups, crate::specs::Document::line_messages))]
+fn check_document<N: JsonValue>(alloc: Global, value: &N) -> Result<Checked, LineError>
+    ensures { Gives (λ c. ((c.groups, c.messages), c.findings.items)) result
+        ((document_line (N.value value.now) then λ line. Ok (judged line)) then λ verdict. Ok (summary verdict)) }
+{
+    check_keys(alloc, value, &["groups", "messages"])?;
+    let mut checker = LineChecker::new(alloc);
+    read_list::<Controlled, N, LineChecker>(alloc, value, "groups", &mut checker)?;
+    read_list::<Message, N, LineChecker>(alloc, value, "messages", &mut checker)?;
+    Ok(found_by(checker)?)
+}
+
+/// Checks the document of a railway line as [`check_text`](crate::check_text) does, but keeps no group and no
+/// message: only their counts, and the findings.
 ///
 /// A document without repeated keys and without escapes in strings is read group by group and message by
 /// message, in either order of the two lists. This takes memory for the identities, the findings, and the
-/// records of one group or message at a time. [`check_text`] reads any other document, a document that is
-/// refused, and a document for which memory ran out.
+/// records of one group or message at a time. Any other document, a document that is refused, and a document
+/// for which memory ran out are read again as JSON: this takes five bytes more for each byte, and 24 bytes for
+/// each key, text, bracket and brace.
 ///
-/// The errors are the same as for [`check_text`]. After an error neither counts nor findings are returned.
+/// The errors are the same as for [`check_text`](crate::check_text). After an error neither counts nor findings
+/// are returned.
+#[tactic(auto, unfolding(crate::specs::Document::line_of_text))]
 pub fn check_in_order(alloc: Global, bytes: &[u8]) -> Result<Checked, LineError>
     ensures exact { Gives (λ c. ((c.groups, c.messages), c.findings.items)) result
         (summary_of_text bytes.now) }
@@ -156,10 +134,7 @@ pub fn check_in_order(alloc: Global, bytes: &[u8]) -> Result<Checked, LineError>
     if let Some(checked) = quick_check(alloc, bytes) {
         return Ok(checked);
     }
-    let verdict = check_text(alloc, bytes)?;
-    Ok(Checked {
-        groups: verdict.line.groups.len(),
-        messages: verdict.line.messages.len(),
-        findings: verdict.findings,
-    })
+    let mut scratch = Scratch::new(alloc);
+    let document = read_json(alloc, bytes, &mut scratch)?;
+    Ok(check_document(alloc, &document.root())?)
 }

@@ -3,8 +3,10 @@
 ghost use Rattle.std.specs.Prelude.{IfSome};
 ghost use Rattle.serde_json.specs.Data.{Data};
 ghost use Rattle.etcs_document.specs.DocumentTokens.{HasGroup, IsAspect, IsBalises, IsFirst, IsGroup, IsList, IsMessage, IsTelegram};
+ghost use Rattle.etcs_document.specs.Taken.{AreTaken};
 
 use crate::document_groups::as_only_aspect;
+use crate::sink::Sink;
 use crate::token_reader::{TextKind, TokenReader};
 use etcs_group::{Controlled, Group};
 use etcs_radio::Message;
@@ -21,17 +23,24 @@ pub(crate) trait FromTokens: Drop {
         ensures { IfSome result (λ x. IsFirst is_value depth reader.old x reader.new) };
 }
 
-// Reads a list.
-fn list<T: FromTokens>(alloc: Global, reader: &mut TokenReader<'_>, depth: usize) -> Option<Vec<T>>
-    ensures { IfSome result (λ v. IsFirst (IsList T.is_value) depth reader.old v.items reader.new) }
+/// Reads a list, and passes each item to the sink.
+pub(crate) fn items<T: FromTokens, K: Sink<T>>(
+    alloc: Global,
+    reader: &mut TokenReader<'_>,
+    depth: usize,
+    sink: &mut K,
+) -> Option<()>
+    ensures { IfSome result (λ _. AreTaken (λ xs. IsFirst (IsList T.is_value) depth reader.old xs reader.new)
+        K.takes sink.old sink.new) }
 {
     let inner = reader.pass_open(b'[', depth)?;
-    let mut found = Vec::new(alloc);
     'items: while !reader.pass_close(b']') {
         let item = T::from_tokens(alloc, reader, inner)?;
-        found.push(item).ok()?;
+        let Ok(()) = sink.take(alloc, item) else {
+            return None;
+        };
     }
-    Some(found)
+    Some(())
 }
 
 impl FromTokens for Telegram {
@@ -56,7 +65,10 @@ impl FromTokens for Message {
 fn balises(alloc: Global, reader: &mut TokenReader<'_>, depth: usize) -> Option<Group>
     ensures { IfSome result (λ g. IsFirst IsBalises depth reader.old g reader.new) }
 {
-    let telegrams = list::<Telegram>(alloc, reader, depth)?;
+    let Ok(mut telegrams) = Vec::with_capacity(alloc, 8) else {
+        return None;
+    };
+    items::<Telegram, Vec<Telegram>>(alloc, reader, depth, &mut telegrams)?;
     Group::new(telegrams).ok()
 }
 
@@ -87,7 +99,8 @@ fn group_member(alloc: Global, reader: &mut TokenReader<'_>, depth: usize) -> Op
         return as_only_aspect(alloc, group).ok();
     }
     if reader.pass_key("aspects") {
-        let aspects = list::<Group>(alloc, reader, depth)?;
+        let mut aspects = Vec::new(alloc);
+        items::<Group, Vec<Group>>(alloc, reader, depth, &mut aspects)?;
         return Controlled::new(aspects).ok();
     }
     None

@@ -7,7 +7,7 @@ ghost use Rattle.json.specs.Json.{after_end_array, read_key};
 ghost use Rattle.json.specs.Lex.{after_value, begins_colon, between, colon, lex, punctuate, token, tokens};
 ghost use Rattle.json.specs.Token.{begin_array, begin_object, string as string_token};
 ghost use Rattle.json.specs.Word.{is_space};
-ghost use Rattle.etcs_document.specs.TokenReader.{ArePlain, can_begin, can_close, quote_place, remaining_tokens, text_len};
+ghost use Rattle.etcs_document.specs.TokenReader.{ArePlain, can_begin, can_close, remaining_tokens, IsTextLen};
 
 use std::marker::Model;
 
@@ -91,26 +91,15 @@ fn pass_name<'a>(rest: &'a [u8], name: &str) -> Option<&'a [u8]>
     pass_byte(&ended[1..], b':')
 }
 
-// The number of bytes in front of the first quote.
-fn quote_place(bytes: &[u8]) -> usize
-    ensures { result ≡ quote_place bytes.now }
-{
-    let mut at = 0;
-    'bytes: while at < bytes.len() && bytes[at] != b'"' {
-        at += 1;
-    }
-    at
-}
-
 // The length of a text of this kind, given the bytes after its opening quote. A short telegram has 54 digits
 // and a long one 208, so that no quote has to be searched.
-fn text_len(kind: TextKind, begun: &[u8]) -> usize
-    ensures { result ≡ text_len kind begun.now }
+fn text_len(kind: TextKind, begun: &[u8]) -> Option<usize>
+    ensures { IsTextLen kind begun.now result }
 {
     match kind {
-        TextKind::Telegram if begun.len() > 54 && begun[54] == b'"' => 54,
-        TextKind::Telegram => 208,
-        TextKind::Message => quote_place(begun),
+        TextKind::Telegram if begun.len() > 54 && begun[54] == b'"' => Some(54),
+        TextKind::Telegram => Some(208),
+        TextKind::Message => memchr::memchr(b'"', begun),
     }
 }
 
@@ -168,6 +157,7 @@ impl<'a> TokenReader<'a> {
 
     /// Reads the byte that begins an object or a list, which may nest `depth` levels. Returns the number of levels
     /// that its parts may nest.
+    #[inline]
     pub(crate) fn pass_open(&mut self, byte: u8, depth: usize) -> Option<usize>
         ensures depth { IfSome result (λ inner. depth ≡ inner + 1) }
         ensures object { byte ≡ 123 → IfSome result (λ _. self.old ≡ begin_object ∷ self.new) }
@@ -184,6 +174,7 @@ impl<'a> TokenReader<'a> {
     }
 
     /// Reads the byte that ends an object or a list. `false` changes nothing.
+    #[inline]
     pub(crate) fn pass_close(&mut self, byte: u8) -> bool
         ensures object { byte ≡ 125 → IsTrue result → read_key self.old ≡ Some (None, self.new) }
         ensures list { byte ≡ 93 → IsTrue result → after_end_array self.old ≡ Some self.new }
@@ -223,7 +214,7 @@ impl<'a> TokenReader<'a> {
         ensures { IfSome result (λ s. ArePlain s.now → self.old ≡ string_token s.now ∷ self.new) }
     {
         let begun = pass_byte(self.rest, b'"')?;
-        let len = text_len(kind, begun);
+        let len = text_len(kind, begun)?;
         if begun.len() <= len || begun[len] != b'"' || !self.place.may_begin() {
             return None;
         }

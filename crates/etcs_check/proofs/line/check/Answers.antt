@@ -1,6 +1,5 @@
-use Rattle.std.proofs.Common.{◌≡◌, subst}
+use Rattle.std.proofs.Common.{subst}
 use Rattle.etcs_check.specs.Laws.{AreControlled}
-use Rattle.etcs_check.specs.Line.{findings}
 use Rattle.etcs_check.proofs.AspectLemmas.{aspect_long, sound_mixtures_are_decided}
 use Rattle.etcs_check.proofs.SoundLemmas.{sound_groups_are_decided}
 use Rattle.etcs_check.proofs.SayingLemmas.{findings_noted, found_violates, found_list, found_sound, found_unnamed}
@@ -8,31 +7,19 @@ use Rattle.etcs_check.proofs.line.check.Goals as goal
 
 -- The list is empty if and only if the line is sound.
 pub returns-clause-sound : goal.returns-clause-sound
-returns-clause-sound c =
-    let is : c.push_messages.new.found.items ≡ findings c.args.line.now.groups.items c.args.line.now.messages.items =
-    findings_noted _ _ _ _ _ _ _ c.new-found.ensures.items c.in_ok-push_groups.ensures.ok c.in_ok-push_messages.ensures.ok c.deref.ensures.value c.deref-2.ensures.value in
-    found_sound _ _ _ is (subst AreControlled c.deref.ensures.value c.in_ok-push_groups.ensures.controlled)
+returns-clause-sound c = found_sound _ _ _ (findings_noted _ _ _ _ _ _ _ c.new-found.ensures.items c.in_ok-push_groups.ensures.ok c.in_ok-push_messages.ensures.ok c.deref.ensures.value c.deref-2.ensures.value) (subst AreControlled c.deref.ensures.value c.in_ok-push_groups.ensures.controlled)
 
 -- Each finding is a violation.
 pub returns-clause-violates : goal.returns-clause-violates
-returns-clause-violates c =
-    let is : c.push_messages.new.found.items ≡ findings c.args.line.now.groups.items c.args.line.now.messages.items =
-    findings_noted _ _ _ _ _ _ _ c.new-found.ensures.items c.in_ok-push_groups.ensures.ok c.in_ok-push_messages.ensures.ok c.deref.ensures.value c.deref-2.ensures.value in
-    found_violates _ _ _ is (subst AreControlled c.deref.ensures.value c.in_ok-push_groups.ensures.controlled)
+returns-clause-violates c = found_violates _ _ _ (findings_noted _ _ _ _ _ _ _ c.new-found.ensures.items c.in_ok-push_groups.ensures.ok c.in_ok-push_messages.ensures.ok c.deref.ensures.value c.deref-2.ensures.value) (subst AreControlled c.deref.ensures.value c.in_ok-push_groups.ensures.controlled)
 
 -- Each fact has its finding, in order.
 pub returns-clause-list : goal.returns-clause-list
-returns-clause-list c =
-    let is : c.push_messages.new.found.items ≡ findings c.args.line.now.groups.items c.args.line.now.messages.items =
-    findings_noted _ _ _ _ _ _ _ c.new-found.ensures.items c.in_ok-push_groups.ensures.ok c.in_ok-push_messages.ensures.ok c.deref.ensures.value c.deref-2.ensures.value in
-    found_list _ _ _ is
+returns-clause-list c = found_list _ _ _ (findings_noted _ _ _ _ _ _ _ c.new-found.ensures.items c.in_ok-push_groups.ensures.ok c.in_ok-push_messages.ensures.ok c.deref.ensures.value c.deref-2.ensures.value)
 
 -- Each finding names its group or its message.
 pub returns-clause-unnamed : goal.returns-clause-unnamed
-returns-clause-unnamed c =
-    let is : c.push_messages.new.found.items ≡ findings c.args.line.now.groups.items c.args.line.now.messages.items =
-    findings_noted _ _ _ _ _ _ _ c.new-found.ensures.items c.in_ok-push_groups.ensures.ok c.in_ok-push_messages.ensures.ok c.deref.ensures.value c.deref-2.ensures.value in
-    found_unnamed _ _ _ is (subst AreControlled c.deref.ensures.value c.in_ok-push_groups.ensures.controlled)
+returns-clause-unnamed c = found_unnamed _ _ _ (findings_noted _ _ _ _ _ _ _ c.new-found.ensures.items c.in_ok-push_groups.ensures.ok c.in_ok-push_messages.ensures.ok c.deref.ensures.value c.deref-2.ensures.value) (subst AreControlled c.deref.ensures.value c.in_ok-push_groups.ensures.controlled)
 
 -- A group that is sound has balises.
 pub returns-clause-decided : goal.returns-clause-decided

@@ -1,12 +1,11 @@
 use Rattle.std.proofs.Common.{◌≡◌, ◌+◌, drop, map}
 use Rattle.std.specs.Prelude.{Some}
-use Rattle.serde_json.specs.View.{view}
 use Rattle.etcs_document.specs.Document.{group_aspect, listed_aspects, read_indexed}
 use Rattle.etcs_document.proofs.DocumentLemmas.{with_front}
 use Rattle.etcs_document.proofs.document_groups.read_aspects.Given as goal
 
 -- what was read, and then what is read from the remaining values
 abbrev pub invariant-aspects : goal.invariant-aspects
-invariant-aspects l =
-    with_front l.aspects.items (read_indexed (λ a. group_aspect l.group (Some l.count) (Some a)) (l.index + 1) (map view (drop l.index l.others)))
-    ≡ listed_aspects l.group (map view l.values)
+invariant-aspects g l =
+    with_front l.aspects.items (read_indexed (λ a. group_aspect l.group (Some l.count) (Some a)) (l.index + 1) (map g.N.JsonValue.value (drop l.index l.others)))
+    ≡ listed_aspects l.group (map g.N.JsonValue.value l.values)

@@ -1,12 +1,12 @@
 use Rattle.std.proofs.Common.{◌≡◌, ◌<◌, refl, rules, ap, ◌∙◌, arith}
 use Rattle.json.specs.Lex.{tokens}
 use Rattle.etcs_document.proofs.StreamingLemmas.{document_taken, text_taken}
-use Rattle.etcs_document.proofs.TokenLemmas.{if_some, ok_part}
+use Rattle.etcs_document.proofs.TokenLemmas.{ok_part, ok_some}
 use Rattle.etcs_document.proofs.streaming.quick_check.Goals as goal
 
 -- nothing follows the document, and all of it was passed to the checker
 pub returns : goal.returns
-returns c = if_some _ _ c.found_by.result c.found_by.ensures (λ x told.
+returns c = ok_some _ _ c.found_by.result c.ok-2.result c.found_by.ensures.ok (λ made. made) c.ok-2.ensures.value (λ x told _.
     let utf8 = ok_part _ _ c.from_utf8.result _ c.from_utf8.ensures.cases c.in_ok-text.ensures.value in
     let begins = c.new-reader.ensures ∙ ap tokens (c.as_bytes.ensures.value ∙ utf8.0) in
     let inner : c.in_ok-inner.inner ≡ 126 = omega (arith, c.in_ok-inner.ensures.depth) in

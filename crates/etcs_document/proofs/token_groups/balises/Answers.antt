@@ -1,8 +1,9 @@
 use Rattle.etcs_document.proofs.DocumentTokenLemmas.{balises_taken}
+use Rattle.etcs_document.proofs.TakenLemmas.{kept_items}
 use Rattle.etcs_document.proofs.TokenLemmas.{ok_some}
 use Rattle.etcs_document.proofs.token_groups.balises.Goals as goal
 
 -- a group was made, so the balises are one to eight
 pub returns : goal.returns
 returns c = ok_some _ _ c.new.result c.ok.result c.new.ensures.ok c.new.ensures.made.0 c.ok.ensures.value (λ group same fits.
-    rw same (balises_taken _ _ c.in_ok-telegrams.telegrams.items _ c.in_ok-telegrams.ensures fits.0 fits.1))
+    rw same (balises_taken _ _ c.items.new.sink.items _ (kept_items _ _ _ _ c.in-Ok.ensures.items c.in_ok-items.ensures) fits.0 fits.1))

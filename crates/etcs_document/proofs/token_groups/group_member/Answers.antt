@@ -1,6 +1,7 @@
 use Rattle.std.proofs.Common.{◌≡◌, ◌∷◌, [], rules, refl, ap, sym, ◌∙◌}
 use Rattle.json.specs.Json.{read_key}
 use Rattle.etcs_document.proofs.DocumentTokenLemmas.{aspects_member, only_member}
+use Rattle.etcs_document.proofs.TakenLemmas.{kept_items}
 use Rattle.etcs_document.proofs.TokenLemmas.{gives_ok, ok_some}
 use Rattle.etcs_document.proofs.token_groups.group_member.Goals as goal
 
@@ -15,4 +16,4 @@ pub returns-then-pass_key-2 : goal.returns-then-pass_key-2
 returns-then-pass_key-2 c =
     let named = ap read_key (sym (c.pass_key.ensures.no (search rules))) ∙ c.pass_key-2.ensures.yes (search rules) in
     ok_some _ _ c.new.result c.ok-then-pass_key-2.result c.new.ensures.ok c.new.ensures.made.0 c.ok-then-pass_key-2.ensures.value (λ aspects is made.
-    aspects_member _ _ c.pass_key-2.new.self _ _ aspects _ named refl c.in_ok-aspects.ensures is made)
+    aspects_member _ _ c.pass_key-2.new.self _ _ aspects _ named refl (kept_items _ _ _ _ c.new-aspects.ensures.items c.in_ok-items.ensures) is made)
