@@ -4,17 +4,22 @@ from variables.table import Part
 
 DRAFT = "https://json-schema.org/draft/2020-12/schema"
 TITLE = "A {0}, as balisecheck decode{1} writes it and balisecheck encode{1} reads it"
-USER_BITS = {"description": "the size of the telegram", "type": "integer", "enum": [210, 830]}
+USER_BITS = {"description": "the size of the telegram", "type": "integer",
+             "oneOf": [{"const": 210, "title": "short"}, {"const": 830, "title": "long"}]}
 LONGEST_PACKET = 8191  # bits
+
+
+def span(first, last, words):
+    """The schema of the numbers of a span, with their meaning."""
+    numbers = {"const": first} if first == last else {"minimum": first, "maximum": last}
+    return {**numbers, **({"title": words} if words else {})}
 
 
 def number(rows):
     """What a key may have: the numbers of its variable, or of the variables that share it."""
     texts = [f"{it.variable} {condition(it)}" if rows[1:] else f"{it.variable}: {it.meaning}" for it in rows]
-    first, last = rows[0].spans[0][0], rows[0].spans[-1][1]
-    gaps = [{"minimum": low, "maximum": high} for low, high in rows[0].refused if first < low < last]
-    return {"description": ", ".join(texts), "type": "integer", "minimum": first, "maximum": last,
-            **({"not": {"anyOf": gaps}} if gaps else {})}
+    spans = [span(*it) for it in rows[0].spans]
+    return {"description": ", ".join(texts), "type": "integer", **(spans[0] if not spans[1:] else {"oneOf": spans})}
 
 
 def value(key, own, nodes, header):
