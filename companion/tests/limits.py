@@ -2,8 +2,8 @@
 
 Times are those of the processor, of balisekit and the program together: those of the clock depend on what else runs.
 What else runs makes the processor slower too, by its use of memory. So while a task runs, a process beside it does a
-fixed piece of work of the same kind again and again. Limits are seconds of a machine on which a piece takes UNIT. What
-takes too long is measured once more, because load changes.
+fixed piece of work of the same kind again and again, for a quarter of the time. Limits are seconds of a machine on
+which a piece takes UNIT. What takes too long is measured once more, because load changes.
 """
 from __future__ import annotations
 
@@ -40,9 +40,10 @@ def _pieces() -> Iterator[float]:
 def _work_beside() -> None:
     """Works until standard input ends. Prints a line after its beginning, and the mean time of a piece at the end."""
     pieces = _pieces()
-    times = [next(pieces) for _ in range(10)]
+    next(pieces)
     print("begun", flush=True)
-    while not select.select([sys.stdin], [], [], 0)[0]:
+    times = [next(pieces)]
+    while not select.select([sys.stdin], [], [], 3 * times[-1])[0]:
         times.append(next(pieces))
     print(statistics.mean(times), flush=True)
 

@@ -220,9 +220,9 @@ def frames(page: Path, tmp_path_factory: pytest.TempPathFactory) -> Frames:
     seen = browse(room, room / "whole.html", "--dump-dom", "--virtual-time-budget=5000")
     (title,) = re.findall("<title>(.+?)</title>", seen.stdout)
     said = iter([each[1:] for _, each in sorted(json.loads(html.unescape(title)).items(), key=lambda one: int(one[0]))])
-    parts = [list(islice(said, len(each))) for each in (OVERVIEWS, WIDTHS, PLACES)]
+    overviews, widths, places = (list(islice(said, len(each))) for each in (OVERVIEWS, WIDTHS, PLACES))
     (printed,) = said
-    return Frames(*parts, printed, seen.stderr)
+    return Frames(overviews, widths, places, printed, seen.stderr)
 
 
 def test_a_wrong_page_is_reported(frames: Frames) -> None:
