@@ -82,14 +82,15 @@ def test_manual_page():
 @pytest.mark.elsewhere
 def test_help():
     """Help and the version are on standard error, beside the usage line and its status. Help has each command, each
-    status, and examples that are answered."""
+    status, as the guide has, and examples that are answered."""
     usage = run(["--radio"])
     assert run(["--version"]) == usage._replace(stderr=f"balisecheck {(TOP / 'VERSION').read_text()}")
     text = run(["--help"]).stderr
     for words in ("--help", "-h", "help", "help check", "decode --help", "check --help"):
         assert run(words.split()) == usage._replace(stderr=text), words
     assert re.findall(r"(?m)^  balisecheck (\S+)", text) == ["check", "decode", "encode", "--version"]
-    assert re.findall(r"(?m)^  (\d)  ", text) == list("0123")
+    guide = (TOP / "docs" / "guide.md").read_text("utf-8").partition("\n## Exit statuses\n")[2]
+    assert re.findall(r"(?m)^  (\d)  ", text) == re.findall(r"(?m)^\| (\d) \|", guide) == list("0123")
     examples = re.findall(r"(?m)^  (echo .*) \| balisecheck (\w+)$", text)
     assert len(examples) == 2
     for command, word in examples:
