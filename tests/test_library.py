@@ -162,7 +162,7 @@ def test_refused_memory(library, name):
 def test_small_buffers_and_threads(name):
     """A buffer that is too small is left as it was. One that is just large enough suffices, also for two threads with
     little stack at once."""
-    library, size = Library(SHARED), threading.stack_size((STACK + 128) * 1024)  # (128 KiB for Python)
+    library, size = Library(SHARED), threading.stack_size((STACK + 64) * 1024)  # (64 KiB for Python)
     for data in data_of(name, runs_of(shared(), CALLS[name])):
         wanted = library.call(name, data)
         for less in (0, 1, 10) if wanted.stdout else ():

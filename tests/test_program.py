@@ -14,6 +14,8 @@ from hostile import Job, shared
 from runner import DEVICE, EXAMPLES, TOP, Answer, answered, in_bytes, program, run
 
 TELEGRAM, FORM, MESSAGE = cases.TELEGRAM, cases.answer(210, []), cases.MESSAGE
+PAIRS = {"decode": (TELEGRAM, FORM), "encode": (FORM, TELEGRAM), "decode --radio": (MESSAGE, cases.MOVEMENT),
+         "encode --radio": (cases.MOVEMENT, MESSAGE)}
 PATIENCE = 10  # seconds that the answers to two lines may take
 
 
@@ -35,22 +37,18 @@ def test_cases_in_one_stream(flag):
 
 
 @pytest.mark.elsewhere
-@pytest.mark.parametrize("name, words, given, wanted", cases.examples())
-def test_examples(name, words, given, wanted):
-    assert run(words, given) == wanted, name
+def test_examples():
+    """Each example, by pipes, and those that are refused."""
+    for name, words, given, wanted in cases.examples():
+        assert run(words, given) == wanted, name
+    for name, said in (("pad-bits-set", f"{FORM}\nrefused: line 3: pad bits set\n"),
+                       ("spare-mark", "refused: line 1: spare at 15 end 17\n")):
+        assert run(["decode"], (EXAMPLES / f"{name}.txt").read_text()) == answered(said), name
 
 
-@pytest.mark.parametrize("name, said", [("pad-bits-set", f"{FORM}\nrefused: line 3: pad bits set\n"),
-                                        ("spare-mark", "refused: line 1: spare at 15 end 17\n")])
-def test_refused_examples(name, said):
-    assert run(["decode"], (EXAMPLES / f"{name}.txt").read_text()) == answered(said)
-
-
-@pytest.mark.parametrize("words, line, answer", [
-    ("decode", TELEGRAM, FORM), ("encode", FORM, TELEGRAM), ("decode --radio", MESSAGE, cases.MOVEMENT),
-    ("encode --radio", cases.MOVEMENT, MESSAGE)])
-def test_a_line_is_answered_before_the_next(words, line, answer):
-    found = []
+@pytest.mark.parametrize("words", PAIRS)
+def test_a_line_is_answered_before_the_next(words):
+    (line, answer), found = PAIRS[words], []
     pipes = {"stdin": subprocess.PIPE, "stdout": subprocess.PIPE, "text": True}
     with subprocess.Popen([program(), *words.split()], **pipes) as waiting:
         clock = threading.Timer(PATIENCE, waiting.kill)
@@ -84,14 +82,15 @@ def test_manual_page():
 @pytest.mark.elsewhere
 def test_help():
     """Help and the version are on standard error, beside the usage line and its status. Help has each command, each
-    status, and examples that are answered."""
+    status, as the guide has, and examples that are answered."""
     usage = run(["--radio"])
     assert run(["--version"]) == usage._replace(stderr=f"balisecheck {(TOP / 'VERSION').read_text()}")
     text = run(["--help"]).stderr
     for words in ("--help", "-h", "help", "help check", "decode --help", "check --help"):
         assert run(words.split()) == usage._replace(stderr=text), words
     assert re.findall(r"(?m)^  balisecheck (\S+)", text) == ["check", "decode", "encode", "--version"]
-    assert re.findall(r"(?m)^  (\d)  ", text) == list("0123")
+    guide = (TOP / "docs" / "guide.md").read_text("utf-8").partition("\n## Exit statuses\n")[2]
+    assert re.findall(r"(?m)^  (\d)  ", text) == re.findall(r"(?m)^\| (\d) \|", guide) == list("0123")
     examples = re.findall(r"(?m)^  (echo .*) \| balisecheck (\w+)$", text)
     assert len(examples) == 2
     for command, word in examples:
