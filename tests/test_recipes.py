@@ -69,6 +69,7 @@ CALLS = [
     (0, "run_in_blocks 60 /dev/null ./balisecheck decode"),
     (3, "run_in_blocks 60 examples ./balisecheck decode"),
     (3, "run_in_blocks 60 batch.txt 'kill -9 $$'"),
+    (3, "cat batch.txt | run_in_blocks 60 /dev/stdin ./balisecheck decode"),
     (3, "run_in_blocks 60 examples/duplicated-pair.txt ./balisecheck decode >/dev/full"),
     (1, f"shared_identities {CHECK}controlled-group.json {CHECK}aspects-not-told-apart.json"),
     (2, "shared_identities refused.json"),
