@@ -32,6 +32,8 @@ def documents(*names):
 # The program's words, the values that are changed, and the refusals that the schema cannot express.
 FORMS = [json.loads(line) for path in sorted(EXAMPLES.glob("*.json")) for line in path.read_text().splitlines()]
 MESSAGES = [json.loads(form) for _, _, form, *_ in blocks("messages.txt") if form.startswith("{")]
+PACKETS = [packet for it in FORMS if "nid_message" not in it for packet in it["packets"]]
+MESSAGES.append({**MESSAGES[0], "packets": [*MESSAGES[0]["packets"], *PACKETS]})  # (lists of 32 items fit only here)
 KINDS = {"telegram": (ENCODE, [it for it in FORMS if "nid_message" not in it], FORM),
          "message": (ENCODE_RADIO, MESSAGES + [it for it in FORMS if "nid_message" in it], FORM),
          "line": (CHECK, documents("sound-line", "controlled-group"), TEXT)}
