@@ -1,4 +1,4 @@
-"""A tiny tree with our scripts, for test_start.py, test_store.py and test_edits.py. Shell scripts stand in for the program."""
+"""A tiny tree with our scripts, for tests that start, store and judge. Shell scripts stand in for the program."""
 import os
 import subprocess
 
