@@ -1,11 +1,11 @@
 #!/bin/bash
-# Prints the public contracts of a commit, one a line: each public signature with its clauses, and what the values of each
-# type are seen as. Functions that are public only within their crate are printed too.
+# Prints the public contracts of a commit, one a line: each public signature with its clauses, also of functions that are
+# public only within their crate, and what the values of each type are seen as.
 #
 #     diff <(tests/contracts.sh BEFORE) <(tests/contracts.sh AFTER)
 #
-# Two commits promise the same if both print the same and have the same crates/*/specs. A line that only BEFORE prints is a
-# promise that was changed or dropped.
+# Two commits promise the same if both print the same and have the same crates/*/specs. A line that only BEFORE prints
+# is a promise that was changed or dropped.
 set -euo pipefail
 commit=${1:?"usage: tests/contracts.sh COMMIT"}
 cd "$(dirname "$0")/.."

@@ -1,39 +1,20 @@
-"""`balisecheck check` of messages, packets and the documents in examples/check, and docs/findings.md."""
+"""`balisecheck check` of the documents in examples/check, and docs/findings.md."""
 import json
 import re
 
 import pytest
 
-from cases import END_MARK, HEAD, LONG, spelled, text
-from runner import EXAMPLES, TOP, answered, blocks, run
+from runner import EXAMPLES, TOP, answered, run
 
 FOLDER, PAGE = EXAMPLES / "check", (TOP / "docs/findings.md").read_text(encoding="utf-8")
 # A rule, its title, the first line of a report and the rest of the section.
 SECTIONS = re.findall(r"^## F(\d+): (.*)\n\n`(.*)`\n\n((?:.|\n)*?)(?=^## |\Z)", PAGE, re.MULTILINE)
 LINK = re.compile(r"\(\.\./examples/check/([a-z0-9.-]+)\)")
-# The fields of a packet of each number, as digits.
-PACKETS = {int(bits[:8], 2): bits for bits in (
-    "".join(re.findall(r"^ *([01]+) ", "\n".join(lines), re.M)) for _, *lines in blocks("packets.txt"))}
 
 
 def check(document):
     """The answer to a document."""
     return run(("check",), document)
-
-
-@pytest.mark.parametrize("number", PACKETS)
-def test_directions(number):
-    """If only one balise of a pair has a packet, F8 names the directions of its Q_DIR. Packet 0 is for both."""
-    def telegram(packets, *place):
-        return text((HEAD[:9] + spelled(*place) + HEAD[17:] + packets + END_MARK).ljust(LONG, "1"))
-
-    bits, second = PACKETS[number], telegram("", (3, 1), (3, 1), (2, 2))
-    for q_dir, names in enumerate((["reverse"], ["nominal"], ["nominal", "reverse"])):
-        names = names if number else ["nominal", "reverse"]
-        packet = bits[:8] + spelled((2, q_dir)) + bits[10:] if number else bits
-        document = {"groups": [{"balises": [telegram(packet, (3, 0), (3, 1), (2, 1)), second]}], "messages": []}
-        assert re.findall(r"(?m)^F8 .*", check(json.dumps(document)).stdout) == [
-            f"F8 group 0 balise 0 {name}: packets of duplicates differ" for name in names]
 
 
 @pytest.mark.parametrize("path", sorted(FOLDER.glob("*.json")), ids=lambda path: path.stem)

@@ -1,11 +1,12 @@
 """Tests of the tools that judge wrong code: tests/edits, tests/refused and tests/plants."""
 import runpy
 import shutil
-import subprocess
 
 import pytest
 
+import prover
 from runner import TOP, crate_uses
+from tiny import made, sh, write
 
 EDITS, REFUSED, PLANTS = (runpy.run_path(str(TOP / "tests" / it)) for it in ("edits", "refused", "plants"))
 
@@ -48,7 +49,6 @@ rt: another line
     ([printed(WAITS), printed(WAITS)], "next is only waiting for what it calls"),
     ([printed(WAITS, GONE)], "next is refused only because its proof file names what is gone"),
     ([printed("no proof: the limit was met")], "next is reported in an unknown form: no proof: the limit was met"),
-    ([printed(OPEN).replace("fn tiny::next", "note")], "next is not reported"),
     ([printed(OPEN).partition("logic=")[0]], "next is not reported"),
     ([printed(OPEN, "\nsrc/lib.rt:1:1: error: it is odd")], "next is not reported"),
     ([printed(OPEN, "\nrt: the kept work of low cannot be used: remove it")], "next is not reported")])
@@ -70,55 +70,47 @@ def test_edits_of_a_layer(monkeypatch):
     assert EDITS["judge"]("tiny-1", layer) == [(log, unnamed), (f"sum, {log}", ""), (f"next, {log}-again", "")]
 
 
+# What the prover judges: each edit's name, old and new text, and the function that it refuses.
 SOURCE = """//! Small functions over numbers.
 #![tactic(auto)]
 
-ghost use Rattle.std.specs.Prelude.{◌≡◌, ◌+◌, ◌*◌};
+ghost use Rattle.std.specs.Prelude.{◌≡◌, ◌+◌};
 
 pub fn sum(a: u8, b: u8) -> u32 ensures { result ≡ a + b } { a as u32 + b as u32 }
 pub fn twice(n: u8) -> u32 ensures { result ≡ n + n } { sum(n, n) }
-pub fn next(n: u8) -> u32 ensures { result ≡ n + 1 } { 1 + n as u32 }
-pub fn tenfold(n: u8) -> u32 ensures { result ≡ n * 10 } { n as u32 * 10 }
 """
-# It names a step of its function's body.
-PROOF = "use Rattle.tiny.proofs.twice.Goals as goal\n\npub returns : goal.returns\nreturns c = c.sum.ensures\n"
-# The name, an old and a new text, and the function that it refuses.
-ROWS = [("nine", "n as u32 * 10", "n as u32 * 9", "tenfold"), ("less", "b as u32 }", "b as u32 / 2 }", "sum"),
-        ("harmless", "1 + n as u32", "n as u32 + 1", "next"), ("stale", "sum(n, n)", "n as u32 + n as u32", "twice")]
+ROWS = [("less", "b as u32 }", "b as u32 / 2 }", "sum"), ("stale", "sum(n, n)", "n as u32 + n as u32", "twice")]
 EDITS_OF_TINY = "\n".join("name: {}\nold: {}\nnew: {}\nrefuses: {}\n".format(*it) for it in ROWS)
-TREE = {"crates.txt": "tiny:\n", "HANDLES": "", ".gitignore": "out/\n", "crates/tiny/src/lib.rt": SOURCE,
-        "crates/tiny/proofs/twice/Answers.antt": PROOF, "crates/tiny/edits/lib.edits": EDITS_OF_TINY}
-
-
-@pytest.fixture(name="sh")
-def in_a_repository(tmp_path):
-    """Runs a command in a repository with one crate, and returns its output."""
-    def sh(command):
-        return subprocess.run(command, cwd=tmp_path, shell=True, stdout=subprocess.PIPE, text=True, check=False).stdout
-    tools = {f"tests/{it}": (TOP / "tests" / it).read_text("utf-8") for it in ("edits", "prover.py", "runner.py")}
-    for path, text in {**TREE, **tools}.items():
-        (tmp_path / path).parent.mkdir(parents=True, exist_ok=True)
-        (tmp_path / path).write_text(text, encoding="utf-8")
-    sh("git init -q; git add -A; git -c user.name=one -c user.email=one commit -q -m one")
-    return sh
+# The proof of `twice` names a step of its body, which the last edit removes.
+PROOF = "use Rattle.tiny.proofs.twice.Goals as goal\n\npub returns : goal.returns\nreturns c = c.sum.ensures\n"
+TREE = {"crates.txt": "tiny:\n", "crates/tiny/src/lib.rt": SOURCE, "crates/tiny/proofs/twice/Answers.antt": PROOF,
+        "crates/tiny/edits/lib.edits": EDITS_OF_TINY}
 
 
 @pytest.mark.slow
 @pytest.mark.skipif(not shutil.which("rt"), reason="tests of edits (toolchain)")
-def test_edits_by_the_prover(sh):
-    """Good edits pass. Harmless and stale ones fail, so the crates as committed are not named."""
-    said = [it.partition(", out")[0] for it in sh("python3 tests/edits --all").splitlines() if it[:5] != "ran: "]
-    assert said == ["failed: tiny/harmless", "failed: tiny/stale", "the edits: 2 passed, 2 failed"]
+def test_edits_by_the_prover(monkeypatch, tmp_path):
+    """A good edit passes, and a stale one fails."""
+    for path, text in TREE.items():
+        write(tmp_path / path, text)
+    monkeypatch.setattr(prover, "TOP", tmp_path)
+    monkeypatch.setitem(EDITS["main"].__globals__, "TOP", tmp_path)
+    judged = EDITS["judge_all"]([*EDITS["edits_of"]("tiny")])
+    log = "out/layers/tiny-1"
+    assert judged == [(f"tiny/less, {log}", ""), (f"tiny/stale, {log}", f"twice is {EDITS['STALE']}")]
 
 
 @pytest.mark.skipif(not shutil.which("git"), reason="tests of edits (git)")
-def test_judged_crates(monkeypatch, capsys, tmp_path, sh):
+def test_judged_crates(monkeypatch, capsys, tmp_path):
     """The crates are named if all edits passed and crates/ is committed."""
-    for name, it in {"TOP": tmp_path, "crate_uses": lambda: ["tiny"], "judge_all": lambda _: [("one", "")]}.items():
+    tree = made(tmp_path / "a tree")
+    sh(tree, "git init -q; save")
+    edit = EDITS["Edit"]("etcs_low", "etcs_low/one", "", [], [])
+    for name, it in {"TOP": tree, "edits_of": lambda _: [edit], "judge_all": lambda _: [("one", "")]}.items():
         monkeypatch.setitem(EDITS["main"].__globals__, name, it)
-    crates = f"== crates {sh('git rev-parse HEAD:crates')}"
-    for words, change, wanted in ("--all", "", crates), ("tiny", "", ""), ("--all", "touch crates/tiny/new", ""):
-        sh(change)
+    crates = f"== crates {sh(tree, 'git rev-parse HEAD:crates')}"
+    for words, change, wanted in ("--all", ":", crates), ("etcs_low", ":", ""), ("--all", "touch crates/new", ""):
+        sh(tree, change)
         with pytest.raises(SystemExit, match="False"):
             EDITS["main"](words)
         assert capsys.readouterr().out == f"{wanted}the edits: 1 passed, 0 failed\n"
@@ -132,8 +124,7 @@ ERROR = "refused, as it must be: ./proofs/twice/Answers.antt:5:13: error: "
 
 @pytest.mark.parametrize("said, is_refused", [
     ([GOAL], True), ([f"{ERROR}as printed, the two types differ"], True), ([], False), ([GOAL, GOAL], False),
-    (["BAD EDIT: an 'old:' text is in src/lib.rt 0 times"], False), (["NOT REFUSED: the crate is proved"], False),
-    ([GOAL.replace(":", " (only by a limit of the prover):", 1)], False), (["refused, as it must be"], False),
+    ([GOAL.replace(":", " (only by a limit of the prover):", 1)], False),
     ([f"{ERROR}`sums` (nearest: .sum)"], False), ([f"{ERROR}`twice` was not admitted"], False),
     ([GOAL.replace("it is not proved", "`n` is large")], False), ([f"{ERROR}it is odd".replace("twice/", "")], False)])
 def test_refused(tmp_path, capsys, said, is_refused):

@@ -73,7 +73,6 @@ def test_one_answers(tree, command, wanted):
     ("rm -r $stored", f"out/balisecheck is not there; {STORED} is not there; run scripts/build"),
     ("chmod -x $stored/balisecheck", f"{STORED} is not executable: chmod +x it, balisecheck and balisekit"),
     ("program $stored 'echo no GLIBC_2.34; echo no GLIBC_2.33; exit 1' 'glibc 2.34'", f"{NEEDS}no GLIBC_2.34; run"),
-    ("program $stored 'kill -ILL $$' 'glibc 2.34'", NEEDS),
     ("chmod a-r crates/etcs_low/src/lib.rt", "the sources cannot be hashed")])
 def test_none_answers(tree, command, why):
     """After the command no program is run, and the reason is reported in one line."""

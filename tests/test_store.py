@@ -35,7 +35,8 @@ def both_trees(tmp_path_factory):
     write(room / "tools/rt", "#!/bin/sh\necho a kit\n")
     sh(made(room / "a tree"), "git init -q; save; built one")
     shutil.copytree(room / "a tree", room / "stored")
-    assert "stored: commit dist" in sh(room / "stored", "scripts/release.sh store; save")
+    said = sh(room / "stored", "scripts/release.sh store; save")
+    assert "the stored program: 12 passed, 0 failed\nstored: commit dist" in said
     return room
 
 
@@ -106,12 +107,6 @@ def test_release(tree):
 
 
 VERSIONED = ("ABOUT", "../../VERSION", "../../man/balisecheck.1", "../../CHANGELOG.md")
-
-
-def test_right(stored):
-    """A program as it is stored, and what is no source beside it."""
-    said = sh(stored, "touch more crates/etcs_low/out/more; BALISECHECK=out/balisecheck tests/dist")
-    assert said == "the stored program: 12 passed, 0 failed\n"
 
 
 @pytest.mark.parametrize("command, why", [

@@ -1,20 +1,19 @@
-"""A tiny tree with our scripts, for test_start.py and test_store.py. Shell scripts stand in for the program."""
+"""A tiny tree with our scripts, for tests that start, store and judge. Shell scripts stand in for the program."""
 import os
 import subprocess
 
 from runner import TOP
 
-SCRIPTS = ("balisecheck", "scripts/build", "scripts/install.sh", "scripts/release.sh", "dist/sources", "dist/hand-over",
-           "tests/dist", "tests/steps.sh")
+SCRIPTS = ("balisecheck", "scripts/build", "scripts/release.sh", "dist/sources", "dist/hand-over", "tests/dist",
+           "tests/steps.sh")
 NUMBERED = ("man/balisecheck.1", "crates/balisecheck/src/help.rt", "companion/src/balisekit/__init__.py",
             "examples/ci/job.yml")
 CRATES = "# crates\netcs_low:\netcs_high: etcs_low\ntrials_low: etcs_low\nbalisecheck: etcs_high\n"
-EMPTY = ["companion/start.py", "companion/pyproject.toml", "companion/src/balisekit/__pycache__/main.pyc"]
-EMPTY += [f"crates/{crate}/{name}" for crate in ("etcs_low", "etcs_high", "trials_low", "balisecheck")
+EMPTY = [f"crates/{crate}/{name}" for crate in ("etcs_low", "etcs_high", "trials_low", "balisecheck")
           for name in ("src/lib.rt", "specs/Lib.antt", "proofs/Lib.antt", "out/log")]
 FILES = {**dict.fromkeys(EMPTY, ""), **dict.fromkeys(NUMBERED, '.TH X 1 "not 1.219" "balisecheck 1.2.9" ""\n'),
-         "crates.txt": CRATES, "HANDLES": "none\n", "VERSION": "1.2.9\n", "balisekit": "#!/bin/sh\necho a kit\n",
-         "CHANGELOG.md": "# Changelog\n\n## Unreleased\n- more\n\n## 1.2.9 - 2026-01-01\n", ".gitignore": "out/\n",
+         "crates.txt": CRATES, "HANDLES": "none\n", "VERSION": "1.2.9\n", ".gitignore": "out/\n",
+         "CHANGELOG.md": "# Changelog\n\n## Unreleased\n- more\n\n## 1.2.9 - 2026-01-01\n",
          "dist/RELEASES": "# heads\n"}
 # What commands in the tree can call: `program FOLDER SCRIPT [LINE]` writes a program and its ABOUT with this line,
 # `answers FOLDER WORDS` one that writes the words before each line, `built WORDS` one to be stored, with its library.
