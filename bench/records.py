@@ -77,7 +77,7 @@ class Writer:
                 self.object(node.nodes, record.setdefault(node.key, {}), known)
 
     def items(self, part, items, number):
-        """Writes so many items of a list."""
+        """Writes `number` items of a list."""
         for _ in range(number):
             items.append({})
             self.object(part.nodes, items[-1], {})
@@ -97,7 +97,7 @@ class Writer:
 
 
 def packet(number, room, kind="packet", **given):
-    """A packet of at most so many bits, or None."""
+    """A packet of at most `room` bits, or None."""
     layout, most = LAYOUTS.get(f"{kind} {number}", LAYOUTS[f"{kind} other"]), numbers.choice((0, 1, 2, 4, 8, 31))
     while True:
         out, record = Writer({"NID_PACKET": number, **given}, most, room), {}
@@ -161,7 +161,7 @@ def begun(kind):
 
 
 def written(kind, end):
-    """A message of this kind of at most so many bits, without its length, and its record."""
+    """A message of this kind of at most `end` bits, without its length, and its record."""
     first = ("packet", [AUTHORITY, *some_known()]) if kind == MOVEMENT else ("train packet", [numbers.randint(0, 1)])
     out, record = begun(kind)
     record["packets"] = list(packets(out, end, *first))
