@@ -1,14 +1,13 @@
 #!/usr/bin/env python3
 """Random telegrams and radio messages with their JSON, by the table of variables in docs/assurance/trace.csv.
 
-    bench/records.py telegrams|messages COUNT [FORMS]
+    bench/records.py telegrams|messages COUNT FORMS
 
 Telegrams have 830 bits. Messages have up to 120 bytes, and half of them are position reports. The texts go to standard
 output, and the lines that `decode` must write go to the file FORMS; no bit is read back for them. The records depend
 only on COUNT.
 """
 import collections
-import contextlib
 import itertools
 import json
 import pathlib
@@ -175,13 +174,12 @@ def message():
 
 
 def main():
-    kind, count, *forms = sys.argv[1:]
-    with open(forms[0], "w", encoding="utf-8") if forms else contextlib.nullcontext() as file:
+    kind, count, forms = sys.argv[1:]
+    with open(forms, "w", encoding="utf-8") as file:
         for _ in range(int(count)):
             text, record = telegram() if kind == "telegrams" else message()
             print(text)
-            if file:
-                file.write(FORM.encode(record) + "\n")
+            file.write(FORM.encode(record) + "\n")
 
 
 if __name__ == "__main__":

@@ -3,7 +3,6 @@ numbers that were put into the fields.
 
     tests/cases.py    prints the cases of `decode`, one a line: name, input line and answer, with tabs between them
 """
-import copy
 import itertools
 import json
 import re
@@ -120,16 +119,12 @@ def no_digits():
 
 
 def made_messages():
-    """Messages of up to 1,023 bytes. Ones up to a byte behind their packets mean nothing, and an end mark and zeros
-    neither."""
+    """Random messages of up to 60 and of up to 1,020 bytes."""
     records.numbers.seed(1)
-    for size, free, kind in itertools.product((60, 1020), range(8), (records.MOVEMENT, records.POSITION)):
-        out, record = records.written(kind, 8 * size - free)
-        for ones, zeros in ((0, 0), (-out.bits % 8, 0), (8 + -out.bits % 8, 16)):
-            more = copy.copy(out)
-            more.put((1 << ones) - 1 << zeros, ones + zeros)
-            lines = records.message_text(more), FORM.encode(record), records.message_text(copy.copy(out))
-            yield f"message {kind} of {size} bytes less {free} bits, and {ones + zeros}", *lines
+    for number, size, kind in itertools.product(range(8), (60, 1020), (records.POSITION, records.MOVEMENT)):
+        out, record = records.written(kind, 8 * size)
+        line = records.message_text(out)
+        yield f"message {number} of kind {kind}, of up to {size} bytes", line, FORM.encode(record), line
 
 
 def streams():

@@ -17,6 +17,8 @@ LONG_INPUTS = [  # words, a text, another one and how often it is repeated, the 
     (CHECK, '{"groups":[],"messages":[0.', "1", 10 ** 6, "]}", "refused: form kind at /messages/0\n"),
     (CHECK, '{"groups":[],"messages":["', "0", 10 ** 7, '"]}', "refused: message 0: message kind at 0 end 8\n"),
     (CHECK, '{"groups":[{"balises":["', "a", 10 ** 7, '"]}],"messages":[]}', "refused: group 0 balise 0: wrong size\n"),
+    (CHECK, "", "[", 10 ** 6, "", "refused: not JSON\n"),
+    (ENCODE, "", '{"a":', 10 ** 6, "", "refused: line 1: not JSON\n"),
     *((words, "", "\n", 10 ** 6, "", "") for words in INVERSE),
     (DECODE, f"{SHORT}\n", "f", 4 * 10 ** 6, "", f"{FORM}\nrefused: line 2: wrong size\n"),
     (DECODE_RADIO, f"{MESSAGE}\n", "0", 4 * 10 ** 6, "", f"{MESSAGE_FORM}\nrefused: message 1: length below 3\n"),
@@ -35,17 +37,6 @@ def test_turned_bits(words):
     assert len(past) > 100
     for case, answer in zip(past, answers(shared(), words, past)):
         assert answer.stdout.startswith(("refused: line 1: ", "refused: message 0: ")), (case, answer)
-
-
-@pytest.mark.parametrize("words", [CHECK, ENCODE, ENCODE_RADIO], ids=" ".join)
-def test_levels(words):
-    """A value has 127 levels at most, and a million do no harm."""
-    front = "refused: " if words == CHECK else "refused: line 1: "
-    for left, middle, right in ("[", "", "]"), ('{"a":', "{}", "}"):
-        counts = 127 - len(middle) // 2, 128, 10 ** 6
-        levels = [left * count + middle + right * count for count in counts]
-        deepest, *others = [answer.stdout for answer in answers(shared(), words, levels)]
-        assert deepest.startswith(f"{front}form ") and others == [f"{front}not JSON\n"] * 2
 
 
 @pytest.mark.parametrize("words, head, often, count, tail, wanted", LONG_INPUTS)
