@@ -1,8 +1,8 @@
 #!/usr/bin/env python3
-"""Compares what two programs answer to random inputs: output, standard error and status.
+"""Compares what two programs answer to random inputs: output, standard error and status. Each answer of the first one
+is documented, and each record that it accepts comes back.
 
-    bench/compare.py OLD NEW [--inputs N] [--seed S] [--command WORDS] [--jobs N]
-    bench/compare.py PROGRAM ..    whether each answer is documented, and whether each record comes back
+    bench/compare.py OLD [NEW] [--inputs N] [--seed S] [--command WORDS] [--jobs N]
 
 A path that ends in .so is the library for C. Each command gets N inputs. Those of `check` are documents
 (bench/faults.py): half of them have a group with aspects, a third have faults, and a tenth are mutated. Those of other
@@ -61,7 +61,7 @@ def spoiled_line(words, known):
     """A line that the command refuses in most cases."""
     line, way = right_line(words, known), numbers.random()
     if way < 0.1:
-        return mutated(words, [line, numbers.choice(known)])
+        return mutated(words, numbers.choice((line, numbers.choice(known))))
     if way < 0.2:
         return random_line(words)
     if words[0] == "encode" and way < 0.7:
@@ -90,14 +90,14 @@ def some_document(known):
     has_aspects, way = numbers.random() < 0.5, numbers.random()
     document = random_document(has_aspects, way < FAULTY).encode()
     if way > 1 - MUTATED:
-        return mutated(CHECK, [document, numbers.choice(known)])
+        return mutated(CHECK, numbers.choice((document, numbers.choice(known))))
     if numbers.random() < RESPELLED:
         return respelled(document.decode()).encode()
     return document.replace(b"{", b'{"messages":0,', 1) if numbers.random() < RESPELLED else document
 
 
 def inputs(words, known, count):
-    """So many jobs of a command."""
+    """`count` jobs of a command."""
     make = (lambda: some_document(known)) if words == CHECK else (lambda: some_lines(words, known))
     return [Job(words, make()) for _ in range(count)]
 
@@ -106,27 +106,25 @@ def wrong_with(program, words, jobs):
     """What is wrong with the answers to these jobs, if anything, and the answers."""
     try:
         found = answers(program, words, [job.data for job in jobs])
-        lines = [line for answer in found for line in answer.stdout.splitlines() if not line.startswith("refused: ")]
-        decode = DECODE_RADIO if "--radio" in words else DECODE
+        texts = [it.stdout for it in found]
         if words[0] == "encode":
-            lines = answers(program, decode, ["".join(f"{line}\n" for line in lines)])[0].stdout.splitlines()
-        if words != CHECK and lines:
-            come_back(program, decode, lines)
+            texts = [job.data.decode() for job, it in zip(jobs, found) if it.status == 0]
+        forms = [line for text in texts for line in text.split("\n") if line.strip().startswith("{")]
+        if words != CHECK and forms:
+            come_back(program, DECODE_RADIO if "--radio" in words else DECODE, forms)
         return "", found
-    except AssertionError as why:
+    except (AssertionError, ValueError) as why:
         return str(why), []
 
 
 def compare(programs, jobs, met):
     """The inputs of a batch whose answers differ: words, input and both answers, or what is wrong with one answer."""
     words = jobs[0].words
-    if len(programs) == 1:
-        why, found = wrong_with(programs[0], words, jobs)
-        both = zip(found, found)
-        yield from [(words, why, None, None)] * bool(why)
-    else:
-        both = zip(*([answer for answer, _ in program.play(jobs)] for program in programs))
-    for job, (old, new) in zip(jobs, both):
+    why, found = wrong_with(programs[0], words, jobs)
+    met["different"] += bool(why)
+    yield from [(words, why, None, None)] * bool(why)
+    others = [answer for answer, _ in programs[-1].play(jobs)] if programs[1:] else found
+    for job, old, new in zip(jobs, found, others):
         met.update([f"{' '.join(words)}: {old.status}", *{*re.findall(r"(?m)^(F\d+) ", old.stdout)}])
         if old != new:
             met["different"] += 1

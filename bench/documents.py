@@ -53,7 +53,7 @@ def pair(place, counter=ANY_MESSAGE):
 
 
 def group(place, aspects):
-    """The group at this place, with so many aspects."""
+    """The group at this place."""
     if aspects == 1:
         return {"balises": pair(place)}
     return {"aspects": [{"balises": pair(place, counter)} for counter in range(aspects)]}

@@ -90,7 +90,7 @@ def within_room(make, *given, **more):
 
 
 def speakers_of(count):
-    """The places of so many balises, some of them in pairs of duplicates."""
+    """The places of `count` balises, some of them in pairs of duplicates."""
     places, speakers = list(range(count)), []
     while places:
         paired = len(places) > 1 and numbers.random() < 0.5
@@ -119,7 +119,7 @@ def aspect_of(speakers, header, contents, counters, long):
 
 
 def sound_group(identity, aspects):
-    """A group with so many aspects. If several, each speaker sends the same in all, or has a counter for each."""
+    """A group with `aspects` aspects. If several, each speaker sends the same in all, or has a counter for each."""
     count = numbers.choice((1, 1, 2, 2, 2, 3, 3, 4, 5, 8))
     speakers = speakers_of(count)
     header = {"m_version": numbers.choice((32, 33)), "n_total": count - 1, "q_link": numbers.randrange(2),
@@ -149,7 +149,7 @@ def sound_document(has_aspects):
 
 
 def some_group(document, least=1, aspects=1):
-    """A group with at least so many balises and aspects, or any group."""
+    """A group with at least `least` balises and `aspects` aspects, or any group."""
     those = [it for it in document.groups if len(it.aspects[0]) >= least and len(it.aspects) >= aspects]
     return numbers.choice(those or document.groups)
 

@@ -65,38 +65,18 @@ def random_line(words):
     return b"".join(numbers.choice(PIECES + NUMBERS) for _ in range(numbers.randrange(1, 30)))
 
 
-def mutated(words, corpus):
-    """A new input."""
-    line, other, way = numbers.choice(corpus), numbers.choice(corpus), numbers.random()
-    if way < 0.02:
-        return random_line(words)
-    if way < 0.08:
-        return torn(line, other)
+def mutated(words, line):
+    """The line or document with bits or numbers changed."""
     if words[0] == "encode":
         return renumbered(line)
-    if words == CHECK:
-        return turned_text(line) if way < 0.85 else regrouped(line)
-    return turned(line, 6 if words == DECODE_RADIO and way < 0.9 else 0)
+    return turned_text(line) if words == CHECK else turned(line, 6 if words == DECODE_RADIO else 0)
 
 
 def turned_text(document):
-    """The document with bits of one of its texts turned, or the text replaced by another, perhaps doubled."""
+    """The document with bits of one of its texts turned, or the text replaced by another one or doubled."""
     texts = list(re.finditer(rb'"[0-9a-fA-F]{8,}"', document))
     if not texts:
         return torn(document, document)
     found = numbers.choice(texts)
     inner = numbers.choice(texts)[0] if numbers.random() < 0.2 else b'"%s"' % turned(found[0][1:-1])
     return document[:found.start()] + inner + (b"," + found[0]) * (numbers.random() < 0.1) + document[found.end():]
-
-
-def regrouped(document):
-    """The document with the balises of a group as an aspect, together with another aspect or another group."""
-    lists = list(re.finditer(rb'"balises":(\[[^\[\]]*\])', document))
-    if not lists:
-        return torn(document, document)
-    found, counter = numbers.choice(lists), numbers.choice((7, 8, 254, 255, numbers.randrange(256)))
-    other = numbers.choice(lists)[1] if numbers.random() < 0.2 else re.sub(
-        rb'(?<=")[0-9a-fA-F]{8}', lambda it: b"%08x" % (int(it[0], 16) & ~(255 << 7) | counter << 7), found[1])
-    both = found[0] + b'},{"balises":' + other
-    both = b'"aspects":[{%s}]' % both if numbers.random() < 0.6 else both
-    return document[:found.start()] + both + document[found.end():]

@@ -1,14 +1,13 @@
 #!/usr/bin/env python3
 """Random telegrams and radio messages with their JSON, by the table of variables in docs/assurance/trace.csv.
 
-    bench/records.py telegrams|messages COUNT [FORMS]
+    bench/records.py telegrams|messages COUNT FORMS
 
 Telegrams have 830 bits. Messages have up to 120 bytes, and half of them are position reports. The texts go to standard
 output, and the lines that `decode` must write go to the file FORMS; no bit is read back for them. The records depend
 only on COUNT.
 """
 import collections
-import contextlib
 import itertools
 import json
 import pathlib
@@ -77,7 +76,7 @@ class Writer:
                 self.object(node.nodes, record.setdefault(node.key, {}), known)
 
     def items(self, part, items, number):
-        """Writes so many items of a list."""
+        """Writes `number` items of a list."""
         for _ in range(number):
             items.append({})
             self.object(part.nodes, items[-1], {})
@@ -97,7 +96,7 @@ class Writer:
 
 
 def packet(number, room, kind="packet", **given):
-    """A packet of at most so many bits, or None."""
+    """A packet of at most `room` bits, or None."""
     layout, most = LAYOUTS.get(f"{kind} {number}", LAYOUTS[f"{kind} other"]), numbers.choice((0, 1, 2, 4, 8, 31))
     while True:
         out, record = Writer({"NID_PACKET": number, **given}, most, room), {}
@@ -161,7 +160,7 @@ def begun(kind):
 
 
 def written(kind, end):
-    """A message of this kind of at most so many bits, without its length, and its record."""
+    """A message of this kind of at most `end` bits, without its length, and its record."""
     first = ("packet", [AUTHORITY, *some_known()]) if kind == MOVEMENT else ("train packet", [numbers.randint(0, 1)])
     out, record = begun(kind)
     record["packets"] = list(packets(out, end, *first))
@@ -175,13 +174,12 @@ def message():
 
 
 def main():
-    kind, count, *forms = sys.argv[1:]
-    with open(forms[0], "w", encoding="utf-8") if forms else contextlib.nullcontext() as file:
+    kind, count, forms = sys.argv[1:]
+    with open(forms, "w", encoding="utf-8") as file:
         for _ in range(int(count)):
             text, record = telegram() if kind == "telegrams" else message()
             print(text)
-            if file:
-                file.write(FORM.encode(record) + "\n")
+            file.write(FORM.encode(record) + "\n")
 
 
 if __name__ == "__main__":

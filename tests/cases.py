@@ -3,7 +3,6 @@ numbers that were put into the fields.
 
     tests/cases.py    prints the cases of `decode`, one a line: name, input line and answer, with tabs between them
 """
-import copy
 import itertools
 import json
 import re
@@ -17,12 +16,12 @@ import records  # noqa: E402  (the path comes first)
 
 FORM = records.FORM
 SHORT, LONG, END_MARK = 210, 830, "11111111"
-# The header's variables after Q_UPDOWN: key, width, number in the telegram of group 1 in country 1.
-HEADER = (("m_version", 7, 33), ("q_media", 1, 0), ("n_pig", 3, 0), ("n_total", 3, 0), ("m_dup", 2, 0),
-          ("m_mcount", 8, 255), ("nid_c", 10, 1), ("nid_bg", 14, 1), ("q_link", 1, 1))
+# The header of the telegram of group 1 in country 1.
+HEADER = {"m_dup": 0, "m_mcount": 255, "m_version": 33, "n_pig": 0, "n_total": 0, "nid_bg": 1, "nid_c": 1, "q_link": 1}
 TELEGRAM, MESSAGE = in_full("a1007f802000..f c0"), "03048000001900080021e810901ff801f400"
 MOVEMENT, POSITION = ((EXAMPLES / f"radio-{name}.json").read_text().strip()
                       for name in ("movement-authority", "position-report"))
+HEAD = f"{int(TELEGRAM, 16):b}"[:50]
 
 
 # ---- bits, and what is written for them
@@ -33,18 +32,15 @@ def spelled(*fields):
     return "".join(f"{number:0{width}b}" for width, number in fields)
 
 
-HEAD = "1" + spelled(*(field[1:] for field in HEADER))
-
-
 def text(bits):
     """The hexadecimal text of bits, with zeros up to whole bytes."""
     whole = bits + "0" * (-len(bits) % 8)
     return f"{int(whole, 2):0{len(whole) // 4}x}" if bits else ""
 
 
-def telegram(bits, size, head=HEAD):
+def telegram(bits, size):
     """The text of a telegram of this size with these packets."""
-    return text((head + bits + END_MARK).ljust(size, "1"))
+    return text((HEAD + bits + END_MARK).ljust(size, "1"))
 
 
 def sizes(bits):
@@ -57,16 +53,9 @@ def refusal(why, start=0):
     return "refused: line 1: " + re.sub(r"\d+", lambda place: str(int(place[0]) + start), why)
 
 
-def answer(size, forms, head=HEAD):
-    """The line of a telegram with this header and packets of these forms."""
-    ends = itertools.accumulate((width for _, width, _ in HEADER), initial=1)
-    form = {key: int(head[end:end + width], 2) for (key, width, _), end in zip(HEADER, ends)}
-    for why, holds in (("down-link at 0 end 1", head[0] == "0"),
-                       ("version at 1 end 8", form["m_version"] not in (32, 33)),
-                       ("loop at 8 end 9", form.pop("q_media")), ("spare at 15 end 17", form["m_dup"] == 3)):
-        if holds:
-            return refusal(why)
-    return FORM.encode({**form, "user_bits": size, "packets": []}).replace("[]", f"[{','.join(forms)}]")
+def answer(size, forms):
+    """The line of a telegram with packets of these forms."""
+    return FORM.encode({**HEADER, "user_bits": size, "packets": []}).replace("[]", f"[{','.join(forms)}]")
 
 
 def accepted(name, bits, forms):
@@ -94,19 +83,11 @@ def cut(name, fields):
         yield f"{name}, cut after {width} bits", text(HEAD + filler(start - len(HEAD))[0] + bits[:width]), refusal(why)
 
 
-def others(name, ahead, fields, forms, changes):
-    """The packet with other digits in one field, behind other packets: those of each line `not` or `each`."""
-    for place, word, what, said in changes:
-        front, width, rows = "".join(fields[:place]), len(fields[place]), [(what, said, "")]
-        if word == "each":
-            ranges = re.findall(r"(\d+)-?(\d*)", said)
-            allowed = {number for low, high in ranges for number in range(int(low), int(high or low) + 1)}
-            rows = [(spelled((width, number)), f"spare at {len(front)} end {len(front) + width}", number in allowed and
-                     re.sub(f'"{what}":.*?(?=[,}}])', f'"{what}":{number}', forms[-1])) for number in range(2 ** width)]
-        for digits, why, form in rows:
-            bits = ahead + front + digits + "".join(fields[place + 1:])
-            wanted = answer(sizes(bits)[0], [*forms[:-1], form]) if form else refusal(why, len(HEAD + ahead))
-            yield f"{name}, {place}: {digits}", telegram(bits, sizes(bits)[0]), wanted
+def others(name, ahead, fields, changes):
+    """The packet with other digits in one field, behind other packets: those of each line `not`."""
+    for place, digits, why in changes:
+        bits = ahead + "".join((*fields[:place], digits, *fields[place + 1:]))
+        yield f"{name}, {place}: {digits}", telegram(bits, sizes(bits)[0]), refusal(why, len(HEAD + ahead))
 
 
 def packets():
@@ -118,70 +99,32 @@ def packets():
             word, _, rest = line.partition(" ")
             if word == "+":
                 ahead, forms = ahead + known[rest][0], forms + known[rest][1]
-            elif word in ("not", "each"):
-                changes.append((len(fields) - 1, word, *rest.split(": ")))
+            elif word == "not":
+                changes.append((len(fields) - 1, *rest.split(": ")))
             elif line.startswith("{"):
                 forms.append(line)
             else:
                 fields.append(word)
         known[name] = ahead + "".join(fields), forms
-        yield from (*accepted(name, *known[name]), *others(name, ahead, fields, forms, changes), *cut(name, fields))
+        yield from (*accepted(name, *known[name]), *others(name, ahead, fields, changes), *cut(name, fields))
 
 
 # ---- telegrams and messages that are made
 
 
-def turned_bits():
-    """A telegram with each of its bits turned, and with each number of M_VERSION and of M_DUP. The end mark counts,
-    what is after it does not, and pad bits have to be zeros."""
-    mark = len(HEAD)
-    for size in (SHORT, LONG):
-        bits = (HEAD + END_MARK).ljust(size, "1").ljust(size + -size % 8, "0")
-        for place, bit in enumerate(bits):
-            other = bits[:place] + "10"[int(bit)] + bits[place + 1:]
-            why = "pad bits set" if place >= size else "spare at 58 end 60" * (mark <= place < mark + 8)  # (a packet)
-            yield f"bit {place} of {size} turned", text(other), refusal(why) if why else answer(size, [], other[:mark])
-    for at, width in ((1, 7), (15, 2)):
-        for digits in (spelled((width, number)) for number in range(2 ** width)):
-            head = HEAD[:at] + digits + HEAD[at + width:]
-            yield f"the header {head}", telegram("", SHORT, head), answer(SHORT, [], head)
-
-
 def no_digits():
-    """Bytes that are no digits, each at each index of a short telegram, and one at each index of a long one."""
-    beside = "/:@G`g\0é"
-    for size, few in ((SHORT, len(beside)), (LONG, 1)):
-        line = telegram("", size)
-        for place, byte in itertools.product(range(len(line)), range(few)):
-            other = line[:place] + beside[(place + byte) % len(beside)] + line[place + 1:]
-            yield f"digit {place} of {other}", other, refusal("not hexadecimal")
-
-
-def greatest_lists():
-    """Packets with as many items as a telegram has room for, each item with random numbers."""
-    records.numbers.seed(1)
-    some = [[records.packet(0, 14, NID_VBCMK=cover) for cover in range(55)],
-            [records.packet(27, LONG, N_ITER=iter((31, 0)))]]  # (31 differences of one element)
-    for number, most in {5: 17, 12: 31, 15: 31, 21: 26, 27: 6, 41: 31}.items():
-        tried = (records.packet(number, LONG - len(HEAD + END_MARK), N_ITER=count) for count in range(most, 0, -1))
-        some.append([next(filter(None, tried))])
-    for several in some:
-        bits = "".join(f"{one.value:0{one.bits}b}" for one in several)
-        forms = [FORM.encode(one.record) for one in several]
-        yield from accepted(f"the greatest lists of packet {several[0].number}", bits, forms)
+    """Bytes that are no digits, each at each index of a telegram."""
+    for place, byte in itertools.product(range(len(TELEGRAM)), "/:@G`g\0é"):
+        yield f"digit {place} is {byte!r}", TELEGRAM[:place] + byte + TELEGRAM[place + 1:], refusal("not hexadecimal")
 
 
 def made_messages():
-    """Messages of up to 1,023 bytes. Ones up to a byte behind their packets mean nothing, and an end mark and zeros
-    neither."""
+    """Random messages of up to 60 and of up to 1,020 bytes."""
     records.numbers.seed(1)
-    for size, free, kind in itertools.product((60, 1020), range(8), (records.MOVEMENT, records.POSITION)):
-        out, record = records.written(kind, 8 * size - free)
-        for ones, zeros in ((0, 0), (-out.bits % 8, 0), (8 + -out.bits % 8, 16)):
-            more = copy.copy(out)
-            more.put((1 << ones) - 1 << zeros, ones + zeros)
-            lines = records.message_text(more), FORM.encode(record), records.message_text(copy.copy(out))
-            yield f"message {kind} of {size} bytes less {free} bits, and {ones + zeros}", *lines
+    for number, size, kind in itertools.product(range(8), (60, 1020), (records.POSITION, records.MOVEMENT)):
+        out, record = records.written(kind, 8 * size)
+        line = records.message_text(out)
+        yield f"message {number} of kind {kind}, of up to {size} bytes", line, FORM.encode(record), line
 
 
 def streams():
@@ -205,16 +148,21 @@ def streams():
 
 
 def some_telegrams():
-    """Cases of `decode`, among them those of telegrams.txt: a name, an input line, and the line that is written."""
+    """The cases of telegrams.txt and random ones: a name, an input line of `decode`, and the line that is written."""
     yield from ((name, in_full(line), in_full(wanted)) for name, line, wanted in blocks("telegrams.txt"))
-    yield from greatest_lists()
+    records.numbers.seed(1)
     for number, (line, record) in enumerate(records.telegram() for _ in range(20)):
         yield f"random telegram {number}", line, FORM.encode(record)
 
 
+def made_telegrams():
+    """The cases of `decode` that are made of packets.txt and of one telegram."""
+    yield from (*packets(), *no_digits())
+
+
 def telegrams():
     """All cases of `decode`."""
-    yield from (*some_telegrams(), *packets(), *turned_bits(), *no_digits())
+    yield from (*some_telegrams(), *made_telegrams())
 
 
 def messages():
@@ -282,15 +230,20 @@ def examples():
         yield from ((path.name, ["encode", *flag], form, answered(given)) for form in (wanted, other))
 
 
-def every():
-    """Each case as a run of the program: a name, words, input and answer."""
-    for name, line, wanted in telegrams():
+def common():
+    """The cases of the files and of examples as runs of the program: a name, words, input and answer."""
+    for name, line, wanted in some_telegrams():
         yield name, ["decode"], f"{line}\n", answered(f"{wanted}\n")
     for name, line, wanted, again in messages():
         yield name, ["decode", "--radio"], f"{line}\n", answered(f"{wanted}\n")
         yield f"{name}, encoded", ["encode", "--radio"], f"{wanted}\n", answered(f"{again}\n")
-    for several in (forms, documents, runs, examples, streams):
-        yield from several()
+    yield from (*forms(), *documents(), *runs(), *examples())
+
+
+def every():
+    """All cases as runs of the program."""
+    yield from (*common(), *streams())
+    yield from ((name, ["decode"], f"{line}\n", answered(f"{wanted}\n")) for name, line, wanted in made_telegrams())
 
 
 if __name__ == "__main__":

@@ -19,13 +19,13 @@ COMMANDS = (DECODE, ENCODE, CHECK, DECODE_RADIO, ENCODE_RADIO)
 INVERSE = {DECODE: ENCODE, ENCODE: DECODE, DECODE_RADIO: ENCODE_RADIO, ENCODE_RADIO: DECODE_RADIO}
 STACK = 512  # KiB of stack that docs/contributing/architecture.md names
 GROUPS = 20000  # of the long document that docs/assurance/proofs.md names
-JOB, ANSWER = struct.Struct("<14Q"), struct.Struct("<10Q")
+JOB, ANSWER = struct.Struct("<14Q"), struct.Struct("<9Q")
 # From call `first` on, counted from 1, `count` calls fail by this error, or move no byte if it is 0. Any other call
 # moves at most `piece` bytes, if that is not 0.
 Plan = collections.namedtuple("Plan", "first count error piece", defaults=(0, 0, errno.ENOMEM, 0))
 ALL = 1 << 62  # (the count of a call and all later ones)
 Job = collections.namedtuple("Job", "words data memory reader writer", defaults=(Plan(), Plan(), Plan()))
-Counts = collections.namedtuple("Counts", "nanoseconds requests refused reads failed_reads writes failed_writes")
+Counts = collections.namedtuple("Counts", "requests refused reads failed_reads writes failed_writes")
 
 
 class Program:

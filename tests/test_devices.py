@@ -13,7 +13,8 @@ WORDS = pytest.mark.parametrize("words", [*COMMANDS, ()], ids=" ".join)
 
 
 def slowed(program, known, given, taken):
-    """The same runs with devices that move at most so many bytes a call, with their counts. No answer changes."""
+    """The same runs with devices that move at most `given` and `taken` bytes a call, with their counts. No answer
+    changes."""
     some = [job._replace(reader=Plan(piece=given), writer=Plan(piece=taken)) for job, *_ in known]
     found = [(job, answer, counts) for job, (answer, counts) in zip(some, program.play(some))]
     for (_, wanted, _), (job, answer, counts) in zip(known, found):

@@ -122,7 +122,7 @@ def data_of(name, some):
 def test_records_beside_the_program(name):
     """A record of the tests, or a random one, has the program's line or fault."""
     words = RECORDS[name]
-    more = inputs(words, accepted_of(shared(), words), 1000)
+    more = inputs(words, accepted_of(shared(), words), 200)
     lines = data_of(name, runs_of(shared(), words, each_kind=False))
     lines = [line for line in (*lines, *(line for job in more for line in job.data.split())) if line]
     documents = (json.dumps({"groups": [], "messages": [line.decode("latin-1")]}).encode() for line in lines)
@@ -173,8 +173,9 @@ def test_small_buffers_and_threads(name):
     threading.stack_size(size)
 
 
-def test_random_inputs_beside_the_program():
-    words = program(), SHARED, "--inputs=1500", "--jobs=1"
+def test_random_inputs():
+    """The program answers random inputs as the documents name it, and as the library. Records come back."""
+    words = program(), SHARED, "--inputs=500", "--jobs=1"
     ran = subprocess.run([sys.executable, "-B", TOP / "bench" / "compare.py", *words],
                          stdout=subprocess.PIPE, stderr=subprocess.STDOUT, text=True, check=False)
     assert ran.returncode == 0, ran.stdout

@@ -60,7 +60,7 @@ class Row(namedtuple("Row", COLUMNS, defaults=[""] * len(COLUMNS))):
 
 
 class Part(namedtuple("Part", "key count least nodes")):
-    """An object inside an object, or a list of at least so many items with the row that counts the others."""
+    """An object inside an object, or a list of `least` items and the others, whose row is `count`."""
 
     keys = property(lambda self: [self.key])
     condition = property(lambda self: ("", []) if self.count else self.nodes[0].condition)
