@@ -50,10 +50,16 @@ def page(tmp_path_factory: pytest.TempPathFactory) -> Path:
     return path
 
 
+def print_to(path: Path) -> Tuple[str, ...]:
+    """The words that have a browser print the page."""
+    return "--no-pdf-header-footer", f"--print-to-pdf={path}"
+
+
 @pytest.fixture(scope="module")
-def dumped(page: Path, tmp_path_factory: pytest.TempPathFactory) -> "subprocess.CompletedProcess[str]":
-    """The page as a browser has it, and the browser's messages about it."""
-    return browse(tmp_path_factory.mktemp("dumped"), page, "--dump-dom")
+def dumped(page: Path) -> "subprocess.CompletedProcess[str]":
+    """The page as a browser has it, and the browser's messages about it. Its picture and its print are beside it."""
+    words = "--dump-dom", "--window-size=1100,1400", f"--screenshot={page.with_suffix('.png')}"
+    return browse(page.parent, page, *words, *print_to(page.with_suffix(".pdf")))
 
 
 def test_the_console_is_empty(dumped: "subprocess.CompletedProcess[str]") -> None:
@@ -62,25 +68,24 @@ def test_the_console_is_empty(dumped: "subprocess.CompletedProcess[str]") -> Non
     assert "Report on balise telegrams" in dumped.stdout and dumped.stdout.count('<section class="group"') == 9
 
 
-def test_a_screenshot(page: Path, tmp_path: Path) -> None:
+@pytest.mark.usefixtures("dumped")
+def test_a_screenshot(page: Path) -> None:
     """The window is not empty."""
-    picture = tmp_path / "page.png"
-    browse(tmp_path, page, "--window-size=1100,1400", f"--screenshot={picture}")
-    assert picture.stat().st_size > 50_000
+    assert page.with_suffix(".png").stat().st_size > 50_000
 
 
-def pages_of(room: Path, page: Path) -> int:
-    """How many pages the print of a page has."""
-    printed = room / "page.pdf"
-    browse(room, page, "--no-pdf-header-footer", f"--print-to-pdf={printed}")
+def pages_of(printed: Path) -> int:
+    """How many pages a print has."""
     return len(re.findall(rb"/Type ?/Page\b", printed.read_bytes()))
 
 
+@pytest.mark.usefixtures("dumped")
 def test_a_print(page: Path, tmp_path: Path) -> None:
     """The print has pages of A4. The print of a full report has all groups and telegrams."""
     full = tmp_path / "full.html"
     assert cli.main(["report", str(LINE), "--html", str(full), "--full"]) == 2
-    few, many = pages_of(tmp_path, page), pages_of(tmp_path, full)
+    browse(tmp_path, full, *print_to(full.with_suffix(".pdf")))
+    few, many = (pages_of(each.with_suffix(".pdf")) for each in (page, full))
     assert 3 <= few <= 10 and many >= few + 8
 
 

@@ -144,7 +144,7 @@ def release(tmp_path_factory: pytest.TempPathFactory, program: Program) -> Path:
     shutil.copy(program.path, top / "balisecheck")
     tools = room / "tools"
     tools.mkdir()
-    with tarfile.open(tools / f"{NAME}.tar.gz", "w:gz") as tar:
+    with tarfile.open(tools / f"{NAME}.tar.gz", "w:gz", compresslevel=1) as tar:
         tar.add(top, NAME)
     digest = hashlib.sha256((tools / f"{NAME}.tar.gz").read_bytes()).hexdigest()
     (tools / f"{NAME}.tar.gz.sha256").write_text(f"{digest}  {NAME}.tar.gz\n")

@@ -553,6 +553,7 @@ def test_e16_of_a_balise_that_nobody_names(found: Found) -> None:
     several: List[Dict[str, int]] = [{}, {"q_link": 0}, {"q_dir": 2}]
     assert [len(found("E16", SHORT, changed(**each))) for each in several] == [1, 0, 0]
     assert not found("E16", SHORT, all_of(without_links, changed()))
+    assert not found("E16", SHORT, lambda rows: single_balise(rows, named=False, position=8000))
 
 
 def test_e16_of_a_balise_that_infill_names(found: Found) -> None:

@@ -139,7 +139,7 @@ def test_round_trip(run: Run, program: Program, tmp_path: Path, name: str) -> No
 
 
 @pytest.mark.uncovered
-@pytest.mark.parametrize("seeds", [range(5), pytest.param(range(5, 100), marks=pytest.mark.slow)])
+@pytest.mark.parametrize("seeds", [range(5), pytest.param(range(5, 30), marks=pytest.mark.slow)])
 def test_round_trip_of_random_lines(program: Program, tmp_path: Path, seeds: range) -> None:
     """So does that of lines of all kinds and scales."""
     for seed in seeds:
