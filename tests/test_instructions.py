@@ -22,15 +22,15 @@ from runner import EXAMPLES, program, run
 
 BUDGETS = {
     # Elements whose fields are read at once, fields far from the end, digits of messages.
-    "links": 841277, "gradients": 874153, "speeds": 1257497, "differences": 1244416, "level orders": 980886,
-    "sections": 749184, "parts": 1156341,
-    "pairs": 2924548,  # documents read from their tokens, in either order and with blanks; equal packets compared once
-    "findings": 3289453,  # groups with findings found in one walk, digits of telegrams
-    "decode": 892821,  # members of a line after one check of capacity, numbers of three and of five digits
-    "decode short": 335372,  # capacity for seven packets
-    "decode --radio": 434913,  # digits of a stream, fields in the last bytes
-    "encode": 1746148,  # numbers of 19 digits
-    "encode --radio": 2245687,  # keys in byte order
+    "links": 573754, "gradients": 623030, "speeds": 998550, "differences": 971030, "level orders": 720539,
+    "sections": 493318, "parts": 888258,
+    "pairs": 2867151,  # documents read from their tokens, in either order and with blanks; equal packets compared once
+    "findings": 3233557,  # groups with findings found in one walk, digits of telegrams
+    "decode": 893774,  # members of a line after one check of capacity, numbers of three and of five digits
+    "decode short": 336325,  # capacity for seven packets
+    "decode --radio": 435572,  # digits of a stream, fields in the last bytes
+    "encode": 1745565,  # numbers of 19 digits
+    "encode --radio": 2247043,  # keys in byte order
 }
 
 

@@ -52,8 +52,8 @@ def test_hook(words, wanted, tmp_path, program):
 
 @pytest.mark.parametrize("command, wanted", [
     ("echo 2 passed, 0 failed", "2 passed, 0 failed"), ("echo 2 passed, 3 failed; exit 1", "2 passed, 3 failed"),
-    ("echo 1 passed, 2 errors; exit 1", "1 passed, 2 failed"), ("echo 2 passed, 0 failed; exit 1", "2 passed, 1 failed"),
-    ("echo 0 passed, 0 failed", "0 passed, 1 failed"), ("echo done", "0 passed, 1 failed")])
+    ("echo 1 passed, 2 errors; exit 1", "1 passed, 2 failed"), ("echo done", "0 passed, 1 failed"),
+    ("echo 2 passed, 0 failed; exit 1", "2 passed, 1 failed"), ("echo 0 passed, 0 failed", "0 passed, 1 failed")])
 def test_step(command, wanted):
     """A step of the tests or of the gate also fails by its status, without a count and without a test."""
     script = f". tests/steps.sh\nstep it sh -c '{command}'\ncount it\ntotal"
