@@ -1,8 +1,9 @@
-"""The cases of tests/cases and of examples: a text, and what the program writes for it."""
+"""The cases of tests/cases, of examples and random telegrams: a text, and what the program writes for it."""
 from __future__ import annotations
 
 import subprocess
 import sys
+import tempfile
 from pathlib import Path
 from typing import Any, Dict, Iterator, List, NamedTuple, Tuple, Union
 
@@ -24,6 +25,15 @@ def _cases() -> Iterator[Case]:
         yield Case(name, text, answer)
 
 
+def _drawn(count: int) -> Iterator[Case]:
+    with tempfile.TemporaryDirectory() as room:
+        forms = Path(room, "forms")
+        words = [sys.executable, "-B", str(TOP / "bench" / "records.py"), "telegrams", str(count), str(forms)]
+        texts = subprocess.run(words, stdout=subprocess.PIPE, check=True).stdout.decode().split()
+        for text, line in zip(texts, forms.read_text("utf-8").splitlines()):
+            yield Case("a random telegram", text, line)
+
+
 def _examples(radio: bool) -> Iterator[Case]:
     for path in sorted((TOP / "examples").glob("*.txt")):
         answers = path.with_suffix(".json")
@@ -34,7 +44,7 @@ def _examples(radio: bool) -> Iterator[Case]:
                 yield Case(path.name, text, line)
 
 
-CASES: List[Case] = list(_cases())
+CASES: List[Case] = [*_cases(), *_drawn(1000)]
 EXAMPLES: Dict[bool, List[Case]] = {radio: list(_examples(radio)) for radio in (False, True)}
 """The cases of `examples`, by whether they are radio messages."""
 

@@ -225,7 +225,8 @@ def frames(page: Path, tmp_path_factory: pytest.TempPathFactory) -> Frames:
     seen = browse(room, room / "whole.html", "--dump-dom", "--virtual-time-budget=5000")
     (title,) = re.findall("<title>(.+?)</title>", seen.stdout)
     said = iter([each[1:] for _, each in sorted(json.loads(html.unescape(title)).items(), key=lambda one: int(one[0]))])
-    overviews, widths, places = (list(islice(said, len(each))) for each in (OVERVIEWS, WIDTHS, PLACES))
+    counts = len(OVERVIEWS), len(WIDTHS), len(PLACES)
+    overviews, widths, places = (list(islice(said, count)) for count in counts)
     (printed,) = said
     return Frames(overviews, widths, places, printed, seen.stderr)
 

@@ -94,14 +94,7 @@ def releases(tmp_path_factory: pytest.TempPathFactory, program: Program) -> Rele
     ids=["links", "draw", "report of findings", "report", "diff"],
 )
 def test_10000_groups(
-    few: int,
-    many: int,
-    limit: int,
-    words: List[str],
-    wanted: str,
-    releases: Releases,
-    program: Program,
-    tmp_path: Path,
+    few: int, many: int, limit: int, words: List[str], wanted: str, releases: Releases, program: Program, tmp_path: Path
 ) -> None:
     """Within the limit for 10,000 groups, and the time grows no faster than the number of groups.
 

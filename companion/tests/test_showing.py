@@ -24,7 +24,7 @@ from balisekit.rules import checking
 
 pytestmark = pytest.mark.uncovered
 READ = [case for case in (*CASES, *EXAMPLES[False], *EXAMPLES[True]) if not case.answer.startswith("refused: ")]
-NAME = r"(?:user bits|body|other data|[A-Z]+_[A-Z0-9]+(?: of NID_PRVLRBG| \(2\))?)"
+NAME = r"(?:user bits|body|other data|[A-Z]+_[A-Z0-9_]+(?: of NID_PRVLRBG| \(2\))?)"
 SHOWN = re.compile(
     rf"(?:^|(?<=  ))({NAME}) (?:(?P<plain>[0-9]+|(?<=other data )[0-9a-f]*)(?=  |$)|[^\[\]]+? \[(?P<raw>[0-9a-f]*)\])"
 )
