@@ -34,7 +34,7 @@ def a_kept_tree(tmp_path_factory):
     write(room / "tools/readelf", READELF)
     write(room / "tools/rt", "#!/bin/sh\necho a kit\n")
     said = sh(made(room / "a tree"), "git init -q; save; built one; scripts/release.sh store; save")
-    assert "the stored program: 12 passed, 0 failed\nstored: commit dist" in said
+    assert "the stored program: 13 passed, 0 failed\nstored: commit dist" in said
     return room
 
 
@@ -117,7 +117,9 @@ VERSIONED = ("ABOUT", "../../VERSION", "../../man/balisecheck.1", "../../CHANGEL
     ("sed -i 's/^commit .*/commit 0123/' ABOUT", "the commit of its sources is in this history"),
     ("echo >>../../crates/etcs_low/src/lib.rt", "the stored program is of these sources"),
     ("echo >>../../out/balisecheck; sed -i 's/^kit .*/kit another/' ABOUT", "It was built by another kit, another."),
-    ("rm ../../out/balisecheck", "the stored program is the one that was built here")])
+    ("rm ../../out/balisecheck", "the stored program is the one that was built here"),
+    ("rm ../../out/LIBRARY", "the stored library is the one that was built here"),
+    ("sed -i s/[0-9a]$/b/ ../../out/LIBRARY", "the stored library is the one that was built here")])
 def test_wrong(stored, command, why):
     """After the command in the folder of the stored program this test fails."""
     sh(stored, f"cd $stored; {command}")
