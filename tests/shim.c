@@ -1,7 +1,8 @@
 /* Runs a program many times with memory and devices that fail as told, for tests/hostile.py. It is loaded before the
  * program (LD_PRELOAD), starts ahead of `main`, and forks for each job a process that goes on to `main`. HOSTILE_JOBS
  * is the number of an open file of jobs, each with the bytes of its standard input after it, HOSTILE_ANSWERS that of
- * one that gets a `struct answer` for each. */
+ * one that gets a `struct answer` for each. Linked with the library for C, it is the memory of the library, and
+ * hostile.py sets `runs` and `job`. */
 #define _GNU_SOURCE
 #include <errno.h>
 #include <stdint.h>
@@ -27,13 +28,14 @@ struct answer {
     struct count { uint64_t calls, failed; } counts[ALL];
 };
 
-extern void *__libc_malloc(size_t), *__libc_realloc(void *, size_t);
+extern void *__libc_malloc(size_t), *__libc_realloc(void *, size_t), __libc_free(void *);
 
-static int runs; /* whether this process runs a job */
-static struct job job;
+int runs; /* whether this process runs a job */
+struct job job;
+struct count of_library[ALL], *counts = of_library;
+int64_t blocks; /* of memory that are in use */
 static const char *input;
 static size_t at; /* how much of the input was read */
-static struct count *counts;
 
 static int fails(enum what what) {
     uint64_t call = ++counts[what].calls, first = job.plans[what].first;
@@ -43,7 +45,17 @@ static int fails(enum what what) {
     return 1;
 }
 
-void *malloc(size_t size) { return runs && fails(MEMORY) ? NULL : __libc_malloc(size); }
+void *malloc(size_t size) {
+    void *block = runs && fails(MEMORY) ? NULL : __libc_malloc(size);
+    blocks += block != NULL;
+    return block;
+}
+
+void free(void *block) {
+    blocks -= block != NULL;
+    __libc_free(block);
+}
+
 void *realloc(void *old, size_t size) { return runs && fails(MEMORY) ? NULL : __libc_realloc(old, size); }
 
 /* A call of a device by a job, or one that is none of its business. */

@@ -15,8 +15,9 @@ import threading
 import pytest
 
 from corpus import LONG, SHORT, runs_of
-from hostile import ALL, CHECK, COMMANDS, DECODE, DECODE_RADIO, STACK, Job, Library, shared
-from runner import EXAMPLES, HERE, TOP, Answer, program, run
+from hostile import CHECK, COMMANDS, DECODE, DECODE_RADIO, STACK, Job, Library, shared
+from runner import EXAMPLES, TOP, Answer, program, run
+from test_memory import in_turn, refuse
 
 sys.path.append(str(TOP / "bench"))
 from compare import accepted_of, inputs  # noqa: E402  (the path comes first)
@@ -27,8 +28,7 @@ HEADER = TOP / "crates" / "balisecheck_c" / "include" / "balisecheck.h"
 SOURCE, JNA = EXAMPLES / "library", "/usr/share/java/jna.jar"
 STRICT = "-Wall", "-Wextra", "-Werror", "-pedantic", "-I", HEADER.parent
 LINKED = {"archive": [ARCHIVE], "shared": [f"-Wl,-rpath,{FOLDER}", "-L", FOLDER, "-lbalisecheck"]}
-WHOLE = "-Wl,--whole-archive", ARCHIVE, "-Wl,--no-whole-archive", "-Wl,--wrap=malloc,--wrap=realloc,--wrap=free"
-REFUSED, NO_ANSWER, TOO_SMALL = 2, 3, 4
+REFUSED, TOO_SMALL = 2, 4
 RECORDS = {"telegram": DECODE, "message": DECODE_RADIO}
 CALLS = {**{"_".join(words).replace("--", ""): words for words in COMMANDS}, **RECORDS}
 REASONS = dict(re.findall(r"BALISECHECK_\w+ = (\d+),? +/\* (.*?) \*/", HEADER.read_text()))
@@ -104,14 +104,6 @@ def test_example_in_java():
 # ---- calls
 
 
-@pytest.fixture(scope="module", name="library")
-def build(tmp_path_factory):
-    """The library with a heap that counts and refuses requests (library_heap.c)."""
-    path = tmp_path_factory.mktemp("library") / "heap.so"
-    compiled("cc", "-O2", "-fPIC", "-shared", "-o", path, HERE / "library_heap.c", *WHOLE)
-    return Library(path)
-
-
 def data_of(name, some):
     """What a call gets for these runs: records without line ends."""
     data = [job.data for job, *_ in some if job.words == CALLS[name]]
@@ -140,22 +132,13 @@ def test_records_beside_the_program(name):
 
 
 @pytest.mark.parametrize("name", CALLS)
-def test_refused_memory(library, name):
-    """With a request refused, by itself or with all later ones, a call answers as before, or 3 and no text. It frees
-    all that it allocated."""
-    requests, first, last, blocks = (ctypes.c_long.in_dll(library.calls, f"heap_{it}")
-                                     for it in ("requests", "first", "last", "blocks"))
-    found = set()
-    for data in data_of(name, runs_of(shared(), CALLS[name])):
-        requests.value = last.value = 0
-        wanted = library.call(name, data)
-        for request in range(1, requests.value + 1):
-            for end in request, ALL:
-                requests.value, first.value, last.value = 0, request, end
-                answer = library.call(name, data)
-                assert answer in (wanted, Answer(NO_ANSWER, "", "")) and not blocks.value, (data, request, end)
-                found.add(answer.status)
-    assert NO_ANSWER in found
+def test_refused_memory(name):
+    """With a request refused, by itself or with all later ones, a call answers as before, or 3 and no text."""
+    need("cc", "gcc")
+    library, jobs = Library(ARCHIVE), [Job((name,), data) for data in data_of(name, runs_of(shared(), CALLS[name]))]
+    known = [(job, *played) for job, played in zip(jobs, library.play(jobs))]
+    assert any(counts.requests for *_, counts in known)
+    refuse(library, known, in_turn, "")
 
 
 @pytest.mark.parametrize("name", CALLS)

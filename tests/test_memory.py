@@ -21,13 +21,13 @@ def in_turn(requests, step=1):
     return [Plan(number, count) for number in (*range(1, requests + 1, step), requests + 1) for count in (1, ALL)]
 
 
-def refuse(program, known, plans):
-    """Plays runs with requests refused. Those for which the plan has a refusal meet it."""
+def refuse(program, known, plans, said=MEMORY):
+    """Plays runs with requests refused. Those for which the plan has a refusal meet it, and some then stop."""
     cases = [(job._replace(memory=plan), wanted, counts.requests) for job, wanted, counts in known
              for plan in plans(counts.requests)]
     for (job, wanted, requests), (answer, counts) in zip(cases, program.play([job for job, *_ in cases])):
         assert (counts.refused > 0) == (job.memory.first <= requests), (job, counts)
-        assert answer == wanted or counts.refused and stops(answer, wanted, MEMORY), (job, answer, wanted)
+        assert answer == wanted or counts.refused and stops(answer, wanted, said), (job, answer, wanted)
 
 
 @pytest.mark.parametrize("words", [*COMMANDS, ()], ids=" ".join)
