@@ -59,11 +59,10 @@ class Program:
             given, taken, out, err = (files.enter_context(tempfile.TemporaryFile()) for _ in range(4))
             for job in jobs:
                 given.write(JOB.pack(len(job.data), SECONDS, *job.memory, *job.reader, *job.writer) + job.data)
-            given.flush()
-            numbers = {"HOSTILE_JOBS": given.fileno(), "HOSTILE_ANSWERS": taken.fileno()}
-            said = {**os.environ, "LD_PRELOAD": self.shim, **{key: str(it) for key, it in numbers.items()}}
-            subprocess.run([self.path, *words], stdin=subprocess.DEVNULL, stdout=out, stderr=err, env=said,
-                           pass_fds=numbers.values(), check=True)
+            given.seek(0)
+            said = {**os.environ, "LD_PRELOAD": self.shim, "HOSTILE_ANSWERS": str(taken.fileno())}
+            subprocess.run([self.path, *words], stdin=given, stdout=out, stderr=err, env=said,
+                           pass_fds=[taken.fileno()], check=True)
             answers, stdout, stderr = (os.pread(it.fileno(), it.seek(0, 2), 0) for it in (taken, out, err))
         found, out, err = [], 0, 0
         for waited, out_end, err_end, *counts in ANSWER.iter_unpack(answers):
