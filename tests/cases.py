@@ -80,29 +80,38 @@ def packets():
 
 
 def telegrams():
-    """The cases of telegrams.txt and random ones: a name, an input line of `decode`, and the line that is written."""
-    yield from ((name, in_full(line), in_full(wanted)) for name, line, wanted in blocks("telegrams.txt"))
+    """The cases of telegrams.txt and random ones: a name, an input line of `decode`, the line that is written for it,
+    and the one that `encode` writes for that, if it is another one than the first."""
+    yield from ((name, *map(in_full, lines)) for name, *lines in blocks("telegrams.txt"))
     records.numbers.seed(1)
-    for number, (line, record) in enumerate(records.telegram() for _ in range(20)):
-        yield f"random telegram {number}", line, FORM.encode(record)
-
-
-def decoded(some):
-    """Cases of telegrams as runs of the program: a name, words, input and answer."""
-    return ((name, ["decode"], f"{line}\n", answered(f"{wanted}\n")) for name, line, wanted in some)
-
-
-# ---- runs of the program
+    for text, record in (records.telegram() for _ in range(20)):
+        yield "a random telegram", text, FORM.encode(record)
 
 
 def messages():
-    """The cases of messages.txt and random ones, some with the greatest length, as runs."""
+    """The same of messages.txt and of random messages, some with the greatest length."""
+    yield from blocks("messages.txt")
     records.numbers.seed(1)
-    drawn = (records.message(size, size) for size in (60, 1020) * 16)
-    made = [("a random message", line, FORM.encode(record)) for line, record in drawn]
-    for name, line, wanted, *again in (*blocks("messages.txt"), *made):
-        yield name, ["decode", *RADIO], f"{line}\n", answered(f"{wanted}\n")
-        yield f"{name}, encoded", ["encode", *RADIO], f"{wanted}\n", answered(f"{(again or [line])[0]}\n")
+    for text, record in (records.message(size, size) for size in (60, 1020) * 16):
+        yield "a random message", text, FORM.encode(record)
+
+
+# ---- runs of the program: a name, words, input and answer
+
+
+def told(name, words, given, wanted, back=None):
+    """A run, the same with its JSON in another spelling, and the opposite: what was written gives `back`, or the input,
+    of which JSON is in its usual form."""
+    command, *flag = words
+    yield name, words, f"{given}\n", answered(f"{wanted}\n")
+    if command != "decode" and not wanted.endswith("not JSON"):
+        other = "\n".join(map(respelled, given.split("\n")))
+        yield f"{name}, spelled in another way", words, f"{other}\n", answered(f"{wanted}\n")
+    if command == "encode" and not wanted.startswith("refused: "):
+        usual = "\n".join(FORM.encode(json.loads(line)).lower() for line in given.split("\n"))
+        yield f"{name}, decoded", ["decode", *flag], f"{wanted}\n", answered(f"{usual}\n")
+    if command == "decode" and not wanted.startswith("refused: "):
+        yield f"{name}, encoded", ["encode", *flag], f"{wanted}\n", answered(f"{back or given}\n")
 
 
 # What a line of forms.txt stands for by its first word. @ is the rest of the line.
@@ -111,29 +120,22 @@ KINDS = {"line": "@", "--radio": "@", "telegram": answer(LONG, ["@"]), "short": 
 
 
 def forms():
-    """The lines of forms.txt as runs, each also in another spelling, and what is written for them decoded."""
-    for name, given, wanted, *other in blocks("forms.txt"):
+    """The lines of forms.txt."""
+    for name, given, wanted in blocks("forms.txt"):
         kind, _, rest = given.partition(" ")
         flag = RADIO * (kind in ("--radio", "movement", "position"))
-        line, wanted = in_full(KINDS[kind].replace("@", rest)), in_full(wanted)
-        for form in (line,) if wanted.endswith("not JSON") else (line, respelled(line)):
-            yield name, ["encode", *flag], f"{form}\n", answered(f"{wanted}\n")
-        if not wanted.startswith("refused: "):
-            form = in_full(KINDS[kind].replace("@", other[0])) if other else FORM.encode(json.loads(line))
-            yield f"{name}, decoded", ["decode", *flag], f"{wanted}\n", answered(f"{form}\n")
+        yield from told(name, ["encode", *flag], in_full(KINDS[kind].replace("@", rest)), in_full(wanted))
 
 
 def documents():
-    """The documents of documents.txt as runs, each also in other spellings: one with a key twice is not read group by
+    """The documents of documents.txt, also with other line ends, and with a key twice, which are not read group by
     group."""
     for name, line, *report in blocks("documents.txt"):
-        document = in_full(line)
-        spellings = [document, f"{document}\r\n"]
-        if report != ["refused: not JSON"]:
-            spellings.append(respelled(document))
-        if not report[0].startswith("refused: "):
-            spellings.append(document.replace("{", '{"messages":0,', 1))
-        yield from ((name, ["check"], given, answered("\n".join(report) + "\n")) for given in spellings)
+        document, wanted = in_full(line), "\n".join(report)
+        yield from told(name, ["check"], document, wanted)
+        twice = document if wanted.startswith("refused: ") else document.replace("{", '{"messages":0,', 1)
+        for other in twice, f"{document}\r\n":
+            yield name, ["check"], other, answered(f"{wanted}\n")
 
 
 def runs():
@@ -153,13 +155,10 @@ def runs():
 
 
 def examples():
-    """Each example of a telegram or a message as runs: it is decoded to the lines beside it, and they are encoded to
-    it, also in another spelling."""
+    """Each example of a telegram or a message, with the lines beside it."""
     for path in sorted(EXAMPLES.glob("*.json")):
-        flag, given, wanted = RADIO * path.name.startswith("radio-"), path.with_suffix(".txt"), path.read_text()
-        given, other = given.read_text(), "".join(f"{respelled(line)}\n" for line in wanted.splitlines())
-        yield path.name, ["decode", *flag], given, answered(wanted)
-        yield from ((path.name, ["encode", *flag], form, answered(given)) for form in (wanted, other))
+        flag, text = RADIO * path.name.startswith("radio-"), path.with_suffix(".txt").read_text().strip()
+        yield from told(path.name, ["encode", *flag], path.read_text().strip(), text)
     for name, wanted in (("pad-bits-set", f"{ALONE}\nrefused: line 3: pad bits set\n"),
                          ("spare-mark", "refused: line 1: spare at 15 end 17\n")):
         yield name, ["decode"], (EXAMPLES / f"{name}.txt").read_text(), answered(wanted)
@@ -182,16 +181,19 @@ def streams():
         yield f"{before} empty lines", ["decode"], data, answered(f"{ALONE}\n" * 2)
 
 
-def common():
-    """The cases of the files, random ones and examples, as runs."""
-    yield from (*decoded(telegrams()), *messages(), *forms(), *documents(), *runs(), *examples())
+def common(*more):
+    """The cases of the files, random ones and examples, and these more of `decode`."""
+    for words, some in (["decode"], (*telegrams(), *more)), (["decode", *RADIO], messages()):
+        for name, *lines in some:
+            yield from told(name, words, *lines)
+    yield from (*forms(), *documents(), *runs(), *examples())
 
 
 def every():
-    """All cases as runs."""
-    yield from (*common(), *streams(), *decoded(packets()))
+    """All cases."""
+    yield from (*common(*packets()), *streams())
 
 
 if __name__ == "__main__":
     for case in (*telegrams(), *packets()):
-        print(*case, sep="\t")
+        print(*case[:3], sep="\t")

@@ -28,8 +28,8 @@ RECORDS = {DECODE: r"\{.*", DECODE_RADIO: r"\{.*", ENCODE: "a[01][0-9a-f]{50}[04
 def jobs():
     """Runs of all commands, and of no command, the shortest first."""
     runs = [(words, given) for _, words, given, _ in cases.common()]
-    runs += [(["check"], BALISE % line) for _, line, _ in cases.telegrams()]
-    runs += [(["check"], LIST % given.strip()) for _, words, given, _ in cases.messages() if words[0] == "decode"]
+    runs += [(["check"], BALISE % line) for _, line, *_ in cases.telegrams()]
+    runs += [(["check"], LIST % line) for _, line, *_ in cases.messages()]
     runs += [(["check"], path.read_text()) for path in EXAMPLES.glob("check/*.json")]
     found = {Job(tuple(words), in_bytes(data)) for words, data in runs}
     return sorted(found, key=lambda job: (job.words, len(job.data), job.data))
@@ -38,10 +38,10 @@ def jobs():
 def long_jobs(words):
     """A run of a command whose input and output have more bytes than a buffer of the program."""
     _, telegram, form = max(cases.telegrams(), key=lambda case: len(case[2]))
-    *_, (*_, message, (_, record, _)), _ = cases.messages()
+    *_, (_, message, record) = cases.messages()
     group = '{"balises":[%s]}' % ",".join([f'"{SHORT}"'] * 8)
-    data = {DECODE: f"{telegram}\n" * 340, ENCODE: f"{form}\n" * 340, DECODE_RADIO: message * 34,
-            ENCODE_RADIO: record * 34, CHECK: '{"groups":[%s],"messages":[]}' % ",".join([group] * 160)}
+    data = {DECODE: f"{telegram}\n" * 340, ENCODE: f"{form}\n" * 340, DECODE_RADIO: f"{message}\n" * 34,
+            ENCODE_RADIO: f"{record}\n" * 34, CHECK: '{"groups":[%s],"messages":[]}' % ",".join([group] * 160)}
     return [Job(words, data[words].encode())] if words in data else []
 
 
