@@ -2,7 +2,7 @@
 """Measures the commands of the program: bench/measure.py speed|instructions|memory [--count N] [PROGRAM..]
 
     speed          seconds of the processor by hyperfine, the mean of ten runs, and megabytes of input a second
-    instructions   a byte of input, by valgrind, without those for an empty input; no load of the machine changes them
+    instructions   a byte of input, by valgrind; no load of the machine changes them
     memory         the peak of `check` by GNU time, in MiB, and by the size of the document
 
 The inputs are N telegrams, messages and groups: 10,000, or 500 for instructions. Without a PROGRAM it is the one that
@@ -69,11 +69,16 @@ def seconds(commands, path):
 
 
 def instructions(command, path):
-    """How many instructions a command takes for the input."""
+    """How many instructions a command takes for the input. Those of the C library and the loader depend on the machine:
+    they are not counted, and a call of a library counts as 100."""
+    counts, program = path.with_suffix(".counts"), re.escape(os.path.realpath(command[0]))
+    options = "--tool=callgrind", "--compress-strings=no", "--compress-pos=no", f"--callgrind-out-file={counts}"
     with open(path, "rb") as file:
-        said = subprocess.run(["valgrind", "--tool=callgrind", "--callgrind-out-file=/dev/null", *command], stdin=file,
-                              stdout=subprocess.DEVNULL, stderr=subprocess.PIPE, text=True, check=True).stderr
-    return int(re.search(r"Collected : (\d+)", said)[1])
+        subprocess.run(["valgrind", *options, *command], stdin=file, capture_output=True, check=False)
+    own = "\n".join(re.findall(rf"(?ms)^ob={program}\n(.*?)(?=^ob=|\Z)", counts.read_text()))
+    calls = re.findall(rf"cob=(?!{program}\n).*\n(?:cf[il]=.*\n)?cfn=.*\ncalls=(\d+)", own)
+    steps = re.findall(r"(?m)^\d+ (\d+)$", re.sub(r"calls=.*\n.*", "", own))
+    return sum(map(int, steps)) + 100 * sum(map(int, calls))
 
 
 def measure(what, programs, count, room):
@@ -81,16 +86,15 @@ def measure(what, programs, count, room):
     print(f"{'':28} {'MB':>8}", *programs)
     forms = ""
     for name, words, text, wanted in inputs(room, count):
-        text, path, start = forms if text is None else text, room / "input", room / "start"
+        text, path = forms if text is None else text, room / "input"
         commands = [[program, *words] for program in programs]
         forms = [answer(it, text, wanted) for it in commands][0]
         path.write_text(text, encoding="utf-8")
-        start.write_text(NO_GROUPS if words == CHECK else "", encoding="utf-8")
         if what == "speed":
             found = seconds(commands, path)
             shown = [f"{it:9.4f} s {len(text) / 1e6 / max(it, 1e-4):7.1f} MB/s" for it in found]
         else:
-            found = [(instructions(it, path) - instructions(it, start)) / len(text) for it in commands]
+            found = [instructions(it, path) / len(text) for it in commands]
             shown = [f"{it:9.1f}" for it in found]
         shown += [f"{found[-1] / found[0]:9.3f}"] * (len(programs) > 1)
         print(f"{' '.join(words) + ', ' + name:28} {len(text) / 1e6:8.2f}", *shown, flush=True)

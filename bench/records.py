@@ -167,9 +167,9 @@ def written(kind, end):
     return out, record
 
 
-def message():
-    """The text of a message, and its record."""
-    out, record = written(numbers.choice((MOVEMENT, POSITION)), 8 * numbers.randint(LEAST, MOST))
+def message(least=LEAST, most=MOST):
+    """The text of a message of up to a number of bytes between these two, and its record."""
+    out, record = written(numbers.choice((MOVEMENT, POSITION)), 8 * numbers.randint(least, most))
     return message_text(out), record
 
 

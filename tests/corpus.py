@@ -14,7 +14,7 @@ from balisekit.engine import grammar  # noqa: E402  (the path comes first)
 SHORT, MESSAGE = cases.TELEGRAM, cases.MESSAGE
 LONG = in_full("a1007f802000c31024a5007fe007d002a813a000105080647f8da0560000140029c43f81...f fc")
 REPORT = "8807000000320000004000e480200081f450014002830832c00ed280"
-FORM, MESSAGE_FORM = cases.answer(210, []), cases.MOVEMENT
+FORM, MESSAGE_FORM = cases.ALONE, cases.MOVEMENT
 BALISE, LIST = '{"groups":[{"balises":["%s"]}],"messages":[]}', '{"groups":[],"messages":["%s"]}'
 # what is written for records
 RECORDS = {DECODE: r"\{.*", DECODE_RADIO: r"\{.*", ENCODE: "a[01][0-9a-f]{50}[048c]0|a[01][0-9a-f]{205}[048c]",
@@ -28,7 +28,7 @@ RECORDS = {DECODE: r"\{.*", DECODE_RADIO: r"\{.*", ENCODE: "a[01][0-9a-f]{50}[04
 def jobs():
     """Runs of all commands, and of no command, the shortest first."""
     runs = [(words, given) for _, words, given, _ in cases.common()]
-    runs += [(["check"], BALISE % line) for _, line, *_ in cases.some_telegrams()]
+    runs += [(["check"], BALISE % line) for _, line, *_ in cases.telegrams()]
     runs += [(["check"], LIST % line) for _, line, *_ in cases.messages()]
     runs += [(["check"], path.read_text()) for path in EXAMPLES.glob("check/*.json")]
     found = {Job(tuple(words), in_bytes(data)) for words, data in runs}
@@ -37,8 +37,8 @@ def jobs():
 
 def long_jobs(words):
     """A run of a command whose input and output have more bytes than a buffer of the program."""
-    _, telegram, form = max(cases.some_telegrams(), key=lambda case: len(case[2]))
-    *_, (_, message, record, _) = cases.messages()
+    _, telegram, form = max(cases.telegrams(), key=lambda case: len(case[2]))
+    *_, (_, message, record) = cases.messages()
     group = '{"balises":[%s]}' % ",".join([f'"{SHORT}"'] * 8)
     data = {DECODE: f"{telegram}\n" * 340, ENCODE: f"{form}\n" * 340, DECODE_RADIO: f"{message}\n" * 34,
             ENCODE_RADIO: f"{record}\n" * 34, CHECK: '{"groups":[%s],"messages":[]}' % ",".join([group] * 160)}
@@ -71,13 +71,19 @@ def is_documented(words, answer):
     return answer.status == 0 and are_records(words, lines)
 
 
-def undisturbed(program, some):
-    """These jobs, each with its documented answer and its counts. A second run has the same."""
-    found, again = program.play(some), program.play(some)
-    for job, (answer, counts), (other, others) in zip(some, found, again):
+def documented(program, some):
+    """These jobs, each with its answer, which the documents name, and its counts."""
+    found = [(job, *played) for job, played in zip(some, program.play(some))]
+    for job, answer, _ in found:
         assert is_documented(job.words, answer), (job, answer)
-        assert (answer, counts) == (other, others), job
-    return [(job, *it) for job, it in zip(some, found)]
+    return found
+
+
+def undisturbed(program, some):
+    """The same, and a second run has the same."""
+    found = documented(program, some)
+    assert found == documented(program, some)
+    return found
 
 
 @functools.lru_cache(None)
@@ -92,12 +98,8 @@ def runs_of(program, words, each_kind=True):
 
 
 def answers(program, words, inputs):
-    """The answers to these inputs, each documented."""
-    some = [Job(words, in_bytes(data)) for data in inputs]
-    found = [answer for answer, _ in program.play(some)]
-    for job, answer in zip(some, found):
-        assert is_documented(words, answer), (job, answer)
-    return found
+    """The documented answers to these inputs."""
+    return [answer for _, answer, _ in documented(program, [Job(words, in_bytes(data)) for data in inputs])]
 
 
 def come_back(program, words, forms):

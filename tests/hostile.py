@@ -26,20 +26,25 @@ Plan = collections.namedtuple("Plan", "first count error piece", defaults=(0, 0,
 ALL = 1 << 62  # (the count of a call and all later ones)
 Job = collections.namedtuple("Job", "words data memory reader writer", defaults=(Plan(), Plan(), Plan()))
 Counts = collections.namedtuple("Counts", "requests refused reads failed_reads writes failed_writes")
+ROOM = tempfile.TemporaryDirectory(prefix="hostile-")
+
+
+def shim(*linked):
+    """The shim as a library: to be loaded before a program, or with these files linked into it."""
+    path = f"{ROOM.name}/shim{len(linked)}.so"
+    compiler = os.environ.get("CC", "cc")
+    subprocess.run([compiler, "-O2", "-shared", "-fPIC", "-o", path, HERE / "shim.c", *linked], check=True)
+    return path
 
 
 class Program:
     """The program, or another one. For a script, or without a C compiler, nothing fails and nothing is counted."""
 
     def __init__(self, path=None):
-        self.path, self.shim = path or program(), None
-        self.folder = tempfile.TemporaryDirectory(prefix="hostile-")
-        compiler = shutil.which(os.environ.get("CC", "cc"))
+        self.path = path or program()
         with open(self.path, "rb") as file:
             is_binary = file.read(4) == b"\x7fELF"
-        if compiler and is_binary:
-            self.shim = f"{self.folder.name}/shim.so"
-            subprocess.run([compiler, "-O2", "-shared", "-fPIC", "-o", self.shim, HERE / "shim.c"], check=True)
+        self.shim = shim() if is_binary and shutil.which(os.environ.get("CC", "cc")) else None
 
     def play(self, jobs):
         """The answers to these jobs, each with its counts."""
@@ -54,11 +59,10 @@ class Program:
             given, taken, out, err = (files.enter_context(tempfile.TemporaryFile()) for _ in range(4))
             for job in jobs:
                 given.write(JOB.pack(len(job.data), SECONDS, *job.memory, *job.reader, *job.writer) + job.data)
-            given.flush()
-            numbers = {"HOSTILE_JOBS": given.fileno(), "HOSTILE_ANSWERS": taken.fileno()}
-            said = {**os.environ, "LD_PRELOAD": self.shim, **{key: str(it) for key, it in numbers.items()}}
-            subprocess.run([self.path, *words], stdin=subprocess.DEVNULL, stdout=out, stderr=err, env=said,
-                           pass_fds=numbers.values(), check=True)
+            given.seek(0)
+            said = {**os.environ, "LD_PRELOAD": self.shim, "HOSTILE_ANSWERS": str(taken.fileno())}
+            subprocess.run([self.path, *words], stdin=given, stdout=out, stderr=err, env=said,
+                           pass_fds=[taken.fileno()], check=True)
             answers, stdout, stderr = (os.pread(it.fileno(), it.seek(0, 2), 0) for it in (taken, out, err))
         found, out, err = [], 0, 0
         for waited, out_end, err_end, *counts in ANSWER.iter_unpack(answers):
@@ -69,10 +73,12 @@ class Program:
 
 
 class Library:
-    """The library for C at this path."""
+    """The library for C at this path. In an archive it gets the memory of the shim, which can be refused."""
 
     def __init__(self, path):
-        self.calls = ctypes.CDLL(str(path))
+        self.has_shim = str(path).endswith(".a")
+        whole = "-Wl,-Bsymbolic", "-Wl,--whole-archive", path, "-Wl,--no-whole-archive"
+        self.calls = ctypes.CDLL(shim(*whole) if self.has_shim else str(path))
 
     def call(self, name, data, capacity=1 << 16):
         """The answer of a call, with the fault of a record as standard error. The buffer's rest stays as it was."""
@@ -88,8 +94,20 @@ class Library:
         return Answer(status, text.decode(errors="surrogateescape"), said)
 
     def play(self, jobs):
-        """The answers to these jobs, as `Program.play` gives them."""
-        return [(self.call("_".join(job.words).replace("--", ""), job.data), None) for job in jobs]
+        """The answers to these jobs, as `Program.play` gives them. Each call frees all that it allocated."""
+        return [self.played("_".join(job.words).replace("--", ""), job) for job in jobs]
+
+    def played(self, name, job):
+        """The answer of a call with its counts."""
+        if not self.has_shim:
+            return self.call(name, job.data), None
+        counts = (ctypes.c_uint64 * 6).in_dll(self.calls, "of_library")
+        counts[:] = [0] * 6
+        (ctypes.c_uint64 * 14).in_dll(self.calls, "job")[2:6] = job.memory
+        ctypes.c_int.in_dll(self.calls, "runs").value = 1
+        answer = self.call(name, job.data)
+        assert ctypes.c_int64.in_dll(self.calls, "blocks").value == 0, job
+        return answer, Counts(*counts)
 
 
 def opened(path):

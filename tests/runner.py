@@ -90,24 +90,10 @@ def flipped(digits, place):
     return f"{digits[:at]}{int(digits[at], 16) ^ 8 >> bit:x}{digits[at + 1:]}"
 
 
-# ---- the same JSON in another spelling
-
-
-def written(value):
-    """The JSON of a value, with blanks and escapes: tuples are the members of objects, bytes are numbers."""
-    if isinstance(value, bytes):
-        return value.decode()
-    if isinstance(value, tuple):
-        pairs = value if len(dict(value)) < len(value) else value[::-1]
-        return "{ " + " ,\t".join(f"{written(key)} : {written(member)}" for key, member in pairs) + "\t}"
-    if isinstance(value, list):
-        return "[ " + " , ".join(map(written, value)) + " ]"
-    if isinstance(value, str) and value:
-        return f'"\\u{ord(value[0]):04X}{json.dumps(value[1:])[1:]}'
-    return json.dumps(value)
-
-
 def respelled(line):
-    """The same JSON, its keys in the reverse order unless one comes twice, with blanks and escapes."""
-    value = json.loads(line, object_pairs_hook=tuple, parse_int=str.encode, parse_float=str.encode)
-    return f" {written(value)}\t"
+    """The same JSON with its keys in the reverse order, blanks, and escapes. Numbers stay as they are written."""
+    value = json.loads(line, object_pairs_hook=lambda pairs: dict(reversed(dict(pairs).items())),
+                       parse_int="@{}@".format, parse_float="@{}@".format)
+    text = json.dumps(value, indent="\t", separators=(" ,", " : ")).replace("\n", " ")
+    text = re.sub('"@([^"]*)@"', r"\1", text)
+    return re.sub(r'"(\w)', lambda first: f'"\\u{ord(first[1]):04X}', f" {text}\t")

@@ -10,31 +10,28 @@ from runner import DEVICE, run
 
 BUFFER = 65536  # bytes of output that the program gathers before it writes
 WORDS = pytest.mark.parametrize("words", [*COMMANDS, ()], ids=" ".join)
+# How many calls fail, and by which error. By error 0 a writer takes no byte; a reader would be at its end.
+ERRORS = (1, errno.EIO), (ALL, errno.EIO), (2, errno.EINTR)
+FAILURES = [*(("reader", *failure) for failure in ERRORS), *(("writer", *failure) for failure in (*ERRORS, (1, 0)))]
 
 
 def slowed(program, known, given, taken):
     """The same runs with devices that move at most `given` and `taken` bytes a call, with their counts. No answer
     changes."""
     some = [job._replace(reader=Plan(piece=given), writer=Plan(piece=taken)) for job, *_ in known]
-    found = [(job, answer, counts) for job, (answer, counts) in zip(some, program.play(some))]
+    found = [(job, *played) for job, played in zip(some, program.play(some))]
     for (_, wanted, _), (job, answer, counts) in zip(known, found):
         assert answer == wanted and (not taken or counts.writes * taken >= len(wanted.stdout)), (job, answer)
     return found
 
 
-def failures(job, wanted, counts, piece):
-    """The run with each call of a device failing, also with all later ones, interrupted, or taking no byte; and one
-    past the last. Each with whether the failure is met."""
-    for device, calls in ("reader", counts.reads), ("writer", counts.writes):
-        for call in range(1, calls + 2):
-            for count, error in ((1, errno.EIO), (ALL, errno.EIO), (2, errno.EINTR), (1, 0))[:4 - (device == "reader")]:
-                yield job._replace(**{device: Plan(call, count, error, piece)}), wanted, call <= calls
-
-
-def failing(program, known, piece=0):
-    """A run with a device that fails reports it and reads no more; what was taken before a writer failed is there. A
-    call that is interrupted is made again, or has failed: a read, or the write of a report that passes the buffer."""
-    cases = [case for it in slowed(program, known, piece, piece) for case in failures(*it, piece)]
+def failing(program, known, piece):
+    """Each call of a device fails in turn, and one past the last. A run reports it and reads no more; what was taken
+    before a writer failed is there. A call that is interrupted is made again, or has failed: a read, or the write of a
+    report that passes the buffer."""
+    cases = [(job._replace(**{device: Plan(call, count, error, piece)}), wanted, call <= calls)
+             for job, wanted, counts in slowed(program, known, piece, piece) for device, count, error in FAILURES
+             for calls in [counts.reads if device == "reader" else counts.writes] for call in range(1, calls + 2)]
     for (job, wanted, is_met), (answer, counts) in zip(cases, program.play([job for job, *_ in cases])):
         is_interrupted, writes = errno.EINTR in (job.reader.error, job.writer.error), job.writer.first
         assert (counts.failed_reads + counts.failed_writes > 0) == is_met, (job, counts)
@@ -46,35 +43,27 @@ def failing(program, known, piece=0):
         assert not (writes and is_interrupted) or job.words == CHECK and len(wanted.stdout) > BUFFER, (job, answer)
 
 
-def ends(program, known):
-    """A reader that gives bytes after an end: the answer is that to the bytes before it, and nothing more is read."""
+@WORDS
+def test_failing_devices(words):
+    program, known = disturbed(), runs_of(disturbed(), words)
+    tiny, long = [it for it in known if len(it[0].data) <= 50], undisturbed(program, long_jobs(words))
+    for some, piece in (known, 0), (known, 100), (tiny, 1), (long, 0), (long, 20000):
+        failing(program, some, piece)
+    assert words in (CHECK, ()) or long[0][2].writes > 1  # (a report is one text)
+
+
+@WORDS
+def test_slow_and_ending_devices(words):
+    """Slow devices change no answer. If a reader gives bytes after an end, the answer is that to the bytes before it,
+    and no more is read."""
+    program, known = disturbed(), runs_of(disturbed(), words)
+    for given, taken in (1, 1), (1, 0), (0, 1), (7, 3):
+        slowed(program, known, given, taken)
     cases = [(job, call, max(8, len(job.data) // 10)) for job, *_ in known for call in range(1, 12)]
     fronts = program.play([job._replace(data=job.data[:(call - 1) * piece]) for job, call, piece in cases])
     found = program.play([job._replace(reader=Plan(call, 1, 0, piece)) for job, call, piece in cases])
     for case, (wanted, _), (answer, counts) in zip(cases, fronts, found):
         assert answer == wanted and counts.reads <= case[1], (case, answer, wanted)
-
-
-@WORDS
-def test_failing_devices(words):
-    program, known = disturbed(), runs_of(disturbed(), words)
-    for piece, most in (0, 1 << 20), (100, 1 << 20), (1, 50):
-        failing(program, [it for it in known if len(it[0].data) <= most], piece)
-
-
-@WORDS
-def test_slow_and_ending_devices(words):
-    for given, taken in (1, 1), (1, 0), (0, 1), (7, 3):
-        slowed(disturbed(), runs_of(disturbed(), words), given, taken)
-    ends(disturbed(), runs_of(disturbed(), words))
-
-
-@pytest.mark.parametrize("words", COMMANDS, ids=" ".join)
-def test_long_runs(words):
-    program, known = disturbed(), undisturbed(disturbed(), long_jobs(words))
-    failing(program, known)
-    failing(program, known, 20000)
-    assert known[0][2].writes > 1 or words == CHECK  # (a report is one text)
 
 
 @pytest.mark.elsewhere

@@ -4,20 +4,16 @@ Fast paths are in front of slow paths that give the same answers, so no other te
 input takes some of them so often that losing one costs more than the 3 % by which a count may differ from its budget,
 the count of the stored program. After a change that makes the program faster, the new counts are the budgets.
 Not guarded: a header's fields read at once, bits that fit into the last byte, rules about single balises asked at once.
-
-Instructions of the C library and the loader depend on the machine. They are not counted, and a call of a library counts
-as 100.
 """
 import functools
 import json
-import os
 import platform
-import re
 import shutil
 
 import pytest
 
 from cases import FORM
+from measure import instructions
 from runner import EXAMPLES, program, run
 
 BUDGETS = {
@@ -97,25 +93,12 @@ def inputs():
     return found
 
 
-def cost(counts, path):
-    """The count of the program at this path in the output of callgrind."""
-    own = "\n".join(part for part in counts.split("\nob=") if part.startswith(f"{path}\n"))
-    calls = re.findall(rf"cob=(?!{re.escape(path)}\n).*\n(?:cf[il]=.*\n)?cfn=.*\ncalls=(\d+)", own)
-    steps = re.findall(r"(?m)^\d+ (\d+)$", re.sub(r"calls=.*\n.*", "", own))
-    return sum(map(int, steps)) + 100 * sum(map(int, calls))
-
-
 @pytest.mark.parametrize("name", BUDGETS)
 def test_budget(name, tmp_path):
     """The answer is right, and the count is within 3 % of its budget."""
     if not shutil.which("valgrind") or platform.machine() != "x86_64":
         pytest.skip("counts of instructions (valgrind)")
     words, given, wanted = inputs()[name]
-    path, counts = os.path.realpath(program()), tmp_path / "counts"
     (tmp_path / "input").write_text(given)
-    options = "--tool=callgrind", "--compress-strings=no", "--compress-pos=no", f"--callgrind-out-file={counts}"
-    with open(tmp_path / "input", "rb") as file:
-        answer = run((*options, path, *words.split()), path="valgrind", stdin=file)
-    count = cost(counts.read_text(), path)
-    assert answer.stdout.startswith(wanted)
-    assert 0.97 * BUDGETS[name] < count < 1.03 * BUDGETS[name], f"{name}: {count} instructions"
+    assert run(words.split(), given).stdout.startswith(wanted)
+    assert 0.97 < instructions([program(), *words.split()], tmp_path / "input") / BUDGETS[name] < 1.03

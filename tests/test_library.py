@@ -1,7 +1,6 @@
 """The library for C: its header, examples in four languages, its answers beside those of the program, and calls with
 refused memory, with small buffers and in threads. BALISECHECK_LIBRARY names its folder."""
 import concurrent.futures
-import ctypes
 import functools
 import json
 import os
@@ -15,8 +14,9 @@ import threading
 import pytest
 
 from corpus import LONG, SHORT, runs_of
-from hostile import ALL, CHECK, COMMANDS, DECODE, DECODE_RADIO, STACK, Job, Library, shared
-from runner import EXAMPLES, HERE, TOP, Answer, program, run
+from hostile import CHECK, COMMANDS, DECODE, DECODE_RADIO, STACK, Job, Library, shared
+from runner import EXAMPLES, TOP, Answer, program, run
+from test_memory import in_turn, refuse
 
 sys.path.append(str(TOP / "bench"))
 from compare import accepted_of, inputs  # noqa: E402  (the path comes first)
@@ -27,8 +27,8 @@ HEADER = TOP / "crates" / "balisecheck_c" / "include" / "balisecheck.h"
 SOURCE, JNA = EXAMPLES / "library", "/usr/share/java/jna.jar"
 STRICT = "-Wall", "-Wextra", "-Werror", "-pedantic", "-I", HEADER.parent
 LINKED = {"archive": [ARCHIVE], "shared": [f"-Wl,-rpath,{FOLDER}", "-L", FOLDER, "-lbalisecheck"]}
-WHOLE = "-Wl,--whole-archive", ARCHIVE, "-Wl,--no-whole-archive", "-Wl,--wrap=malloc,--wrap=realloc,--wrap=free"
-REFUSED, NO_ANSWER, TOO_SMALL = 2, 3, 4
+WATCHED = "valgrind", "-q", "--error-exitcode=95", "--leak-check=full"
+REFUSED, TOO_SMALL = 2, 4
 RECORDS = {"telegram": DECODE, "message": DECODE_RADIO}
 CALLS = {**{"_".join(words).replace("--", ""): words for words in COMMANDS}, **RECORDS}
 REASONS = dict(re.findall(r"BALISECHECK_\w+ = (\d+),? +/\* (.*?) \*/", HEADER.read_text()))
@@ -41,13 +41,6 @@ def need(tool, package):
     """Skips the test if a command or a file is not here."""
     if not (shutil.which(tool) or os.path.exists(tool)):
         pytest.skip(f"the library for C with {os.path.basename(tool)} ({package})")
-
-
-def compiled(*words):
-    """Compiles without a warning."""
-    need("c++", "g++")
-    ran = subprocess.run([*words[:1], *STRICT, *words[1:]], stderr=subprocess.PIPE, check=False)
-    assert (ran.returncode, ran.stderr) == (0, b"")
 
 
 def test_header_declares_each_export():
@@ -79,16 +72,16 @@ def checks(command, *words):
 
 
 @pytest.mark.parametrize("kind", LINKED)
-def test_examples_in_c(kind, tmp_path):
-    """They answer, and valgrind has nothing to report."""
-    compiled("cc", "-std=c99", "-o", tmp_path / "telegrams", SOURCE / "c" / "telegrams.c", *LINKED[kind])
-    compiled("c++", "-std=c++11", "-o", tmp_path / "check", SOURCE / "cpp" / "check.cpp", *LINKED[kind])
-    reads_telegrams(tmp_path / "telegrams")
-    checks(tmp_path / "check")
+@pytest.mark.parametrize("compiler, standard, source, answers", [
+    ("cc", "c99", "c/telegrams.c", reads_telegrams), ("c++", "c++11", "cpp/check.cpp", checks)])
+def test_example_in_c(compiler, standard, source, answers, kind, tmp_path):
+    """It compiles without a warning and answers, and valgrind has nothing to report."""
+    need("c++", "g++")
+    command = compiler, *STRICT, f"-std={standard}", "-o", tmp_path / "example", SOURCE / source, *LINKED[kind]
+    assert subprocess.run(command, stderr=subprocess.PIPE, check=True).stderr == b""
+    answers(tmp_path / "example")
     need("valgrind", "valgrind")
-    watched = "valgrind", "-q", "--error-exitcode=95", "--leak-check=full"
-    reads_telegrams(*watched, tmp_path / "telegrams")
-    checks(*watched, tmp_path / "check")
+    answers(*WATCHED, tmp_path / "example")
 
 
 def test_example_in_python():
@@ -104,58 +97,42 @@ def test_example_in_java():
 # ---- calls
 
 
-@pytest.fixture(scope="module", name="library")
-def build(tmp_path_factory):
-    """The library with a heap that counts and refuses requests (library_heap.c)."""
-    path = tmp_path_factory.mktemp("library") / "heap.so"
-    compiled("cc", "-O2", "-fPIC", "-shared", "-o", path, HERE / "library_heap.c", *WHOLE)
-    return Library(path)
-
-
 def data_of(name, some):
     """What a call gets for these runs: records without line ends."""
     data = [job.data for job, *_ in some if job.words == CALLS[name]]
     return list({re.sub(rb"[\r\n]", b"", it): None for it in data}) if name in RECORDS else data
 
 
-@pytest.mark.parametrize("name", RECORDS)
-def test_records_beside_the_program(name):
-    """A record of the tests, or a random one, has the program's line or fault."""
-    words = RECORDS[name]
-    more = inputs(words, accepted_of(shared(), words), 200)
-    lines = data_of(name, runs_of(shared(), words, each_kind=False))
-    lines = [line for line in (*lines, *(line for job in more for line in job.data.split())) if line]
-    documents = (json.dumps({"groups": [], "messages": [line.decode("latin-1")]}).encode() for line in lines)
-    wanted = shared().play([Job(words, line + b"\n") for line in lines])
-    refused = wanted if name == "telegram" else shared().play([Job(CHECK, document) for document in documents])
+@pytest.mark.parametrize("name, head, tail, place", [
+    ("telegram", '{"messages":[],"groups":[{"balises":[', "]}]}", "group 0 balise 0"),
+    ("message", '{"groups":[],"messages":[', "]}", "message 0")])
+def test_records_beside_the_program(name, head, tail, place):
+    """A record of the tests, or a random one, has the line of `decode`, or the fault that `check` finds in it."""
+    words = CALLS[name]
+    drawn = b"\n".join(job.data for job in inputs(words, accepted_of(shared(), words), 200)).split()
+    records = [it for it in (*data_of(name, runs_of(shared(), words, each_kind=False)), *drawn) if it]
+    documents = [(head + json.dumps(it.decode("latin-1")) + tail).encode() for it in records]
+    decoded = shared().play([Job(words, it + b"\n") for it in records])
+    checked = shared().play([Job(CHECK, it) for it in documents])
     library = Library(SHARED)
-    for line, (record, _), (refusal, _) in zip(lines, wanted, refused):
-        answer = library.call(name, line)
+    for record, (wanted, _), (verdict, _) in zip(records, decoded, checked):
+        answer = library.call(name, record)
         if answer.status == REFUSED:
             reason, at, end = answer.stderr.split()
             why = REASONS[reason] + (f" at {at} end {end}" if int(reason) >= 10 else "")
-            assert refusal.stdout == f"refused: {'line 1' if name == 'telegram' else 'message 0'}: {why}\n", line
+            assert verdict.stdout == f"refused: {place}: {why}\n", record
         else:
-            assert answer == record and refusal.status != REFUSED, line
+            assert answer == wanted and verdict.status != REFUSED, record
 
 
 @pytest.mark.parametrize("name", CALLS)
-def test_refused_memory(library, name):
-    """With a request refused, by itself or with all later ones, a call answers as before, or 3 and no text. It frees
-    all that it allocated."""
-    requests, first, last, blocks = (ctypes.c_long.in_dll(library.calls, f"heap_{it}")
-                                     for it in ("requests", "first", "last", "blocks"))
-    found = set()
-    for data in data_of(name, runs_of(shared(), CALLS[name])):
-        requests.value = last.value = 0
-        wanted = library.call(name, data)
-        for request in range(1, requests.value + 1):
-            for end in request, ALL:
-                requests.value, first.value, last.value = 0, request, end
-                answer = library.call(name, data)
-                assert answer in (wanted, Answer(NO_ANSWER, "", "")) and not blocks.value, (data, request, end)
-                found.add(answer.status)
-    assert NO_ANSWER in found
+def test_refused_memory(name):
+    """With a request refused, by itself or with all later ones, a call answers as before, or 3 and no text."""
+    need("cc", "gcc")
+    library, jobs = Library(ARCHIVE), [Job((name,), data) for data in data_of(name, runs_of(shared(), CALLS[name]))]
+    known = [(job, *played) for job, played in zip(jobs, library.play(jobs))]
+    assert any(counts.requests for *_, counts in known)
+    refuse(library, known, in_turn, "")
 
 
 @pytest.mark.parametrize("name", CALLS)

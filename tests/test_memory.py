@@ -1,19 +1,24 @@
 """Refused memory: each request is refused in turn, by itself and with all later ones. The program reports it after a
-beginning of its answer, or answers as before. Calls of the crates are tried by their own tests."""
+beginning of its answer, or answers as before. Calls of the crates are tried by their own tests. After that, limits of
+memory and of the stack."""
 import os
 import random
 import re
 import shutil
 import subprocess
+import sys
 
 import pytest
 
-from corpus import long_jobs, runs_of, undisturbed
-from hostile import ALL, COMMANDS, Job, Plan, Program, disturbed, stops
-from runner import MEMORY, TOP, Answer
+from corpus import FORM, MESSAGE, MESSAGE_FORM, SHORT, long_jobs, runs_of, undisturbed
+from hostile import (ALL, CHECK, COMMANDS, DECODE_RADIO, ENCODE, ENCODE_RADIO, GROUPS, STACK, Job, Plan, Program,
+                     disturbed, shared, stops)
+from runner import MEMORY, TOP, Answer, answered, run
 
+WORDS = pytest.mark.parametrize("words", [*COMMANDS, ()], ids=" ".join)
 NAMED = os.environ.get("BALISECHECK_TESTS")  # what `rt ci` builds of these two crates, with a colon between them
 CRATES = [str(TOP / "crates" / crate / "out" / f"{crate}_tests") for crate in ("trials_groups", "trials_lines")]
+KEPT = 9  # times the size of a document that is kept complete: it takes 8.1, and 10.6 if no list gives back memory
 
 
 def in_turn(requests, step=1):
@@ -21,16 +26,16 @@ def in_turn(requests, step=1):
     return [Plan(number, count) for number in (*range(1, requests + 1, step), requests + 1) for count in (1, ALL)]
 
 
-def refuse(program, known, plans):
-    """Plays runs with requests refused. Those for which the plan has a refusal meet it."""
+def refuse(program, known, plans, said=MEMORY):
+    """Plays runs with requests refused. Those for which the plan has a refusal meet it, and some then stop."""
     cases = [(job._replace(memory=plan), wanted, counts.requests) for job, wanted, counts in known
              for plan in plans(counts.requests)]
     for (job, wanted, requests), (answer, counts) in zip(cases, program.play([job for job, *_ in cases])):
         assert (counts.refused > 0) == (job.memory.first <= requests), (job, counts)
-        assert answer == wanted or counts.refused and stops(answer, wanted, MEMORY), (job, answer, wanted)
+        assert answer == wanted or counts.refused and stops(answer, wanted, said), (job, answer, wanted)
 
 
-@pytest.mark.parametrize("words", [*COMMANDS, ()], ids=" ".join)
+@WORDS
 def test_requests(words):
     """Each request of a few runs is refused, a random one and some later ones of many, and some of long runs."""
     choice, known = random.Random(1), runs_of(disturbed(), words, each_kind=False)
@@ -47,20 +52,62 @@ def test_calls_of_crates(path):
     disturbed()
     if not NAMED and not os.path.exists(path):
         pytest.skip("refused memory in calls of crates (toolchain)")
-    program, listed = Program(path), subprocess.run([path, "--list"], capture_output=True, text=True, check=True).stdout
+    program, listed = Program(path), subprocess.check_output([path, "--list"], text=True)
     jobs = [Job((name,), b"") for name in re.findall("(?m)^(refused_memory::.*): test$", listed)]
-    known = program.play(jobs)
     assert jobs
-    jobs += [job._replace(memory=plan) for job, (_, counts) in zip(jobs, known) for plan in in_turn(counts.requests)]
-    for job, (answer, _) in zip(jobs, program.play(jobs)):
-        assert answer == Answer(0, "\ntest result: ok\n", ""), job
+    passed = Answer(0, "\ntest result: ok\n", "")
+    refuse(program, [(job, passed, counts) for job, (_, counts) in zip(jobs, program.play(jobs))], in_turn, said=None)
 
 
 def test_no_other_requests():
     """The program asks for memory and moves bytes by functions that the shim has."""
     if not shutil.which("nm"):
         pytest.skip("functions that the program calls (binutils)")
-    words = "nm", "-D", "--undefined-only", disturbed().path
-    symbols = subprocess.run(words, capture_output=True, text=True, check=True).stdout
+    symbols = subprocess.check_output(["nm", "-D", "--undefined-only", disturbed().path], text=True)
     asked = re.findall(r"U (\w*(?:alloc|memalign|mmap|brk|read|write|send|recv|put|splice)\w*)", symbols)
     assert {*asked} <= {"malloc", "calloc", "realloc", "read", "write", "__write"}
+
+
+# ---- limits of the system
+
+
+def limited(kind, kilobytes, words, data):
+    """The answer with this limit."""
+    return run(words, data, f"ulimit -{kind} {kilobytes} || exit 98")
+
+
+@WORDS
+def test_stack(words):
+    """Each run answers as ever with little stack, also with 127 levels or with a key twice, which is kept complete."""
+    levels = ["[" * 127 + "]" * 127, '{"a":' * 126 + "{}" + "}" * 126, '{"messages":0,"messages":[],"groups":[]}']
+    some = [Job(words, data.encode()) for data in levels if words in (CHECK, ENCODE, ENCODE_RADIO)] + long_jobs(words)
+    for job, wanted, _ in undisturbed(shared(), some) + runs_of(shared(), words, each_kind=False):
+        assert limited("s", STACK, job.words, job.data) == wanted, job
+
+
+@pytest.mark.parametrize("order, times", [("groups first", 2), ("messages first", 2), ("a key twice", KEPT)])
+def test_long_document(order, times):
+    """A long document is checked group by group, in an address space that has no room for its JSON value. With a key
+    twice it is kept complete, and each list of packets gives back the memory that it lacks."""
+    command = [sys.executable, "-B", TOP / "bench" / "documents.py", str(GROUPS)]
+    text = subprocess.check_output(command, text=True).strip()
+    if order != "groups first":
+        text = '{"messages":[],' + text.removesuffix(',"messages":[]}')[1:] + "}"
+    if order == "a key twice":
+        text = '{"messages":[],' + text[1:]
+    answer = limited("v", times * len(text) // 1024 + 10000, CHECK, text)
+    assert answer == answered(f"yes: groups {GROUPS}, messages 0\n")
+
+
+def test_many_messages():
+    """Of a stream no more is kept than a line and a message."""
+    answer = limited("v", 100000, DECODE_RADIO, f"{MESSAGE * 2}\n" * 100000)
+    assert answer.status == 0 and (answer.stdout == f"{MESSAGE_FORM}\n" * 200000) is True
+
+
+@pytest.mark.parametrize("words, first, endless", [("decode", f"{SHORT}\n", "yes"), ("check", "", "yes ' '")])
+def test_endless_line(words, first, endless):
+    """It is answered by `memory`, after the answers to the lines before it."""
+    given = f'{{ printf %s "{first}"; {endless} | tr -d "\\n"; }}'
+    answer = run([words], limits=f'ulimit -v 100000; {given} | "$0" "$@"; exit')
+    assert answer == answered(f"{FORM}\n" * bool(first), MEMORY)

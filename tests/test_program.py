@@ -13,28 +13,19 @@ import cases
 from hostile import Job, shared
 from runner import DEVICE, EXAMPLES, TOP, Answer, answered, in_bytes, program, run
 
-TELEGRAM, FORM, MESSAGE = cases.TELEGRAM, cases.answer(210, []), cases.MESSAGE
+TELEGRAM, FORM, MESSAGE = cases.TELEGRAM, cases.ALONE, cases.MESSAGE
 PAIRS = {"decode": (TELEGRAM, FORM), "encode": (FORM, TELEGRAM), "decode --radio": (MESSAGE, cases.MOVEMENT),
          "encode --radio": (cases.MOVEMENT, MESSAGE)}
 PATIENCE = 10  # seconds that the answers to two lines may take
 
 
+@pytest.mark.elsewhere
 def test_cases():
     """Each case of tests/cases and each example, in processes of their own."""
     every = list(cases.every())
     found = shared().play([Job(tuple(words), in_bytes(given)) for _, words, given, _ in every])
     wrong = [(*case, answer) for case, (answer, _) in zip(every, found) if answer != case[-1]]
     assert wrong[:5] == [] and len(every) >= 4220
-
-
-@pytest.mark.elsewhere
-def test_examples():
-    """Each example, by pipes, and those that are refused."""
-    for name, words, given, wanted in cases.examples():
-        assert run(words, given) == wanted, name
-    for name, said in (("pad-bits-set", f"{FORM}\nrefused: line 3: pad bits set\n"),
-                       ("spare-mark", "refused: line 1: spare at 15 end 17\n")):
-        assert run(["decode"], (EXAMPLES / f"{name}.txt").read_text()) == answered(said), name
 
 
 @pytest.mark.parametrize("words", PAIRS)
