@@ -9,7 +9,7 @@ import re
 import shlex
 import sys
 
-from runner import EXAMPLES, TOP, answered, blocks, in_full, respelled
+from runner import EXAMPLES, TOP, answered, blocks, in_full, marked, respelled
 
 sys.path.append(str(TOP / "bench"))
 import records  # noqa: E402  (the path comes first)
@@ -143,15 +143,9 @@ def runs():
     (_, *lines), *others = blocks("runs.txt")
     names = {name: in_full(value) for name, value in (line[1:].split(" ", 1) for line in lines)}
     for name, *lines in others:
-        words, texts = [], {"<": "", ">": "", "!": ""}
-        for line in lines:
-            mark, _, rest = re.sub(rf"@({'|'.join(names)})", lambda found: names[found[1]], line).partition(" ")
-            if mark == "$":
-                words.append(in_full(rest))
-            else:
-                texts[mark.replace("<<", "<")] += in_full(rest) + "\n" * (mark != "<<")
-        given = texts["<"].encode().decode("unicode_escape").encode("latin-1").decode(errors="surrogateescape")
-        yield from ((f"{name}: {one}", shlex.split(one), given, answered(texts[">"], texts["!"])) for one in words)
+        texts = marked(re.sub(rf"@({'|'.join(names)})", lambda found: names[found[1]], line) for line in lines)
+        for words in texts["$"].splitlines():
+            yield f"{name}: {words}", shlex.split(words), texts["<"], answered(texts[">"], texts["!"])
 
 
 def examples():

@@ -74,6 +74,15 @@ def blocks(name):
     return [block.split("\n") for block in "\n".join(lines).strip("\n").split("\n\n")]
 
 
+def marked(lines):
+    """The texts of lines by the marks in front of them. `<<` is a `<` without a line end, and these have escapes."""
+    texts = collections.defaultdict(str)
+    for mark, _, rest in (line.partition(" ") for line in lines):
+        texts[mark[:1]] += in_full(rest) + "\n" * (mark != "<<")
+    texts["<"] = texts["<"].encode().decode("unicode_escape").encode("latin-1").decode(errors="surrogateescape")
+    return texts
+
+
 def in_full(line):
     """The line in full: `<TEXT N>` is the text N times, innermost first, and dots are a digit up to the next part of a
     short or a long telegram."""
