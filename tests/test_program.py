@@ -11,7 +11,7 @@ import pytest
 
 import cases
 from hostile import Job, shared
-from runner import DEVICE, EXAMPLES, TOP, Answer, answered, in_bytes, program, run
+from runner import DEVICE, TOP, Answer, in_bytes, program, run
 
 TELEGRAM, FORM, MESSAGE = cases.TELEGRAM, cases.ALONE, cases.MESSAGE
 PAIRS = {"decode": (TELEGRAM, FORM), "encode": (FORM, TELEGRAM), "decode --radio": (MESSAGE, cases.MOVEMENT),
