@@ -1,17 +1,20 @@
-"""Compares the pages on assurance with what they name, and with what the program does."""
+"""Compares the pages on assurance with what they name and count, and with what the program does."""
 import functools
 import re
+import runpy
 import subprocess
 import sys
 
 import pytest
 
-from runner import TOP
+from runner import TOP, crate_uses
 
 PROOFS, SAFETY, YES = ((TOP / f"docs/assurance/{name}.md").read_text("utf-8") for name in ("proofs", "safety", "yes"))
 CRATE = r"(?:etcs_\w+|balisecheck_c)"
 CALL = re.compile(rf"`({CRATE})::(?:(\w+)::)?(\w+)`(?: \(((?:`\w+`(?:, )?)+)\))?")
 DEFINED = re.compile(rf"`({CRATE})/(\w+\.antt)`: ((?:`\w+`(?:, )?)+)")
+TRUSTED = runpy.run_path(str(TOP / "tests/trusted"))
+PIN = "-- Pinned by the law all."
 
 
 @functools.lru_cache(None)
@@ -40,8 +43,8 @@ def is_there(span):
     """Whether what a page has between back quotes is there, if it is a word, a file, or a command that is a file."""
     path = re.sub(rf"^({CRATE})/(?=\w+\.antt$)", r"crates/\1/specs/", span.split()[0].replace("/NAME/", "/*/"))
     if "/" in path:
-        return any(True for it in (path, f"crates/*/{path}") for _ in TOP.glob(it.strip("/")))
-    return not re.fullmatch(r"[\w.]+", span) or span in words() - {"unsafe"} or span in ("unsafe", "rt")
+        return any([*TOP.glob(it.strip("/"))] for it in (path, f"crates/*/{path}"))
+    return not re.fullmatch(r"[\w.]+", span) or span in words() or span in ("unsafe", "rt")
 
 
 def test_names():
@@ -56,10 +59,32 @@ def test_names():
 
 
 def test_sources():
-    """No source has an `unsafe`, and the crate of `main` has no clauses."""
+    """No source has an `unsafe`, and the crate of `main` has no clauses. crates.txt names each crate."""
     assert "unsafe" not in words() and "No source has an `unsafe`" in PROOFS
     main = source("balisecheck/src/*.rt")
     assert "fn main" in main and not re.search(r"(?m)^ *(?:ensures|requires)\b", main)
+    assert {*crate_uses()} == {it.parent.name for it in TOP.glob("crates/*/src")}
+
+
+def test_trusted():
+    """The page on proofs has the table of tests/trusted, and lemmas are no definitions."""
+    assert re.findall(r"(?s)<!-- trusted -->\n(.*)<!-- /trusted -->\n", PROOFS) == [TRUSTED["table"]()]
+    lemmas = [TRUSTED["count"](it.read_text("utf-8"), []) for it in TOP.glob("crates/*/specs/lemmas/**/*.antt")]
+    assert lemmas and not any(found[False] for found in lemmas)
+
+
+@pytest.mark.parametrize("pins, wanted", [
+    (("", ""), (4, 0)), ((PIN, ""), (0, 4)), (("", PIN), (2, 2)), ((f"\n{PIN}", ""), None),
+    ((PIN.rstrip("."), ""), None), ((PIN.replace("all", "none"), ""), None)])
+def test_pins(pins, wanted):
+    """Only a law in a head pins lines: of the whole file, or of a section."""
+    file = "-- Codes.\n{}\nabbrev a : ℕ\na = 0\n\n-- ---- numbers\n{}\nabbrev b : ℕ\nb = 0\n\nc : b ≡ 0\nc = refl\n"
+    if wanted:
+        found = TRUSTED["count"](file.format(*pins), ["all"])
+        assert (found[False], found[True]) == wanted
+    else:
+        with pytest.raises(ValueError, match="a pin is in no head"):
+            TRUSTED["count"](file.format(*pins), ["all"])
 
 
 def test_yes():

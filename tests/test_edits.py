@@ -1,14 +1,15 @@
-"""Tests of the tools that judge wrong code: tests/edits, tests/refused and tests/plants."""
+"""Tests of the tools that judge wrong code: tests/edits, tests/refused.py and tests/plants."""
 import runpy
 import shutil
 
 import pytest
 
-import prover
+import refused
 from runner import TOP, crate_uses
 from tiny import made, sh, write
 
-EDITS, REFUSED, PLANTS = (runpy.run_path(str(TOP / "tests" / it)) for it in ("edits", "refused", "plants"))
+EDITS, PLANTS = (runpy.run_path(str(TOP / "tests" / it)) for it in ("edits", "plants"))
+LOG, STALE = "out/layers/tiny-1", EDITS["STALE"]
 
 
 # ---- tests/edits
@@ -42,62 +43,56 @@ rt: another line
 """
 
 
+def judged(monkeypatch, names, *outputs):
+    """What tests/edits finds of edits of these functions, if the checks print this."""
+    left = [*outputs]
+    monkeypatch.setitem(EDITS["main"].__globals__, "check", lambda *_: (left.pop(0), 1))
+    return EDITS["judge"]("tiny-1", [EDITS["Edit"]("tiny", it, "crates.txt", [], [it]) for it in names])
+
+
 @pytest.mark.parametrize("outputs, why", [
     ([printed(OPEN)], ""),
     ([printed(WAITS, OTHER)], ""),
     ([printed("proved")], "next is proved"),
     ([printed(WAITS), printed(WAITS)], "next is only waiting for what it calls"),
-    ([printed(WAITS, GONE)], "next is refused only because its proof file names what is gone"),
+    ([printed(WAITS, GONE)], f"next is {STALE}"),
     ([printed("no proof: the limit was met")], "next is reported in an unknown form: no proof: the limit was met"),
     ([printed(OPEN).partition("logic=")[0]], "next is not reported"),
     ([printed(OPEN, "\nsrc/lib.rt:1:1: error: it is odd")], "next is not reported"),
     ([printed(OPEN, "\nrt: the kept work of low cannot be used: remove it")], "next is not reported")])
 def test_edit_by_a_check(monkeypatch, outputs, why):
     """An edit passes only if the check came to its end and refused the function for a goal."""
-    monkeypatch.setitem(EDITS["main"].__globals__, "run_in_copy", lambda *_: (outputs.pop(0), 1))
-    edit = EDITS["Edit"]("tiny", "tiny/one", "crates.txt", [], ["next"])
-    assert EDITS["judge"]("tiny-1", [edit]) == [("tiny/one, out/layers/tiny-1", why)]
+    assert judged(monkeypatch, ["next"], *outputs) == [(f"next, {LOG}", why)]
 
 
 def test_edits_of_a_layer(monkeypatch):
     """An edit whose function waits is judged again by itself. An edit has to name each function that is refused."""
     first = printed(WAITS, f"\nfn tiny::sum: {OPEN}\nfn tiny::twice: no proof")
-    outputs = [first, printed(OPEN)]
-    monkeypatch.setitem(EDITS["main"].__globals__, "run_in_copy", lambda *_: (outputs.pop(0), 1))
-    layer = [EDITS["Edit"]("tiny", it, "crates.txt", [], [it]) for it in ("sum", "next")]
-    unnamed = f"no edit names twice, which is {EDITS['STALE']}"
-    log = "out/layers/tiny-1"
-    assert EDITS["judge"]("tiny-1", layer) == [(log, unnamed), (f"sum, {log}", ""), (f"next, {log}-again", "")]
+    assert judged(monkeypatch, ["sum", "next"], first, printed(OPEN)) == [
+        (LOG, f"no edit names twice, which is {STALE}"), (f"sum, {LOG}", ""), (f"next, {LOG}-again", "")]
 
 
-# What the prover judges: each edit's name, old and new text, and the function that it refuses.
-SOURCE = """//! Small functions over numbers.
-#![tactic(auto)]
-
+# The proof of `twice` names a step of its body, which the edit removes.
+SOURCE = """#![tactic(auto)]
 ghost use Rattle.std.specs.Prelude.{◌≡◌, ◌+◌};
-
 pub fn sum(a: u8, b: u8) -> u32 ensures { result ≡ a + b } { a as u32 + b as u32 }
 pub fn twice(n: u8) -> u32 ensures { result ≡ n + n } { sum(n, n) }
 """
-ROWS = [("less", "b as u32 }", "b as u32 / 2 }", "sum"), ("stale", "sum(n, n)", "n as u32 + n as u32", "twice")]
-EDITS_OF_TINY = "\n".join("name: {}\nold: {}\nnew: {}\nrefuses: {}\n".format(*it) for it in ROWS)
-# The proof of `twice` names a step of its body, which the last edit removes.
 PROOF = "use Rattle.tiny.proofs.twice.Goals as goal\n\npub returns : goal.returns\nreturns c = c.sum.ensures\n"
-TREE = {"crates.txt": "tiny:\n", "crates/tiny/src/lib.rt": SOURCE, "crates/tiny/proofs/twice/Answers.antt": PROOF,
-        "crates/tiny/edits/lib.edits": EDITS_OF_TINY}
+EDIT = "name: stale\nold: sum(n, n)\nnew: n as u32 + n as u32\nrefuses: twice\n"
+TREE = {"src/lib.rt": SOURCE, "proofs/twice/Answers.antt": PROOF, "edits/lib.edits": EDIT}
 
 
 @pytest.mark.slow
 @pytest.mark.skipif(not shutil.which("rt"), reason="tests of edits (toolchain)")
-def test_edits_by_the_prover(monkeypatch, tmp_path):
-    """A good edit passes, and a stale one fails."""
+def test_stale_edit(monkeypatch, tmp_path):
+    """An edit fails if the prover refuses only a proof file that names what is gone."""
+    write(tmp_path / "crates.txt", "tiny:\n")
     for path, text in TREE.items():
-        write(tmp_path / path, text)
-    monkeypatch.setattr(prover, "TOP", tmp_path)
+        write(tmp_path / "crates/tiny" / path, text)
     monkeypatch.setitem(EDITS["main"].__globals__, "TOP", tmp_path)
-    judged = EDITS["judge_all"]([*EDITS["edits_of"]("tiny")])
-    log = "out/layers/tiny-1"
-    assert judged == [(f"tiny/less, {log}", ""), (f"tiny/stale, {log}", f"twice is {EDITS['STALE']}")]
+    found = EDITS["judge_all"]([*EDITS["edits_of"]("tiny")])
+    assert found == [(f"tiny/stale, {LOG}", f"twice is {STALE}")]
 
 
 @pytest.mark.skipif(not shutil.which("git"), reason="tests of edits (git)")
@@ -116,7 +111,7 @@ def test_judged_crates(monkeypatch, capsys, tmp_path):
         assert capsys.readouterr().out == f"{wanted}the edits: 1 passed, 0 failed\n"
 
 
-# ---- tests/refused
+# ---- tests/refused.py
 
 GOAL = "refused, as it must be: note: src/lib.rt:7:1: it is not proved that what the function ensures holds"
 ERROR = "refused, as it must be: ./proofs/twice/Answers.antt:5:13: error: "
@@ -133,7 +128,7 @@ def test_refused(tmp_path, capsys, said, is_refused):
     lines = [(names[0], it) for it in said] + [(it, GOAL) for it in names[1:]]
     (tmp_path / "log").write_text("".join("rt: must-fail {}: {}\n".format(*it) for it in lines), encoding="utf-8")
     with pytest.raises(SystemExit, match=str(not is_refused)):
-        REFUSED["main"](tmp_path / "log")
+        refused.main(tmp_path / "log")
     last = f"the edits: {len(names) - (not is_refused)} passed, {int(not is_refused)} failed\n"
     assert capsys.readouterr().out.endswith(last)
 
@@ -147,22 +142,22 @@ not-judged  src/item.rt:40 read: { self::read(bits, at) }  (the unchanged call d
 no-ensures  src/limits.rt:7 limits::far()
 plants crate=tiny planted-in=4 untested=0 no-ensures=1 proves=1 same=0 refused=1 elsewhere=0 not-judged=1 not-run=0
 """
-NEW = "no-ensures src/limits.rt limits::far()\n"
 KEPT = """not-judged src/item.rt read: { self::read(bits, at) }  # the call needs a proof by hand
 proves src/item.rt Item::write: { Err(Error::Memory) }
 """
 
 
 def test_plants(monkeypatch, tmp_path, capsys):
-    """A new row fails, and one that is gone is named. Reasons are kept. A run that did not try every plant fails."""
-    wrong = ("not-run=0", "not-run=1"), ("proves=1", "proves=2"), ("rt: c", "note: the crate is not proved\nrt: c")
-    outputs = [PLANTED, *(PLANTED.replace(*it) for it in wrong)]
-    monkeypatch.setitem(PLANTS["main"].__globals__, "run_in_copy", lambda *_: (outputs.pop(0), 0))
-    monkeypatch.setitem(PLANTS["main"].__globals__, "TOP", tmp_path)
-    for folder in "out/plants", "crates/tiny":
-        (tmp_path / folder).mkdir(parents=True)
-    (tmp_path / "crates/tiny/plants.txt").write_text(f"{KEPT}proves gone: {{ 0 }}\n", encoding="utf-8")
+    """A new row fails, and one that is gone is shown. Reasons are kept. A run that did not try every plant fails."""
+    monkeypatch.setitem(PLANTS["judge"].__globals__, "TOP", tmp_path)
+    write(tmp_path / "tools/rt", "#!/bin/sh\ncat ../../output\n")
+    monkeypatch.setenv("PATH", f"{tmp_path}/tools", prepend=":")
+    write(tmp_path / "crates/tiny/plants.txt", f"{KEPT}proves src/other.rt gone: {{ 0 }}\n")
+    write(tmp_path / "output", PLANTED)
+    new = "no-ensures src/limits.rt limits::far()\n"
     assert PLANTS["judge"]("tiny") == (3, 1)
-    assert capsys.readouterr().out == f"tiny: gone: proves gone: {{ 0 }}\nfailed: tiny: new: {NEW}"
-    assert (tmp_path / "out/plants/tiny.txt").read_text(encoding="utf-8") == NEW + KEPT
-    assert [PLANTS["judge"]("tiny") for _ in wrong] == [(2, 2)] * 3
+    assert capsys.readouterr().out == f"tiny: + {new}tiny: - proves src/other.rt gone: {{ 0 }}\n"
+    assert (tmp_path / "out/plants/tiny.txt").read_text(encoding="utf-8") == new + KEPT
+    for wrong in ("not-run=0", "not-run=1"), ("proves=1", "proves=2"), ("rt: c", "note: the crate is not proved\nrt: c"):
+        write(tmp_path / "output", PLANTED.replace(*wrong))
+        assert PLANTS["judge"]("tiny") == (2, 2)

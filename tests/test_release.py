@@ -9,14 +9,18 @@ import shutil
 import subprocess
 import typing
 from hashlib import sha256
+from pathlib import Path
 
 import pytest
 
 from runner import TOP, crate_uses, program
 
+# A release is made once, for all tests: their mark keeps them in one process of xdist.
+pytestmark = [pytest.mark.slow, pytest.mark.xdist_group("release")]
 VERSION, STORED = (TOP / "VERSION").read_text("utf-8").strip(), "dist/x86_64-linux"
-NEEDS = {"git": "git", "advancecomp": "advzip", "help2man": "help2man", "dpkg": "dpkg-deb", "binutils": "nm"}
-MODULES = {"python3-hatchling": "hatchling", "python3-pip": "pip", "python3-jinja2": "jinja2", "flake8": "pyflakes"}
+# The commands and modules that are needed, and their packages.
+NEEDS = {"git": "git", "advzip": "advancecomp", "help2man": "help2man", "dpkg-deb": "dpkg", "nm": "binutils",
+         "hatchling": "python3-hatchling", "pip": "python3-pip", "jinja2": "python3-jinja2", "pyflakes": "flake8"}
 # Stands in for the 20 s in which advzip makes a wheel of at most 700,000 bytes. It takes 0.3 s, for 1,600 bytes more.
 ADVZIP, MOST = '#!/bin/sh\nfor it; do :; done\nexec /usr/bin/advzip -q -z -2 "$it"\n', 701_600
 INSTALL = "-m pip install -q --no-index --no-deps --disable-pip-version-check *.whl"
@@ -46,6 +50,12 @@ def shows(page, folder, first="/usr/bin"):
         assert sh(folder, f"PATH='{first}':$PATH\n{command}", check=False) == wanted
 
 
+def has_manuals(prefix):
+    """Both manual pages can be read."""
+    for name in ("balisecheck", "balisekit"):
+        assert re.search(r"(?m)^\.TH ", sh(prefix / "share/man/man1", f"zcat -f {name}.1*"))
+
+
 def serves(made, prefix):
     """Both commands of a prefix answer and have manual pages. They name, and are, the program of the release."""
     user, commands = made.with_name("a user"), prefix / "bin"
@@ -54,15 +64,8 @@ def serves(made, prefix):
     sources, whole = sh(TOP, "dist/sources").strip(), sum_of(commands / "balisecheck")
     said = sh(user, f"'{commands}/balisekit' --version && '{commands}/balisekit' report line.csv --html -")
     assert f"balisekit {VERSION}\nbalisecheck {VERSION}, sources {sources}, program {whole}\n" in said
-    assert said.count(sources) > 1 and said.count(whole) > 1
-    assert sh(TOP, f"cmp '{commands}/balisecheck' '{program()}'") == ""
+    assert said.count(sources) > 1 and said.count(whole) > 1 and whole == sum_of(Path(program()))
     has_manuals(prefix)
-
-
-def has_manuals(prefix):
-    """Both manual pages can be read."""
-    for name in ("balisecheck", "balisekit"):
-        assert re.search(r"(?m)^\.TH ", sh(prefix / "share/man/man1", f"zcat -f {name}.1*"))
 
 
 def has_live_pages(folder, is_installed=True):
@@ -74,22 +77,83 @@ def has_live_pages(folder, is_installed=True):
             assert line[0] != "$" and re.search("clone|repository", line), (page, line)
 
 
-def check_files(made):
-    """Two releases are equal, byte for byte. Their README names files that are there."""
+class Reduced(ast.NodeTransformer):
+    """What is run of a module: no texts, no types, no names of types, and no imports, which pyflakes checks."""
+
+    def visit(self, node):
+        node = self.generic_visit(node)
+        is_text = isinstance(node, ast.Expr) and isinstance(node.value, ast.Constant)
+        named = getattr(getattr(getattr(node, "value", None), "value", None), "id", None)
+        if is_text or isinstance(node, ast.ImportFrom) or isinstance(node, ast.Assign) and named in typing.__all__:
+            return None
+        node.annotation = node.returns = None
+        is_typed = isinstance(node, ast.AnnAssign) and node.value
+        return ast.Assign([node.target], node.value, lineno=node.lineno) if is_typed else node
+
+
+def code_of(text):
+    """What is run of a module, and the lines of its statements."""
+    tree = Reduced().visit(ast.parse(text))
+    return ast.dump(tree), [node.lineno for node in ast.walk(tree) if isinstance(node, ast.stmt)]
+
+
+def differences(origin, package):
+    """The modules of a package that differ from those of their origin: in code, in its lines, or in a rule's page."""
+    pages = runpy.run_path(str(package / "rules/pages.py"))
+    for path in origin.rglob("*.py"):
+        name, text = path.relative_to(origin).as_posix(), text_of(path)
+        # (a wheel has no module that has only a text, and no library for C)
+        found = text_of(package / name) if (package / name).exists() else ""
+        is_same = text == found or f"balisekit/{name}" not in INTERFACE and code_of(text) == code_of(found)
+        page = ast.get_docstring(ast.parse(text)) if "__doc__" in text else ""
+        if not (is_same or name == "engine/library.py") or page.split() != pages.get(path.stem, "").split():
+            yield name
+
+
+@pytest.fixture(scope="module", name="made")
+def a_release(tmp_path_factory):
+    """The folder of a release. Beside it are another one that is made at the same time, its tarball, unpacked, and what
+    a clone installs."""
+    lacking = [NEEDS[it] for it in NEEDS if not (shutil.which(it) or importlib.util.find_spec(it))]
+    if lacking or not (TOP / ".git").exists():
+        pytest.skip(f"a release ({', '.join(lacking) or 'git'})")
+    room = tmp_path_factory.mktemp("a room")
+    made, advzip = room / "made", room / "tools/advzip"
+    advzip.parent.mkdir()
+    advzip.write_text(ADVZIP)
+    advzip.chmod(0o755)
+    with pytest.MonkeyPatch.context() as patch:
+        patch.setenv("PATH", f"{advzip.parent}:/usr/bin:/bin")
+        patch.setenv("PYTHONPYCACHEPREFIX", str(room / "compiled"))
+        patch.delenv("PYTHONDONTWRITEBYTECODE", raising=False)
+        release = "scripts/release.sh --try"
+        assert sh(TOP, f"{release} '{made}' & {release} '{room / 'again'}'; wait").count("written: ") == 2
+        sh(TOP, f"scripts/install.sh '{room / 'clone'}'")
+        sh(room, "mkdir tree && tar -xzf made/*.tar.gz -C tree --strip-components=1")
+        patch.delenv("BALISECHECK")
+        yield made
+
+
+def test_files(made):
+    """Two releases are equal, byte for byte. Their README names files that are there. A full folder is refused. What a
+    clone installs has manual pages."""
     name = f"balisecheck-{VERSION}-x86_64-linux-untested.tar.gz"
     assert sh(made.parent, "diff -r made again") == ""
+    assert sh(TOP, f"scripts/release.sh --try '{made}'", check=False) == f"release: {made} is not empty\n"
     assert sorted(os.listdir(made)) == [
         "README.md", "SHA256SUMS", f"balisecheck-{VERSION}-untested.spdx.json", name, f"{name}.sha256",
         f"balisecheck_{VERSION}_amd64-untested.deb",
         f"balisekit-{VERSION}-0untested-py3-none-manylinux_2_34_x86_64.whl"]
     assert sh(made, "sha256sum --quiet -c SHA256SUMS *.tar.gz.sha256") == ""
     readme = text_of(made / "README.md")
+    has_manuals(made.with_name("clone"))
     assert "\n**Files whose names end in `-untested`" in readme and "@" not in readme
     assert {*re.findall(r"\bbalise\w+[-_]0[-.\w]*\.(?:deb|whl|tar\.gz|json)", readme)} <= {*os.listdir(made)}
 
 
-def check_tarball(made, tree):
+def test_tarball(made):
     """What the tarball has, and what its pages name. It is installed, used and uninstalled."""
+    tree = made.with_name("tree")
     assert sh(tree, "sha256sum --quiet -c SHA256SUMS") == ""
     if sum_of(tree / "balisecheck") == sum_of(TOP / STORED / "balisecheck"):
         about, stored = (text_of(it / STORED / "ABOUT").partition("\nkit ")[2] for it in (tree, TOP))
@@ -109,49 +173,13 @@ def check_tarball(made, tree):
     assert sh(tree, uninstall.replace("PREFIX", f"'{prefix}'")) == sh(prefix, "find . ! -type d") == ""
 
 
-def is_run(node):
-    """Whether a statement is no text, no name of a type, and no import, which pyflakes checks."""
-    of = getattr(getattr(getattr(node, "value", None), "value", None), "id", None)
-    is_text = isinstance(node, ast.Expr) and isinstance(node.value, ast.Constant)
-    is_alias = isinstance(node, ast.Assign) and of in typing.__all__
-    return not (is_text or is_alias or isinstance(node, ast.ImportFrom))
-
-
-def code_of(text):
-    """What is run of a module, without types, and the lines of its statements."""
-    def plain(node):
-        is_typed = isinstance(node, ast.AnnAssign) and node.value
-        return ast.Assign([node.target], node.value, lineno=node.lineno) if is_typed else node
-
-    tree = ast.parse(text)
-    for node in ast.walk(tree):
-        node.annotation = node.returns = None
-        for field in ("body", "orelse", "finalbody"):
-            if isinstance(getattr(node, field, None), list):
-                setattr(node, field, [plain(one) for one in getattr(node, field) if is_run(one)])
-    return ast.dump(tree), [node.lineno for node in ast.walk(tree) if isinstance(node, ast.stmt)]
-
-
-def differences(origin, package):
-    """The modules of a package that differ from those of their origin: in code, in its lines, or in a rule's page."""
-    pages = runpy.run_path(str(package / "rules/pages.py"))
-    for path in origin.rglob("*.py"):
-        name, text = path.relative_to(origin).as_posix(), text_of(path)
-        # (a wheel has no module that has only a text, and no library for C)
-        found = text_of(package / name) if (package / name).exists() else ""
-        is_same = text == found or f"balisekit/{name}" not in INTERFACE and code_of(text) == code_of(found)
-        page = ast.get_docstring(ast.parse(text)) if "__doc__" in text else ""
-        if not (is_same or name == "engine/library.py") or page.split() != pages.get(path.stem, "").split():
-            yield name
-
-
-def check_wheel(made, tree):
+def test_wheel(made):
     """The wheel is installed in a venv without network. It has the code of the tarball, and all names that it uses."""
     venv = made.with_name("a venv")
     assert next(made.glob("*.whl")).stat().st_size <= MOST
     sh(made, f"python3 -m venv --without-pip --system-site-packages '{venv}' && '{venv}/bin/python' {INSTALL}")
     package = next(venv.glob("lib/python3*/site-packages/balisekit"))
-    assert [*differences(tree / "companion/src/balisekit", package)] == []
+    assert [*differences(made.with_name("tree") / "companion/src/balisekit", package)] == []
     modules = [".".join(path.relative_to(package.parent).with_suffix("").parts) for path in package.rglob("*.py")]
     sh(package, f"'{venv}/bin/python' -c 'import {', '.join(name for name in modules if '__' not in name)}'")
     assert "undefined name" not in sh(package, "python3 -m pyflakes .", check=False)
@@ -160,7 +188,7 @@ def check_wheel(made, tree):
     serves(made, venv)
 
 
-def check_deb(made):
+def test_deb(made):
     """The .deb is unpacked and used. The recipe of the container fits what it has and recommends."""
     root = made.with_name("a root")
     docs, recipe = root / "usr/share/doc/balisecheck", text_of(TOP / "examples/container/Containerfile")
@@ -175,7 +203,7 @@ def check_deb(made):
     assert {*re.findall(r"[\w-]+", sh(made, "dpkg-deb -f *.deb Recommends"))} <= {*re.findall(r"[\w-]+", recipe)}
 
 
-def check_libraries(made):
+def test_libraries(made):
     """The SPDX document, THIRD-PARTY.md, the program and crates.txt name the same libraries."""
     document = json.loads(text_of(next(made.glob("*.json"))))
     names = {one["SPDXID"] for one in document["packages"]}
@@ -186,32 +214,3 @@ def check_libraries(made):
     assert {name for names in crates.values() for name in names} - {*crates} <= {name for name, _ in listed}
     called = re.findall(r"(?m)^[0-9a-f]* [tTwW] ([a-z]\w*)::", sh(TOP, f"nm '{program()}'"))
     assert {*called} - {*crates} == {name for name, use in listed if use == "in the program"}
-
-
-@pytest.mark.slow
-def test_release(tmp_path, monkeypatch):
-    """A release, another one that is made at the same time, and what a clone installs."""
-    lacking = [name for name, command in NEEDS.items() if not shutil.which(command)]
-    lacking += [name for name, module in MODULES.items() if not importlib.util.find_spec(module)]
-    if lacking or not (TOP / ".git").exists():
-        pytest.skip(f"a release ({', '.join(lacking) or 'git'})")
-    made, clone, tools = (tmp_path / "a room" / name for name in ("made", "clone", "tools"))
-    tools.mkdir(parents=True)
-    (tools / "advzip").write_text(ADVZIP)
-    (tools / "advzip").chmod(0o755)
-    monkeypatch.setenv("PATH", f"{tools}:/usr/bin:/bin")
-    monkeypatch.setenv("PYTHONPYCACHEPREFIX", str(tmp_path / "compiled"))
-    monkeypatch.delenv("PYTHONDONTWRITEBYTECODE", raising=False)
-    release = "scripts/release.sh --try"
-    assert sh(TOP, f"{release} '{made}' & {release} '{made.with_name('again')}'; wait").count("written: ") == 2
-    assert sh(TOP, f"{release} '{made}'", check=False) == f"release: {made} is not empty\n"
-    sh(TOP, f"scripts/install.sh '{clone}'")
-    has_manuals(clone)
-    monkeypatch.delenv("BALISECHECK")
-    sh(made.parent, "tar -xzf made/*.tar.gz")
-    tree = next(made.parent.glob("balisecheck-*"))
-    check_files(made)
-    check_tarball(made, tree)
-    check_wheel(made, tree)
-    check_deb(made)
-    check_libraries(made)

@@ -2,7 +2,6 @@
 import os
 import platform
 import subprocess
-import tempfile
 
 import pytest
 
@@ -29,11 +28,10 @@ USER = [] if os.getuid() else ["setpriv", "--reuid=65534", "--clear-groups", "--
 
 
 def run(tree, *command, **known):
-    """Status, output and errors of a command. What it leaves behind is not waited for."""
-    with tempfile.TemporaryFile("w+") as output, tempfile.TemporaryFile("w+") as errors:
-        status = subprocess.run(command, env={"PATH": os.environ["PATH"], **known}, cwd=tree.parent, input="a1\n",
-                                text=True, stdout=output, stderr=errors, check=False).returncode
-        return status, *(it.seek(0) or it.read() for it in (output, errors))
+    """Status, output and errors of a command."""
+    ran = subprocess.run(command, env={"PATH": os.environ["PATH"], **known}, cwd=tree.parent, input="a1\n", text=True,
+                         capture_output=True, check=False)
+    return ran.returncode, ran.stdout, ran.stderr
 
 
 def decode(tree, *before):

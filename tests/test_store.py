@@ -27,29 +27,21 @@ def releases(tree):
     return [line.split()[0] for line in (tree / "dist/RELEASES").read_text("utf-8").splitlines()[1:]]
 
 
-@pytest.fixture(scope="module", name="trees")
-def both_trees(tmp_path_factory):
-    """A folder with a tree with a program that was built, and one with a stored program."""
-    room = tmp_path_factory.mktemp("trees")
+@pytest.fixture(scope="module", name="kept")
+def a_kept_tree(tmp_path_factory):
+    """A folder with tools, and with a tree that has a stored program."""
+    room = tmp_path_factory.mktemp("kept")
     write(room / "tools/readelf", READELF)
     write(room / "tools/rt", "#!/bin/sh\necho a kit\n")
-    sh(made(room / "a tree"), "git init -q; save; built one")
-    shutil.copytree(room / "a tree", room / "stored")
-    said = sh(room / "stored", "scripts/release.sh store; save")
-    assert "the stored program: 12 passed, 0 failed\nstored: commit dist" in said
+    said = sh(made(room / "a tree"), "git init -q; save; built one; scripts/release.sh store; save")
+    assert "the stored program: 13 passed, 0 failed\nstored: commit dist" in said
     return room
 
 
-@pytest.fixture(name="tree")
-def a_tree(trees, tmp_path):
-    """A tree with a program that was built, and none that is stored."""
-    return shutil.copytree(trees, tmp_path, dirs_exist_ok=True) / "a tree"
-
-
 @pytest.fixture(name="stored")
-def a_stored_program(trees, tmp_path):
+def a_stored_program(kept, tmp_path):
     """A tree with a stored program."""
-    return shutil.copytree(trees, tmp_path, dirs_exist_ok=True) / "stored"
+    return shutil.copytree(kept, tmp_path, dirs_exist_ok=True) / "a tree"
 
 
 def test_store(stored):
@@ -66,12 +58,12 @@ def test_store(stored):
     ("echo >>out/balisecheck", "the program in out is damaged: scripts/build"),
     ("echo >>out/libbalisecheck.so", "the library in out is damaged, missing or of other sources: scripts/library"),
     ("sed -i '1s/.*/sources 0/' out/LIBRARY", "the library in out is damaged, missing or of other sources: "),
-    ("echo 1.2.10 >VERSION; built other; git checkout -q VERSION", "not stored, since tests/dist failed")])
-def test_not_stored(tree, command, why):
+    ("sed -i s/1[.]2[.]9/9.9.9/ man/balisecheck.1", "not stored, since tests/dist failed")])
+def test_not_stored(stored, command, why):
     """After the command nothing is stored."""
-    sh(tree, command)
-    assert refused(tree, why, "store") is True
-    assert sh(tree, "git status --porcelain dist") == ""
+    sh(stored, command)
+    assert refused(stored, why, "store") is True
+    assert sh(stored, "git status --porcelain dist") == ""
 
 
 def test_numbers(stored):
@@ -88,8 +80,9 @@ def test_numbers(stored):
     assert releases(stored) == ["1.2.9", "1.2.10", "1.2.11"]
 
 
-def test_release(tree):
+def test_release(stored):
     """Nothing is released that was not stored, judged or passed. After each command something else is missing."""
+    sh(stored, "echo // >>crates/etcs_low/src/lib.rt; save; built one")
     for command, why in (
             (":", "the program in dist/x86_64-linux was built from other sources: scripts/release.sh store"),
             ("scripts/release.sh store", "not committed: "),
@@ -101,9 +94,9 @@ def test_release(tree):
             ("echo 'the edits: 9 passed, 0 failed' >out/edits.log", "out/edits.log is from other sources: "),
             ("sed -i \"1i== crates $(git rev-parse HEAD:crates)\" out/edits.log", "no out/plants.log in which "),
             ("sed -i 's/^version .*/version 1.2.8/' $stored/ABOUT; save", "the stored program is not 1.2.9: ")):
-        sh(tree, command)
-        assert refused(tree, why) is True
-    assert refused(tree, "usage: ", "tarball") is True
+        sh(stored, command)
+        assert refused(stored, why) is True
+    assert refused(stored, "usage: ", "tarball") is True
 
 
 VERSIONED = ("ABOUT", "../../VERSION", "../../man/balisecheck.1", "../../CHANGELOG.md")
@@ -124,7 +117,9 @@ VERSIONED = ("ABOUT", "../../VERSION", "../../man/balisecheck.1", "../../CHANGEL
     ("sed -i 's/^commit .*/commit 0123/' ABOUT", "the commit of its sources is in this history"),
     ("echo >>../../crates/etcs_low/src/lib.rt", "the stored program is of these sources"),
     ("echo >>../../out/balisecheck; sed -i 's/^kit .*/kit another/' ABOUT", "It was built by another kit, another."),
-    ("rm ../../out/balisecheck", "the stored program is the one that was built here")])
+    ("rm ../../out/balisecheck", "the stored program is the one that was built here"),
+    ("rm ../../out/LIBRARY", "the stored library is the one that was built here"),
+    ("sed -i s/[0-9a]$/b/ ../../out/LIBRARY", "the stored library is the one that was built here")])
 def test_wrong(stored, command, why):
     """After the command in the folder of the stored program this test fails."""
     sh(stored, f"cd $stored; {command}")

@@ -3,6 +3,7 @@ pages and schemas that are made of it."""
 import difflib
 import json
 import re
+import runpy
 import sys
 
 import pytest
@@ -14,10 +15,10 @@ sys.path[1:1] = [str(TOP / "companion/src"), str(TOP / "bench")]
 import records  # noqa: E402  (the path comes first)
 from balisekit.etcs.layout import bits_of, message_fields, telegram_fields  # noqa: E402
 from variables.definitions import NUMBERING, about, names, numbers_in, unit_in  # noqa: E402
-from variables.made import FINDINGS, made  # noqa: E402
 from variables.page import raw_rows  # noqa: E402
-from variables.table import COUNTED, TABLE, Row, read_rows, rows_of  # noqa: E402
+from variables.table import COUNTED, Row, read_rows, rows_of  # noqa: E402
 
+TRACE = runpy.run_path(str(TOP / "tests/trace"))
 ROWS = read_rows()
 VARIABLES = [it for it in ROWS if it.variable]
 LAYOUTS = rows_of(ROWS)
@@ -98,7 +99,7 @@ def test_comments(row):
 
 def test_rules_and_words():
     """Each finding has a row. Each row names a section, or whose rule it is, and no word has two."""
-    assert [it.layouts for it in ROWS if it.kind == "rule"] == [f"rule {rule}" for rule, *_ in FINDINGS]
+    assert [it.layouts for it in ROWS if it.kind == "rule"] == [f"rule {rule}" for rule, *_ in TRACE["FINDINGS"]]
     words = [it.layouts for it in ROWS if it.kind == "word"]
     assert len(words) == len({*words}) and all(it.section for it in ROWS)
 
@@ -111,7 +112,7 @@ def test_raw():
             assert (row.variable, row.bits, row.numbers, row.unit) in known
 
 
-@pytest.mark.parametrize("path, text", made().items(), ids=lambda it: getattr(it, "name", ""))
+@pytest.mark.parametrize("path, text", TRACE["made"]().items(), ids=lambda it: getattr(it, "name", ""))
 def test_made(path, text):
     """What is made of the table is what `tests/trace --write` makes now."""
     there = path.read_text(encoding="utf-8").splitlines()
@@ -123,13 +124,3 @@ def test_note():
     row = Row(layouts="header", variable="N_PIG", bits="3", compared="A. Person, 3.6.0", date="2026-11-28").sealed()
     assert row.sum and row.sealed() == row
     assert row._replace(bits="4").sealed()[-3:] == ("", "", "")
-
-
-@pytest.mark.parametrize("before, after, said", [
-    ("D_GRADIENT,15", "D_GRADIENT,x", "packet 21, D_GRADIENT: bits of another form: x"),
-    ("layouts,variable", "layout,variable", "other columns"),
-    ("packet 0,NID_VBCMK", "packet 1,NID_VBCMK", "no row about packet 1 itself")])
-def test_wrong_form(before, after, said):
-    """A table of another form ends the program with a message."""
-    with pytest.raises(SystemExit, match=said):
-        records.layouts_of(read_rows(TABLE.read_text(encoding="utf-8").replace(before, after, 1)))

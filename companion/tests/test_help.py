@@ -99,10 +99,13 @@ def test_help_and_a_wrong_command_name_all_commands(words: str, capsys: pytest.C
 
 
 def test_the_packages_of_the_tests() -> None:
-    """Each package that companion/test and the tests look for is one that tests/all installs."""
+    """Each package that companion/test and the tests look for is one that tests/all installs, except a browser."""
     script = (TOP / "companion" / "test").read_text("utf-8")
     packages = set(re.findall(r"(?m)^(?!#).*(?:has|check \w+) \w+ ([\w-]+)", script))
-    for path in (TOP / "companion" / "tests").rglob("test_*.py"):
-        packages |= {f"python3-{name}" for name in re.findall(r'importorskip\("(\w+)"\)', path.read_text("utf-8"))}
+    for path in (*(TOP / "companion" / "tests").rglob("test_*.py"), *(TOP / "tests").glob("*.py")):
+        text = path.read_text("utf-8")
+        packages |= {f"python3-{name}" for name in re.findall(r'importorskip\("(\w+)"\)', text)}
+        packages |= set(re.findall(r'(?:skip\(|reason=)"[^"\n]*\(([\w-]+)\)"', text))
+    packages -= {"chromium", "toolchain"}
     listed = (TOP / "tests" / "packages.sh").read_text("utf-8").split("\npackages='")[1].split("'")[0]
     assert {"mypy", "python3-jinja2"} <= packages and packages <= {word.split("=")[0] for word in listed.split()}

@@ -1016,3 +1016,10 @@ def repeated(place: int, metres: int) -> Options:
 def test_a_border_where_the_kilometres_are_repeated(found: Found) -> None:
     """Its group has no place of its own, and may be what looks missing."""
     assert not found("E18", Line(border=0), shifted(16_720, -100), repeated(16_720, 100))
+
+
+@pytest.mark.parametrize("details", [{"q_front": 1}, {"differences": [{"q_diff": 1, "nc": 2, "v_diff": 10}]}])
+def test_e15_of_the_end_mark_of_speeds(found: Found, details: Dict[str, Any]) -> None:
+    """V_STATIC 127 is no speed: nothing more is said of it."""
+    assert not found("E15", INFILL, set_in_item(SITE, GREEN, 27, "elements", -1, **details))
+    assert len(found("E15", INFILL, set_in_item(SITE, GREEN, 27, "elements", 0, **details))) == 1

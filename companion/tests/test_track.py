@@ -506,3 +506,14 @@ def test_a_minus_is_as_wide_as_a_plus(run: Run, tmp_path: Path) -> None:
         run("draw", LINE, *words, "--aspect", "green", "--svg", tmp_path / "t.svg")
         texts = [one.text for one in ElementTree.parse(tmp_path / "t.svg").iter(f"{SVG}text")]
         assert "\u22125 \u2030" in texts and "-5 \u2030" not in texts and "+2 \u2030" in texts
+
+
+def test_a_file_that_is_not_read_is_noted(run: Run, table: Write, tmp_path: Path) -> None:
+    """Its [check] may ask for rules whose entries have flags."""
+    path = table("group,km,telegram", f"A,1.0,{ALONE}")
+    beside = table(content=b"[check]\nrules = 'E2'\n", name="balisekit.toml")
+    other = table(content=b"group = 'group'", name="c.toml")
+    note = f"note: {beside} is not read: --columns names another file"
+    assert note in run("draw", path, "--track", "--columns", other)[2]
+    assert note in run("draw", path, "--all", tmp_path / "all", "--columns", other)[1]
+    assert note not in run("draw", path, "--track")[2]

@@ -706,3 +706,18 @@ def test_pages(run: Run) -> None:
         assert len(path.read_text("utf-8").splitlines()) < 150, path
     out = run("check", TOP / plan_example.TABLE, "--plan", TOP / plan_example.PLAN, "--explain")[1]
     assert any(line.startswith("X3: end of authority at no signal of the plan") for line in out)
+
+
+def test_the_plan_of_a_project_has_jumps(run: Run, program: Program, tmp_path: Path) -> None:
+    """`plan` uses those of [check] plan, each once, but this plan may be the one that it writes first."""
+    path, file, other = written(program, tmp_path / "t.csv"), tmp_path / "p.csv", tmp_path / "other.csv"
+    jumped(path)
+    (tmp_path / "balisekit.toml").write_text("[check]\nplan = 'p.csv'\njumps = 'j.csv'\n", "utf-8")
+    jumps = tmp_path / "j.csv"
+    jumps.write_text("km,km_after\n20.000,25.000\n", "utf-8")
+    assert run("plan", path, "--csv", file)[0] == 0
+    jumps.write_text("km,km_after\n", "utf-8")
+    for _ in range(2):
+        assert run("plan", path, "--csv", other, "--force")[0] == 0
+        assert other.read_bytes() == file.read_bytes() and file.read_text("utf-8").count("jump") == 1
+        jumps.write_text("km,km_after\n20.0,25.0\n", "utf-8")

@@ -5,10 +5,13 @@
 """
 import json
 import re
+import sys
 
-from balisekit.etcs.packets import packet_name
 from runner import TOP
 from variables.table import COUNTED, Row, rows_of
+
+sys.path.insert(1, str(TOP / "companion/src"))
+from balisekit.etcs.packets import packet_name  # noqa: E402  (the path comes first)
 
 PAGE = TOP / "docs/variables.md"
 RAW = json.loads((TOP / "companion/src/balisekit/etcs/raw_layouts.json").read_text(encoding="utf-8"))
@@ -94,7 +97,6 @@ def variables_page(rows):
     """The page of variables with its parts as they are made now."""
     text = PAGE.read_text(encoding="utf-8")
     on_page = {what for _, kind, what in PART.findall(text) if kind == "layout"}
-    if on_page != {*rows_of(rows)}:
-        raise SystemExit(f"only {PAGE.name} or only the table has {', '.join(sorted(on_page ^ {*rows_of(rows)}))}")
+    assert on_page == {*rows_of(rows)}, "the page and the table have other layouts"
     parts = {"layout": layout_part, "raw": raw_part}
     return PART.sub(lambda it: f"{it[1]}\n{parts[it[2]](rows, it[3])}", text)

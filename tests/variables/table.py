@@ -16,9 +16,7 @@ TABLE = TOP / "docs/assurance/trace.csv"
 COLUMNS = ("layouts variable bits numbers fault when key unit meaning about section doubt "
            "unstated compared date sum").split()
 COUNTED = "counted"
-SPAN = r"(\d+)(?: to (\d+))?(?: ([^;]+))?"
-FORMS = {"bits": r"\d*", "numbers": rf"|{COUNTED}|{SPAN}(; {SPAN})*", "when": r"|\w+ \d+( or \d+)*",
-         "key": r"([a-z_]+(\[\])?/)*([a-z_ ]*|[a-z_]+\[\])"}
+SPAN = re.compile(r"(\d+)(?: to (\d+))?(?: ([^;]+))?")
 
 
 class Row(namedtuple("Row", COLUMNS, defaults=[""] * len(COLUMNS))):
@@ -31,8 +29,8 @@ class Row(namedtuple("Row", COLUMNS, defaults=[""] * len(COLUMNS))):
     @cached_property
     def spans(self):
         """The numbers that are read: the first and the last of each span, and its meaning."""
-        found = [re.fullmatch(SPAN, it) for it in self.numbers.split("; ") if it not in ("", COUNTED)]
-        return [(int(it[1]), int(it[2] or it[1]), it[3] or "") for it in found]
+        found = [SPAN.fullmatch(it).groups() for it in self.numbers.split("; ") if it not in ("", COUNTED)]
+        return [(int(first), int(last or first), words or "") for first, last, words in found]
 
     @cached_property
     def refused(self):
@@ -66,17 +64,10 @@ class Part(namedtuple("Part", "key count least nodes")):
     condition = property(lambda self: ("", []) if self.count else self.nodes[0].condition)
 
 
-def read_rows(text=None):
-    """The rows of the table, or of this text. A form that is not known here ends the program with a message."""
-    head, *lines = csv.reader((text or TABLE.read_text(encoding="utf-8")).splitlines())
-    if head != COLUMNS or any(len(it) != len(COLUMNS) for it in lines):
-        raise SystemExit(f"{TABLE.name} has other columns than {', '.join(COLUMNS)}, or a row has more or fewer")
-    rows = [Row(*it) for it in lines]
-    for row in rows:
-        for column, form in FORMS.items():
-            if not re.fullmatch(form, getattr(row, column)):
-                raise SystemExit(f"{TABLE.name}, {row.title}: {column} of another form: {getattr(row, column)}")
-    return rows
+def read_rows():
+    """The rows of the table."""
+    _, *lines = csv.reader(TABLE.read_text(encoding="utf-8").splitlines())
+    return [Row(*it) for it in lines]
 
 
 def rows_of(rows):
@@ -85,8 +76,6 @@ def rows_of(rows):
     for row in filter(lambda it: it.variable, rows):
         kind, _, numbers = row.layouts.partition("s ")
         for name in [f"{kind} {it}" for it in numbers.split(", ")] if ", " in numbers else [row.layouts]:
-            if name not in found:
-                raise SystemExit(f"{TABLE.name} has no row about {name} itself")
             found[name].append(row)
     return found
 

@@ -24,7 +24,7 @@ from balisekit.rules.families import FAMILIES, apply
 from balisekit.rules.line import Line
 from balisekit.rules.rule import Options
 from balisekit.tables.model import Messages, Table
-from balisekit.tables.names import clean, describe_message, passed_over, quoted
+from balisekit.tables.names import clean, describe_message, notes_on, passed_over, quoted
 
 
 def add_options(parser: argparse.ArgumentParser) -> None:
@@ -102,7 +102,7 @@ def _track(options: argparse.Namespace, checked: Checked, of_line: Options) -> i
     options.svg.write(track_page(outcome, links, track, options.aspect))
     for item in [*refused(checked), *not_looked_at(checked)]:
         print(f"balisekit: {item}", file=sys.stderr)
-    lines = [*passed_over(table), *written(line, track, options.aspect, clean(str(options.svg)))]
+    lines = [*notes_on(table), *written(line, track, options.aspect, clean(str(options.svg)))]
     count = len(checked.accepted_messages)
     lines += [f"left out: {count} message{'s' * (count > 1)}, which --message draws"] if count else []
     shared.say(lines, options.svg)

@@ -17,14 +17,14 @@ from balisekit.rules.families import FAMILIES, Outcome, apply
 from balisekit.rules.line import Line
 from balisekit.rules.links import Links
 from balisekit.rules.rule import Options
-from balisekit.tables.names import NAMED, clean, describe_group, describe_message, listed, passed_over, quoted
+from balisekit.tables.names import NAMED, clean, describe_group, describe_message, listed, notes_on, quoted
 
 
 def run(options: argparse.Namespace, checked: Checked, of_line: Options) -> int:
     """Writes the pictures and reports each file. What is refused is reported too, and the rest is drawn."""
     for item in [*refused(checked), *not_looked_at(checked)]:
         print(f"balisekit: {item}", file=sys.stderr)
-    for note in passed_over(checked.table):
+    for note in notes_on(checked.table):
         print(note)
     outcome, folder, names = apply(checked, tuple(FAMILIES), of_line), options.all, FileNames()
     links = links_of(outcome, of_line)

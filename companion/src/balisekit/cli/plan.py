@@ -15,7 +15,7 @@ from balisekit.rules.checking import Checked
 from balisekit.rules.line import Line
 from balisekit.rules.rule import Options
 from balisekit.rules.track_plan.implied import Made, implied
-from balisekit.tables.names import clean, passed_over
+from balisekit.tables.names import clean, notes_on
 from balisekit.tables.plan import COLUMNS, cells
 
 
@@ -46,8 +46,8 @@ def _lines(options: argparse.Namespace, checked: Checked, made: Made) -> List[st
     last = f"written: {clean(str(options.csv))}: {written}"
     return [
         head_line(checked.table),
-        *passed_over(checked.table),
-        *(f"note: {clean(note)}" for note in (*checked.table.notes, *made.notes)),
+        *notes_on(checked.table),
+        *(f"note: {clean(note)}" for note in made.notes),
         *refused_lines(checked),
         last if checked.whole else f"INCOMPLETE: {', '.join(lacking)}; {last}",
     ]

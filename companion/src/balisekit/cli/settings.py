@@ -5,8 +5,9 @@ The table [report] of the file has the heading of reports.
 from __future__ import annotations
 
 import argparse
+import os
 import re
-from typing import Any, Callable, Dict, FrozenSet, Mapping, Sequence, Tuple
+from typing import Any, Callable, Dict, FrozenSet, Mapping, Optional, Sequence, Tuple
 
 from balisekit.cli import options as shared
 from balisekit.errors import TableError, faults_of
@@ -83,21 +84,27 @@ def of_line(options: argparse.Namespace) -> Options:
     if "tolerance" in stated:
         more["tolerance"] = more["tolerance_of_places"] = stated["tolerance"]
     plan = plan_file.read(stated["plan"]) if "plan" in stated else None
-    own_jumps = read_jumps(stated["jumps"]) if "jumps" in stated else ()
     return Options(
         **more,
         line_speed=stated.get("line_speed"),
         release_speed=stated.get("release_speed", RELEASE_SPEED),
-        jumps=(*own_jumps, *(Jump(*each) for each in (plan.jumps if plan else ()))),
+        jumps=_jumps(stated, plan),
         plan=plan,
         asked=stated.get("rules", frozenset()),
     )
 
 
 def jumps(options: argparse.Namespace) -> Tuple[Jump, ...]:
-    """Where the kilometres jump, by the option or by balisekit.toml."""
-    path = options.jumps or _of_file(options).get("jumps")
-    return read_jumps(path) if path else ()
+    """Where the kilometres jump, by the option, by balisekit.toml and by its plan, which need not be written yet."""
+    stated = {**_of_file(options), **_given(options)}
+    is_written = os.path.exists(stated.get("plan", ""))
+    return _jumps(stated, plan_file.read(stated["plan"]) if is_written else None)
+
+
+def _jumps(stated: Mapping[str, Any], plan: Optional[plan_file.Plan]) -> Tuple[Jump, ...]:
+    """Those of the file of jumps, and those of the plan, each once."""
+    own = read_jumps(stated["jumps"]) if "jumps" in stated else ()
+    return tuple(dict.fromkeys([*own, *(Jump(*each) for each in (plan.jumps if plan else ()))]))
 
 
 def _given(options: argparse.Namespace) -> Dict[str, Any]:

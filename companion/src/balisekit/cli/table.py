@@ -13,7 +13,7 @@ from balisekit.present.refusals import not_looked_at, refused_counts, refused_li
 from balisekit.rules import checking
 from balisekit.rules.checking import Checked
 from balisekit.tables import expected
-from balisekit.tables.names import clean, passed_over
+from balisekit.tables.names import clean, notes_on
 
 EXPECT = "a CSV file or an .xlsx with the columns that table writes: compare it with the table"
 
@@ -55,5 +55,5 @@ def _lines(options: argparse.Namespace, checked: Checked, directions: Sequence[s
     """What was read and written, and which telegrams are refused."""
     table = checked.table
     written = [f"written: {clean(str(output))}" for output in (options.csv, options.xlsx) if output]
-    notes = [f"note: {clean(note)}" for note in (*table.notes, *directions)]
-    return [head_line(table), *passed_over(table), *notes, *refused_lines(checked), *written]
+    notes = [*notes_on(table), *(f"note: {clean(note)}" for note in directions)]
+    return [head_line(table), *notes, *refused_lines(checked), *written]

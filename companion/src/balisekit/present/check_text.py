@@ -7,7 +7,7 @@ from balisekit.present.refusals import not_looked_at, refused_counts, refused_li
 from balisekit.rules.checking import Checked
 from balisekit.rules.remarks import remarks
 from balisekit.tables.model import Group, Table
-from balisekit.tables.names import clean, counted, describe_group, passed_over
+from balisekit.tables.names import clean, counted, describe_group, notes_on
 
 NAMED = 3
 """How many groups with one number of aspects are named."""
@@ -17,8 +17,7 @@ def opening_lines(checked: Checked) -> Iterator[str]:
     """The first lines of the answer: the table, and what was refused, left out or not looked at."""
     table = checked.table
     yield head_line(table)
-    yield from passed_over(table)
-    yield from (f"note: {clean(note)}" for note in table.notes)
+    yield from notes_on(table)
     yield from refused_lines(checked)
     yield from (f"left out: {describe_group(one.group)}: {one.why}" for one in checked.left_out)
     yield from (f"and {count}: --all continues" for count in not_looked_at(checked))

@@ -74,6 +74,11 @@ def passed_over(table: Table) -> List[str]:
     return [f"columns passed over: {listed(names, len(names), len(table.passed_over))}"] if names else []
 
 
+def notes_on(table: Table) -> List[str]:
+    """How the table was read: a line on the columns that are not used, and its notes."""
+    return [*passed_over(table), *(f"note: {clean(note)}" for note in table.notes)]
+
+
 def kilometre(km: Decimal) -> str:
     """A kilometre with three digits after the point, and more if it has more."""
     text = f"{km:.3f}"

@@ -2,12 +2,12 @@
 
 What it says. A packet 12, 21, 27 or 80 after a packet 136 differs from that of the signal's aspect of the same name, or
 the signal is in rear. The signal is the group that the packet 136 names; it is also named if it is missing. Packets are
-compared in all fields but Q_DIR, Q_SCALE and the Q_GDIR of a G_A 0 or 255, for the direction in which the train passes
-the signal. Distances are compared in metres; if Q_SCALE differs, the greater unit is allowed. Sections without timers
-count by their sum. Packets that only one of the groups has are passed over. A missing signal gets only a note if a
-group without a read telegram may be it. So it does if no group ahead of the infill group gives an authority in its
-direction: it may be beyond the table. The layouts of packets 80 and 136 are balisekit's own (SUBSET-026, 3.6.2 and
-7.4.2).
+compared in all fields but Q_DIR, Q_SCALE, the Q_GDIR of a G_A 0 or 255, and the Q_FRONT and V_DIFF of a V_STATIC 127,
+for the direction in which the train passes the signal. Distances are compared in metres; if Q_SCALE differs, the
+greater unit is allowed. Sections without timers count by their sum. Packets that only one of the groups has are passed
+over. A missing signal gets only a note if a group without a read telegram may be it. So it does if no group ahead of
+the infill group gives an authority in its direction: it may be beyond the table. The layouts of packets 80 and 136 are
+balisekit's own (SUBSET-026, 3.6.2 and 7.4.2).
 
 How urgent. At worst wrong information.
 

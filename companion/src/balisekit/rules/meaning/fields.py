@@ -11,8 +11,10 @@ from balisekit.tables.names import ordinal
 
 NOT_COMPARED = {"q_dir", "q_scale", "l_packet", "body", "nid_packet"}
 SECTIONS, TIMERS = {"sections", "l_endsection"}, ("section_timer", "end_timer")
-SIGN, NO_SIGN = "q_gdir", {0, 255}
-"""The sign of a gradient, and each G_A that has none: a level, and the end mark."""
+SIGN = "q_gdir"
+"""The sign of a gradient."""
+DETAILS = {SIGN: ("g_a", {0, 255}), "q_front": ("v_static", {127}), "differences": ("v_static", {127})}
+"""What says more of a value, and the numbers of which it says nothing: a level, and the end mark of a profile."""
 INFINITE = 32_767
 """A distance that has no unit."""
 
@@ -61,7 +63,7 @@ def _compared(own: Any, theirs: Any, packets: Tuple[Packet, Packet], where: str,
     """The fields of two objects that differ, by their order in the first one."""
     keys: List[str] = [key for key in own if key not in NOT_COMPARED] + [key for key in theirs if key not in own]
     for key in keys:
-        if key in NOT_COMPARED or key == SIGN and NO_SIGN & {own["g_a"], theirs["g_a"]}:
+        if key in NOT_COMPARED or _says_nothing(key, own, theirs):
             continue
         values: Sequence[Any] = own.get(key), theirs.get(key)
         if isinstance(values[0], dict) and isinstance(values[1], dict):
@@ -79,6 +81,12 @@ def _compared(own: Any, theirs: Any, packets: Tuple[Packet, Packet], where: str,
             numbers = {key: values[0], f"{key}_of_signal": values[1]}
             sent = {name: Decimal(value) for name, value in numbers.items() if isinstance(value, int)}
             yield Apart(f"{variable_name(key, own)}{where}", mine, its, sent, key)
+
+
+def _says_nothing(key: str, own: Any, theirs: Any) -> bool:
+    """Whether a field says more of a value that, in one of the two elements, there is nothing more to say of."""
+    value, bare = DETAILS.get(key, ("", set()))
+    return not bare.isdisjoint({own.get(value), theirs.get(value)})
 
 
 def _differ(key: str, values: Sequence[Any], packets: Sequence[Packet], allowed: int) -> bool:
