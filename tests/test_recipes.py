@@ -9,33 +9,23 @@ import pytest
 
 from runner import TOP, blocks, in_bytes, marked, program, run
 
-PAGES = ("README.md", "examples/README.md", "examples/parallel.sh", *(f"docs/{name}.md" for name in (
-    "refusals", "formats", "findings", "guide", "commands", "performance")))
+PAGES = ("README.md", "examples/README.md", "examples/parallel.sh", "man/balisecheck.1", *(
+    f"docs/{name}.md" for name in ("refusals", "formats", "findings", "guide", "commands", "performance")))
 # A tool, the words of commands that need it, and what is skipped without it.
 TOOLS = ("jq", "jq|shared_identities", "recipes by jq"), ("parallel", "check_doc|run_in_", "recipes by GNU parallel")
 RECIPES = {name: marked(lines) for name, *lines in blocks("recipes.txt")}
 FILES = {name: in_bytes(texts["<"]) for name, texts in RECIPES.items() if "$" not in texts}
-TELEGRAM, SPARE = FILES["telegram.txt"].strip(), FILES["spare.txt"].strip()
-MARKED = TELEGRAM.replace(b"2000ffff", b"2000c011")
-THREE = TELEGRAM, MARKED, SPARE
-GOOD = b"%b\n\n%b\n%b\n" % THREE
-# The same lines with other characters: the row of docs/refusals.md that corrects them, its byte order, and the file.
-TO_MEND = [
-    ("named", "", b"A 1;km 3,2\t0x%b\n\nB-2;%b\r\nC,3,0X%b\t\r\n" % THREE),
-    ("returns", "", GOOD.replace(b"\n", b"\r")),
-    ("utf16", "", GOOD.decode().encode("utf-16")),
-    ("utf16", "LE", GOOD.decode().encode("utf-16-le")),
-    ("several", "", b"%b # Stra\xdfe 7\n# \xc3\xa4, 0x10\n%b\t#\n  0X%b#c0\n" % THREE),
-    ("several", "", b'\xef\xbb\xbf"%b",\xc2\xa0\r\n \t\r\n%b;\n"%b"\n' % (
-        re.sub(b"..", rb"\g<0>-", TELEGRAM), MARKED, SPARE)),
-]
+GOOD = FILES["good.txt"]
+# The same lines with other characters, after the row of docs/refusals.md that corrects them.
+TO_MEND = [("utf16", GOOD.decode().encode("utf-16")), ("utf16 LE", GOOD.decode().encode("utf-16-le")),
+           *((name[9:], content) for name, content in FILES.items() if name.startswith("to mend: "))]
 
 
 def shown(page):
     """The blocks of commands that a page or the head of a script shows: the commands, and what they write."""
-    text = (TOP / page).read_text(encoding="utf-8")
+    text = (TOP / page).read_text(encoding="utf-8").replace(r"\(aq", "'")
     heads = (re.sub("(?m)^#     ", "", it) for it in re.findall(r"(?m)(?:^#     .*\n)+", text))
-    for block in [*re.findall(r"(?ms)^```console\n(.*?)^```$", text), *heads]:
+    for block in [*re.findall(r"(?ms)^(?:```console|\.nf)\n(\$ .*?)^(?:```|\.fi)$", text), *heads]:
         yield "\n".join(re.findall(r"(?m)^\$ (.*)", block)), re.sub(r"(?m)^\$ .*\n", "", block)
 
 
@@ -47,17 +37,17 @@ MENDING = dict(re.findall(r"(?m)^\| `(\w+)\.txt`.*\| `(.*mended\.txt)` \|$", (TO
 def shell(tmp_path):
     """Runs commands in a bash that has the functions, in a folder of these files."""
     (tmp_path / "balisecheck").symlink_to(program())
-    for name in ("examples", "balisekit", "companion"):
+    for name in ("examples", "balisekit", "companion", "docs"):
         (tmp_path / name).symlink_to(TOP / name)
     for name, content in FILES.items():
         (tmp_path / name).write_bytes(content)
-    known = {"BALISECHECK": program(), "T": TELEGRAM.decode(), "S": SPARE.decode(), "E": " \t\r"}
+    known = {"BALISECHECK": program(), "T": GOOD[:54].decode(), "S": GOOD[-55:-1].decode(), "E": " \t\r"}
 
     def ran(commands):
         for tool, words, skipped in TOOLS:
             if re.search(words, commands) and not shutil.which(tool):
                 pytest.skip(f"{skipped} ({tool})")
-        script = f". examples/find-field.sh\n. examples/parallel.sh\n{commands}"
+        script = f"PATH=$PATH:.\n. examples/find-field.sh\n. examples/parallel.sh\n{commands}"
         return run(("-c", script), path="bash", input=b"", cwd=tmp_path, env={**os.environ, **known})
     return ran
 
@@ -72,23 +62,16 @@ def test_block(commands, wanted, shell):
 def test_pages():
     """Each page has commands. Each kind of file has a row."""
     assert {page for page, commands, _ in BLOCKS if commands} == {*PAGES}
-    assert {*MENDING} == {row for row, *_ in TO_MEND}
+    assert {*MENDING} == {row.split()[0] for row, _ in TO_MEND}
 
 
-@pytest.mark.parametrize("name", ["line.txt", "aspects.txt"])
-def test_line_ends(name, shell):
-    """A command that makes a document of lines writes the same if they end in blanks and a carriage return."""
-    command = re.search(rf"(?m)^\$ (jq .* {name})$", (TOP / "docs/formats.md").read_text(encoding="utf-8"))[1]
-    other = command.replace(name, "ends.txt")
-    assert shell(f"sed 's/$/ \\t\\r/' {name} >ends.txt; diff <({command}) <({other})").status == 0
-
-
-@pytest.mark.parametrize("row, order, content", TO_MEND, ids=[row for row, *_ in TO_MEND])
-def test_mending(row, order, content, shell, tmp_path):
+@pytest.mark.parametrize("row, content", TO_MEND, ids=[row for row, _ in TO_MEND])
+def test_mending(row, content, shell, tmp_path):
     """The file is refused. Corrected it has the lines, of which only the last one is refused."""
     assert re.search(r"(?m)^refused: line [12]: not hexadecimal\n\Z", run(("decode",), content).stdout)
-    (tmp_path / f"{row}.txt").write_bytes(content)
-    shell(MENDING[row].replace("UTF-16 ", f"UTF-16{order} "))
+    name, _, other = row.partition(" ")
+    (tmp_path / f"{name}.txt").write_bytes(content)
+    shell(MENDING[name].replace("UTF-16 ", f"UTF-16{other} "))
     assert (tmp_path / "mended.txt").read_bytes().replace(b"\r", b"").lower() == GOOD
 
 
