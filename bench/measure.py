@@ -20,6 +20,7 @@ import sys
 import tempfile
 
 from documents import ANY_MESSAGE, GROUPS_OF_COUNTRY, balise_text, pair
+import runner
 
 HERE = pathlib.Path(__file__).resolve().parent
 NO_MESSAGE, SHORT, CUT = 254, 210, 254  # M_MCOUNT, user bits, digits of a line
@@ -29,8 +30,7 @@ NO_GROUPS = '{"groups":[],"messages":[]}\n'
 
 def made(script, *words):
     """What a script of this folder writes."""
-    return subprocess.run([sys.executable, "-B", HERE / script, *map(str, words)], check=True, text=True,
-                          stdout=subprocess.PIPE).stdout
+    return subprocess.check_output([sys.executable, "-B", HERE / script, *map(str, words)], text=True)
 
 
 def inputs(room, count):
@@ -54,7 +54,7 @@ def inputs(room, count):
 
 def answer(command, text, wanted=None):
     """What a command writes, which must be as wanted."""
-    written = subprocess.run(command, input=text, stdout=subprocess.PIPE, text=True, check=True).stdout
+    written = subprocess.check_output(command, input=text, text=True)
     if wanted is not None and written != wanted:
         sys.exit(f"{' '.join(command)} writes another answer: {written[:200]}")
     return written
@@ -145,10 +145,7 @@ def main():
     parser.add_argument("--count", type=int, help="telegrams, messages and groups")
     parser.add_argument("programs", nargs="*", metavar="PROGRAM")
     words = parser.parse_intermixed_args()
-    if not words.programs:
-        asked = subprocess.run([HERE.parent / "balisecheck"], env={**os.environ, "BALISECHECK_PATH": "1"}, check=True,
-                               text=True, stdout=subprocess.PIPE)
-        words.programs = [os.environ.get("BALISECHECK") or asked.stdout.strip()]
+    words.programs = words.programs or [runner.program()]
     with tempfile.TemporaryDirectory(prefix="measure-") as room:
         count, room = words.count or (500 if words.what == "instructions" else 10_000), pathlib.Path(room)
         if words.what == "memory":

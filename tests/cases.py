@@ -9,7 +9,7 @@ import re
 import shlex
 import sys
 
-from runner import EXAMPLES, TOP, answered, blocks, in_full, respelled
+from runner import EXAMPLES, TOP, answered, blocks, in_full, marked, respelled
 
 sys.path.append(str(TOP / "bench"))
 import records  # noqa: E402  (the path comes first)
@@ -138,20 +138,14 @@ def documents():
             yield name, ["check"], other, answered(f"{wanted}\n")
 
 
-def runs():
-    """The runs of runs.txt."""
-    (_, *lines), *others = blocks("runs.txt")
+def runs(file):
+    """The runs of runs.txt or streams.txt."""
+    (_, *lines), *others = blocks(file)
     names = {name: in_full(value) for name, value in (line[1:].split(" ", 1) for line in lines)}
     for name, *lines in others:
-        words, texts = [], {"<": "", ">": "", "!": ""}
-        for line in lines:
-            mark, _, rest = re.sub(rf"@({'|'.join(names)})", lambda found: names[found[1]], line).partition(" ")
-            if mark == "$":
-                words.append(in_full(rest))
-            else:
-                texts[mark.replace("<<", "<")] += in_full(rest) + "\n" * (mark != "<<")
-        given = texts["<"].encode().decode("unicode_escape").encode("latin-1").decode(errors="surrogateescape")
-        yield from ((f"{name}: {one}", shlex.split(one), given, answered(texts[">"], texts["!"])) for one in words)
+        texts = marked(re.sub(rf"@({'|'.join(names)})", lambda found: names[found[1]], line) for line in lines)
+        for words in texts["$"].splitlines():
+            yield f"{name}: {words}", shlex.split(words), texts["<"], answered(texts[">"], texts["!"])
 
 
 def examples():
@@ -165,20 +159,13 @@ def examples():
 
 
 def streams():
-    """Two messages that are cut anywhere into lines, and long lines and telegrams across the blocks of 65,536 bytes
-    that the program reads."""
+    """The runs of streams.txt, and two messages that are cut anywhere into lines."""
+    yield from runs("streams.txt")
     two = MESSAGE * 2
     for end in range(2, 73, 2):
         folded = "\n".join(two[at:at + end] for at in range(0, len(two), end))
         for data in (f"{folded}\n", f"{two[:end]}\r\n\n{two[end:]}\n"):
             yield f"cut after {end} digits", ["decode", *RADIO], data, answered(f"{MOVEMENT}\n" * 2)
-    for length in (65534, 65535, 65536, 65537, 65538, 131072, 1000000):
-        name, digits, why = f"{length} digits", "f" * length, "not hexadecimal" if length % 2 else "wrong size"
-        yield name, ["decode"], f"{digits}\n{TELEGRAM}\n", answered(f"refused: line 1: {why}\n")
-        yield name, ["decode"], f"{TELEGRAM}\n{digits}", answered(f"{ALONE}\nrefused: line 2: {why}\n")
-    for before in (65424, 65480, 65481, 65482, 65483, 65509, 65534, 65535, 65536):
-        data = "\n" * before + f"{TELEGRAM}\r\n{TELEGRAM}\n"
-        yield f"{before} empty lines", ["decode"], data, answered(f"{ALONE}\n" * 2)
 
 
 def common(*more):
@@ -186,7 +173,7 @@ def common(*more):
     for words, some in (["decode"], (*telegrams(), *more)), (["decode", *RADIO], messages()):
         for name, *lines in some:
             yield from told(name, words, *lines)
-    yield from (*forms(), *documents(), *runs(), *examples())
+    yield from (*forms(), *documents(), *runs("runs.txt"), *examples())
 
 
 def every():

@@ -16,9 +16,8 @@ LONG = in_full("a1007f802000c31024a5007fe007d002a813a000105080647f8da05600001400
 REPORT = "8807000000320000004000e480200081f450014002830832c00ed280"
 FORM, MESSAGE_FORM = cases.ALONE, cases.MOVEMENT
 BALISE, LIST = '{"groups":[{"balises":["%s"]}],"messages":[]}', '{"groups":[],"messages":["%s"]}'
-# what is written for records
-RECORDS = {DECODE: r"\{.*", DECODE_RADIO: r"\{.*", ENCODE: "a[01][0-9a-f]{50}[048c]0|a[01][0-9a-f]{205}[048c]",
-           ENCODE_RADIO: "(03|88)([0-9a-f]{2}){2,1022}"}
+# how telegrams and messages are written
+TEXTS = {ENCODE: "a[01][0-9a-f]{50}[048c]0|a[01][0-9a-f]{205}[048c]", ENCODE_RADIO: "(03|88)([0-9a-f]{2}){2,1022}"}
 
 
 # ---- runs
@@ -50,8 +49,9 @@ def long_jobs(words):
 
 def are_records(words, lines):
     """Whether the command writes these lines for records."""
-    fit = words in RECORDS and all(re.fullmatch(RECORDS[words], line) for line in lines)
-    return fit and (words[0] == "encode" or all(cases.FORM.encode(json.loads(line)) == line for line in lines))
+    if words in TEXTS:
+        return all(re.fullmatch(TEXTS[words], line) for line in lines)
+    return words in INVERSE and all(line[:1] == "{" and cases.FORM.encode(json.loads(line)) == line for line in lines)
 
 
 def is_documented(words, answer):

@@ -29,14 +29,9 @@ def crate_uses(top=TOP):
 @functools.lru_cache(None)
 def program():
     """The path of the program."""
-    named = os.environ.get("BALISECHECK")
-    if not named:
-        known = {**os.environ, "BALISECHECK_PATH": "1"}
-        named = subprocess.run([TOP / "balisecheck"], env=known, stdout=subprocess.PIPE, text=True, check=True).stdout
-    path = os.path.abspath(named.strip())
-    if not os.access(path, os.X_OK):
-        raise FileNotFoundError(f"no program {path}: make it by scripts/build, or name one by BALISECHECK")
-    return path
+    known = {**os.environ, "BALISECHECK_PATH": "1"}
+    named = os.environ.get("BALISECHECK") or subprocess.check_output([TOP / "balisecheck"], env=known, text=True)
+    return str(pathlib.Path(named.strip()).absolute())
 
 
 def in_bytes(text):
@@ -72,6 +67,15 @@ def blocks(name):
     """The blocks of lines between empty lines of a file of cases, without comments."""
     lines = [line for line in (CASES / name).read_text(encoding="utf-8").split("\n") if not line.startswith("#")]
     return [block.split("\n") for block in "\n".join(lines).strip("\n").split("\n\n")]
+
+
+def marked(lines):
+    """The texts of lines by the marks in front of them. `<<` is a `<` without a line end, and these have escapes."""
+    texts = collections.defaultdict(str)
+    for mark, _, rest in (line.partition(" ") for line in lines):
+        texts[mark[:1]] += in_full(rest) + "\n" * (mark != "<<")
+    texts["<"] = texts["<"].encode().decode("unicode_escape").encode("latin-1").decode(errors="surrogateescape")
+    return texts
 
 
 def in_full(line):

@@ -4,7 +4,7 @@ import os
 
 import pytest
 
-from corpus import FORM, SHORT, long_jobs, runs_of, undisturbed
+from corpus import long_jobs, runs_of, undisturbed
 from hostile import ALL, CHECK, COMMANDS, Plan, disturbed, shared, stops
 from runner import DEVICE, run
 
@@ -81,9 +81,3 @@ def test_devices_of_the_system(words):
         os.close(pipe)
         assert stops(folder, wanted, DEVICE) if words else folder == wanted, (job, folder)
         assert silent.status == (3 if words else 2) and wanted.stdout.startswith(silent.stdout), (job, silent)
-
-
-def test_reader_that_goes_away():
-    """The program ends after the first line, and doesn't wait for another reader."""
-    ran = run((), f"{SHORT}\n" * 10000, '"$0" decode | head -n 1; exit')
-    assert (ran.status, ran.stdout) == (0, f"{FORM}\n")

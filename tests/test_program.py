@@ -2,7 +2,6 @@
 streams, exit statuses and pages that describe them."""
 import contextlib
 import re
-import shlex
 import shutil
 import subprocess
 import threading
@@ -11,7 +10,7 @@ import pytest
 
 import cases
 from hostile import Job, shared
-from runner import DEVICE, EXAMPLES, TOP, Answer, answered, in_bytes, program, run
+from runner import DEVICE, TOP, Answer, in_bytes, program, run
 
 TELEGRAM, FORM, MESSAGE = cases.TELEGRAM, cases.ALONE, cases.MESSAGE
 PAIRS = {"decode": (TELEGRAM, FORM), "encode": (FORM, TELEGRAM), "decode --radio": (MESSAGE, cases.MOVEMENT),
@@ -45,7 +44,7 @@ def test_a_line_is_answered_before_the_next(words):
 
 
 def test_manual_page():
-    """It has no fault of layout, has each command and status, and an example that writes what it shows."""
+    """It has no fault of layout, and has each command and status."""
     page = TOP / "man" / "balisecheck.1"
     if shutil.which("groff"):
         assert not subprocess.check_output(["groff", "-man", "-ww", "-z", page], stderr=subprocess.STDOUT)
@@ -54,11 +53,6 @@ def test_manual_page():
     assert len(names) == 5 and re.findall(r"(?m)^\.B (\d)$", sections["EXIT STATUS"]) == list("0123")
     for name in names:
         assert not run(name.replace("\\", "").split()).stdout.startswith("refused: usage"), name
-    shown = [line.replace(r"\(aq", "'") for line in sections["EXAMPLE"].splitlines() if not line.startswith(".")]
-    commands = "".join(f"printf '%s\\n' {shlex.quote(line)}; {line[2:]}\n" for line in shown if line.startswith("$ "))
-    ran = subprocess.run(["bash", "-c", f'balisecheck() {{ "$0" "$@"; }}; exec 2>&1\n{commands}', program()],
-                         check=False, stdout=subprocess.PIPE, text=True)
-    assert ran.stdout.splitlines() == shown
 
 
 @pytest.mark.elsewhere
