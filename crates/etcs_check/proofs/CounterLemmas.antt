@@ -1,5 +1,5 @@
 -- The counters of earlier aspects, and the table in which they are marked.
-use Rattle.std.proofs.Common.{◌≡◌, ℕ, ◌+◌, ◌<◌, ◌&&◌, ◌||◌, ltb, List, [], replicate, take, sym, ap, ◌∙◌, arith}
+use Rattle.std.proofs.Common.{◌≡◌, ℕ, ◌+◌, ◌<◌, ◌&&◌, ◌||◌, ltb, List, take, sym, ap, ◌∙◌, arith}
 use Rattle.std.specs.List.{list_any}
 use Rattle.std.proofs.Math.Bool.{or_comm}
 use Rattle.std.proofs.lemmas.Bool.{cases_Bool, ltb-true, and_left}
@@ -12,7 +12,6 @@ use Rattle.etcs_group.specs.Places.{At}
 use Rattle.etcs_check.specs.Walk.{is_taken}
 use Rattle.etcs_check.specs.Findings.{has_counter, is_counter_taken}
 use Rattle.etcs_check.specs.Identities.{is_marked}
-use Rattle.etcs_check.proofs.IdentityLemmas.{unmarked}
 
 -- ---- the table
 
@@ -27,9 +26,6 @@ taken_as table before t has = elim (cases_Bool (ltb t.header.counter 254)) [
       ap (λ q. ltb t.header.counter 254 && q) (has t.header.counter (omega arith))
   | inr high ↦ and_left _ _ high ∙ sym (and_left _ _ high)
 ]
-
-pub no_counters : HasCounters (replicate 4 0) []
-no_counters n lt = unmarked 4 n (omega arith)
 
 pub counters_more : (aspects : List (List Telegram)) (a : ℕ) (group : List Telegram) (table new : List ℕ) → At aspects a group → ((n : ℕ) → is_marked new n ≡ (has_counter n group || is_marked table n)) → HasCounters table (take a aspects) → HasCounters new (take (a + 1) aspects)
 counters_more aspects a group table new at marked has n lt =

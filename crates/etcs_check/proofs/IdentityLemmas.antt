@@ -35,6 +35,13 @@ use Rattle.etcs_check.proofs.NumberLemmas.{identity_same, same_bool, Decides-sam
 pub number-is : (g : List (List Telegram)) (i : Identity) → group_identity g ≡ Some i → identity_number g ≡ number_of_identity i
 number-is g i e = ap (λ o. option_map_or number_of_identity o 0) e
 
+number_small : (g : List (List Telegram)) → HasIdentity g → identity_number g < 16777216
+number_small g own =
+    let is = number-is g own.0 own.1 in
+    let country = own.2 in
+    let group = own.3 in
+    omega arith
+
 same_number : (i j : Identity) → i.group < 16384 → j.group < 16384 → number_of_identity i ≡ number_of_identity j → i ≡ j
 same_number i j a b e = identity_same i j (omega arith) (omega arith)
 
@@ -120,21 +127,9 @@ seen_other base n table groups i g at other seen p lt =
 pub used_mark : (base n : ℕ) (table : List ℕ) (groups : List (List (List Telegram))) (g : List (List Telegram)) (q : ℕ) → identity_number g ≡ base + q → q < n → HasSeen base n table groups → is_used groups g ≡ has_identity_number groups (identity_number g) → is_used groups g ≡ is_marked table q
 used_mark base n table groups g q is lt seen numbered = numbered ∙ sym (seen q lt ∙ ap (has_identity_number groups) (sym is))
 
-pub seen_none : (base n w : ℕ) → n ≤ 64 * w → HasSeen base n (replicate w 0) []
-seen_none base n w le p lt = unmarked w p (omega arith)
-
--- what is known of each group so far, and of one more
-pub fresh_more : (base n : ℕ) (groups : List (List (List Telegram))) (i : ℕ) (g : List (List Telegram)) → At groups i g
-    → ((k : ℕ) (h : List (List Telegram)) → k < i → At groups k h → base ≤ identity_number h → identity_number h < base + n → is_used (take k groups) h ≡ false)
-    → (base ≤ identity_number g → identity_number g < base + n → is_used (take i groups) g ≡ false)
-    → (k : ℕ) (h : List (List Telegram)) → k < i + 1 → At groups k h → base ≤ identity_number h → identity_number h < base + n → is_used (take k groups) h ≡ false
-fresh_more base n groups i g at before now k h lt at' = elim (cases_eq k i) [
-  | inl e ↦
-      let same : g ≡ h = same_Some g h (sym at ∙ ap (slice_get groups) (sym e) ∙ at') in
-      let P : ℕ → List (List Telegram) → Type 0 = λ k h. base ≤ identity_number h → identity_number h < base + n → is_used (take k groups) h ≡ false in
-      subst (λ h. P k h) same (subst (λ k. P k g) (sym e) now)
-  | inr ne ↦ before k h (omega arith) at'
-]
+-- if its identity is one of the n from base on, no earlier group has it
+abbrev pub IsFresh : ℕ → ℕ → List (List (List Telegram)) → ℕ → List (List Telegram) → Type 0
+IsFresh base n groups k g = base ≤ identity_number g → identity_number g < base + n → is_used (take k groups) g ≡ false
 
 -- one more part
 pub no_repeat_more : (m n next : ℕ) (groups : List (List (List Telegram))) → next ≡ m + n → HasNoRepeat 0 m groups → HasNoRepeat m n groups → HasNoRepeat 0 next groups
@@ -164,17 +159,24 @@ in_page pages i r = is_marked (get_or (map vec_items pages) i []) r
 
 -- a page with the same words
 pub kept_same : (start pages : List (Vec ℕ)) (was is : Vec ℕ) (i : ℕ) → get_or pages i was ≡ was → is.items ≡ was.items → ((n : ℕ) → is_kept pages n ≡ is_kept start n) → (n : ℕ) → is_kept (set pages i is) n ≡ is_kept start n
-kept_same start pages was is i at same so_far n = ap (λ words. is_marked (get_or words (n / 4096) []) (n % 4096)) (map-set_same vec_items pages i is was (same ∙ ap vec_items (sym at))) ∙ so_far n
+kept_same start pages was is i at same so_far n = ap (λ words. is_marked (get_or words (n / 16384) []) (n % 16384)) (map-set_same vec_items pages i is was (same ∙ ap vec_items (sym at))) ∙ so_far n
+
+-- a number that is kept already
+pub kept_again : (was : ℕ → Bool) (q : ℕ) → was q ≡ true → (n : ℕ) → was n ≡ (eqb q n || was n)
+kept_again was q is n = elim (cases_eq q n) [
+  | inl e ↦ subst (λ n. was n ≡ (eqb q n || was n)) e (is ∙ sym (ap (λ b. b || was q) (eq-eqb q q refl)))
+  | inr ne ↦ sym (ap (λ b. b || was n) (ne_eqb q n ne))
+]
 
 -- one more mark in its page
-pub kept_marked : (pages : List (Vec ℕ)) (was is : Vec ℕ) (q : ℕ) → q / 4096 < length pages → get_or pages (q / 4096) was ≡ was → ((p : ℕ) → is_marked is.items p ≡ (eqb (q % 4096) p || is_marked was.items p))
-    → (n : ℕ) → is_kept (set pages (q / 4096) is) n ≡ (eqb q n || is_kept pages n)
+pub kept_marked : (pages : List (Vec ℕ)) (was is : Vec ℕ) (q : ℕ) → q / 16384 < length pages → get_or pages (q / 16384) was ≡ was → ((p : ℕ) → is_marked is.items p ≡ (eqb (q % 16384) p || is_marked was.items p))
+    → (n : ℕ) → is_kept (set pages (q / 16384) is) n ≡ (eqb q n || is_kept pages n)
 kept_marked pages was is q lt at marked n =
     let words = map vec_items pages in
-    ap (λ words. is_marked (get_or words (n / 4096) []) (n % 4096)) (map-set vec_items pages (q / 4096) is)
-    ∙ part_marked (in_page pages) (λ i r. is_marked (get_or (set words (q / 4096) is.items) i []) r) 4096 q (omega arith)
-    (λ r _. ap (λ t. is_marked t r) (get_or-set_same words (q / 4096) is.items [] (rw length-map lt)) ∙ marked r ∙ ap (λ t. eqb (q % 4096) r || is_marked t r) (ap vec_items (sym at) ∙ sym (get_or-map vec_items pages (q / 4096) was [] lt)))
-    (λ i r ne. ap (λ t. is_marked t r) (get_or-set_other words (q / 4096) i is.items [] ne)) n
+    ap (λ words. is_marked (get_or words (n / 16384) []) (n % 16384)) (map-set vec_items pages (q / 16384) is)
+    ∙ part_marked (in_page pages) (λ i r. is_marked (get_or (set words (q / 16384) is.items) i []) r) 16384 q (omega arith)
+    (λ r _. ap (λ t. is_marked t r) (get_or-set_same words (q / 16384) is.items [] (rw length-map lt)) ∙ marked r ∙ ap (λ t. eqb (q % 16384) r || is_marked t r) (ap vec_items (sym at) ∙ sym (get_or-map vec_items pages (q / 16384) was [] lt)))
+    (λ i r ne. ap (λ t. is_marked t r) (get_or-set_other words (q / 16384) i is.items [] ne)) n
 
 -- one more group of a list, whose identity is kept now
 pub kept_more : (groups : List (List (List Telegram))) (i : ℕ) (g : List (List Telegram)) (was is : ℕ → Bool) → At groups i g → ((n : ℕ) → is n ≡ (eqb (identity_number g) n || was n)) → HasKept was (take i groups) → HasKept is (take (i + 1) groups)
@@ -192,11 +194,7 @@ kept_and groups g was is now before n =
 pub used_told : (groups : List (List (List Telegram))) (i : ℕ) (g : List (List Telegram)) (again : Bool) (is_kept : ℕ → Bool) → At groups i g → HasIdentity g → HaveIdentities (take i groups)
     → (again ≡ false → HasNoRepeat 0 16777216 groups) → (again ≡ true → HasKept is_kept (take i groups)) → (again && is_kept (identity_number g)) ≡ is_used (take i groups) g
 used_told groups i g true is_kept at own before none kept = kept refl (identity_number g) ∙ sym (used-among (take i groups) g before own)
-used_told groups i g false is_kept at own before none kept =
-    let is = number-is g own.0 own.1 in
-    let country = own.2 in
-    let group = own.3 in
-    sym (none refl i g at (omega arith) (omega arith))
+used_told groups i g false is_kept at own before none kept = sym (none refl i g at (omega arith) (number_small g own))
 
 -- a repeat is a finding
 pub repeat_stands : (groups : List (List (List Telegram))) → HasRepeat groups → group_list groups ≢ []
@@ -209,10 +207,7 @@ pub next_stands : (groups : List (List (List Telegram))) (i : ℕ) (g : List (Li
     → (again ≡ false → group_findings (sites.Group i) false g ≢ []) → group_list groups ≢ []
 next_stands groups i g true at own repeat none some = repeat_stands groups (repeat refl)
 next_stands groups i g false at own repeat none some =
-    let is = number-is g own.0 own.1 in
-    let country = own.2 in
-    let group = own.3 in
-    let new : is_used (take i groups) g ≡ false = none refl i g at (omega arith) (omega arith) in
+    let new : is_used (take i groups) g ≡ false = none refl i g at (omega arith) (number_small g own) in
     each_stands (line_group_findings groups) groups i g at (subst (λ u. group_findings (sites.Group i) u g ≢ []) (sym new) (some refl))
 
 -- ---- identities that were used

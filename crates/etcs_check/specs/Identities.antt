@@ -35,9 +35,9 @@ has_bit n b = bit_at n b == 1
 abbrev pub is_marked : List ℕ → ℕ → Bool
 is_marked table p = has_bit (slice_index table (p / 64)) (p % 64)
 
--- whether a number is kept in pages of 4,096 bits
+-- whether a number is kept in pages of 16,384 bits
 abbrev pub is_kept : List (Vec ℕ) → ℕ → Bool
-is_kept pages n = is_marked (slice_index_or (map vec_items pages) (n / 4096) []) (n % 4096)
+is_kept pages n = is_marked (slice_index_or (map vec_items pages) (n / 16384) []) (n % 16384)
 
 -- whether some group has the identity of this number
 abbrev pub has_identity_number : List Aspects → ℕ → Bool

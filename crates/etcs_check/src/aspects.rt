@@ -56,10 +56,9 @@ fn is_steady(wanted: &Telegram, aspects: &[Group], place: usize) -> bool
 fn has_aspect_counter_in(group: &[Telegram], place: usize) -> bool
     ensures { result ≡ element_passes group.now place has_aspect_counter }
 {
-    match group.get(place) {
-        Some(telegram) => telegram.header.counter.number() < 254,
-        None => false,
-    }
+    group
+        .get(place)
+        .is_some_and(|telegram| telegram.header.counter.number() < 254)
 }
 
 // Whether every aspect has a counter below 254 at the place.

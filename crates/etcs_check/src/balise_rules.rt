@@ -26,10 +26,7 @@ fn is_unanswered(group: &[Telegram], place: usize) -> bool
     requires { length group.now ≤ 8 }
     ensures { result ≡ is_unanswered group.now (partner_place group.now place) place }
 {
-    match partner(group, place) {
-        Some(named) => is_other(partner(group, named), place),
-        None => false,
-    }
+    partner(group, place).is_some_and(|named| is_other(partner(group, named), place))
 }
 
 // Whether a telegram has another version, identity or link flag than this one.
@@ -44,20 +41,19 @@ fn header_differs(first: &Telegram, telegram: &Telegram) -> bool
 fn header_differs_from_first(first: &[Telegram], telegram: &Telegram) -> bool
     ensures { result ≡ header_differs (slice_get first.now 0) telegram.now }
 {
-    match first.get(0) {
-        Some(balise) => header_differs(balise, telegram),
-        None => false,
-    }
+    first
+        .get(0)
+        .is_some_and(|balise| header_differs(balise, telegram))
 }
 
 // Whether the duplicate flag of a telegram differs from the flag of the same balise in aspect 0.
 fn mark_differs(first: &[Telegram], telegram: &Telegram, place: usize) -> bool
     ensures { result ≡ mark_differs (slice_get first.now place) telegram.now }
 {
-    match first.get(place) {
-        Some(balise) => telegram.header.dup.number() != balise.header.dup.number(),
-        None => false,
-    }
+    let mark = telegram.header.dup.number();
+    first
+        .get(place)
+        .is_some_and(|balise| mark != balise.header.dup.number())
 }
 
 // Whether a duplicate flag names a balise outside a group of `count` balises.

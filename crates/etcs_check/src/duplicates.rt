@@ -7,14 +7,14 @@ ghost use Rattle.etcs_profile.specs.Track.{holds};
 ghost use Rattle.etcs_profile.specs.declared.track.TrackPacket.{TrackPacket};
 ghost use Rattle.etcs_telegram.specs.Record.{Telegram as SomeTelegram};
 ghost use Rattle.etcs_group.specs.Packets.{held_packets};
-ghost use Rattle.etcs_check.specs.Duplicates.{same_header, same_held, same_packet, same_size, same_telegram};
+ghost use Rattle.etcs_check.specs.Duplicates.{same_header, same_packet, same_telegram};
 ghost use Rattle.etcs_check.specs.Findings.{are_pair, pair_differs};
 ghost use Rattle.etcs_check.specs.Walk.{ArePairsAlike, are_same_pair};
 
 use crate::packet_summary::packets;
 use etcs_bits::{Dup, Same, are_same};
 use etcs_packet::{Run, TrackPacket};
-use etcs_telegram::{Header, Size, Telegram};
+use etcs_telegram::{Header, Telegram};
 
 // The index of the first packet from `from` on that holds, or the length.
 fn next_held(packets: &[TrackPacket], run: Run, from: usize) -> usize
@@ -58,13 +58,6 @@ fn same_lists(these: &[TrackPacket], those: &[TrackPacket], run: Run) -> bool
     i == these.len() && j == those.len()
 }
 
-// Whether two telegrams have the same packets that hold in the running direction.
-fn same_held(this: &Telegram, that: &Telegram, run: Run) -> bool
-    ensures { result ≡ same_held run this.now that.now }
-{
-    same_lists(&this.packets, &that.packets, run)
-}
-
 // Whether two headers are the same.
 fn same_header(this: &Header, that: &Header) -> bool
     ensures { result ≡ same_header this.now that.now }
@@ -78,13 +71,6 @@ fn same_header(this: &Header, that: &Header) -> bool
         && this.linked.same(&that.linked)
 }
 
-// Whether two sizes are the same.
-fn same_size(this: Size, that: Size) -> bool
-    ensures { result ≡ same_size this that }
-{
-    this == that
-}
-
 // Whether two lists have the same packets.
 fn same_content(these: &[TrackPacket], those: &[TrackPacket]) -> bool
     ensures { result ≡ pointwise same_packet these.now those.now }
@@ -96,7 +82,7 @@ fn same_content(these: &[TrackPacket], those: &[TrackPacket]) -> bool
 pub(crate) fn same_telegram(this: &Telegram, that: &Telegram) -> bool
     ensures { result ≡ same_telegram this.now that.now }
 {
-    same_size(this.size, that.size)
+    this.size == that.size
         && same_header(&this.header, &that.header)
         && same_content(&this.packets, &that.packets)
 }
@@ -106,7 +92,7 @@ pub(crate) fn same_telegram(this: &Telegram, that: &Telegram) -> bool
 pub fn same_packets(this: &Telegram, that: &Telegram, run: Run) -> bool
     ensures { IsTrue result ↔ (held_packets run this.now ≡ held_packets run that.now) }
 {
-    same_held(this, that, run)
+    same_lists(packets(this), packets(that), run)
 }
 
 // Whether the first duplicate flag names the next balise, and the second one the previous balise.
@@ -120,20 +106,8 @@ fn are_pair(first: Dup, second: Dup) -> bool
 fn pair_differs(first: &Telegram, second: &Telegram, run: Run) -> bool
     ensures { result ≡ pair_differs run first.now (Some second.now) }
 {
-    are_pair(first.header.dup, second.header.dup) && !same_held(first, second, run)
-}
-
-// Whether the balise at this place and the one after it are a pair of duplicates whose packets that hold
-// differ.
-fn pair_differs_at(group: &[Telegram], run: Run, place: usize) -> bool
-    requires { place < length group.now }
-    ensures { (t : SomeTelegram) → slice_get group.now place ≡ Some t
-        → result ≡ pair_differs run t (slice_get group.now (place + 1)) }
-{
-    match group.get(place + 1) {
-        Some(second) => pair_differs(&group[place], second, run),
-        None => false,
-    }
+    are_pair(first.header.dup, second.header.dup)
+        && !same_lists(packets(first), packets(second), run)
 }
 
 // Whether the balise at this place and the next one are a pair of duplicates whose packets that hold differ.
@@ -145,7 +119,10 @@ pub(crate) fn is_pair_unlike(group: &[Telegram], run: Run, unlike: bool, place: 
     ensures { (t : SomeTelegram) → slice_get group.now place ≡ Some t
         → result ≡ pair_differs run t (slice_get group.now (place + 1)) }
 {
-    unlike && pair_differs_at(group, run, place)
+    unlike
+        && group
+            .get(place + 1)
+            .is_some_and(|second| pair_differs(&group[place], second, run))
 }
 
 // Whether two neighbours are not a pair of duplicates, or have the same packets.
@@ -161,10 +138,9 @@ fn are_same_pair_at(group: &[Telegram], place: usize, telegram: &Telegram) -> bo
     requires { place < length group.now }
     ensures { result ≡ are_same_pair telegram.now (slice_get group.now (place + 1)) }
 {
-    match group.get(place + 1) {
-        Some(second) => are_same_pair(telegram, second),
-        None => true,
-    }
+    group
+        .get(place + 1)
+        .is_none_or(|second| are_same_pair(telegram, second))
 }
 
 // Whether some balise and the next one are a pair of duplicates with different packets.

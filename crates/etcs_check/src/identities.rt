@@ -11,8 +11,8 @@ use etcs_group::{Controlled, Group};
 // The number of identities that one pass over the groups considers, 64 to a word of the table.
 const PART: u32 = 2_097_152;
 
-// The number of bits to a page.
-const PAGE: usize = 4_096;
+// The number of bits to a page, which is made whole: many small ones would grow one by one.
+const PAGE: usize = 16_384;
 
 // The number of the identity of a group with these aspects.
 pub(crate) fn identity_number(aspects: &[Group]) -> u32
@@ -44,12 +44,13 @@ pub(crate) fn mark(table: &mut [u64], place: usize) -> bool
     marked
 }
 
-// Marks the place in a page, which grows to it. If memory runs out, nothing changes.
+// Marks the place in a page, which is made if it is empty. If memory runs out, nothing changes.
 fn mark_in(page: &mut Vec<u64>, place: usize) -> Result<(), Memory>
+    requires { place < PAGE }
     ensures ok { OnOk result ((p : ℕ) → is_marked page.new.items p ≡ (place == p || is_marked page.old.items p)) }
     ensures err { OnErr result (page.new.items ≡ page.old.items) }
 {
-    page.resize(page.len().max(place / 64 + 1), 0)?;
+    page.resize(page.len().max(PAGE / 64), 0)?;
     mark(page, place);
     Ok(())
 }
@@ -62,11 +63,15 @@ pub(crate) fn is_kept(pages: &[Vec<u64>], number: u32) -> bool
     page < pages.len() && is_marked(&pages[page], number as usize % PAGE)
 }
 
-// Keeps the number. If memory runs out, the same numbers are kept.
+// Keeps the number. Memory can run out only for a new number; then the same numbers are kept.
 pub(crate) fn keep(pages: &mut Vec<Vec<u64>>, number: u32) -> Result<(), Memory>
     ensures ok { OnOk result ((n : ℕ) → is_kept pages.new.items n ≡ (number == n || is_kept pages.old.items n)) }
     ensures err { OnErr result ((n : ℕ) → is_kept pages.new.items n ≡ is_kept pages.old.items n) }
+    ensures memory { OnErr result (is_kept pages.old.items number ≡ false) }
 {
+    if is_kept(pages, number) {
+        return Ok(());
+    }
     let page = number as usize / PAGE;
     'pages: while pages.len() <= page {
         pages.push(Vec::new(*pages.allocator()))?;

@@ -1,14 +1,14 @@
 -- Each telegram that was read is the telegram of its balise's text in the document.
-use Rattle.std.proofs.Common.{◌≡◌, ◌+◌, ◌∙◌, ◌&&◌, ℕ, zero, suc, List, [], ◌∷◌, length, Option, Some, None, Ok, refl, ap, sym, subst}
+use Rattle.std.proofs.Common.{◌≡◌, ◌+◌, ◌∙◌, ℕ, zero, suc, List, [], ◌∷◌, length, Option, Some, None, Ok, refl, ap, sym, subst}
 use Rattle.std.specs.Option.{is_some}
-use Rattle.std.specs.Prelude.{IsSomeAnd, codes, if◌then◌else◌, nat_le, nat_lt}
+use Rattle.std.specs.Prelude.{IsSomeAnd, codes, if◌then◌else◌}
 use Rattle.std.proofs.lemmas.Option.{none-some, same_Some}
 use Rattle.serde_json.specs.Data.{Data}
 use Rattle.serde_json.specs.Find.{as_str, get}
-use Rattle.etcs_document.proofs.ResultLemmas.{first_ok, form_ok, if_ok, not_ok, part_ok, same_ok, text_ok, then_ok}
+use Rattle.etcs_document.proofs.ResultLemmas.{counted_read, first_ok, mapped_ok, not_ok, part_ok, same_ok, text_ok, then_ok}
 use Rattle.etcs_document.proofs.ValueLemmas.{each_at, list_read, stands}
-use Rattle.etcs_document.specs.Document.{◌then◌, as_values, aspect_telegrams, balise_telegram, controlled_group, document_group, document_list, group_aspect, group_path, has_count, in_form, line_groups, listed_aspects, only_aspect, only_values, other_aspects, read_indexed, with_first}
-use Rattle.etcs_document.specs.DocumentFault.{bad_aspects, bad_count, bad_telegram}
+use Rattle.etcs_document.specs.Document.{◌then◌, as_values, aspect_telegrams, balise_telegram, controlled_group, document_group, document_list, group_aspect, group_path, in_form, line_groups, listed_aspects, only_aspect, only_values, other_aspects, read_indexed, with_first}
+use Rattle.etcs_document.specs.DocumentFault.{bad_telegram}
 use Rattle.etcs_schema.specs.Fault.{Step}
 use Rattle.etcs_schema.specs.Reading.{required_member, only_keys}
 use Rattle.etcs_document.specs.Verdict.{IsOnlyRecord, aspect_object, balise_text, item_text}
@@ -40,21 +40,15 @@ abbrev IsReadOf : ℕ → Option ℕ → Data → List Telegram → Type 0
 IsReadOf g a e group =
     (es : List Data) × (required_member as_values (codes "balises") e ≡ Ok es) × (read_indexed (balise_telegram g a) 0 es ≡ Ok group)
 
-counted_ok : (g : ℕ) (a first : Option ℕ) (ds : List Data) (group : List Telegram) → aspect_telegrams g a first ds ≡ Ok group → read_indexed (balise_telegram g a) 0 ds ≡ Ok group
-unfolding aspect_telegrams
-counted_ok g a first ds group is =
-    let few = if_ok (nat_lt 0 (length ds) && nat_le (length ds) 8) _ (bad_count g) group is in
-    (if_ok (has_count first (length ds)) (read_indexed (balise_telegram g a) 0 ds) (bad_aspects g) group few.1).1
-
 only_ok : (path : List Step) (name : List ℕ) (e : Data) (es : List Data) → in_form path (only_values name e) ≡ Ok es → required_member as_values name e ≡ Ok es
 unfolding only_values
-only_ok path name e es is = (part_ok (only_keys (name ∷ []) e) (λ _. required_member as_values name e) es (form_ok path (only_values name e) es is)).2
+only_ok path name e es is = (part_ok (only_keys (name ∷ []) e) (λ _. required_member as_values name e) es (mapped_ok _ (only_values name e) es is)).2
 
 aspect_read : (g : ℕ) (first a : Option ℕ) (e : Data) (group : List Telegram) → group_aspect g first a e ≡ Ok group → IsReadOf g a e group
 unfolding group_aspect
 aspect_read g first a e group is =
     let form = then_ok (in_form (group_path g a) (only_values (codes "balises") e)) (aspect_telegrams g a first) group is in
-    (form.0, only_ok (group_path g a) (codes "balises") e form.0 form.1, counted_ok g a first form.0 group form.2)
+    (form.0, only_ok (group_path g a) (codes "balises") e form.0 form.1, (counted_read g a first form.0 group form.2).2)
 
 -- the object of aspect a, among the aspects of its group, from which a group was read
 abbrev IsAspectOf : ℕ → ℕ → List Data → List Telegram → Type 0
@@ -82,18 +76,17 @@ aspect_among g (suc a) (d ∷ ds) aspects group is h =
 abbrev HasAspect : ℕ → ℕ → Data → List Telegram → Type 0
 HasAspect g a e group = (which : Option ℕ) × (o : Data) × (aspect_object a e ≡ Some o) × IsReadOf g which o group
 
+only_at : (a : ℕ) (only group : List Telegram) → At (only ∷ []) a group → only ≡ group
+only_at zero only group h = same_Some only group h
+only_at (suc a) only group h = absurd (none-some group h)
+
 only_read : (g a : ℕ) (e : Data) (aspects : List (List Telegram)) (group : List Telegram) → only_aspect g e ≡ Ok aspects → At aspects a group → IsReadOf g None e group
 unfolding only_aspect
-only_read g zero e aspects group is h =
+only_read g a e aspects group is h =
     let whole = then_ok (group_aspect g None None e) (λ only. Ok (only ∷ [])) aspects is in
     let alone : whole.0 ∷ [] ≡ aspects = same_ok (whole.0 ∷ []) aspects (Ok (whole.0 ∷ [])) refl whole.2 in
-    let here : At (whole.0 ∷ []) 0 group = subst (λ (l : List (List Telegram)). At l 0 group) (sym alone) h in
-    let same : whole.0 ≡ group = same_Some whole.0 group here in
-    aspect_read g None None e group (whole.1 ∙ ap Ok same)
-only_read g (suc a) e aspects group is h =
-    let whole = then_ok (group_aspect g None None e) (λ only. Ok (only ∷ [])) aspects is in
-    let alone : whole.0 ∷ [] ≡ aspects = same_ok (whole.0 ∷ []) aspects (Ok (whole.0 ∷ [])) refl whole.2 in
-    absurd (none-some group (subst (λ (l : List (List Telegram)). At l (suc a) group) (sym alone) h))
+    let here : At (whole.0 ∷ []) a group = subst (λ (l : List (List Telegram)). At l a group) (sym alone) h in
+    aspect_read g None None e group (whole.1 ∙ ap Ok (only_at a whole.0 group here))
 
 aspect_or : (g a : ℕ) (e : Data) (aspects : List (List Telegram)) (group : List Telegram) (o : Option Data) → get (codes "aspects") e ≡ o → (if is_some o then controlled_group g e else only_aspect g e) ≡ Ok aspects → At aspects a group → HasAspect g a e group
 unfolding controlled_group
@@ -127,7 +120,7 @@ pub telegrams_read : (d : Data) (groups : List (List (List Telegram))) → line_
 unfolding line_groups
 telegrams_read d groups is g a b aspects group t here within inside =
     let list = then_ok (document_list (codes "groups") d) (read_indexed document_group 0) groups is in
-    let values = list_read (codes "groups") d list.0 (form_ok [] _ list.0 list.1) in
+    let values = list_read (codes "groups") d list.0 (mapped_ok _ _ list.0 list.1) in
     let one = each_at document_group 0 list.0 groups list.2 g aspects here in
     let found = stands (codes "groups") d list.0 g one.0 values one.1 in
     let aspect = aspect_found (0 + g) a one.0 aspects group one.2 within in

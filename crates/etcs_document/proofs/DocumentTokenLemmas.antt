@@ -78,9 +78,9 @@ each_and Is (e ∷ ds) [] d x are is = absurd are
 each_and Is (e ∷ ds) (y ∷ ys) d x are is = (are.0, each_and Is ds ys d x are.1 is)
 
 -- one more
-pub first_more : {X : Type 0} (Is : Data → X → Type 0) (depth : ℕ) (old : List Token) (xs ys : List X) (x : X) (mid new : List Token) → AreFirst Is depth old xs mid
-    → IsFirst Is depth mid x new → ys ≡ xs ++ x ∷ [] → AreFirst Is depth old ys new
-first_more Is depth old xs ys x mid new some one pushed = rw pushed record {
+pub first_more : {X : Type 0} (Is : Data → X → Type 0) (depth : ℕ) (old : List Token) (xs : List X) (x : X) (mid new : List Token) → AreFirst Is depth old xs mid
+    → IsFirst Is depth mid x new → AreFirst Is depth old (xs ++ x ∷ []) new
+first_more Is depth old xs x mid new some one = record {
   found = some.found ++ one.found ∷ [];
   stand = item_more depth some.found one.found old mid new some.stand (first_goes Is depth mid x new one) one.stands;
   are = each_and Is some.found xs one.found x some.are one.is;
@@ -191,26 +191,26 @@ unfolding document_group controlled_group
 controlled_read d ds xs values are is = λ g. ap (λ r. in_form (group_path g None) r then listed_aspects g) (aspects_key d ds values) ∙ aspects_read ds xs are is g
 
 -- the one member of a group, which has this key
-member_taken : (depth : ℕ) (old mid : List Token) (k name : List ℕ) (found : Data) (aspects : List (List Telegram)) (new : List Token) → read_key old ≡ Some (Some k, mid) → k ≡ name
+member_taken : (depth : ℕ) (old mid : List Token) (name : List ℕ) (found : Data) (aspects : List (List Telegram)) (new : List Token) → read_key old ≡ Some (Some name, mid)
     → first_value depth mid ≡ Some (found, new) → IsGroup (with_key name found) aspects → HasGroup depth old aspects new
-member_taken depth old mid k name found aspects new named same stands is = record {
+member_taken depth old mid name found aspects new named stands is = record {
   name = name;
   found = found;
-  stand = key_stands depth name found old mid new (named ∙ ap (λ n. Some (Some n, mid)) same) stands;
+  stand = key_stands depth name found old mid new named stands;
   is = is;
 }
 
 -- the balises of the one aspect
-pub only_member : (depth : ℕ) (old mid : List Token) (k : List ℕ) (group : List Telegram) (aspects : List (List Telegram)) (new : List Token) → read_key old ≡ Some (Some k, mid) → k ≡ codes "balises"
+pub only_member : (depth : ℕ) (old mid : List Token) (group : List Telegram) (aspects : List (List Telegram)) (new : List Token) → read_key old ≡ Some (Some (codes "balises"), mid)
     → IsFirst IsBalises depth mid group new → aspects ≡ group ∷ [] → HasGroup depth old aspects new
-only_member depth old mid k group aspects new named same one is = rw is (member_taken depth old mid k (codes "balises") one.found (group ∷ []) new named same one.stands (only_read one.found group one.is))
+only_member depth old mid group aspects new named one is = rw is (member_taken depth old mid (codes "balises") one.found (group ∷ []) new named one.stands (only_read one.found group one.is))
 
 -- aspects that are a controlled group
-pub aspects_member : (depth : ℕ) (old mid : List Token) (k : List ℕ) (xs aspects : List (List Telegram)) (new : List Token) → read_key old ≡ Some (Some k, mid) → k ≡ codes "aspects"
+pub aspects_member : (depth : ℕ) (old mid : List Token) (xs aspects : List (List Telegram)) (new : List Token) → read_key old ≡ Some (Some (codes "aspects"), mid)
     → IsFirst (IsList IsAspect) depth mid xs new → aspects ≡ xs → IsControlled xs → HasGroup depth old aspects new
-aspects_member depth old mid k xs aspects new named same one is controlled =
+aspects_member depth old mid xs aspects new named one is controlled =
     let values = list_values one.is.0 one.found one.is.1 in
-    rw is (member_taken depth old mid k (codes "aspects") one.found xs new named same one.stands (controlled_read one.found one.is.0 xs values one.is.2 controlled))
+    rw is (member_taken depth old mid (codes "aspects") one.found xs new named one.stands (controlled_read one.found one.is.0 xs values one.is.2 controlled))
 
 pub group_taken : (depth : ℕ) (old begun ended : List Token) (aspects : List (List Telegram)) (new : List Token) → 0 < depth → old ≡ Token.begin_object ∷ begun → HasGroup (depth - 1) begun aspects ended
     → read_key ended ≡ Some (None, new) → IsFirst IsGroup depth old aspects new

@@ -5,12 +5,10 @@ pub mod TakenLemmas
 pub mod StreamingLemmas
 pub mod ResultLemmas
 pub mod DocumentLemmas
-pub mod EmptyLemmas
-pub mod AspectLemmas
 pub mod ValueLemmas
 pub mod BaliseLemmas
 pub mod VerdictLemmas
 pub mod SoundLemmas
 pub mod YesLemmas
-pub mod ReportLemmas
 pub mod PlainLemmas
+pub mod ReportLemmas

@@ -39,18 +39,15 @@ digits_plain text bytes is = go (length text % 2 == 1) is
     go true no_text = absurd (cc)
     go false read = pairs_plain 0 text bytes read
 
+text_plain : {X E : Type 0} (of : Result (List ℕ) FromHexError → Result X E) (x : X) (text : List ℕ) → ((e : FromHexError) → of (Err e) ≡ Ok x → ⊥)
+    → (r : Result (List ℕ) FromHexError) → decode_of text ≡ r → of r ≡ Ok x → list_all is_plain text ≡ true
+text_plain of x text bad (Ok bytes) read means = digits_plain text bytes read
+text_plain of x text bad (Err e) read means = absurd (bad e means)
+
 pub telegram_plain : (text : List ℕ) (t : Telegram) → telegram_of_text text ≡ Ok t → list_all is_plain text ≡ true
 unfolding telegram_of_text
-telegram_plain text t is = go (decode_of text) refl is
-  where
-    go : (r : Result (List ℕ) FromHexError) → decode_of text ≡ r → of_decoded r ≡ Ok t → list_all is_plain text ≡ true
-    go (Ok bytes) read means = digits_plain text bytes read
-    go (Err e) read means = absurd (cc)
+telegram_plain text t is = text_plain of_decoded t text (λ e means. cc) (decode_of text) refl is
 
 pub message_plain : (text : List ℕ) (m : Message) → message_of_text text ≡ Ok m → list_all is_plain text ≡ true
 unfolding message_of_text
-message_plain text m is = go (decode_of text) refl is
-  where
-    go : (r : Result (List ℕ) FromHexError) → decode_of text ≡ r → radio.of_decoded r ≡ Ok m → list_all is_plain text ≡ true
-    go (Ok bytes) read means = digits_plain text bytes read
-    go (Err e) read means = absurd (cc)
+message_plain text m is = text_plain radio.of_decoded m text (λ e means. cc) (decode_of text) refl is

@@ -1,11 +1,13 @@
 -- The parts that were read, if reading succeeded.
 use Rattle.std.proofs.Common.{◌≡◌, ◌∙◌, ℕ, Bool, true, false, List, ◌∷◌, Option, Some, None, Result, Ok, Err, refl, ap, sym, subst}
-use Rattle.std.specs.Prelude.{if◌then◌else◌}
+use Rattle.std.specs.Prelude.{◌&&◌, if◌then◌else◌, length, nat_le, nat_lt}
 use Rattle.std.specs.Result.{result_map_both}
-use Rattle.etcs_document.specs.Document.{◌then◌, in_form, text_or, with_first}
-use Rattle.etcs_document.specs.DocumentFault.{DocumentFault}
+use Rattle.serde_json.specs.Data.{Data}
+use Rattle.etcs_document.specs.Document.{◌then◌, aspect_telegrams, balise_telegram, has_count, read_indexed, text_or, with_first}
+use Rattle.etcs_document.specs.DocumentFault.{DocumentFault, bad_aspects, bad_count}
 use Rattle.etcs_schema.specs.Fault.{Fault, Step}
 use Rattle.etcs_schema.specs.Reading.{◌>>=◌}
+use Rattle.etcs_telegram.specs.Record.{Telegram}
 
 abbrev or_else : {A E : Type 0} → A → Result A E → A
 or_else x (Ok y) = y
@@ -33,9 +35,6 @@ pub mapped_ok : {A E F : Type 0} (bad : E → F) (r : Result A E) (x : A) → re
 mapped_ok bad (Ok y) x is = ap Ok (same_ok y x (result_map_both (λ z. z) bad (Ok y)) refl is)
 mapped_ok bad (Err e) x is = absurd (not_ok (bad e) x (Err (bad e)) refl is)
 
-pub form_ok : {A : Type 0} (path : List Step) (r : Result A Fault) (x : A) → in_form path r ≡ Ok x → r ≡ Ok x
-form_ok path r x is = mapped_ok _ r x is
-
 pub text_ok : {A E : Type 0} (path : List Step) (read : List ℕ → Result A E) (bad : E → DocumentFault) (o : Option (List ℕ)) (x : A) → text_or path read bad o ≡ Ok x
     → (text : List ℕ) × (o ≡ Some text) × (read text ≡ Ok x)
 text_ok path read bad None x is = absurd (not_ok _ x (text_or path read bad None) refl is)
@@ -48,3 +47,12 @@ first_ok x (Err f) xs is = absurd (not_ok _ xs (with_first x (Err f)) refl is)
 pub if_ok : {A : Type 0} (test : Bool) (r : Result A DocumentFault) (f : DocumentFault) (x : A) → (if test then r else Err f) ≡ Ok x → (test ≡ true) × (r ≡ Ok x)
 if_ok true r f x is = (refl, is)
 if_ok false r f x is = absurd (not_ok f x (Err f) refl is)
+
+-- the number of balises was tested, and each was read
+pub counted_read : (g : ℕ) (a first : Option ℕ) (ds : List Data) (group : List Telegram) → aspect_telegrams g a first ds ≡ Ok group
+    → ((nat_lt 0 (length ds) && nat_le (length ds) 8) ≡ true) × (has_count first (length ds) ≡ true) × (read_indexed (balise_telegram g a) 0 ds ≡ Ok group)
+unfolding aspect_telegrams
+counted_read g a first ds group is =
+    let few = if_ok (nat_lt 0 (length ds) && nat_le (length ds) 8) _ (bad_count g) group is in
+    let same = if_ok (has_count first (length ds)) (read_indexed (balise_telegram g a) 0 ds) (bad_aspects g) group few.1 in
+    (few.0, same.0, same.1)

@@ -1,35 +1,61 @@
 -- A document that was read has controlled groups. So it has no finding if and only if its line is sound.
-use Rattle.std.proofs.Common.{◌≡◌, ◌+◌, ◌<◌, ◌≤◌, ◌&&◌, arith, ℕ, List, [], ◌∷◌, length, Option, Some, None, Result, Ok, Err, refl, subst}
+use Rattle.std.proofs.Common.{◌≡◌, ◌+◌, ◌<◌, ◌≤◌, ◌∙◌, arith, ℕ, zero, suc, List, [], ◌∷◌, length, Option, Some, None, Result, Ok, Err, refl, ap, sym, subst}
 use Rattle.std.specs.Option.{is_some}
-use Rattle.std.specs.Prelude.{◌↔◌, IsOkAnd, codes, if◌then◌else◌, nat_le, nat_lt}
-use Rattle.std.proofs.lemmas.Bool.{and_parts, leb-true, ltb-true}
-use Rattle.std.proofs.lemmas.Option.{none-some}
+use Rattle.std.specs.Prelude.{◌↔◌, IsOkAnd, codes, if◌then◌else◌}
+use Rattle.std.proofs.lemmas.Bool.{and_parts, eqb-true, leb-true, ltb-true}
+use Rattle.std.proofs.lemmas.Option.{none-some, same_Some}
 use Rattle.serde_json.specs.Data.{Data}
 use Rattle.serde_json.specs.Find.{get}
 use Rattle.etcs_check.specs.Laws.{AreControlled, NoFindingMeansSoundLine}
 use Rattle.etcs_check.specs.Soundness.{IsSoundLine}
-use Rattle.etcs_document.proofs.AspectLemmas.{as_first, controlled_first}
 use Rattle.etcs_document.proofs.DocumentLemmas.{read_count}
-use Rattle.etcs_document.proofs.ResultLemmas.{if_ok, not_ok, same_ok, then_ok}
+use Rattle.etcs_document.proofs.ResultLemmas.{counted_read, first_ok, not_ok, same_ok, then_ok}
 use Rattle.etcs_document.proofs.ValueLemmas.{each_at}
 use Rattle.etcs_document.proofs.VerdictLemmas.{line_read, parts_read}
-use Rattle.etcs_document.specs.Document.{◌then◌, aspect_telegrams, balise_telegram, controlled_group, document_group, document_list, group_aspect, group_path, has_count, in_form, line_groups, line_of_text, listed_aspects, only_aspect, only_values, other_aspects, read_indexed, with_first}
-use Rattle.etcs_document.specs.DocumentFault.{DocumentFault, bad_aspects, bad_count}
+use Rattle.etcs_document.specs.Document.{◌then◌, aspect_telegrams, balise_telegram, controlled_group, document_group, document_list, group_aspect, group_path, in_form, line_groups, line_of_text, listed_aspects, only_aspect, only_values, other_aspects, read_indexed, with_first}
+use Rattle.etcs_document.specs.DocumentFault.{DocumentFault, bad_aspects}
 use Rattle.etcs_document.specs.Verdict.{IsSoundText, judged, summary, summary_of_text}
 use Rattle.etcs_group.specs.Controlled.{IsControlled}
+use Rattle.etcs_group.specs.Places.{At}
 use Rattle.etcs_radio.specs.declared.message.Message.{Message}
 use Rattle.etcs_telegram.specs.Record.{Telegram}
 
 -- ---- groups
 
+-- an aspect after the first has as many balises as the first
+aspect_counted : (g n : ℕ) (a : Option ℕ) (d : Data) (group : List Telegram) → group_aspect g (Some n) a d ≡ Ok group → length group ≡ n
+unfolding group_aspect
+aspect_counted g n a d group is =
+    let form = then_ok (in_form (group_path g a) (only_values (codes "balises") d)) (aspect_telegrams g a (Some n)) group is in
+    let read = counted_read g a (Some n) form.0 group form.2 in
+    read_count (balise_telegram g a) 0 form.0 group read.2 ∙ eqb-true (length form.0) n read.1
+
+each_counted : (g n i : ℕ) (ds : List Data) (xs : List (List Telegram)) → read_indexed (λ a. group_aspect g (Some n) (Some a)) i ds ≡ Ok xs → (k : ℕ) (x : List Telegram) → At xs k x → length x ≡ n
+each_counted g n i ds xs is k x h =
+    let one = each_at (λ a. group_aspect g (Some n) (Some a)) i ds xs is k x h in aspect_counted g n (Some (i + k)) one.0 x one.2
+
+pub as_first : (first : List Telegram) (others : List (List Telegram)) → ((k : ℕ) (x : List Telegram) → At others k x → length x ≡ length first)
+    → (k : ℕ) (x : List Telegram) → At (first ∷ others) k x → length x ≡ length first
+as_first first others counted zero x h = ap length (sym (same_Some first x h))
+as_first first others counted (suc k) x h = counted k x h
+
+pub controlled_first : (g : ℕ) (first : List Telegram) (ds : List Data) (aspects : List (List Telegram)) → 0 < length first
+    → with_first first (other_aspects g (length first) ds) ≡ Ok aspects → IsControlled aspects
+controlled_first g first ds aspects some is =
+    let rest = first_ok first (other_aspects g (length first) ds) aspects is in
+    let controlled : IsControlled (first ∷ rest.0) = record {
+      some = grind arith;
+      balises = some;
+      counts = as_first first rest.0 (each_counted g (length first) 1 ds rest.0 rest.1);
+    } in
+    subst IsControlled rest.2 controlled
+
 -- an aspect that was read has one to eight balises
 pub few_balises : (g : ℕ) (a first : Option ℕ) (ds : List Data) (group : List Telegram) → aspect_telegrams g a first ds ≡ Ok group → (0 < length group) × (length group ≤ 8)
-unfolding aspect_telegrams
 few_balises g a first ds group is =
-    let few = if_ok (nat_lt 0 (length ds) && nat_le (length ds) 8) _ (bad_count g) group is in
-    let same = if_ok (has_count first (length ds)) (read_indexed (balise_telegram g a) 0 ds) (bad_aspects g) group few.1 in
-    let bounds = and_parts _ _ few.0 in
-    rw (read_count (balise_telegram g a) 0 ds group same.1) (ltb-true 0 (length ds) bounds.0, leb-true (length ds) 8 bounds.1)
+    let read = counted_read g a first ds group is in
+    let bounds = and_parts _ _ read.0 in
+    rw (read_count (balise_telegram g a) 0 ds group read.2) (ltb-true 0 (length ds) bounds.0, leb-true (length ds) 8 bounds.1)
 
 first_balises : (g : ℕ) (a : Option ℕ) (d : Data) (group : List Telegram) → group_aspect g None a d ≡ Ok group → 0 < length group
 unfolding group_aspect

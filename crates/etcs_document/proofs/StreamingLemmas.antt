@@ -1,5 +1,5 @@
 -- A line's groups and messages, read one after the other and passed to a checker.
-use Rattle.std.proofs.Common.{◌≡◌, ℕ, ◌-◌, ◌<◌, List, [], ◌∷◌, ◌++◌, codes, Some, None, Ok, option_and_then, refl, ap, sym, subst, ◌∙◌}
+use Rattle.std.proofs.Common.{◌≡◌, ℕ, ◌-◌, ◌<◌, List, [], ◌∷◌, codes, Some, None, Ok, option_and_then, refl, ap, sym, subst, ◌∙◌}
 use Rattle.std.specs.Str.{IsUtf8}
 use Rattle.json.specs.Json.{after_end_array, if_last, read_key, value}
 use Rattle.json.specs.Lex.{tokens}
@@ -10,7 +10,7 @@ use Rattle.etcs_check.proofs.CheckerLemmas.{more_groups, more_messages, no_group
 use Rattle.etcs_check.specs.LineChecker.{CheckerState, HasChecked, TakesGroups, TakesMessages}
 use Rattle.etcs_document.proofs.DocumentLemmas.{is_json, line_read}
 use Rattle.etcs_document.proofs.DocumentTokenLemmas.{AreFirst, each_read, first_more, list_taken, list_values, none_first, object_stands}
-use Rattle.etcs_document.proofs.TakenLemmas.{each_more}
+use Rattle.etcs_document.proofs.TakenLemmas.{and_one, read_as}
 use Rattle.etcs_document.proofs.TokenLemmas.{converted_some, key_stands, then_stand}
 use Rattle.etcs_document.specs.Document.{◌then◌, document_group, document_line, document_list, document_message, in_form, json_value, line_of_text, read_indexed}
 use Rattle.etcs_document.specs.DocumentTokens.{HasLine, IsChecked, IsFirst, IsGroup, IsList, IsMessage}
@@ -46,20 +46,12 @@ module _ {S X : Type 0} (Is : Data → X → Type 0) (Takes : S → X → S → 
   -- one more was read, and passed to the checker
   pub one_taken : (was kept is : S) (mid new : List Token) → AreTaken (λ xs. AreFirst Is depth old xs mid) Takes was kept
       → (one : X) → IsFirst Is depth mid one new → Takes kept one is → AreTaken (λ xs. AreFirst Is depth old xs new) Takes was is
-  one_taken was kept is mid new so one first takes = record {
-    items = so.items ++ one ∷ [];
-    read = first_more Is depth old so.items (so.items ++ one ∷ []) one mid new so.read first refl;
-    takes = each_more Takes was kept is so.items one so.takes takes;
-  }
+  one_taken was kept is mid new so one first takes = and_one Takes _ _ was kept is one so takes (λ xs read. first_more Is depth old xs one mid new read first)
 
   -- the list of them
   pub all_taken : (was is : S) (begun ended new : List Token) → 0 < depth → old ≡ Token.begin_array ∷ begun → AreTaken (λ xs. AreFirst Is (depth - 1) begun xs ended) Takes was is → after_end_array ended ≡ Some new
       → AreTaken (λ xs. IsFirst (IsList Is) depth old xs new) Takes was is
-  all_taken was is begun ended new deep begins so ends = record {
-    items = so.items;
-    read = list_taken Is depth old begun ended new so.items deep begins so.read ends;
-    takes = so.takes;
-  }
+  all_taken was is begun ended new deep begins so ends = read_as Takes _ _ was is so (λ xs read. list_taken Is depth old begun ended new xs deep begins read ends)
 
 -- ---- the document
 

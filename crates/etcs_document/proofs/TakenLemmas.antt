@@ -10,6 +10,14 @@ pub each_more : {S X : Type 0} (Takes : S → X → S → Type 0) (was kept is :
 each_more {S = S} Takes was kept is [] x same one = (is, subst (λ (k : S). Takes k x is) (sym same) one, refl)
 each_more Takes was kept is (y ∷ ys) x each one = (each.0, each.1, each_more Takes each.0 kept is ys x each.2 one)
 
+module _ {S X : Type 0} (Takes : S → X → S → Type 0) (P Q : List X → Type 0) where
+  -- one more was read and taken
+  pub and_one : (was kept is : S) (x : X) → AreTaken P Takes was kept → Takes kept x is → ((xs : List X) → P xs → Q (xs ++ x ∷ [])) → AreTaken Q Takes was is
+  and_one was kept is x so takes more = record { items = so.items ++ x ∷ []; read = more so.items so.read; takes = each_more Takes was kept is so.items x so.takes takes }
+
+  pub read_as : (was is : S) → AreTaken P Takes was is → ((xs : List X) → P xs → Q xs) → AreTaken Q Takes was is
+  read_as was is so means = record { items = so.items; read = means so.items so.read; takes = so.takes }
+
 -- ---- a list that keeps them
 
 all_kept : {S X : Type 0} (kept : S → List X) (was is : S) (xs : List X) → TakesEach (λ old x new. kept new ≡ kept old ++ x ∷ []) was xs is → kept is ≡ kept was ++ xs
@@ -43,15 +51,8 @@ module _ {S X : Type 0} (Takes : S → X → S → Type 0) (read : ℕ → Data 
   one_so_far i left more d x kept is so next one takes =
       let rest = read_indexed read (i + 1) more in
       let step : read_indexed read i left ≡ with_first x rest = ap (read_indexed read i) next ∙ ap (λ r. r then λ y. with_first y rest) one in
-      record {
-        items = so.items ++ x ∷ [];
-        read = sym (front_more so.items x rest) ∙ ap (with_front so.items) (sym step) ∙ so.read;
-        takes = each_more Takes was kept is so.items x so.takes takes;
-      }
+      and_one Takes _ _ was kept is x so takes (λ xs read. sym (front_more xs x rest) ∙ ap (with_front xs) (sym step) ∙ read)
 
   pub all_so_far : (i : ℕ) (left : List Data) (is : S) → AreReadSoFar i left is → left ≡ [] → AreTaken (λ xs. whole ≡ Ok xs) Takes was is
-  all_so_far i left is so none = record {
-    items = so.items;
-    read = sym so.read ∙ ap (λ ds. with_front so.items (read_indexed read i ds)) none ∙ ap Ok (append-nil so.items);
-    takes = so.takes;
-  }
+  all_so_far i left is so none =
+      read_as Takes _ _ was is so (λ xs so_far. sym so_far ∙ ap (λ ds. with_front xs (read_indexed read i ds)) none ∙ ap Ok (append-nil xs))

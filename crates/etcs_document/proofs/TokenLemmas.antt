@@ -143,6 +143,10 @@ pub then_some_is : {A : Type 0} (b : Bool) (x y : A) → Some y ≡ then_some b 
 then_some_is true x y is = (refl, cc)
 then_some_is false x y is = absurd cc
 
+pub if_then : {A : Type 0} (Q : A → Type 0) (b : Bool) (x : A) (o : Option A) → o ≡ then_some b x → (b ≡ true → Q x) → IfSome o Q
+if_then Q true x o is more = rw is (more refl)
+if_then Q false x o is more = rw is tt
+
 pub ok_part : {A E : Type 0} (P : A → Type 0) (Q : E → Type 0) (r : Result A E) (x : A) → MatchResult r P Q → Some x ≡ result_ok r → P x
 ok_part P Q (Ok y) x h is = let same : y ≡ x = cc in subst P same h
 ok_part P Q (Err e) x h is = absurd cc

@@ -47,33 +47,23 @@ pub comma_passed : (text rest : List ℕ) → lex between text ≡ lex between (
 unfolding lex punctuate
 comma_passed text rest is = ap (punctuate after_value) (sym is)
 
-pub object_begun : (place : Place) (text rest : List ℕ) → can_begin place ≡ true → lex between text ≡ lex between (123 ∷ rest)
-    → remaining_tokens place text ≡ begin_object ∷ punctuate fresh (lex between rest)
+-- an object begins, or a list
+pub begun : (place : Place) (text rest : List ℕ) → can_begin place ≡ true
+    → (lex between text ≡ lex between (123 ∷ rest) → remaining_tokens place text ≡ begin_object ∷ punctuate fresh (lex between rest))
+    × (lex between text ≡ lex between (91 ∷ rest) → remaining_tokens place text ≡ begin_array ∷ punctuate fresh (lex between rest))
 unfolding lex punctuate
-object_begun Fresh text rest may is = ap (punctuate fresh) is
-object_begun AfterValue text rest may is = absurd (false≢true may)
-object_begun AfterComma text rest may is = ap (punctuate after_comma) is
+begun Fresh text rest may = (λ is. ap (punctuate fresh) is, λ is. ap (punctuate fresh) is)
+begun AfterValue text rest may = absurd (false≢true may)
+begun AfterComma text rest may = (λ is. ap (punctuate after_comma) is, λ is. ap (punctuate after_comma) is)
 
-pub list_begun : (place : Place) (text rest : List ℕ) → can_begin place ≡ true → lex between text ≡ lex between (91 ∷ rest)
-    → remaining_tokens place text ≡ begin_array ∷ punctuate fresh (lex between rest)
+-- an object ends, or a list
+pub ended : (place : Place) (text rest : List ℕ) (new : List Token) → can_close place ≡ true → new ≡ punctuate after_value (lex between rest)
+    → (lex between text ≡ lex between (125 ∷ rest) → read_key (remaining_tokens place text) ≡ Some (None, new))
+    × (lex between text ≡ lex between (93 ∷ rest) → after_end_array (remaining_tokens place text) ≡ Some new)
 unfolding lex punctuate
-list_begun Fresh text rest may is = ap (punctuate fresh) is
-list_begun AfterValue text rest may is = absurd (false≢true may)
-list_begun AfterComma text rest may is = ap (punctuate after_comma) is
-
-pub object_ended : (place : Place) (text rest : List ℕ) (new : List Token) → can_close place ≡ true → lex between text ≡ lex between (125 ∷ rest)
-    → new ≡ punctuate after_value (lex between rest) → read_key (remaining_tokens place text) ≡ Some (None, new)
-unfolding lex punctuate
-object_ended Fresh text rest new may is left = ap (λ l. read_key (punctuate fresh l)) is ∙ ap (λ l. Some (None, l)) (sym left)
-object_ended AfterValue text rest new may is left = ap (λ l. read_key (punctuate after_value l)) is ∙ ap (λ l. Some (None, l)) (sym left)
-object_ended AfterComma text rest new may is left = absurd (false≢true may)
-
-pub list_ended : (place : Place) (text rest : List ℕ) (new : List Token) → can_close place ≡ true → lex between text ≡ lex between (93 ∷ rest)
-    → new ≡ punctuate after_value (lex between rest) → after_end_array (remaining_tokens place text) ≡ Some new
-unfolding lex punctuate
-list_ended Fresh text rest new may is left = ap (λ l. after_end_array (punctuate fresh l)) is ∙ ap Some (sym left)
-list_ended AfterValue text rest new may is left = ap (λ l. after_end_array (punctuate after_value l)) is ∙ ap Some (sym left)
-list_ended AfterComma text rest new may is left = absurd (false≢true may)
+ended Fresh text rest new may left = (λ is. ap (λ l. read_key (punctuate fresh l)) is ∙ ap (λ l. Some (None, l)) (sym left), λ is. ap (λ l. after_end_array (punctuate fresh l)) is ∙ ap Some (sym left))
+ended AfterValue text rest new may left = (λ is. ap (λ l. read_key (punctuate after_value l)) is ∙ ap (λ l. Some (None, l)) (sym left), λ is. ap (λ l. after_end_array (punctuate after_value l)) is ∙ ap Some (sym left))
+ended AfterComma text rest new may left = absurd (false≢true may)
 
 pub none_left : (place : Place) (text begun : List ℕ) → can_close place ≡ true → lex between begun ≡ lex between text → length begun ≡ 0
     → remaining_tokens place text ≡ []

@@ -5,7 +5,7 @@ use Rattle.serde_json.specs.Data.{Data}
 use Rattle.serde_json.specs.Find.{as_str}
 use Rattle.etcs_check.specs.Soundness.{IsSoundLine, IsSoundMessage}
 use Rattle.etcs_document.proofs.BaliseLemmas.{some_and, telegrams_read}
-use Rattle.etcs_document.proofs.ResultLemmas.{form_ok, same_ok, text_ok, then_ok}
+use Rattle.etcs_document.proofs.ResultLemmas.{mapped_ok, same_ok, text_ok, then_ok}
 use Rattle.etcs_document.proofs.ValueLemmas.{each_at, list_read, stands}
 use Rattle.etcs_document.specs.Document.{◌then◌, document_line, document_list, document_message, in_form, json_value, line_groups, line_messages, line_of_text, read_indexed}
 use Rattle.etcs_document.specs.DocumentFault.{bad_message}
@@ -40,7 +40,7 @@ pub messages_read : (d : Data) (ms : List Message) → line_messages d ≡ Ok ms
 unfolding line_messages
 messages_read d ms is i m here =
     let list = then_ok (document_list (codes "messages") d) (read_indexed document_message 0) ms is in
-    let values = list_read (codes "messages") d list.0 (form_ok [] _ list.0 list.1) in
+    let values = list_read (codes "messages") d list.0 (mapped_ok _ _ list.0 list.1) in
     let one = each_at document_message 0 list.0 ms list.2 i m here in
     let place_of = stands (codes "messages") d list.0 i one.0 values one.1 in
     let text = message_in (0 + i) one.0 m one.2 in

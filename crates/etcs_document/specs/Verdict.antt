@@ -11,7 +11,7 @@ use Rattle.etcs_check.specs.declared.finding.Finding.{Finding}
 use Rattle.etcs_document.specs.Document.{◌then◌, document_line, json_value, line_of_text}
 use Rattle.etcs_document.specs.DocumentFault.{DocumentFault}
 use Rattle.etcs_document.specs.declared.line_error.LineError.{LineError}
-use Rattle.etcs_document.specs.declared.verdict.Verdict.{Verdict}
+use Rattle.etcs_document.specs.declared.check.Verdict.{Verdict}
 use Rattle.etcs_group.specs.Assembly.{IsAccepted}
 use Rattle.etcs_group.specs.Laws.{IsMixtureDecided}
 use Rattle.etcs_group.specs.Missed.{IsCovered, IsSetOf}

@@ -1,6 +1,6 @@
 //! `check_text`: reads the document of a railway line and checks the line, with a `Verdict` as its result.
 
-ghost use Rattle.std.specs.Prelude.{◌≡◌, ◌≢◌, ◌↔◌, ℕ, Bool, false, [], Option, IfOk};
+ghost use Rattle.std.specs.Prelude.{◌≡◌, ◌≢◌, ◌↔◌, ℕ, Bool, false, [], Option, IfOk, IsTrue};
 ghost use Rattle.std.specs.Str.{is_utf8};
 ghost use Rattle.etcs_profile.specs.declared.run.Run.{Run};
 ghost use Rattle.etcs_group.specs.Laws.{IsDecided, IsMixtureDecided};
@@ -15,9 +15,27 @@ ghost use Rattle.etcs_document.specs.Verdict.{IsSoundText, IsYes, NamesUnsoundPa
 
 use crate::document::read_line;
 use crate::line_error::LineError;
-use crate::verdict::Verdict;
-use etcs_check::check;
+use etcs_check::{Finding, Line, check};
 use std::alloc::Global;
+
+/// The verdict on a line: the line that was read, and all facts against it.
+#[derive(Debug, Drop)]
+pub struct Verdict {
+    /// The line.
+    pub line: Line,
+    /// All facts against it: by group, then by message; within each by rule, then by aspect, none
+    /// first, then by running direction, nominal first, then by balise and packet.
+    pub findings: Vec<Finding>,
+}
+
+impl Verdict {
+    /// Whether there is no fact against the line.
+    pub fn is_yes(&self) -> bool
+        ensures { IsTrue result ↔ (self.now.findings.items ≡ []) }
+    {
+        self.findings.is_empty()
+    }
+}
 
 /// Reads the document of a railway line, and finds all facts against the line. Without findings the answer is
 /// yes:

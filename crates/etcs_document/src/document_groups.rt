@@ -1,14 +1,15 @@
-//! The balise groups of a document, each with its aspects.
+//! The balise groups of a document, each with its aspects, and its messages.
 
 ghost use Rattle.std.specs.Prelude.{◌∷◌, [], map};
-ghost use Rattle.etcs_document.specs.Document.{document_group, listed_aspects};
+ghost use Rattle.etcs_document.specs.Document.{document_group, document_message, listed_aspects};
 ghost use Rattle.etcs_document.specs.DocumentFault.{Gives};
 
 use crate::document_aspects::read_aspect;
 use crate::document_values::{FromValue, only_values};
 use crate::line_error::{LineError, in_group};
 use etcs_group::{Controlled, Group};
-use etcs_schema::JsonValue;
+use etcs_radio::{Message, RadioTextError, from_hex};
+use etcs_schema::{FormError, JsonValue, Step};
 use std::alloc::Global;
 
 // Reads the aspects of the group at this index, one after the other.
@@ -33,6 +34,7 @@ fn read_aspects<N: JsonValue>(
 }
 
 /// The controlled group with this one aspect.
+#[inline]
 pub(crate) fn as_only_aspect(alloc: Global, group: Group) -> Result<Controlled, LineError>
     ensures { Gives (λ c. c) result (Ok (group ∷ [])) }
 {
@@ -56,6 +58,28 @@ impl FromValue for Controlled {
         match only_values(alloc, value, "aspects") {
             Ok(aspects) => read_aspects(alloc, place, &aspects),
             Err(error) => Err(LineError::from(in_group(error, place, None))),
+        }
+    }
+}
+
+// A message is the text of a radio message.
+#[tactic(auto, unfolding(crate::specs::Document::document_message))]
+impl FromValue for Message {
+    ghost reading = { document_message };
+
+    fn from_value<N: JsonValue>(
+        alloc: Global,
+        place: usize,
+        value: &N,
+    ) -> Result<Message, LineError> {
+        let Some(text) = value.text() else {
+            let error = FormError::kind(alloc).under(Step::Place(place));
+            return Err(LineError::from(error.under(Step::Key("messages"))));
+        };
+        match from_hex(alloc, text.as_bytes()) {
+            Ok(message) => Ok(message),
+            Err(RadioTextError::Memory) => Err(LineError::Memory),
+            Err(why) => Err(LineError::Message(place, why)),
         }
     }
 }

@@ -152,7 +152,7 @@ fn document_reason(alloc: Global, why: &LineError) -> Result<String, AllocError>
 pub fn refusal_text(alloc: Global, refusal: &Refusal) -> Result<String, Memory>
     ensures { IfOk result (λ s. string_bytes s ≡ refusal_words refusal.now) }
 {
-    let line = match refusal {
+    Ok(match refusal {
         Refusal::Usage => format!(in alloc;
             "refused: usage is balisecheck check, decode [--radio] or encode [--radio]\n"
         )?,
@@ -168,6 +168,5 @@ pub fn refusal_text(alloc: Global, refusal: &Refusal) -> Result<String, Memory>
             let reason = document_reason(alloc, why)?;
             format!(in alloc; "refused: {reason}\n")?
         }
-    };
-    Ok(line)
+    })
 }

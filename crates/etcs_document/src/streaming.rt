@@ -64,13 +64,10 @@ fn found_by(checker: LineChecker) -> Result<Checked, LineError>
         → HasChecked checker gs ms → ((c.groups, c.messages), c.findings.items) ≡ summary (judged (gs, ms))) }
     ensures memory { IfErr result (λ e. e ≡ errors.Memory) }
 {
-    let groups = checker.groups();
-    let messages = checker.messages();
-    let findings = checker.finish()?;
     Ok(Checked {
-        groups,
-        messages,
-        findings,
+        groups: checker.groups(),
+        messages: checker.messages(),
+        findings: checker.finish()?,
     })
 }
 

@@ -78,15 +78,9 @@ impl FromTokens for Group {
 
     fn from_tokens(alloc: Global, reader: &mut TokenReader<'_>, depth: usize) -> Option<Group> {
         let inner = reader.pass_open(b'{', depth)?;
-        if !reader.pass_key("balises") {
-            return None;
-        }
+        reader.pass_key("balises").then_some(())?;
         let group = balises(alloc, reader, inner)?;
-        if reader.pass_close(b'}') {
-            Some(group)
-        } else {
-            None
-        }
+        reader.pass_close(b'}').then_some(group)
     }
 }
 
@@ -117,10 +111,6 @@ impl FromTokens for Controlled {
     ) -> Option<Controlled> {
         let inner = reader.pass_open(b'{', depth)?;
         let group = group_member(alloc, reader, inner)?;
-        if reader.pass_close(b'}') {
-            Some(group)
-        } else {
-            None
-        }
+        reader.pass_close(b'}').then_some(group)
     }
 }

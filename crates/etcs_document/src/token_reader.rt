@@ -1,6 +1,5 @@
-//! Fast path: `TokenReader` reads the tokens of a document one by one from its bytes. They are the tokens that `json`
-//! gives for the text. Strings without escapes only. `false` or `None` is inconclusive; the caller then uses the full
-//! reader.
+//! Fast path: `TokenReader` reads the tokens of a document one by one from its bytes, as `json` gives them. Strings
+//! without escapes only. `false` or `None` is inconclusive; the caller then uses the full reader.
 
 ghost use Rattle.std.specs.Prelude.{◌≡◌, ◌+◌, ◌∷◌, [], false, None, Some, IfSome, IsFalse, IsTrue};
 ghost use Rattle.json.specs.Json.{after_end_array, read_key};
@@ -79,6 +78,7 @@ fn pass_byte(rest: &[u8], byte: u8) -> Option<&[u8]>
 }
 
 // The bytes after this key and its colon, if it is next.
+#[inline(always)]
 fn pass_name<'a>(rest: &'a [u8], name: &str) -> Option<&'a [u8]>
     requires plain { ArePlain name.now }
     ensures { IfSome result (λ r. lex between rest.now ≡ token (string_token name.now) ∷ colon ∷ lex between r.now) }
@@ -91,8 +91,7 @@ fn pass_name<'a>(rest: &'a [u8], name: &str) -> Option<&'a [u8]>
     pass_byte(&ended[1..], b':')
 }
 
-// The length of a text of this kind, given the bytes after its opening quote. A short telegram has 54 digits
-// and a long one 208, so that no quote has to be searched.
+// The length of a text of this kind after its opening quote. Telegrams have 54 or 208 digits, so no quote is sought.
 fn text_len(kind: TextKind, begun: &[u8]) -> Option<usize>
     ensures { IsTextLen kind begun.now result }
 {
@@ -192,7 +191,8 @@ impl<'a> TokenReader<'a> {
         true
     }
 
-    /// Reads this key. `false` changes nothing.
+    /// Reads this key. `false` changes nothing. Inlined, because the key is known to the caller.
+    #[inline(always)]
     pub(crate) fn pass_key(&mut self, name: &str) -> bool
         requires plain { ArePlain name.now }
         ensures yes { IsTrue result → read_key self.old ≡ Some (Some name.now, self.new) }

@@ -1,7 +1,7 @@
-use Rattle.std.proofs.Common.{◌≡◌, ℕ, ◌+◌, ◌-◌, ◌<◌, ◌≤◌, length, take, lit≤, refl, sym, ap, ◌∙◌, arith}
+use Rattle.std.proofs.Common.{◌≡◌, ℕ, ◌+◌, ◌-◌, ◌<◌, ◌≤◌, length, take, refl, sym, ap, ◌∙◌, arith}
 use Rattle.std.proofs.lemmas.Option.{slice_get_within}
 use Rattle.etcs_check.specs.Identities.{HasIdentity, identity_number, is_marked}
-use Rattle.etcs_check.proofs.IdentityLemmas.{seen_marked, seen_other, used_mark, used-among, numbered_before, seen_none, fresh_more}
+use Rattle.etcs_check.proofs.IdentityLemmas.{seen_marked, seen_other, used_mark, used-among, numbered_before, unmarked, IsFresh}
 use Rattle.etcs_check.proofs.NoteLemmas.{index_at, each_more}
 use Rattle.etcs_check.proofs.identities.repeats_in.Goals as goal
 use Rattle.etcs_check.proofs.identities.repeats_in.Goals.{then-base-identity+then-identity-base+else-mark, else-base-identity, else-base-identity-via-then-base-identity+else-identity-base, else-base-identity-via-else-base-identity}
@@ -18,7 +18,7 @@ returns-then-mark-clause-found c = λ _.
 pub groups-init : goal.groups-init
 groups-init c = record {
   long = refl;
-  seen = seen_none c.args.base 2097152 32768 (lit≤ tt);
+  seen = λ p lt. unmarked 32768 p (omega arith);
   fresh = λ k g lt. absurd (omega arith);
   numbered = λ k g lt. absurd (omega arith);
 }
@@ -37,7 +37,7 @@ groups-preserved c =
           record {
             long = ap length w.table-is ∙ w.mark.auto.table ∙ c.groups.invariant.long;
             seen = seen_marked c.args.base 2097152 c.groups.table c.if-base-identity.table c.args.groups.now c.groups.i c.aspects.result.now q at at_q (λ p. ap (λ t. is_marked t p) w.table-is ∙ w.mark.ensures.after p) c.groups.invariant.seen;
-            fresh = fresh_more c.args.base 2097152 c.args.groups.now c.groups.i c.aspects.result.now at c.groups.invariant.fresh (λ _ _. used_mark c.args.base 2097152 c.groups.table (take c.groups.i c.args.groups.now) c.aspects.result.now q at_q (omega arith) c.groups.invariant.seen among ∙ sym w.mark.ensures.before ∙ w.if-mark.false);
+            fresh = each_more (IsFresh c.args.base 2097152 c.args.groups.now) c.args.groups.now c.groups.i c.aspects.result.now at c.groups.invariant.fresh (λ _ _. used_mark c.args.base 2097152 c.groups.table (take c.groups.i c.args.groups.now) c.aspects.result.now q at_q (omega arith) c.groups.invariant.seen among ∙ sym w.mark.ensures.before ∙ w.if-mark.false);
             numbered = each_more (λ _. HasIdentity) c.args.groups.now c.groups.i c.aspects.result.now at c.groups.invariant.numbered c.identity_number-identity.ensures.numbered;
           }
       | else-base-identity w ↦
@@ -48,7 +48,7 @@ groups-preserved c =
           record {
             long = ap length w.table-is ∙ c.groups.invariant.long;
             seen = λ p lt. ap (λ t. is_marked t p) w.table-is ∙ seen_other c.args.base 2097152 c.groups.table c.args.groups.now c.groups.i c.aspects.result.now at (λ p lt e. out (omega arith) (omega arith)) c.groups.invariant.seen p lt;
-            fresh = fresh_more c.args.base 2097152 c.args.groups.now c.groups.i c.aspects.result.now at c.groups.invariant.fresh (λ lo hi. absurd (out lo hi));
+            fresh = each_more (IsFresh c.args.base 2097152 c.args.groups.now) c.args.groups.now c.groups.i c.aspects.result.now at c.groups.invariant.fresh (λ lo hi. absurd (out lo hi));
             numbered = each_more (λ _. HasIdentity) c.args.groups.now c.groups.i c.aspects.result.now at c.groups.invariant.numbered c.identity_number-identity.ensures.numbered;
           }
     ]

@@ -21,7 +21,7 @@ places-init c = record {
   all = refl;
   controlled = λ k g lt. absurd (omega arith);
   numbered = λ k g lt. absurd (omega arith);
-  kept = λ again n. ap (λ pages. is_kept pages n) c.new-kept.ensures.items ∙ ap (λ v. eqb v 1) (bit_at-zero (n % 4096 % 64));
+  kept = λ again n. ap (λ pages. is_kept pages n) c.new-kept.ensures.items ∙ ap (λ v. eqb v 1) (bit_at-zero (n % 16384 % 64));
 }
 
 -- The findings of this group were appended, and its identity was kept.

@@ -2,8 +2,7 @@ use Rattle.std.proofs.Common.{◌==◌, Err, length, ap, sym, ◌∙◌}
 use Rattle.std.proofs.lemmas.Bool.{eqb-true, false≢true}
 use Rattle.std.proofs.lemmas.List.{nil_from_length}
 use Rattle.serde_json.specs.Read.{read}
-use Rattle.etcs_document.proofs.DocumentLemmas.{is_json, is_no_json, not_readable}
-use Rattle.etcs_document.proofs.EmptyLemmas.{no_value_read, nothing_read}
+use Rattle.etcs_document.proofs.DocumentLemmas.{is_json, is_no_json, no_value_read, not_readable, nothing_read}
 use Rattle.etcs_document.proofs.document.read_json.Goals as goal
 
 -- bytes that are not UTF-8 are not JSON

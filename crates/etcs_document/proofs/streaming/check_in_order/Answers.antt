@@ -1,5 +1,5 @@
 use Rattle.std.proofs.Common.{◌∙◌}
-use Rattle.etcs_document.proofs.EmptyLemmas.{none_counted, unreadable_counted}
+use Rattle.etcs_document.proofs.DocumentLemmas.{is_no_json, not_counted, not_readable, nothing_read}
 use Rattle.etcs_document.proofs.StreamingLemmas.{data_counted}
 use Rattle.etcs_document.proofs.YesLemmas.{counted_none, counted_unnamed, no_finding_says_yes}
 use Rattle.etcs_document.proofs.streaming.check_in_order.Goals as goal
@@ -25,8 +25,8 @@ returns-clause-exact c = data_counted _ _ _ c.in_ok-document.ensures.gives c.roo
 
 -- an empty input is not a line
 pub returns-in-Some-clause-empty : goal.returns-in-Some-clause-empty
-returns-in-Some-clause-empty c = λ empty. absurd (none_counted _ _ empty c.in-Some.ensures)
+returns-in-Some-clause-empty c = λ empty. absurd (not_counted _ _ (is_no_json _ (λ _. nothing_read _ empty)) c.in-Some.ensures)
 
 -- bytes that are not UTF-8 are not a line
 pub returns-in-Some-clause-unreadable : goal.returns-in-Some-clause-unreadable
-returns-in-Some-clause-unreadable c = λ unreadable. absurd (unreadable_counted _ _ unreadable c.in-Some.ensures)
+returns-in-Some-clause-unreadable c = λ unreadable. absurd (not_counted _ _ (is_no_json _ (λ utf8. absurd (not_readable _ unreadable utf8))) c.in-Some.ensures)
