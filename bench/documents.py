@@ -61,11 +61,8 @@ def group(place, aspects):
 
 def main():
     count, aspects = int(sys.argv[1]), int(sys.argv[2]) if len(sys.argv) > 2 else 1
-    sys.stdout.write('{"groups":[')
-    for place in range(count):
-        text = json.dumps(group(place, aspects), separators=(",", ":"))
-        sys.stdout.write(f'{"," if place else ""}{text}')
-    sys.stdout.write('],"messages":[]}\n')
+    document = {"groups": [group(place, aspects) for place in range(count)], "messages": []}
+    print(json.dumps(document, separators=(",", ":")))
 
 
 if __name__ == "__main__":

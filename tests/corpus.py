@@ -100,13 +100,3 @@ def runs_of(program, words, each_kind=True):
 def answers(program, words, inputs):
     """The documented answers to these inputs."""
     return [answer for _, answer, _ in documented(program, [Job(words, in_bytes(data)) for data in inputs])]
-
-
-def come_back(program, words, forms):
-    """Each of these forms is encoded to a text that is decoded to the same values."""
-    forms = sorted(set(forms))
-    encoded, = answers(program, INVERSE[words], ["".join(f"{form}\n" for form in forms)])
-    decoded, = answers(program, words, [encoded.stdout])
-    assert (encoded.status, decoded.status) == (0, 0), (encoded.stdout[-200:], decoded.stdout[-200:])
-    wanted = [cases.FORM.encode(json.loads(form)).lower() for form in forms]
-    assert decoded.stdout.splitlines() == wanted, (words, forms)

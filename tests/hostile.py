@@ -110,11 +110,6 @@ class Library:
         return answer, Counts(*counts)
 
 
-def opened(path):
-    """The library or the program at this path."""
-    return Library(path) if str(path).endswith(".so") else Program(path)
-
-
 @functools.lru_cache(None)
 def shared():
     """The program that the tests of a process share."""
