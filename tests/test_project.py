@@ -1,5 +1,4 @@
 """The list of crates, the hook for commits, steps of tests, and the form of texts."""
-import os
 import re
 import subprocess
 
@@ -31,14 +30,13 @@ def test_crates():
 @pytest.mark.parametrize("words, wanted", [
     (["a sound.csv"], 0), (["found.csv", "a sound.csv"], 1), (["found.csv", "refused.csv", "a sound.csv"], 2),
     (["--by-position", "a sound.csv"], 0), (["missing.csv"], 2), (["accepted.csv", "accepted.accepted.csv"], 0)])
-def test_hook(words, wanted, tmp_path, program):
+def test_hook(words, wanted, tmp_path):
     """The hook has these keys, and ends with the greatest status of its tables. An accepted finding is none."""
     hook = dict(re.findall(r"(?m)^(?:- |  )(\w+): (.+)$", (TOP / ".pre-commit-hooks.yaml").read_text("utf-8")))
     assert " ".join(hook) == "id name description entry language files require_serial"
 
     def status(command, *words):
-        known = {**os.environ, "BALISECHECK": program}
-        return subprocess.run([TOP / command, *words], cwd=tmp_path, env=known, check=False).returncode
+        return subprocess.run([TOP / command, *words], cwd=tmp_path, check=False).returncode
 
     for name, others in (("a sound", []), ("found", [TELEGRAM]), ("accepted", [TELEGRAM]), ("refused", ["a1"])):
         rows = [f"{group},{text}\n" for group, text in zip("AB", [TELEGRAM, *others])]
