@@ -137,16 +137,18 @@ def test_refused_memory(name):
 
 @pytest.mark.parametrize("name", CALLS)
 def test_small_buffers_and_threads(name):
-    """A buffer that is too small is left as it was. One that is just large enough suffices, also for two threads with
-    little stack at once."""
-    library, size = Library(SHARED), threading.stack_size((STACK + 64) * 1024)  # (64 KiB for Python)
-    for data in data_of(name, runs_of(shared(), CALLS[name])):
-        wanted = library.call(name, data)
+    """A buffer that is too small is left as it was. One that is just large enough suffices. Two threads with little
+    stack get the same answers at once."""
+    library = Library(SHARED)
+    known = {data: library.call(name, data) for data in data_of(name, runs_of(shared(), CALLS[name]))}
+    for data, wanted in known.items():
         for less in (0, 1, 10) if wanted.stdout else ():
             found = library.call(name, data, max(0, len(wanted.stdout) - less))
             assert found == (Answer(TOO_SMALL, "", "") if less else wanted), data
-        with concurrent.futures.ThreadPoolExecutor(2) as pool:
-            assert {*pool.map(functools.partial(library.call, name), [data] * 40)} == {wanted}, data
+    size = threading.stack_size((STACK + 64) * 1024)  # (64 KiB for Python)
+    with concurrent.futures.ThreadPoolExecutor(2) as pool:
+        again = pool.map(functools.partial(library.call, name), [*known] * 40)
+        assert [*again] == [*known.values()] * 40
     threading.stack_size(size)
 
 
