@@ -1,7 +1,6 @@
 """Compares the pages on assurance with what they name and count, and with what the program does."""
 import functools
 import re
-import runpy
 import subprocess
 import sys
 
@@ -13,8 +12,6 @@ PROOFS, SAFETY, YES = ((TOP / f"docs/assurance/{name}.md").read_text("utf-8") fo
 CRATE = r"(?:etcs_\w+|balisecheck_c)"
 CALL = re.compile(rf"`({CRATE})::(?:(\w+)::)?(\w+)`(?: \(((?:`\w+`(?:, )?)+)\))?")
 DEFINED = re.compile(rf"`({CRATE})/(\w+\.antt)`: ((?:`\w+`(?:, )?)+)")
-TRUSTED = runpy.run_path(str(TOP / "tests/trusted"))
-PIN = "-- Pinned by the law all."
 
 
 @functools.lru_cache(None)
@@ -66,25 +63,30 @@ def test_sources():
     assert {*crate_uses()} == {it.parent.name for it in TOP.glob("crates/*/src")}
 
 
-def test_trusted():
-    """The page on proofs has the table of tests/trusted, and lemmas are no definitions."""
-    assert re.findall(r"(?s)<!-- trusted -->\n(.*)<!-- /trusted -->\n", PROOFS) == [TRUSTED["table"]()]
-    lemmas = [TRUSTED["count"](it.read_text("utf-8"), []) for it in TOP.glob("crates/*/specs/lemmas/**/*.antt")]
-    assert lemmas and not any(found[False] for found in lemmas)
+def defined(text):
+    """How many lines of a file of specs/ belong to definitions, without comments and the lines unfolding. Imports,
+    definitions and proofs are separated by empty lines, and a proof begins with a name and its type."""
+    parts = re.findall(r"(?:.+\n)+", re.sub(r"(?m)^ *(?:--|unfolding ).*\n", "", text))
+    return sum(part.count("\n") for part in parts if not re.match(r"(?:pub )?(?:(?:use|mod) |\S+ :\s)", part))
 
 
-@pytest.mark.parametrize("pins, wanted", [
-    (("", ""), (4, 0)), ((PIN, ""), (0, 4)), (("", PIN), (2, 2)), ((f"\n{PIN}", ""), None),
-    ((PIN.rstrip("."), ""), None), ((PIN.replace("all", "none"), ""), None)])
-def test_pins(pins, wanted):
-    """Only a law in a head pins lines: of the whole file, or of a section."""
-    file = "-- Codes.\n{}\nabbrev a : ℕ\na = 0\n\n-- ---- numbers\n{}\nabbrev b : ℕ\nb = 0\n\nc : b ≡ 0\nc = refl\n"
-    if wanted:
-        found = TRUSTED["count"](file.format(*pins), ["all"])
-        assert (found[False], found[True]) == wanted
-    else:
-        with pytest.raises(ValueError, match="a pin is in no head"):
-            TRUSTED["count"](file.format(*pins), ["all"])
+def test_definitions():
+    """The page on proofs lists how many lines of definitions each crate has. Lemmas are no definitions."""
+    counts = {crate: defined(source(f"{crate}/specs/**/*.antt")) for crate in crate_uses()}
+    counts["all"] = sum(counts.values())
+    listed = re.findall(r"(?m)^\| (\w+) \| ([\d,]+) \|$", PROOFS)
+    assert listed == [(name, f"{count:,}") for name, count in counts.items() if count]
+    assert counts["all"] > 3000 and defined(source("*/specs/lemmas/**/*.antt")) == 0
+
+
+def test_pins():
+    """If the head of a file or of a section names a law that pins its definitions, this is a public law."""
+    laws = {*re.findall(r"(?m)^pub fn (\w+)", source("*/src/laws.rt"))}
+    for path in TOP.glob("crates/*/specs/**/*.antt"):
+        text = path.read_text("utf-8")
+        heads = "".join(re.findall(r"(?m)(?:\A|^(?=-- ----))(?:--.*\n)+", text))
+        pins = re.findall(r"(?m)^-- Pinned by the law (\w+)\.$", heads)
+        assert {*pins} <= laws and len(pins) == text.count("Pinned by"), path
 
 
 def test_yes():

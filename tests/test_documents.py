@@ -12,11 +12,6 @@ SECTIONS = re.findall(r"^## F(\d+): (.*)\n\n`(.*)`\n\n((?:.|\n)*?)(?=^## |\Z)", 
 LINK = re.compile(r"\(\.\./examples/check/([a-z0-9.-]+)\)")
 
 
-def check(document):
-    """The answer to a document."""
-    return run(("check",), document)
-
-
 @pytest.mark.parametrize("path", sorted(FOLDER.glob("*.json")), ids=lambda path: path.stem)
 def test_example(path):
     """A document has its report beside it, and a corrected one gets a yes. The report stays the same if the balises of
@@ -26,9 +21,9 @@ def test_example(path):
         report = f"yes: groups {len(document['groups'])}, messages {len(document['messages'])}\n"
     else:
         report = path.with_suffix(".txt").read_text()
-    assert check(path.read_text()) == answered(report)
+    assert run(["check"], path.read_text()) == answered(report)
     document["groups"] = [it if "aspects" in it else {"aspects": [it]} for it in document["groups"]]
-    assert check(json.dumps(document)) == answered(report)
+    assert run(["check"], json.dumps(document)) == answered(report)
 
 
 @pytest.mark.parametrize("rule, title, shown, section", SECTIONS)

@@ -158,6 +158,6 @@ def test_plants(monkeypatch, tmp_path, capsys):
     assert PLANTS["judge"]("tiny") == (3, 1)
     assert capsys.readouterr().out == f"tiny: + {new}tiny: - proves src/other.rt gone: {{ 0 }}\n"
     assert (tmp_path / "out/plants/tiny.txt").read_text(encoding="utf-8") == new + KEPT
-    for wrong in ("not-run=0", "not-run=1"), ("proves=1", "proves=2"), ("rt: c", "note: the crate is not proved\nrt: c"):
+    for wrong in ("not-run=0", "not-run=1"), ("proves=1", "proves=2"), ("rt: ", "note: the crate is not proved\nrt: "):
         write(tmp_path / "output", PLANTED.replace(*wrong))
         assert PLANTS["judge"]("tiny") == (2, 2)

@@ -62,7 +62,7 @@ def numbers():
     with open(TOP / "docs/assurance/trace.csv", encoding="utf-8", newline="") as file:
         table = [row for row in csv.DictReader(file) if not row["layouts"].startswith("raw")]
     rules, terms = (sum(row["layouts"].startswith(f"{kind} ") for row in table) for kind in ("rule", "word"))
-    compared, doubts = (sum(bool(row[key]) for row in table) for key in ("compared", "doubt"))
+    doubts = sum(bool(row["doubt"]) for row in table)
     size = len(subprocess.check_output([sys.executable, TOP / "bench/documents.py", str(GROUPS)]))
     yield from ((TESTING, "{} of %d crates have none" % len(edits), edits.count(0)),
                 (ARCHITECTURE, "`check` of {} sound groups", f"{GROUPS:,}"), (ARCHITECTURE, "{} KiB of stack", STACK),
@@ -71,7 +71,6 @@ def numbers():
                 (PROOFS, r"MB in {} MB\)", f"{(2 * size // 1024 + 10000) * 1024 / 1e6:.0f}"),
                 (SAFETY, "the {} of these rows", doubts), (SAFETY, "the {} rows `rule`", rules),
                 (SAFETY, "the {} rows `word`", terms))
-    yield from ((page, r"\b{} of %d rows" % len(table), compared) for page in ("README.md", SAFETY))
     for path in TOP.glob("crates/*/specs/*.antt"):
         name = f"{path.parts[-3]}/{path.name}"
         if f"| `{name}` |" in PAGES[PROOFS]:
@@ -103,9 +102,8 @@ def test_site(tmp_path):
             name, _, place = link.partition("#")
             target = (path.parent / name).resolve() if name else path
             assert target.exists() and place in places.get(target, {place}), (path, link)
-        fetched = r'<(?:link(?![^>]* rel="canonical")|script|img|iframe)\b[^>]*? (?:href|src)="(?:https?:)?//'
-        assert not re.search(fetched, text), path
-    for path in site.rglob("*.css"):
-        assert not re.search(r"(?:@import|url\()\s*[\"']?(https?:)?//", path.read_text("utf-8")), path
+    tag = r'<(?:link(?![^>]* rel="canonical")|script|img|iframe)\b[^>]*? (?:href|src)='
+    for path in (*texts, *site.rglob("*.css")):
+        assert not re.search(rf"(?:{tag}|@import|url\()\s*[\"']?(?:https?:)?//", path.read_text("utf-8")), path
     found = (site / "search/search_index.json").read_text("utf-8")
     assert "supervised location" in found and all(f'"{path.relative_to(site)}"' in found for path in texts)

@@ -6,7 +6,6 @@ import os
 import re
 import runpy
 import shutil
-import subprocess
 import typing
 from hashlib import sha256
 from pathlib import Path
@@ -14,6 +13,7 @@ from pathlib import Path
 import pytest
 
 from runner import TOP, crate_uses, program
+from tiny import attempt, sh
 
 # A release is made once, for all tests: their mark keeps them in one process of xdist.
 pytestmark = [pytest.mark.slow, pytest.mark.xdist_group("release")]
@@ -35,19 +35,12 @@ def sum_of(path):
     return sha256(path.read_bytes()).hexdigest()
 
 
-def sh(folder, command, check=True):
-    """What a command writes in a folder. It succeeds if that is checked."""
-    ran = subprocess.run(["bash", "-c", command], cwd=folder, text=True, stdout=subprocess.PIPE,
-                         stderr=subprocess.STDOUT, check=False)
-    assert not check or ran.returncode == 0, ran.stdout
-    return ran.stdout
-
-
 def shows(page, folder, first="/usr/bin"):
-    """The commands of a page write in this folder what the page shows. A folder comes first on the path."""
+    """The commands of a page write in this folder what the page shows, whatever their status. A folder comes first on
+    the path."""
     blocks = "".join(re.findall(r"(?ms)^```console\n(.*?)^```$", text_of(page)))
     for command, wanted in re.findall(r"(?m)^\$ (.*)\n((?:(?!\$ ).*\n)*)", blocks):
-        assert sh(folder, f"PATH='{first}':$PATH\n{command}", check=False) == wanted
+        assert attempt(folder, f"set +e; PATH='{first}':$PATH\n{command}")[1] == wanted
 
 
 def has_manuals(prefix):
@@ -126,11 +119,10 @@ def a_release(tmp_path_factory):
         patch.setenv("PATH", f"{advzip.parent}:/usr/bin:/bin")
         patch.setenv("PYTHONPYCACHEPREFIX", str(room / "compiled"))
         patch.delenv("PYTHONDONTWRITEBYTECODE", raising=False)
-        release = "scripts/release.sh --try"
+        release = f"BALISECHECK='{program()}' scripts/release.sh --try"
         assert sh(TOP, f"{release} '{made}' & {release} '{room / 'again'}'; wait").count("written: ") == 2
         sh(TOP, f"scripts/install.sh '{room / 'clone'}'")
         sh(room, "mkdir tree && tar -xzf made/*.tar.gz -C tree --strip-components=1")
-        patch.delenv("BALISECHECK")
         yield made
 
 
@@ -139,7 +131,7 @@ def test_files(made):
     clone installs has manual pages."""
     name = f"balisecheck-{VERSION}-x86_64-linux-untested.tar.gz"
     assert sh(made.parent, "diff -r made again") == ""
-    assert sh(TOP, f"scripts/release.sh --try '{made}'", check=False) == f"release: {made} is not empty\n"
+    assert attempt(TOP, f"scripts/release.sh --try '{made}'") == (1, f"release: {made} is not empty\n")
     assert sorted(os.listdir(made)) == [
         "README.md", "SHA256SUMS", f"balisecheck-{VERSION}-untested.spdx.json", name, f"{name}.sha256",
         f"balisecheck_{VERSION}_amd64-untested.deb",
@@ -182,7 +174,7 @@ def test_wheel(made):
     assert [*differences(made.with_name("tree") / "companion/src/balisekit", package)] == []
     modules = [".".join(path.relative_to(package.parent).with_suffix("").parts) for path in package.rglob("*.py")]
     sh(package, f"'{venv}/bin/python' -c 'import {', '.join(name for name in modules if '__' not in name)}'")
-    assert "undefined name" not in sh(package, "python3 -m pyflakes .", check=False)
+    assert "undefined name" not in attempt(package, "python3 -m pyflakes .")[1]
     assert all([*venv.rglob(name)] for name in ("LICENSE-MIT", "THIRD-PARTY.md"))
     has_live_pages(venv)
     serves(made, venv)

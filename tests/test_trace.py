@@ -114,7 +114,7 @@ def test_raw():
 
 @pytest.mark.parametrize("path, text", TRACE["made"]().items(), ids=lambda it: getattr(it, "name", ""))
 def test_made(path, text):
-    """What is made of the table is what `tests/trace --write` makes now."""
+    """What is made of the table is what `tests/trace` makes now."""
     there = path.read_text(encoding="utf-8").splitlines()
     assert not [*difflib.unified_diff(there, text.splitlines(), "there", "made", lineterm="", n=0)]
 

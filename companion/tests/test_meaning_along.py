@@ -1023,3 +1023,28 @@ def test_e15_of_the_end_mark_of_speeds(found: Found, details: Dict[str, Any]) ->
     """V_STATIC 127 is no speed: nothing more is said of it."""
     assert not found("E15", INFILL, set_in_item(SITE, GREEN, 27, "elements", -1, **details))
     assert len(found("E15", INFILL, set_in_item(SITE, GREEN, 27, "elements", 0, **details))) == 1
+
+
+def both_ways(rows: List[Row]) -> None:
+    """All authorities and profiles are for both directions."""
+    for each in (each for row in rows for each in row.form["packets"]):
+        each.update({"q_dir": 2} if each["nid_packet"] in (12, 21, 27) else {})
+
+
+@pytest.mark.parametrize("rule", ["E9", "E10"])
+def test_groups_are_counted(found: Found, rule: str) -> None:
+    """One that sends in both directions is one group."""
+    groups = len({row.group for row in SHORT.rows})
+    assert [found.result(rule, SHORT, each).looked_at for each in (unchanged, both_ways)] == [groups, groups]
+
+
+def test_what_is_passed_over_is_not_counted(found: Found) -> None:
+    """Ends beyond a point, infill whose signal may be beyond the table, and orders for another track."""
+    beyond = found.plan("point,15.000,,,rising,,W1")
+    counts = [found.result("E12", SHORT, options=options).looked_at for options in (ASKED, beyond)]
+    assert counts[0] > counts[1]
+    is_last = only(lambda row: row.place <= 14_103)
+    counts = [found.result("E15", INFILL, each).looked_at for each in (unchanged, infill(777), is_last)]
+    assert counts[0] == counts[1] > counts[2] == 0
+    counts = [found.result("E18", BORDER, each).looked_at for each in (unchanged, to_track_2)]
+    assert counts == [3, 3], "a border more, and an announcement less"

@@ -553,16 +553,16 @@ def test_differences_are_of_variables() -> None:
     """With units, and without the body. Of a packet that does not fit, the body differs too."""
     old, new = (telegram(packet(65, spelled(f"1/2 3/8 500/15 300/15 0/1 {speed}/7"))) for speed in (16, 8))
     where = "packet 0 (temporary speed restriction, nominal, balisekit's own layout)"
-    assert list(map(str, differences(old, new))) == [f"{where}  V_TSR 80 km/h [16] -> 40 km/h [8]"]
+    assert [str(each) for each in differences(old, new)] == [f"{where}  V_TSR 80 km/h [16] -> 40 km/h [8]"]
     assert differences(old, old) == []
     long = telegram(packet(65, spelled("1/2 3/8 500/15 300/15 0/1 8/7 0/1")))
     names = [change.name for change in differences(old, long)]
     assert names == ["L_PACKET", "body", "V_TSR"]
     crossing, other = (telegram(packet(88, spelled(f"1/2 3/8 {place}/15 30/15 0/1"))) for place in (500, 600))
     wanted = "packet 0 (level crossing information, nominal, layout not certain)  D_LX 500 m [500] -> 600 m [600]"
-    assert list(map(str, differences(crossing, other))) == [wanted]
+    assert [str(each) for each in differences(crossing, other)] == [wanted]
     nobody = (telegram(packet(33, bits)) for bits in ("101", "110"))
-    said = list(map(str, differences(*nobody)))
+    said = [str(each) for each in differences(*nobody)]
     assert said == ["packet 0 (not named here, nominal)  body 3 bits, not decoded [a0] -> 3 bits, not decoded [c0]"]
 
 
@@ -571,7 +571,7 @@ def test_packets_that_come_and_go() -> None:
     old = telegram(packet(46, spelled("2/3 0/5")))
     new = telegram(packet(46, spelled("2/3 1/5 3/3")), packet(66, spelled("3/8")))
     own = "balisekit's own layout"
-    assert list(map(str, differences(old, new)))[1:] == [
+    assert [str(each) for each in differences(old, new)][1:] == [
         f"packet 0 (conditional level transition order, nominal, {own})  choice 1  added: M_LEVELTR level 2 [3]",
         f"packet 1 (temporary speed restriction revocation, {own})  added: NID_PACKET temporary speed restriction "
         "revocation [66]  Q_DIR nominal [1]  L_PACKET 31 bits [31]  NID_TSR 3",

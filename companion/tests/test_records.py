@@ -4,6 +4,8 @@ from __future__ import annotations
 import copy
 import json
 import re
+from functools import reduce
+from operator import getitem
 from typing import Any, Dict, Iterator, List, Set, Tuple
 
 import pytest
@@ -22,34 +24,23 @@ LINES: List[Tuple[str, str]] = [
     *(("telegram", case.answer) for case in (*CASES, *EXAMPLES[False]) if case.answer.startswith("{")),
     *(("message", case.answer) for case in EXAMPLES[True]),
 ]
-VALUES: Tuple[Any, ...] = (
-    None,
-    True,
-    "",
-    "0",
-    "00",
-    "0g",
-    [],
-    {},
-    [{}],
-    -1,
-    0,
-    1,
-    2,
-    3,
-    7,
-    8,
-    15,
-    31,
-    120,
-    121,
-    126,
-    127,
-    254,
-    255,
-    1023,
-    16_384,
-)
+OTHERS: Tuple[Any, ...] = (None, True, "", "0", "00", "0g", [], {}, [{}], 0, 1)
+"""Values instead of a text, a list or an object."""
+LIMITS = {"nid_packet": list(records.FROM_TRACK), "l_packet": [head for head, _ in records.BODIES.values()]}
+"""Numbers within the range of a key that also decide what is accepted."""
+
+
+def numbers(key: str) -> Set[int]:
+    """Small numbers, on which other keys may depend, and those at both sides of each limit of a key."""
+    parts = [*records.allowed(key), *LIMITS.get(key, ())]
+    limits = {limit for part in parts for limit in ((part,) if isinstance(part, int) else (part[0], part[-1]))}
+    return {*range(-1, 4), *(limit + more for limit in limits for more in (-1, 0, 1))}
+
+
+def values(form: Any, path: Tuple[Any, ...]) -> Tuple[Any, ...]:
+    """What the value at a path is replaced by."""
+    is_number = isinstance(reduce(getitem, path, form), int)
+    return (None, True, "0", [], {}, *sorted(numbers(path[-1]))) if is_number else OTHERS
 
 
 def line(form: Any) -> str:
@@ -122,7 +113,7 @@ def test_each_key_is_needed_and_each_value_has_its_range(name: str, text: str, p
     form = json.loads(text)
     for path in paths:
         key = path[-1]
-        for value in VALUES:
+        for value in values(form, path):
             agree(name, changed(form, path, key, value))
         agree(name, changed(form, path, key))
         if isinstance(key, str):
@@ -143,6 +134,6 @@ def test_several_changes(data: st.DataObject) -> None:
     name, text = data.draw(st.sampled_from(LINES))
     form = json.loads(text)
     for _ in range(data.draw(st.integers(1, 4))):
-        path = data.draw(st.sampled_from(list(places(form)) or [("packets",)]))
-        form = changed(form, path, path[-1], data.draw(st.sampled_from(VALUES)))
+        path = data.draw(st.sampled_from(list(places(form))))
+        form = changed(form, path, path[-1], data.draw(st.sampled_from(values(form, path))))
     agree(name, form)

@@ -272,3 +272,13 @@ def test_random_lines(program: Program, tmp_path: Path, seeds: range) -> None:
         made = line_of(program, tmp_path / "t.csv", rows, by_group if seed % 2 else lambda cells: cells[1] in some)
         found = [each for rule in (*links.RULES, *meaning.RULES) for each in rule.find(made, ASKED).found]
         assert not found, (seed, [f"{each.rule}: {each.location}: {each.sentence}" for each in found])
+
+
+@pytest.mark.parametrize("name", ["E17", "E17 of a line"])
+def test_authorities_that_may_be_linked_are_not_counted(program: Program, tmp_path: Path, name: str) -> None:
+    case, counts = CASES[name], []
+    for refuses in (of_groups(), case.refuses):
+        rows = copy.deepcopy(case.line.rows)
+        case.sound(rows)
+        counts.append(RULES["E17"].find(line_of(program, tmp_path / "t.csv", rows, refuses), ASKED).looked_at)
+    assert counts[0] > counts[1] and (counts[1] == 0) == (name == "E17 of a line")

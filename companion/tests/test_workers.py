@@ -273,7 +273,7 @@ def _workers_of(run: "subprocess.Popen[bytes]") -> List[int]:
         found = [pid for pid in _children(run.pid) if _command(pid) == _command(run.pid)]
         if len(found) > 1:
             return found
-        time.sleep(0.002)
+        time.sleep(0.02)
     raise AssertionError("no workers")
 
 

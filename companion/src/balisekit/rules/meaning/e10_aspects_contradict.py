@@ -72,9 +72,9 @@ def find(line: Line, options: Options) -> Result:
         for passage in data.passages if len(data.group.group.aspects) > 1 else ():
             if passage.of(GRADIENTS, SPEEDS):
                 by_direction.setdefault(passage.direction, []).append(passage)
-        for some in by_direction.values():
-            count += 1
-            found += _of_group(line, options, some) if len(some) > 1 else ()
+        several = [some for some in by_direction.values() if len(some) > 1]
+        count += bool(several)
+        found += [remark for some in several for remark in _of_group(line, options, some)]
     return Result(found, count)
 
 

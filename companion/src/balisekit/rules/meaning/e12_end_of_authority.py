@@ -53,9 +53,9 @@ def find(line: Line, options: Options) -> Result:
     unlinked: Dict[Lane, List[End]] = {}
     ends: List[Tuple[Lane, End]] = []  # (those that are not at the group to which they lead)
     for end in ends_of(decoded):
-        lane, looked_at = lane_of(end.passage), looked_at + 1
         if leaves(options, decoded, end.passage, end.place):
             continue
+        lane, looked_at = lane_of(end.passage), looked_at + 1
         target = _target(decoded, end)
         is_at = target is not None and target.place is not None and abs(target.place - end.place) <= STANDS
         if not is_at and not is_named(decoded, options, end, STANDS):

@@ -56,11 +56,11 @@ def find(line: Line, options: Options) -> Result:
     for passage in decoded.passages:
         reference = passage.reference
         if reference is not None and passage.group is not None and "nid_bg" in reference.form:
-            looked_at += 1
             country = passage.group.group.identity[0] if passage.group.group.identity else 0
             identity = reference.form.get("nid_c", country), reference.form["nid_bg"]
             target = decoded.by_identity.get(identity)
             if target is not None:
+                looked_at += 1
                 ahead = list(_ahead(passage, passage.group, reference, target))
                 found += ahead or list(_differences(decoded, passage, target))
             elif identity[1] != NOT_KNOWN:
@@ -74,6 +74,7 @@ def find(line: Line, options: Options) -> Result:
             why = "be that of a refused telegram" if refused else "be beyond the table"
             notes.add(f"E15: {clean(passage.group.group.group.name)}: {words}: it may {why}")
         else:
+            looked_at += 1
             values = {"nid_c": Decimal(identity[0]), "nid_bg": Decimal(identity[1])}
             found.append(Remark("E15", passage.at(reference), words, None, values))
     return Result(merged(found), looked_at, notes=sorted(notes))
@@ -90,9 +91,7 @@ def _may_be_refused(line: Line, passage: Passage) -> bool:
 def _is_last(passage: Passage, extent: Optional[Extent]) -> bool:
     """Whether no group ahead gives an authority. Without a place or a way that is not known."""
     place, way = passage.group.place if passage.group else None, passage.way
-    if place is None or way is None or extent is None:
-        return True
-    return place * way >= max(each * way for each in extent)
+    return place is None or way is None or extent is None or place * way >= max(each * way for each in extent)
 
 
 def _ahead(passage: Passage, group: GroupData, reference: Packet, target: GroupData) -> Iterator[Remark]:

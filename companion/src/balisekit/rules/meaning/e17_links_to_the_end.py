@@ -52,18 +52,13 @@ def find(line: Line, options: Options) -> Result:
     ends = [end for end in ends_of(decoded) if end.packet.number == 12]
     if ends and _is_without_links(decoded):
         if line.lost_messages or any(unread_of(decoded)):
-            return Result([], len(ends))
+            return Result([], 0)
         before = " before a packet 136" if LINKING in decoded.sent else ""
         sentence = f"no group or message has a packet 5 (linking){before}, and authorities have a V_MAIN above 0"
         return Result([Remark("E17", ends[0].passage.at(), sentence)], len(ends))
-    lanes = lanes_of_links(decoded)
-    found = [
-        remark
-        for end in ends
-        if not _may_be_linked(line, end)
-        for remark in _look_at(decoded, options, lanes[lane_of(end.passage)], end)
-    ]
-    return Result(merged(found), len(ends))
+    lanes, known = lanes_of_links(decoded), [end for end in ends if not _may_be_linked(line, end)]
+    found = [remark for end in known for remark in _look_at(decoded, options, lanes[lane_of(end.passage)], end)]
+    return Result(merged(found), len(known))
 
 
 def _may_be_linked(line: Line, end: End) -> bool:

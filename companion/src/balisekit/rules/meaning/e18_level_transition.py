@@ -52,8 +52,9 @@ def find(line: Line, options: Options) -> Result:
     decoded, found, looked_at = line.decoded, [], 0
     unknown = [*without_direction(decoded), *unread_of(decoded)]
     for orders in orders_of(decoded).values():
-        looked_at += len(orders)
-        for part in _parts([order for order in orders if not _leaves(decoded, order)]):
+        staying = [order for order in orders if not _leaves(decoded, order)]
+        looked_at += len(staying)
+        for part in _parts(staying):
             usual = _usual(part)
             found += list(_compare(decoded, options, part, usual, unknown))
             found += [] if usual.is_now else list(_unordered(decoded, usual, unknown))
@@ -134,4 +135,4 @@ def _unordered(decoded: Decoded, usual: Order, unknown: Unknown) -> Iterator[Rem
         yield Remark("E18", usual.passage.at(usual.packet), sentence, None, usual.values())
 
 
-RULE = Rule("E18", "level transitions", __doc__ or "", find, Urgency.WRONG_INFORMATION, needs_kilometres=True)
+RULE = Rule("E18", "level orders", __doc__ or "", find, Urgency.WRONG_INFORMATION, needs_kilometres=True)

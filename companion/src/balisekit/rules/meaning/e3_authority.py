@@ -28,7 +28,6 @@ How sure. 88 %.
 from __future__ import annotations
 
 from decimal import Decimal
-from itertools import chain
 from typing import Iterator, List
 
 from balisekit.etcs.variables import Form, metres
@@ -49,7 +48,7 @@ def find(line: Line, options: Options) -> Result:
 
 def _faults(packet: Packet) -> List[Fault]:
     form, unit, total = packet.form, packet.unit, packet.end
-    return list(chain(_sections(form, unit), _starts(form, unit, total), _overlap(form, unit), _limit(form, total)))
+    return [*_sections(form, unit), *_starts(form, unit, total), *_overlap(form, unit), *_limit(form, total)]
 
 
 def _sections(form: Form, unit: int) -> Iterator[Fault]:

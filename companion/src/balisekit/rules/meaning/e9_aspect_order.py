@@ -43,7 +43,8 @@ NAMED = 5
 def find(line: Line, options: Options) -> Result:
     """Compares the aspects of each name over the table."""
     cases = cases_of(line)
-    return Result([*_ends(options, cases), *_stops(cases)], len(cases))
+    groups = {id(own[0].passage.group) for own in cases}
+    return Result([*_ends(options, cases), *_stops(cases)], len(groups))
 
 
 def _ends(options: Options, cases: Sequence[Sequence[Case]]) -> Iterator[Remark]:
