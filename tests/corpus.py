@@ -93,7 +93,8 @@ def runs_of(program, words, each_kind=True):
     chosen = {}
     for it in known if each_kind else ():
         for line in it[1].stdout.splitlines() or [""]:
-            chosen.setdefault(re.sub(r"^\{.*|^[0-9a-f]{20,}$|^F.*: |/\S*|\d+", "", line), it)
+            line = re.sub(r"^\{.*|^[0-9a-f]{20,}$", "a record", line)
+            chosen.setdefault(re.sub(r"^F.*: |/\S*|\d+", "", line), it)
     return list({it[0]: it for it in chosen.values()}.values()) if each_kind else known
 
 

@@ -6,14 +6,9 @@ import sys
 from cases import every
 from runner import run
 
-passed = failed = 0
-for name, words, given, wanted in every():
-    found = run(words, given)
-    if found == wanted:
-        passed += 1
-        continue
-    failed += 1
-    if failed <= 100:
-        print(f"failed: {name}", f"  found:  {found}"[:1000], f"  wanted: {wanted}"[:1000], sep="\n")
-print(f"the cases: {passed} passed, {failed} failed")
-sys.exit(failed > 0)
+cases = list(every())
+failed = [(name, found, wanted) for name, words, given, wanted in cases if (found := run(words, given)) != wanted]
+for name, found, wanted in failed[:100]:
+    print(f"failed: {name}", f"  found:  {found}"[:1000], f"  wanted: {wanted}"[:1000], sep="\n")
+print(f"the cases: {len(cases) - len(failed)} passed, {len(failed)} failed")
+sys.exit(bool(failed))

@@ -13,7 +13,7 @@ import threading
 
 import pytest
 
-from corpus import LONG, SHORT, runs_of
+from corpus import BALISE, LIST, LONG, SHORT, runs_of
 from hostile import CHECK, COMMANDS, DECODE, DECODE_RADIO, STACK, Job, Library, shared
 from runner import EXAMPLES, TOP, Answer, program, run
 from test_memory import in_turn, refuse
@@ -103,17 +103,16 @@ def data_of(name, some):
     return list({re.sub(rb"[\r\n]", b"", it): None for it in data}) if name in RECORDS else data
 
 
-@pytest.mark.parametrize("name, head, tail, place", [
-    ("telegram", '{"messages":[],"groups":[{"balises":[', "]}]}", "group 0 balise 0"),
-    ("message", '{"groups":[],"messages":[', "]}", "message 0")])
-def test_records_beside_the_program(name, head, tail, place):
+@pytest.mark.parametrize("name, document, place", [
+    ("telegram", BALISE, "group 0 balise 0"), ("message", LIST, "message 0")])
+def test_records_beside_the_program(name, document, place):
     """A record of the tests, or a random one, has the line of `decode`, or the fault that `check` finds in it."""
     words = CALLS[name]
     drawn = b"\n".join(job.data for job in inputs(words, accepted_of(shared(), words), 200)).split()
     records = [it for it in (*data_of(name, runs_of(shared(), words, each_kind=False)), *drawn) if it]
-    documents = [(head + json.dumps(it.decode("latin-1")) + tail).encode() for it in records]
     decoded = shared().play([Job(words, it + b"\n") for it in records])
-    checked = shared().play([Job(CHECK, it) for it in documents])
+    texts = [json.dumps(it.decode("latin-1"))[1:-1] for it in records]
+    checked = shared().play([Job(CHECK, (document % text).encode()) for text in texts])
     library = Library(SHARED)
     for record, (wanted, _), (verdict, _) in zip(records, decoded, checked):
         answer = library.call(name, record)
@@ -137,16 +136,18 @@ def test_refused_memory(name):
 
 @pytest.mark.parametrize("name", CALLS)
 def test_small_buffers_and_threads(name):
-    """A buffer that is too small is left as it was. One that is just large enough suffices, also for two threads with
-    little stack at once."""
-    library, size = Library(SHARED), threading.stack_size((STACK + 64) * 1024)  # (64 KiB for Python)
-    for data in data_of(name, runs_of(shared(), CALLS[name])):
-        wanted = library.call(name, data)
+    """A buffer that is too small is left as it was. One that is just large enough suffices. Two threads with little
+    stack get the same answers at once."""
+    library = Library(SHARED)
+    known = {data: library.call(name, data) for data in data_of(name, runs_of(shared(), CALLS[name]))}
+    for data, wanted in known.items():
         for less in (0, 1, 10) if wanted.stdout else ():
             found = library.call(name, data, max(0, len(wanted.stdout) - less))
             assert found == (Answer(TOO_SMALL, "", "") if less else wanted), data
-        with concurrent.futures.ThreadPoolExecutor(2) as pool:
-            assert {*pool.map(functools.partial(library.call, name), [data] * 40)} == {wanted}, data
+    size = threading.stack_size((STACK + 64) * 1024)  # (64 KiB for Python)
+    with concurrent.futures.ThreadPoolExecutor(2) as pool:
+        again = pool.map(functools.partial(library.call, name), [*known] * 40)
+        assert [*again] == [*known.values()] * 40
     threading.stack_size(size)
 
 
