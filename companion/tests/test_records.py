@@ -116,13 +116,26 @@ def first_places() -> Iterator[Tuple[str, str, List[Tuple[Any, ...]]]]:
             yield name, text, list(firsts.values())
 
 
+def ends(form: Any, key: str = "") -> Iterator[Tuple[str, int]]:
+    """The ends of the ranges in a schema and the numbers beside them, each with the key of its field."""
+    within = form.items() if isinstance(form, dict) else [("oneOf", each) for each in form]
+    for name, value in within:
+        if name in ("minimum", "maximum", "const") and isinstance(value, int):
+            yield from ((key, value + step) for step in (-1, 0, 1))
+        elif isinstance(value, (dict, list)):
+            yield from ends(value, key if name == "oneOf" else name)
+
+
+ENDS = sorted({end for name in EXPRESSIONS for end in ends(schema(name).schema)})
+
+
 @pytest.mark.parametrize("name, text, paths", first_places())
 def test_each_key_is_needed_and_each_value_has_its_range(name: str, text: str, paths: List[Tuple[Any, ...]]) -> None:
-    """Without each key, with an additional one, and with each of some values instead of its own."""
+    """Without each key, with an additional one, and with some values and the ends of its range instead of its own."""
     form = json.loads(text)
     for path in paths:
         key = path[-1]
-        for value in VALUES:
+        for value in (*VALUES, *(end for its_key, end in ENDS if its_key == key and end not in VALUES)):
             agree(name, changed(form, path, key, value))
         agree(name, changed(form, path, key))
         if isinstance(key, str):
