@@ -2,7 +2,7 @@
 from __future__ import annotations
 
 from decimal import Decimal
-from typing import Any, Iterator, List, Mapping, NamedTuple, Optional, Sequence, Tuple
+from typing import AbstractSet, Any, Iterator, List, Mapping, NamedTuple, Optional, Sequence, Tuple
 
 from balisekit.etcs.variables import Around, Form, value_words, variable_name
 from balisekit.rules.decoded import AUTHORITIES, Packet
@@ -13,7 +13,11 @@ NOT_COMPARED = {"q_dir", "q_scale", "l_packet", "body", "nid_packet"}
 SECTIONS, TIMERS = {"sections", "l_endsection"}, ("section_timer", "end_timer")
 SIGN = "q_gdir"
 """The sign of a gradient."""
-DETAILS = {SIGN: ("g_a", {0, 255}), "q_front": ("v_static", {127}), "differences": ("v_static", {127})}
+DETAILS: Mapping[str, Tuple[str, AbstractSet[int]]] = {
+    SIGN: ("g_a", {0, 255}),
+    "q_front": ("v_static", {127}),
+    "differences": ("v_static", {127}),
+}
 """What says more of a value, and the numbers of which it says nothing: a level, and the end mark of a profile."""
 INFINITE = 32_767
 """A distance that has no unit."""
