@@ -91,8 +91,12 @@ def shortest() -> List[Tuple[str, str]]:
 
 
 def keys(form: Any, path: Tuple[Any, ...]) -> Tuple[Any, ...]:
-    """The keys of a path, after the number of its packet. Of lists only the first item differs from the others."""
-    number = form["packets"][path[1]]["nid_packet"] if len(path) > 1 and path[0] == "packets" else None
+    """The keys of a path, after the number of its packet. Of lists only the first item differs from the others.
+
+    All packets that are kept as bits have one form.
+    """
+    packet: Dict[str, Any] = form["packets"][path[1]] if len(path) > 1 and path[0] == "packets" else {}
+    number = "kept as bits" if "body" in packet else packet.get("nid_packet")
     return (number, *(step if isinstance(step, str) else min(step, 1) for step in path))
 
 
