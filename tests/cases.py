@@ -21,6 +21,7 @@ TELEGRAM, MESSAGE = in_full("a1007f802000..f c0"), "03048000001900080021e810901f
 ALONE, MOVEMENT, POSITION = ((EXAMPLES / f"{name}.json").read_text().strip() for name in (
     "header-only", "radio-movement-authority", "radio-position-report"))
 HEAD = f"{int(TELEGRAM, 16):b}"[:50]
+LISTS = "packet 5, three", "packet 21, three", "packet 27, two"  # packets with lists whose elements are of each kind
 
 
 def telegram(bits, size):
@@ -46,16 +47,49 @@ def sizes(bits):
 # ---- telegrams
 
 
+def filler(width):
+    """A packet 44 of this many bits."""
+    return f"{44:08b}10{width:013b}".ljust(width, "0")
+
+
+def pushed(bits, after):
+    """A long telegram with these packets after a packet 44, so that this many bits follow them: the width of packet 44,
+    and the text. Far from the end of the bits the fields of an element are read together."""
+    width = LONG - after - len(bits) - len(HEAD)
+    return width, telegram(filler(width) + bits, LONG)
+
+
+def near_the_end(name, bits, form):
+    """The packet with 8 to 104 bits after it."""
+    for after in range(records.END_BITS, 105):
+        width, text = pushed(bits, after)
+        body = "00" * -(-(width - records.HEAD_BITS) // 8)
+        before = f'{{"body":"{body}","l_packet":{width},"nid_packet":44,"q_dir":2}}'
+        yield f"{name}, {after} bits after it", text, answer(LONG, [before, form])
+
+
 def cut(name, fields):
     """The packet after a packet 44, up to the end of a telegram, which cuts it at each of its bits."""
     bits, ends = "".join(fields), [0, *itertools.accumulate(map(len, fields))]
     for width in range(len(bits)):
         size = SHORT if len(HEAD) + records.HEAD_BITS + width <= SHORT else LONG
         start = size - width
-        filler = f"{44:08b}10{start - len(HEAD):013b}".ljust(start - len(HEAD), "0")
         last = start + max(end for end in ends if end <= width)
         why = f"short at {last} end {size}" if width >= 8 else f"no end at {start} end {start}"
-        yield f"{name}, cut after {width} bits", telegram(filler + bits[:width], size), refusal(why)
+        yield f"{name}, cut after {width} bits", telegram(filler(start - len(HEAD)) + bits[:width], size), refusal(why)
+
+
+def refused(name, text, fields, ahead):
+    """The packet with other digits in the field above each line `not`: in a telegram of each size that has room for it,
+    and at the end of a long one."""
+    for other in re.finditer(r"(?m)^ +not ([01]+): (.*)", text):
+        field = len(re.findall(r"(?m)^ +[01]+ ", text[:other.start()])) - 1
+        changed = ahead + "".join((*fields[:field], other[1], *fields[field + 1:]))
+        for size in sizes(changed):
+            why = refusal(other[2], len(HEAD + ahead))
+            yield f"{name}, {size} bits, {field}: {other[1]}", telegram(changed, size), why
+        width, text_at_end = pushed(changed, records.END_BITS)
+        yield f"{name} at the end, {field}: {other[1]}", text_at_end, refusal(other[2], len(HEAD + ahead) + width)
 
 
 def packets():
@@ -69,11 +103,9 @@ def packets():
         known[name] = bits, forms
         for size in sizes(bits):
             yield f"{name}, {size} bits", telegram(bits, size), answer(size, forms)
-        for other in re.finditer(r"(?m)^ +not ([01]+): (.*)", text):
-            field = len(re.findall(r"(?m)^ +[01]+ ", text[:other.start()])) - 1
-            changed = ahead + "".join((*fields[:field], other[1], *fields[field + 1:]))
-            why = refusal(other[2], len(HEAD + ahead))
-            yield f"{name}, {field}: {other[1]}", telegram(changed, sizes(changed)[0]), why
+        yield from refused(name, text, fields, ahead)
+        if name.startswith(LISTS):
+            yield from near_the_end(name, bits, *forms)
         yield from cut(name, fields)
     for place, byte in itertools.product(range(len(TELEGRAM)), "/:@G`g\0é"):
         yield f"digit {place} is {byte!r}", TELEGRAM[:place] + byte + TELEGRAM[place + 1:], refusal("not hexadecimal")

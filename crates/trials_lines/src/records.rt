@@ -1,11 +1,12 @@
-//! Forms that fit in no telegram and no message, and records that are read from the forms of others.
+//! Forms as JSON values, which the program never makes: of each packet, of packets that fit in no telegram and no
+//! message, and of other records than the one that is read.
 
-use crate::token_messages::REPORTS;
-use crate::tokens::PACKETS;
+use crate::forms::{PACKETS, REPORTS};
 use etcs_form::{Form, FormError, Step, WriteJson};
 use etcs_packet::{RawPacket, TrackPacket};
 use etcs_profile::{Authority, Linking};
-use etcs_radio::{Message, RawTrainPacket, Report, TrainPacket};
+use etcs_radio::{Message, RawTrainPacket, Report};
+use etcs_telegram::Telegram;
 use json::Writer;
 use serde_json::Value;
 use std::alloc::Global;
@@ -45,85 +46,6 @@ fn the_longest_bodies_are_read_and_written(rt: HostRuntime) -> Result<(), Fail> 
     Ok(())
 }
 
-// The text with `count` of this item in a list between these parts.
-fn listed(
-    alloc: Global,
-    before: &str,
-    item: &str,
-    count: u32,
-    after: &str,
-) -> Result<String, Fail> {
-    let mut text = format!(in alloc; "{before}[{item}")?;
-    'items: for _ in 1..count {
-        text.push_str(",")?;
-        text.push_str(item)?;
-    }
-    text.push_str("]")?;
-    text.push_str(after)?;
-    Ok(text)
-}
-
-// The longest list of each packet: the text before it, an item, the number of items, and the text after it.
-const GREATEST: [(&str, &str, u32, &str); 6] = [
-    (
-        "{\"links\":",
-        "{\"d_link\":1,\"nid_bg\":2,\"nid_c\":444,\"q_linkorientation\":0,\"q_linkreaction\":1,\"q_locacc\":3}",
-        32,
-        ",\"nid_packet\":5,\"q_dir\":1,\"q_scale\":1}",
-    ),
-    (
-        "{\"end_speed\":0,\"end_timeout\":0,\"l_endsection\":1,\"nid_packet\":15,\"q_dir\":1,\"q_scale\":1,\"sections\":",
-        "{\"l_section\":2,\"section_timer\":{\"d_sectiontimerstoploc\":3,\"t_sectiontimer\":4}}",
-        31,
-        "}",
-    ),
-    (
-        "{\"elements\":",
-        "{\"d_gradient\":100,\"g_a\":5,\"q_gdir\":1}",
-        32,
-        ",\"nid_packet\":21,\"q_dir\":2,\"q_scale\":2}",
-    ),
-    (
-        "{\"elements\":",
-        "{\"d_static\":100,\"differences\":[],\"q_front\":1,\"v_static\":20}",
-        32,
-        ",\"nid_packet\":27,\"q_dir\":0,\"q_scale\":0}",
-    ),
-    (
-        "{\"elements\":[{\"d_static\":0,\"differences\":",
-        "{\"nc\":1,\"q_diff\":0,\"v_diff\":30}",
-        31,
-        ",\"q_front\":1,\"v_static\":20}],\"nid_packet\":27,\"q_dir\":0,\"q_scale\":0}",
-    ),
-    (
-        "{\"d_leveltr\":0,\"nid_packet\":41,\"q_dir\":1,\"q_scale\":1,\"transitions\":",
-        "{\"l_ackleveltr\":300,\"m_leveltr\":1,\"nid_ntc\":8}",
-        32,
-        "}",
-    ),
-];
-
-#[test]
-fn the_greatest_lists_are_read_and_written(rt: HostRuntime) -> Result<(), Fail> {
-    let alloc = rt.alloc();
-    for (before, item, count, after) in GREATEST {
-        let text = listed(alloc, before, item, count, after)?;
-        assert!(rt;
-            comes_back::<TrackPacket>(alloc, text.as_str())?,
-            "{before}"
-        );
-    }
-    Ok(())
-}
-
-// Whether the fault of the form is that its packet's number is not one of the record's.
-fn has_other_number<T: Form>(alloc: Global, text: &str) -> Result<bool, Fail> {
-    match T::of_form(alloc, &value_of(alloc, text)?) {
-        Err(FormError::Range(path)) => Ok(path.as_slice() == [Step::Key("nid_packet")].as_slice()),
-        _ => Ok(false),
-    }
-}
-
 #[test]
 fn a_known_packet_is_not_kept_as_bits(rt: HostRuntime) -> Result<(), Fail> {
     let alloc = rt.alloc();
@@ -132,29 +54,33 @@ fn a_known_packet_is_not_kept_as_bits(rt: HostRuntime) -> Result<(), Fail> {
             "{{\"body\":\"\",\"l_packet\":23,\"nid_packet\":{number},\"q_dir\":1}}"
         )?;
         assert!(rt;
-            has_other_number::<RawPacket>(alloc, text.as_str())?,
+            has_fault::<RawPacket>(alloc, text.as_str(), "range", "nid_packet")?,
             "{number}"
         );
     }
     'train: for number in [0, 1, 255, 256] {
         let text = format!(in alloc; "{{\"body\":\"\",\"l_packet\":21,\"nid_packet\":{number}}}")?;
         assert!(rt;
-            has_other_number::<RawTrainPacket>(alloc, text.as_str())?,
+            has_fault::<RawTrainPacket>(alloc, text.as_str(), "range", "nid_packet")?,
             "{number}"
         );
     }
     Ok(())
 }
 
-#[test]
-fn a_record_has_its_own_number(rt: HostRuntime) -> Result<(), Fail> {
-    let alloc = rt.alloc();
-    let gradient = "{\"links\":[],\"nid_packet\":21,\"q_dir\":1,\"q_scale\":1}";
-    assert!(rt; has_other_number::<Linking>(alloc, gradient)?);
-    assert!(rt; has_other_number::<Authority>(alloc, "{\"nid_packet\":21,\"x\":1}")?);
-    assert!(rt; has_other_number::<Authority>(alloc, "{\"nid_packet\":255,\"x\":1}")?);
-    assert!(rt; has_other_number::<Report>(alloc, "{\"nid_packet\":2,\"other\":1}")?);
-    Ok(())
+// The telegram with all of these packets.
+fn telegram(alloc: Global) -> Result<String, Fail> {
+    let mut packets = String::new(alloc);
+    for packet in PACKETS {
+        if !packets.is_empty() {
+            packets.push(',')?;
+        }
+        packets.push_str(packet)?;
+    }
+    Ok(format!(in alloc;
+        "{{\"m_dup\":0,\"m_mcount\":255,\"m_version\":33,\"n_pig\":0,\"n_total\":0,\
+\"nid_bg\":1,\"nid_c\":1,\"packets\":[{packets}],\"q_link\":1,\"user_bits\":830}}"
+    )?)
 }
 
 #[test]
@@ -166,13 +92,32 @@ fn each_packet_is_written_as_a_value(rt: HostRuntime) -> Result<(), Fail> {
     for authority in [PACKETS[4], PACKETS[5], PACKETS[6]] {
         assert!(rt; comes_back::<Authority>(alloc, authority)?, "{authority}");
     }
+    let all = telegram(alloc)?;
+    assert!(rt; comes_back::<Telegram>(alloc, all.as_str())?);
     Ok(())
 }
 
-// The position report with this packet.
+#[test]
+fn a_value_may_be_spelled_in_another_way(rt: HostRuntime) -> Result<(), Fail> {
+    let alloc = rt.alloc();
+    for packet in [
+        " { \"nid_packet\" : 0, \"nid_vbcmk\" : 63 } ",
+        "{\"nid_vbcmk\":63,\"nid_packet\":0}",
+        "{\"nid_vbcmk\":64,\"nid_packet\":0,\"nid_vbcmk\":63}",
+        "{\"nid_packet\":0,\"\\u006eid_vbcmk\":63}",
+    ] {
+        let form = TrackPacket::of_form(alloc, &value_of(alloc, packet)?)?.to_form(alloc)?;
+        let written = form.to_string(alloc).map_err(|_| "no memory")?;
+        assert!(rt; written.as_str() == PACKETS[0], "{packet}");
+    }
+    Ok(())
+}
+
+// The position report with a packet 254 and this one.
 fn position(alloc: Global, packet: &str) -> Result<String, Fail> {
     Ok(format!(in alloc;
-        "{{\"nid_engine\":1,\"nid_message\":136,\"packets\":[{packet}],\"t_train\":200}}"
+        "{{\"nid_engine\":1,\"nid_message\":136,\"packets\":[\
+{{\"body\":\"a5\",\"l_packet\":29,\"nid_packet\":254}},{packet}],\"t_train\":200}}"
     )?)
 }
 
@@ -181,7 +126,6 @@ fn each_report_is_written_as_a_value(rt: HostRuntime) -> Result<(), Fail> {
     let alloc = rt.alloc();
     for packet in REPORTS {
         assert!(rt; comes_back::<Report>(alloc, packet)?, "{packet}");
-        assert!(rt; comes_back::<TrainPacket>(alloc, packet)?, "{packet}");
         let message = position(alloc, packet)?;
         assert!(rt; comes_back::<Message>(alloc, message.as_str())?, "{packet}");
     }
@@ -210,12 +154,15 @@ fn has_fault<T: Form>(
 }
 
 #[test]
-fn an_authority_looks_at_its_number_first(rt: HostRuntime) -> Result<(), Fail> {
+fn a_packet_looks_at_its_number_first(rt: HostRuntime) -> Result<(), Fail> {
+    let gradient = "{\"links\":[],\"nid_packet\":21,\"q_dir\":1,\"q_scale\":1}";
+    assert!(rt; has_fault::<Linking>(rt.alloc(), gradient, "range", "nid_packet")?);
     for (text, why, key) in [
         ("[12]", "kind", ""),
         ("{\"x\":1}", "missing", "nid_packet"),
         ("{\"nid_packet\":\"12\",\"x\":1}", "kind", "nid_packet"),
         ("{\"nid_packet\":21,\"x\":1}", "range", "nid_packet"),
+        ("{\"nid_packet\":255,\"x\":1}", "range", "nid_packet"),
         ("{\"nid_packet\":12,\"x\":1}", "unknown", ""),
         ("{\"nid_packet\":15,\"v_main\":1}", "unknown", ""),
         ("{\"nid_packet\":15,\"q_dir\":3}", "range", "q_dir"),
@@ -234,6 +181,7 @@ fn a_report_looks_at_its_number_first(rt: HostRuntime) -> Result<(), Fail> {
         ("[]", "kind", ""),
         ("{\"other\":1}", "missing", "nid_packet"),
         ("{\"nid_packet\":\"0\",\"other\":1}", "kind", "nid_packet"),
+        ("{\"nid_packet\":2,\"other\":1}", "range", "nid_packet"),
         ("{\"nid_packet\":0,\"other\":1}", "unknown", ""),
         ("{\"nid_packet\":0,\"prv_nid_c\":1}", "unknown", ""),
         ("{\"nid_packet\":1,\"prv_nid_c\":1}", "missing", "q_scale"),

@@ -1,8 +1,8 @@
-//! The texts of errors of forms, documents and checks. A refusal has the same words.
+//! The texts of errors of forms, documents and checks.
 
 use etcs_bits::{Fault, FaultKind};
 use etcs_check::CheckError;
-use etcs_form::{FormError, LineError, Refusal, Step, refusal_text};
+use etcs_form::{FormError, LineError, Step};
 use etcs_radio::RadioTextError;
 use etcs_telegram::TextError;
 use std::alloc::{AllocError, Global};
@@ -12,14 +12,6 @@ use std::test::Fail;
 // Whether the error is printed as this text.
 fn says<E: Display>(alloc: Global, error: &E, text: &str) -> Result<bool, AllocError> {
     Ok(error.to_string(alloc)?.as_str() == text)
-}
-
-// Whether the error is printed as this text, and a document with it is refused in these words.
-fn tells(alloc: Global, error: LineError, text: &str) -> Result<bool, Fail> {
-    let is_said = says(alloc, &error, text)?;
-    let line = format!(in alloc; "refused: {text}\n")?;
-    let told = refusal_text(alloc, &Refusal::Document(error))?;
-    Ok(is_said && told.as_str() == line.as_str())
 }
 
 // The path to the first packet.
@@ -45,18 +37,18 @@ fn errors_of_forms_say_what_is_wrong_and_where(rt: HostRuntime) -> Result<(), Fa
 #[test]
 fn errors_of_documents_say_what_is_wrong_and_where(rt: HostRuntime) -> Result<(), Fail> {
     let alloc = rt.alloc();
-    assert!(rt; tells(alloc, LineError::NotJson, "not JSON")?);
+    assert!(rt; says(alloc, &LineError::NotJson, "not JSON")?);
     let form = LineError::Form(FormError::Kind(way(alloc)?));
-    assert!(rt; tells(alloc, form, "form kind at /packets/0")?);
-    assert!(rt; tells(alloc, LineError::Count(1), "group 1: count")?);
-    assert!(rt; tells(alloc, LineError::Aspects(1), "group 1: aspects")?);
+    assert!(rt; says(alloc, &form, "form kind at /packets/0")?);
+    assert!(rt; says(alloc, &LineError::Count(1), "group 1: count")?);
+    assert!(rt; says(alloc, &LineError::Aspects(1), "group 1: aspects")?);
     let telegram = LineError::Telegram(1, 2, TextError::NotHex);
-    assert!(rt; tells(alloc, telegram, "group 1 balise 2: not hexadecimal")?);
+    assert!(rt; says(alloc, &telegram, "group 1 balise 2: not hexadecimal")?);
     let telegram = LineError::AspectTelegram(1, 2, 3, TextError::PadBits);
-    assert!(rt; tells(alloc, telegram, "group 1 aspect 2 balise 3: pad bits set")?);
+    assert!(rt; says(alloc, &telegram, "group 1 aspect 2 balise 3: pad bits set")?);
     let (at, end, why) = (15, 17, FaultKind::Spare);
     let message = LineError::Message(1, RadioTextError::Fault(Fault { at, end, why }));
-    assert!(rt; tells(alloc, message, "message 1: spare at 15 end 17")?);
+    assert!(rt; says(alloc, &message, "message 1: spare at 15 end 17")?);
     assert!(rt; says(alloc, &LineError::Memory, "out of memory")?);
     Ok(())
 }

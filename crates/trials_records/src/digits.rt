@@ -37,13 +37,6 @@ fn texts_are_decoded_as_by_hex(rt: HostRuntime) {
     }
 }
 
-#[test]
-fn the_high_digit_comes_first(rt: HostRuntime) -> Result<(), Fail> {
-    let bytes = decode_to_vec(rt.alloc(), b"0aF9")?;
-    assert!(rt; bytes.as_slice() == [0x0a, 0xf9].as_slice());
-    Ok(())
-}
-
 // Whether the number is written as `json` writes it.
 fn is_sent_as_by_json(alloc: Global, number: u64) -> Result<bool, AllocError> {
     let mut out = Writer::new(Vec::new(alloc));

@@ -2,12 +2,10 @@
 //! room for, and what is refused beyond them.
 
 use crate::spelled::{comes_back, ones, read_one, times};
-use etcs_bits::{Bits, Body, Dir, Distance, Items, Layout, Scale, Speed};
+use etcs_bits::{Bits, Body, Dir, Items, Layout, Scale, Speed};
 use etcs_packet::RawPacket;
-use etcs_profile::{
-    Authority, BuildError, Difference, Gradient, GradientElement, LevelOrder, Link, Linking,
-    Section, SpeedElement, SpeedProfile, Transition,
-};
+use etcs_profile::BuildError::{TooLong, TooMany};
+use etcs_profile::{Authority, BuildError, Difference, Section, SpeedElement, SpeedProfile};
 use etcs_radio::RawTrainPacket;
 use std::alloc::Global;
 use std::test::Fail;
@@ -58,60 +56,8 @@ fn an_authority_has_31_sections_at_most(rt: HostRuntime) -> Result<(), Fail> {
         assert!(rt; longest.end() == 104_854_400 && longest.limit() == 108_131_100);
         assert!(rt; comes_back(alloc, &longest, width)?);
         let many = authority(alloc, main, 32)?.err();
-        assert!(rt; many == Some(BuildError::TooMany));
+        assert!(rt; many == Some(TooMany));
     }
-    Ok(())
-}
-
-// A slope from 100 m on, and `count` further ones.
-fn gradient(alloc: Global, count: usize) -> Result<Result<Gradient, BuildError>, Fail> {
-    let slope: GradientElement = read_one(alloc, "000000001100100 1 00000101")?;
-    let further = times(alloc, &slope, count)?;
-    Ok(Gradient::new(Dir::Nominal, Scale::Metre, slope, further))
-}
-
-#[test]
-fn a_gradient_profile_has_31_further_elements_at_most(rt: HostRuntime) -> Result<(), Fail> {
-    let longest = gradient(rt.alloc(), 31)??;
-    assert!(rt; comes_back(rt.alloc(), &longest, 54 + 31 * 24)?);
-    let many = gradient(rt.alloc(), 32)?.err();
-    assert!(rt; many == Some(BuildError::TooMany));
-    Ok(())
-}
-
-// A group in another country, and `count` further ones.
-fn linking(alloc: Global, count: usize) -> Result<Result<Linking, BuildError>, Fail> {
-    let far: Link = read_one(
-        alloc,
-        "000000000000001 1 0110111100 00000000000010 0 01 000011",
-    )?;
-    let further = times(alloc, &far, count)?;
-    Ok(Linking::new(Dir::Nominal, Scale::Metre, far, further))
-}
-
-#[test]
-fn a_linking_has_31_further_groups_at_most(rt: HostRuntime) -> Result<(), Fail> {
-    let longest = linking(rt.alloc(), 31)??;
-    assert!(rt; comes_back(rt.alloc(), &longest, 79 + 31 * 49)?);
-    let many = linking(rt.alloc(), 32)?.err();
-    assert!(rt; many == Some(BuildError::TooMany));
-    Ok(())
-}
-
-// An order of level NTC, and `count` further ones.
-fn transition(alloc: Global, count: usize) -> Result<Result<Transition, BuildError>, Fail> {
-    let ntc: LevelOrder = read_one(alloc, "001 00010110 000000000110010")?;
-    let further = times(alloc, &ntc, count)?;
-    let place = Distance::new(300).ok_or("no place")?;
-    Ok(Transition::new(Dir::Both, Scale::TenMetres, place, ntc, further))
-}
-
-#[test]
-fn a_level_transition_has_31_further_levels_at_most(rt: HostRuntime) -> Result<(), Fail> {
-    let longest = transition(rt.alloc(), 31)??;
-    assert!(rt; comes_back(rt.alloc(), &longest, 71 + 31 * 26)?);
-    let many = transition(rt.alloc(), 32)?.err();
-    assert!(rt; many == Some(BuildError::TooMany));
     Ok(())
 }
 
@@ -142,22 +88,19 @@ fn speeds(
 }
 
 #[test]
-fn a_speed_profile_has_8191_bits_at_most(rt: HostRuntime) -> Result<(), Fail> {
+fn a_speed_profile_has_8191_bits_and_lists_of_31_at_most(rt: HostRuntime) -> Result<(), Fail> {
     // 31 further elements, with 17 differences each.
     let longest = speeds(rt.alloc(), 31, 30, 17, 17)??;
     assert!(rt; comes_back(rt.alloc(), &longest, 8180)?);
-    for (each, last) in [(17, 18), (31, 31)] {
-        let long = speeds(rt.alloc(), 31, 30, each, last)?.err();
-        assert!(rt; long == Some(BuildError::TooLong));
-    }
-    Ok(())
-}
-
-#[test]
-fn the_lists_of_a_speed_profile_have_31_items_at_most(rt: HostRuntime) -> Result<(), Fail> {
-    for (first, count, last) in [(0, 31, 0), (32, 0, 0), (0, 0, 32)] {
-        let many = speeds(rt.alloc(), first, count, 0, last)?.err();
-        assert!(rt; many == Some(BuildError::TooMany));
+    for (first, count, each, last, why) in [
+        (31, 30, 17, 18, TooLong),
+        (31, 30, 31, 31, TooLong),
+        (0, 31, 0, 0, TooMany),
+        (32, 0, 0, 0, TooMany),
+        (0, 0, 0, 32, TooMany),
+    ] {
+        let none = speeds(rt.alloc(), first, count, each, last)?.err();
+        assert!(rt; none == Some(why));
     }
     Ok(())
 }

@@ -1,11 +1,15 @@
-//! Which numbers a variable may have (SUBSET-026, 7.5).
+//! Which numbers variables (SUBSET-026, 7.5), packets and sizes of telegrams may have.
 
-use crate::spelled::{comes_back, fault, read_one};
+use crate::spelled::{fault, read_one};
 use etcs_bits::{
-    Bits, Counter, Country, Cursor, DifferenceKind, Dir, Distance, Dup, FaultKind, GroupNumber,
-    Layout, Level, Medium, Plain, Position, Reaction, ReleaseSpeed, Scale, Speed, StaticSpeed,
-    Time, Total, Train3, Transmission, Version,
+    Bits, Counter, Country, Cursor, DecodeError, DifferenceKind, Dir, Distance, Dup, FaultKind,
+    GroupNumber, Layout, Medium, Plain, Position, Reaction, ReleaseSpeed, Scale, Speed,
+    StaticSpeed, Time, Total, Train3, Transmission, Version,
 };
+use etcs_packet::{CoverMarker, RawPacket, TrackPacket};
+use etcs_profile::{Authority, Gradient, Linking, SpeedProfile, Transition};
+use etcs_telegram::Size;
+use std::alloc::Global;
 use std::test::Fail;
 
 #[test]
@@ -51,24 +55,6 @@ fn a_speed_has_spare_numbers(rt: HostRuntime) {
 }
 
 #[test]
-fn each_level_has_its_number(rt: HostRuntime) -> Result<(), Fail> {
-    for (level, digits, width) in [
-        (Level::L0, "000", 3),
-        (Level::Ntc(45), "001 00101101", 11),
-        (Level::L1, "010", 3),
-        (Level::L2, "011", 3),
-        (Level::L3, "100", 3),
-    ] {
-        let read: Level = read_one(rt.alloc(), digits)?;
-        assert!(rt;
-            read == level && comes_back(rt.alloc(), &level, width)?,
-            "{digits}"
-        );
-    }
-    Ok(())
-}
-
-#[test]
 fn a_number_has_1_to_32_bits(rt: HostRuntime) -> Result<(), Fail> {
     assert!(rt; Plain::<32>::new(u32::MAX).is_some());
     assert!(rt; Plain::<0>::new(0).is_none() && Plain::<33>::new(0).is_none());
@@ -78,4 +64,39 @@ fn a_number_has_1_to_32_bits(rt: HostRuntime) -> Result<(), Fail> {
     let many = Plain::<33>::read(rt.alloc(), &mut Cursor::new(&bits)).err();
     assert!(rt; many == fault(0, 33, FaultKind::Spare));
     Ok(())
+}
+
+#[test]
+fn a_field_becomes_a_variable(rt: HostRuntime) {
+    assert!(rt; Plain::<1>::of_field(0).number() == 0);
+    assert!(rt; Plain::<8>::of_field(255).number() == 255);
+    assert!(rt; Plain::<32>::of_field(4_294_967_295).number() == u32::MAX);
+}
+
+// What is refused of the end mark, which is no packet's number.
+fn refused_mark<T: Layout>(alloc: Global) -> Option<DecodeError> {
+    read_one::<T>(alloc, "11111111").err()
+}
+
+#[test]
+fn a_packet_has_its_number(rt: HostRuntime) {
+    let alloc = rt.alloc();
+    let spare = fault(0, 8, FaultKind::Spare);
+    assert!(rt; refused_mark::<CoverMarker>(alloc) == spare);
+    assert!(rt; refused_mark::<Linking>(alloc) == spare);
+    assert!(rt; refused_mark::<Authority>(alloc) == spare);
+    assert!(rt; refused_mark::<Gradient>(alloc) == spare);
+    assert!(rt; refused_mark::<SpeedProfile>(alloc) == spare);
+    assert!(rt; refused_mark::<Transition>(alloc) == spare);
+    assert!(rt; refused_mark::<RawPacket>(alloc) == spare);
+    assert!(rt; refused_mark::<TrackPacket>(alloc) == spare);
+}
+
+#[test]
+fn a_telegram_has_210_or_830_user_bits(rt: HostRuntime) {
+    for count in [0, 209, 211, 829, 831] {
+        assert!(rt; Size::of_len(count).is_none());
+    }
+    assert!(rt; Size::of_len(210) == Some(Size::Short));
+    assert!(rt; Size::of_len(830) == Some(Size::Long));
 }

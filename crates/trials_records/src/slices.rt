@@ -2,7 +2,7 @@
 
 ghost use Rattle.std.specs.Prelude.{◌<◌, ◌≤◌};
 
-use etcs_bits::{BitSlice, Bits, Cursor, Fault, FaultKind, Memory, Same};
+use etcs_bits::{BitSlice, Bits, Cursor, Fault, Memory, Same};
 use std::alloc::Global;
 use std::test::Fail;
 
@@ -30,13 +30,6 @@ fn shifted(alloc: Global, bits: &Bits, shift: usize) -> Result<Bits, Memory>
     let mut all = Bits::from_bytes(alloc, &[0x5a], shift)?;
     all.push_bits(bits)?;
     Ok(all)
-}
-
-#[test]
-fn numbers_stand_at_any_place(rt: HostRuntime) {
-    let bits = BitSlice::of_bytes(&FRONT, 32);
-    assert!(rt; bits.len() == 32 && bits.num(1, 7) == 33 && bits.num(17, 8) == 255);
-    assert!(rt; bits.bit(0) && !bits.bit(1) && bits.bit(24) && !bits.bit(25));
 }
 
 #[test]
@@ -102,24 +95,5 @@ fn bits_are_compared_wherever_they_begin(rt: HostRuntime) -> Result<(), Fail> {
         let (bytes, wanted) = (copy.to_bytes(rt.alloc())?, whole.to_bytes(rt.alloc())?);
         assert!(rt; bytes == wanted, "{shift}");
     }
-    Ok(())
-}
-
-#[test]
-fn a_slice_is_taken_whole_or_not(rt: HostRuntime) -> Result<(), Fail> {
-    let short = |at| Fault {
-        at,
-        end: 32,
-        why: FaultKind::Short,
-    };
-    let mut cur = Cursor::over(BitSlice::of_bytes(&FRONT, 32));
-    assert!(rt; cur.take_slice(33).err() == Some(short(0)));
-    assert_eq!(rt; cur.take(8), Ok(0xa1));
-    assert!(rt; cur.take_slice(25).err() == Some(short(8)));
-    assert!(rt; cur.take_slice(usize::MAX).err() == Some(short(8)));
-    assert_eq!(rt; cur.at(), 8);
-    let rest = cur.take_slice(24)?;
-    assert!(rt; rest.len() == 24 && rest.num(0, 24) == 0x00_7f80 && cur.at() == 32);
-    assert_eq!(rt; cur.take_slice(0)?.len(), 0);
     Ok(())
 }

@@ -3,8 +3,8 @@
 use etcs_bits::{Bits, Cursor, DecodeError, Fault, FaultKind, Layout, Memory, Same};
 use std::alloc::Global;
 
-/// A packet of each layout, for the nominal direction if it has one: 592 bits.
-pub const KINDS: [&str; 8] = [
+// A packet of each layout, for the nominal direction if it has one: 592 bits.
+const KINDS: [&str; 8] = [
     // Packet 0, from bit 0 on.
     "00000000 100101",
     // Packet 5 with three groups, the first and the last in another country: 14.

@@ -49,13 +49,6 @@ fn a_begun_message_is_not_let_go(rt: HostRuntime) {
 }
 
 #[test]
-fn the_longest_message_is_held(rt: HostRuntime) {
-    let mut splitter = Splitter::new();
-    let fed = splitter.feed(&longest_message());
-    assert!(rt; fed.used == 1023 && fed.state == State::Ready && splitter.held() == 1023);
-}
-
-#[test]
 fn the_longest_message_is_held_byte_by_byte(rt: HostRuntime) {
     let message = longest_message();
     let mut splitter = Splitter::new();
@@ -65,23 +58,4 @@ fn the_longest_message_is_held_byte_by_byte(rt: HostRuntime) {
         assert!(rt; fed.used == 1 && ready == (i == 1022));
     }
     assert!(rt; splitter.held() == 1023);
-}
-
-#[test]
-fn the_shortest_message_has_three_bytes(rt: HostRuntime) {
-    let mut splitter = Splitter::new();
-    let fed = splitter.feed(&[0x03, 0x00, 0xc0, 0x03]);
-    assert!(rt; fed.used == 3 && fed.state == State::Ready && splitter.held() == 3);
-}
-
-#[test]
-fn a_failed_splitter_stays_failed(rt: HostRuntime) {
-    let mut splitter = Splitter::new();
-    let fed = splitter.feed(&[0x03, 0x00, 0x80]);
-    assert!(rt; fed.used == 3 && fed.state == State::Failed);
-    let fed = splitter.feed(&MESSAGE);
-    assert!(rt; fed.used == 0 && fed.state == State::Failed && splitter.held() == 3);
-    splitter.clear();
-    let fed = splitter.feed(&MESSAGE);
-    assert!(rt; fed.used == 0 && fed.state == State::Failed && splitter.held() == 3);
 }

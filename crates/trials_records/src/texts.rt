@@ -14,25 +14,6 @@ fn says<E: Display>(alloc: Global, error: &E, text: &str) -> Result<bool, AllocE
 }
 
 #[test]
-fn each_kind_of_fault_has_its_words(rt: HostRuntime) -> Result<(), Fail> {
-    for (why, text) in [
-        (FaultKind::Short, "short"),
-        (FaultKind::Spare, "spare"),
-        (FaultKind::Length, "length"),
-        (FaultKind::NoEnd, "no end"),
-        (FaultKind::Version, "version"),
-        (FaultKind::Loop, "loop"),
-        (FaultKind::Downlink, "down-link"),
-        (FaultKind::MessageKind, "message kind"),
-        (FaultKind::NoAuthority, "no authority"),
-        (FaultKind::NoReport, "no report"),
-    ] {
-        assert!(rt; says(rt.alloc(), &why, text)?, "{text}");
-    }
-    Ok(())
-}
-
-#[test]
 fn errors_say_what_is_wrong(rt: HostRuntime) -> Result<(), Fail> {
     let alloc = rt.alloc();
     let (at, end, why) = (15, 17, FaultKind::Spare);
