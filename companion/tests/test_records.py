@@ -39,7 +39,7 @@ def numbers(key: str) -> Set[int]:
 
 def values(form: Any, path: Tuple[Any, ...]) -> Tuple[Any, ...]:
     """What the value at a path is replaced by."""
-    is_number = isinstance(reduce(getitem, path, form), int)
+    is_number = isinstance(path[-1], str) and isinstance(reduce(getitem, path, form), int)
     return (None, True, "0", [], {}, *sorted(numbers(path[-1]))) if is_number else OTHERS
 
 

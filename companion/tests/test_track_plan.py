@@ -202,7 +202,7 @@ def assert_one(found: List[Remark], row: Cells, column: str, cell: str) -> None:
 
 
 @pytest.mark.uncovered
-@pytest.mark.parametrize("signals", [7, pytest.param(10, marks=pytest.mark.slow)])
+@pytest.mark.parametrize("signals", [7, pytest.param(15, marks=pytest.mark.slow)])
 @pytest.mark.parametrize("name", ["level-border", "falling", "both-directions"])
 def test_one_other_cell_gets_one_remark(program: Program, tmp_path: Path, name: str, signals: int) -> None:
     """Each cell of the plan that rules compare: exactly the remark of its rule."""

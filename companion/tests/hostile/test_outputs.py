@@ -57,7 +57,7 @@ OPENED = [
     ("draw t.csv --track --messages m.txt --svg", "t.csv m.txt TOML"),
     ("draw t.csv --all", "t.csv TOML"),
     ("links t.csv --messages m.txt --json", "t.csv m.txt TOML"),
-    ("plan t.csv --messages m.txt --csv", "t.csv m.txt balisekit.toml jumps.csv"),
+    ("plan t.csv --messages m.txt --csv", "t.csv m.txt TOML"),
     ("table t.csv --expect e.csv --csv", "t.csv e.csv balisekit.toml"),
     ("diff t.csv u.csv --old-messages m.txt --new-messages n.txt --json", "t.csv u.csv m.txt n.txt balisekit.toml"),
     ("diff d.json u.csv --html", "d.json u.csv balisekit.toml"),
