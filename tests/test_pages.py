@@ -82,7 +82,7 @@ def test_numbers():
     for page, text, number in numbers():
         found = re.findall(text.replace("{}", r"([\d.,]*\d)"), PAGES[page])
         assert {*found} == {str(number)}, (page, text)
-    assert max(len([*path.glob("must-fail/*.edit")]) for path in TOP.glob("crates/*")) <= 12
+    assert len([*TOP.glob("crates/*/must-fail/*.edit")]) <= 6
 
 
 @pytest.mark.slow
