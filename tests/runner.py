@@ -1,4 +1,5 @@
-"""What the tests share: the program and its runs, the texts of tests/cases, and JSON in another spelling.
+"""What the tests share: the program and its runs, the texts of tests/cases, JSON in another spelling, and from which
+other folders they import.
 
 BALISECHECK names the program. Otherwise it is the one that ./balisecheck would run.
 """
@@ -9,9 +10,11 @@ import os
 import pathlib
 import re
 import subprocess
+import sys
 
 HERE = pathlib.Path(__file__).resolve().parent
 TOP, CASES, EXAMPLES = HERE.parent, HERE / "cases", HERE.parent / "examples"
+sys.path[1:1] = [str(TOP / it) for it in ("companion/src", "scripts", "bench")]
 MEMORY, DEVICE = "balisecheck: memory\n", "balisecheck: device\n"
 SECONDS = 60  # that a run may take
 Answer = collections.namedtuple("Answer", "status stdout stderr")

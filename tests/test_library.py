@@ -17,9 +17,7 @@ from corpus import BALISE, LIST, LONG, SHORT, runs_of
 from hostile import CHECK, COMMANDS, DECODE, DECODE_RADIO, STACK, Job, Library, shared
 from runner import EXAMPLES, TOP, Answer, program, run
 from test_memory import in_turn, refuse
-
-sys.path.append(str(TOP / "bench"))
-from compare import accepted_of, inputs  # noqa: E402  (the path comes first)
+from compare import accepted_of, inputs
 
 FOLDER = pathlib.Path(os.environ.get("BALISECHECK_LIBRARY", TOP / "dist" / "x86_64-linux")).resolve()
 ARCHIVE, SHARED = FOLDER / "libbalisecheck.a", FOLDER / "libbalisecheck.so"

@@ -13,7 +13,7 @@ from hostile import GROUPS, STACK
 from runner import TOP, crate_uses
 
 MOST_WORDS, MOST_IN_README, LONGEST, MOST_WHERE = 26_500, 950, 30, 60
-# A list of licences, and a table that tests/trace makes.
+# A list of licences, and a table that scripts/from_trace.py makes.
 NOT_COUNTED = ("THIRD-PARTY.md", "docs/variables.md")
 PAGES = {name: path.read_text("utf-8") for pattern in ("*.md", "dist/**/*.md", "docs/**/*.md", "examples/**/*.md")
          for path in sorted(TOP.glob(pattern)) if (name := str(path.relative_to(TOP))) not in NOT_COUNTED}
