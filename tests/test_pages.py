@@ -10,7 +10,7 @@ import sys
 import pytest
 
 from hostile import GROUPS, STACK
-from runner import TOP, crate_uses
+from runner import TOP, Answer, crate_uses, run
 
 MOST_WORDS, MOST_IN_README, LONGEST, MOST_WHERE = 26_500, 950, 30, 60
 # A list of licences, and a table that scripts/from_trace.py makes.
@@ -91,9 +91,8 @@ def test_site(tmp_path):
     if not shutil.which("mkdocs"):
         pytest.skip("the site of the pages (mkdocs)")
     site = tmp_path / "a site"
-    made = subprocess.run(["mkdocs", "build", "--quiet", "--strict", "--site-dir", site], cwd=TOP, capture_output=True,
-                          text=True, check=False)
-    assert (made.returncode, made.stderr) == (0, "")
+    words = "build", "--quiet", "--strict", "--site-dir", site
+    assert run(words, path="mkdocs", cwd=TOP, timeout=None) == Answer(0, "", "")
     (site / "404.html").unlink()
     texts = {path: path.read_text("utf-8") for path in site.rglob("*.html")}
     places = {path: {"", *re.findall(r'\bid="([^"]+)"', text)} for path, text in texts.items()}
