@@ -75,7 +75,7 @@ def test_example_in_c(compiler, standard, source, answers, kind, tmp_path):
     """It compiles without a warning and answers, and valgrind has nothing to report."""
     need("c++", "g++")
     words = *STRICT, f"-std={standard}", "-o", tmp_path / "example", SOURCE / source, *LINKED[kind]
-    assert run(words, path=compiler) == Answer(0, "", "")
+    assert run(words, path=compiler, timeout=None) == Answer(0, "", "")
     answers(tmp_path / "example")
     need("valgrind", "valgrind")
     answers(*WATCHED, tmp_path / "example")
