@@ -19,10 +19,12 @@ import subprocess
 import sys
 import tempfile
 
-from documents import ANY_MESSAGE, GROUPS_OF_COUNTRY, balise_text, pair
-import runner
-
 HERE = pathlib.Path(__file__).resolve().parent
+sys.path.append(str(HERE.parent / "tests"))
+
+from documents import ANY_MESSAGE, GROUPS_OF_COUNTRY, balise_text, pair  # noqa: E402  (the path comes first)
+import runner  # noqa: E402
+
 NO_MESSAGE, SHORT, CUT = 254, 210, 254  # M_MCOUNT, user bits, digits of a line
 DECODE, ENCODE, CHECK, RADIO = ["decode"], ["encode"], ["check"], ["--radio"]
 NO_GROUPS = '{"groups":[],"messages":[]}\n'

@@ -14,8 +14,8 @@ import pathlib
 import random
 import sys
 
-sys.dont_write_bytecode = True  # so that no folder for it is made beside the tests
-sys.path.append(str(pathlib.Path(__file__).resolve().parents[1] / "tests"))
+sys.dont_write_bytecode = True  # so that no folder for it is made beside the scripts
+sys.path.append(str(pathlib.Path(__file__).resolve().parents[1] / "scripts"))
 
 from variables.table import Row, layouts_of, read_rows  # noqa: E402  (the path comes first)
 

@@ -7,12 +7,9 @@ import itertools
 import json
 import re
 import shlex
-import sys
 
-from runner import EXAMPLES, TOP, answered, blocks, in_full, marked, respelled
-
-sys.path.append(str(TOP / "bench"))
-import records  # noqa: E402  (the path comes first)
+from runner import EXAMPLES, answered, blocks, in_full, marked, respelled
+import records
 
 FORM, RADIO = records.FORM, ["--radio"]
 SHORT, LONG = 210, records.USER_BITS

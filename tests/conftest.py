@@ -1,14 +1,6 @@
-"""What pytest shares between the tests."""
+"""The program is found once: processes of xdist and scripts take it over."""
 import os
-
-import pytest
 
 import runner
 
-os.environ["BALISECHECK"] = runner.program()  # (found once: processes of xdist and scripts take it over)
-
-
-@pytest.fixture(scope="session")
-def program():
-    """The path of the program."""
-    return runner.program()
+os.environ["BALISECHECK"] = runner.program()

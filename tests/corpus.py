@@ -2,14 +2,11 @@
 import functools
 import json
 import re
-import sys
 
 import cases
 from hostile import CHECK, COMMANDS, DECODE, DECODE_RADIO, ENCODE, ENCODE_RADIO, INVERSE, Job
-from runner import EXAMPLES, TOP, in_bytes, in_full
-
-sys.path.insert(0, str(TOP / "companion" / "src"))
-from balisekit.engine import grammar  # noqa: E402  (the path comes first)
+from runner import EXAMPLES, in_bytes, in_full
+from balisekit.engine import grammar
 
 SHORT, MESSAGE = cases.TELEGRAM, cases.MESSAGE
 LONG = in_full("a1007f802000c31024a5007fe007d002a813a000105080647f8da0560000140029c43f81...f fc")

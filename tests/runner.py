@@ -1,4 +1,5 @@
-"""What the tests share: the program and its runs, the texts of tests/cases, and JSON in another spelling.
+"""What the tests share: the program and its runs, the texts of tests/cases, JSON in another spelling, and from which
+other folders they import.
 
 BALISECHECK names the program. Otherwise it is the one that ./balisecheck would run.
 """
@@ -9,9 +10,11 @@ import os
 import pathlib
 import re
 import subprocess
+import sys
 
 HERE = pathlib.Path(__file__).resolve().parent
 TOP, CASES, EXAMPLES = HERE.parent, HERE / "cases", HERE.parent / "examples"
+sys.path[1:1] = [str(TOP / it) for it in ("companion/src", "scripts", "bench")]
 MEMORY, DEVICE = "balisecheck: memory\n", "balisecheck: device\n"
 SECONDS = 60  # that a run may take
 Answer = collections.namedtuple("Answer", "status stdout stderr")
@@ -39,16 +42,16 @@ def in_bytes(text):
     return text if isinstance(text, bytes) else text.encode(errors="surrogateescape")
 
 
-def run(words, data=b"", limits="", path=None, **files):
-    """The answer of the program, or of the one at `path`, to this input or with these files, after the shell commands
-    in `limits`. Its status is None if it takes too long."""
+def run(words, data=b"", limits="", path=None, **options):
+    """The answer of the program, or of the one at `path`, to this input, after the shell commands in `limits`, and with
+    these options of `subprocess.run`. Its status is None if it takes too long."""
     command = [path or program(), *words]
     command = ["sh", "-c", f'{limits}\nexec "$0" "$@"', *command] if limits else command
-    files = {"stdout": subprocess.PIPE, "stderr": subprocess.PIPE, **(files or {"input": in_bytes(data)})}
+    usual = {"stdout": subprocess.PIPE, "stderr": subprocess.PIPE, "timeout": SECONDS, "check": False}
     try:
-        ran = subprocess.run(command, check=False, timeout=SECONDS, **files)
-    except subprocess.TimeoutExpired:
-        return Answer(None, "", f"no answer in {SECONDS} s\n")
+        ran = subprocess.run(command, input=in_bytes(data), **{**usual, **options})
+    except subprocess.TimeoutExpired as late:
+        return Answer(None, "", f"no answer in {late.timeout} s\n")
     out, err = ((it or b"").decode(errors="surrogateescape") for it in (ran.stdout, ran.stderr))
     return Answer(ran.returncode, out, err)
 

@@ -1,12 +1,11 @@
 """Compares the pages on assurance with what they name and count, and with what the program does."""
 import functools
 import re
-import subprocess
 import sys
 
 import pytest
 
-from runner import TOP, crate_uses
+from runner import TOP, crate_uses, program, run
 
 PROOFS, SAFETY, YES = ((TOP / f"docs/assurance/{name}.md").read_text("utf-8") for name in ("proofs", "safety", "yes"))
 CRATE = r"(?:etcs_\w+|balisecheck_c)"
@@ -132,8 +131,7 @@ def test_failures_and_conditions():
     ("126 not executable", "cp $0 other; chmod -x other; ./other check; [ $? = 126 ]"),
     ("127 not found or no address space", "./none check; [ $? = 127 ] && ulimit -v 2000; $0 check; [ $? = 127 ]"),
     ("above 128", "(ulimit -s 8; $0 check; exit $?); [ $? -gt 128 ]")])
-def test_statuses(text, script, tmp_path, program):
+def test_statuses(text, script, tmp_path):
     """What safety.md states about statuses that come from the system. They have no output."""
-    ran = subprocess.run(["bash", "-c", script, program], cwd=tmp_path, stdin=subprocess.DEVNULL,
-                         stdout=subprocess.PIPE, stderr=subprocess.DEVNULL, check=False)
-    assert (ran.returncode, ran.stdout) == (0, b"") and text in SAFETY
+    ran = run(("-c", script, program()), path="bash", cwd=tmp_path)
+    assert (ran.status, ran.stdout) == (0, "") and text in SAFETY

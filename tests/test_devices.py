@@ -76,7 +76,7 @@ def test_devices_of_the_system(words):
         os.close(read)
         full, closed, folder, silent = (run(job.words, job.data, f"exec {it}")
                                         for it in (">/dev/full", ">&-", "</", "2>&- <&-"))
-        for answer in full, closed, run(job.words, input=job.data, stdout=pipe):
+        for answer in full, closed, run(job.words, job.data, stdout=pipe):
             assert stops(answer, wanted, DEVICE) if wanted.stdout else answer == wanted, (job, answer)
         os.close(pipe)
         assert stops(folder, wanted, DEVICE) if words else folder == wanted, (job, folder)

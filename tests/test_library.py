@@ -7,7 +7,6 @@ import os
 import pathlib
 import re
 import shutil
-import subprocess
 import sys
 import threading
 
@@ -17,9 +16,7 @@ from corpus import BALISE, LIST, LONG, SHORT, runs_of
 from hostile import CHECK, COMMANDS, DECODE, DECODE_RADIO, STACK, Job, Library, shared
 from runner import EXAMPLES, TOP, Answer, program, run
 from test_memory import in_turn, refuse
-
-sys.path.append(str(TOP / "bench"))
-from compare import accepted_of, inputs  # noqa: E402  (the path comes first)
+from compare import accepted_of, inputs
 
 FOLDER = pathlib.Path(os.environ.get("BALISECHECK_LIBRARY", TOP / "dist" / "x86_64-linux")).resolve()
 ARCHIVE, SHARED = FOLDER / "libbalisecheck.a", FOLDER / "libbalisecheck.so"
@@ -77,8 +74,8 @@ def checks(command, *words):
 def test_example_in_c(compiler, standard, source, answers, kind, tmp_path):
     """It compiles without a warning and answers, and valgrind has nothing to report."""
     need("c++", "g++")
-    command = compiler, *STRICT, f"-std={standard}", "-o", tmp_path / "example", SOURCE / source, *LINKED[kind]
-    assert subprocess.run(command, stderr=subprocess.PIPE, check=True).stderr == b""
+    words = *STRICT, f"-std={standard}", "-o", tmp_path / "example", SOURCE / source, *LINKED[kind]
+    assert run(words, path=compiler, timeout=None) == Answer(0, "", "")
     answers(tmp_path / "example")
     need("valgrind", "valgrind")
     answers(*WATCHED, tmp_path / "example")
@@ -154,6 +151,5 @@ def test_small_buffers_and_threads(name):
 def test_random_inputs():
     """The program answers random inputs as the documents name it, and as the library. Records come back."""
     words = program(), SHARED, "--inputs=500", "--jobs=1"
-    ran = subprocess.run([sys.executable, "-B", TOP / "bench" / "compare.py", *words],
-                         stdout=subprocess.PIPE, stderr=subprocess.STDOUT, text=True, check=False)
-    assert ran.returncode == 0, ran.stdout
+    ran = run(("-B", TOP / "bench" / "compare.py", *words), path=sys.executable, timeout=None)
+    assert ran.status == 0, ran

@@ -1,5 +1,4 @@
 """Pages for people: the numbers that they state, their length, and the site that mkdocs makes of them."""
-import csv
 import html
 import os
 import re
@@ -10,10 +9,11 @@ import sys
 import pytest
 
 from hostile import GROUPS, STACK
-from runner import TOP, crate_uses
+from runner import TOP, Answer, crate_uses, run
+from variables.table import read_rows
 
 MOST_WORDS, MOST_IN_README, LONGEST, MOST_WHERE = 26_500, 950, 30, 60
-# A list of licences, and a table that tests/trace makes.
+# A list of licences, and a table that scripts/from_trace.py makes.
 NOT_COUNTED = ("THIRD-PARTY.md", "docs/variables.md")
 PAGES = {name: path.read_text("utf-8") for pattern in ("*.md", "dist/**/*.md", "docs/**/*.md", "examples/**/*.md")
          for path in sorted(TOP.glob(pattern)) if (name := str(path.relative_to(TOP))) not in NOT_COUNTED}
@@ -59,18 +59,15 @@ def numbers():
     """Pages, a text with a number in each, and the number."""
     edits = [len([*TOP.glob(f"crates/{name}/must-fail/*.edit")]) for name in crate_uses()]
     named = sum(path.read_text("utf-8").count("name: ") for path in TOP.glob("crates/*/edits/**/*.edits"))
-    with open(TOP / "docs/assurance/trace.csv", encoding="utf-8", newline="") as file:
-        table = [row for row in csv.DictReader(file) if not row["layouts"].startswith("raw")]
-    rules, terms = (sum(row["layouts"].startswith(f"{kind} ") for row in table) for kind in ("rule", "word"))
-    doubts = sum(bool(row["doubt"]) for row in table)
+    kinds, doubts = [row.kind for row in read_rows()], [row for row in read_rows() if row.doubt]
     size = len(subprocess.check_output([sys.executable, TOP / "bench/documents.py", str(GROUPS)]))
     yield from ((TESTING, "{} of %d crates have none" % len(edits), edits.count(0)),
                 (ARCHITECTURE, "`check` of {} sound groups", f"{GROUPS:,}"), (ARCHITECTURE, "{} KiB of stack", STACK),
                 (PROOFS, r"\({} edits\)", f"{named:,}"), (PROOFS, "the {} in `must-fail/`", sum(edits)),
                 (PROOFS, "a document of {} MB", f"{size / 1e6:.1f}"),
                 (PROOFS, r"MB in {} MB\)", f"{(2 * size // 1024 + 10000) * 1024 / 1e6:.0f}"),
-                (SAFETY, "the {} of these rows", doubts), (SAFETY, "the {} rows `rule`", rules),
-                (SAFETY, "the {} rows `word`", terms))
+                (SAFETY, "the {} of these rows", len(doubts)),
+                *((SAFETY, f"the {{}} rows `{kind}`", kinds.count(kind)) for kind in ("rule", "word")))
     for path in TOP.glob("crates/*/specs/*.antt"):
         name = f"{path.parts[-3]}/{path.name}"
         if f"| `{name}` |" in PAGES[PROOFS]:
@@ -91,9 +88,8 @@ def test_site(tmp_path):
     if not shutil.which("mkdocs"):
         pytest.skip("the site of the pages (mkdocs)")
     site = tmp_path / "a site"
-    made = subprocess.run(["mkdocs", "build", "--quiet", "--strict", "--site-dir", site], cwd=TOP, capture_output=True,
-                          text=True, check=False)
-    assert (made.returncode, made.stderr) == (0, "")
+    words = "build", "--quiet", "--strict", "--site-dir", site
+    assert run(words, path="mkdocs", cwd=TOP, timeout=None) == Answer(0, "", "")
     (site / "404.html").unlink()
     texts = {path: path.read_text("utf-8") for path in site.rglob("*.html")}
     places = {path: {"", *re.findall(r'\bid="([^"]+)"', text)} for path, text in texts.items()}

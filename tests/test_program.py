@@ -1,5 +1,5 @@
-"""The built program from outside, of which no contract states anything: each case of tests/cases, words, standard
-streams, exit statuses and pages that describe them."""
+"""The built program from outside, of which no contract states anything: each case of tests/cases, turned bits, words,
+standard streams, exit statuses and pages that describe them."""
 import contextlib
 import re
 import shutil
@@ -9,13 +9,15 @@ import threading
 import pytest
 
 import cases
-from hostile import Job, shared
-from runner import DEVICE, TOP, Answer, in_bytes, program, run
+from corpus import LONG, REPORT, answers
+from hostile import DECODE, DECODE_RADIO, Job, shared
+from runner import DEVICE, TOP, Answer, flipped, in_bytes, program, run
 
 TELEGRAM, FORM, MESSAGE = cases.TELEGRAM, cases.ALONE, cases.MESSAGE
 PAIRS = {"decode": (TELEGRAM, FORM), "encode": (FORM, TELEGRAM), "decode --radio": (MESSAGE, cases.MOVEMENT),
          "encode --radio": (cases.MOVEMENT, MESSAGE)}
 PATIENCE = 10  # seconds that the answers to two lines may take
+FAULT = re.compile(r"refused: (line 1|message 0): [a-z -]+ at \d+ end (\d+)\n")
 
 
 @pytest.mark.elsewhere
@@ -25,6 +27,18 @@ def test_cases():
     found = shared().play([Job(tuple(words), in_bytes(given)) for _, words, given, _ in every])
     wrong = [(*case, answer) for case, (answer, _) in zip(every, found) if answer != case[-1]]
     assert wrong[:5] == [] and len(every) >= 5000
+
+
+@pytest.mark.parametrize("words, texts", [(DECODE, [TELEGRAM, LONG]), (DECODE_RADIO, [MESSAGE, REPORT])])
+def test_turned_bits(words, texts):
+    """With bits turned each answer is documented. No bit at or past the end of a fault makes a record."""
+    turned = [flipped(text, bit) for text in texts for bit in range(4 * len(text))]
+    faults = [(FAULT.fullmatch(answer.stdout), text) for text, answer in zip(turned, answers(shared(), words, turned))]
+    past = [flipped(text, bit) for place, (fault, text) in enumerate(faults) if fault
+            for bit in range(int(fault[2]) + place % 19, 4 * len(text), 19)]
+    assert len(past) > 100
+    for text, answer in zip(past, answers(shared(), words, past)):
+        assert answer.stdout.startswith(("refused: line 1: ", "refused: message 0: ")), (text, answer)
 
 
 @pytest.mark.parametrize("words", PAIRS)

@@ -1,10 +1,9 @@
 """The list of crates, the hook for commits, steps of tests, and the form of texts."""
 import re
-import subprocess
 
 import pytest
 
-from runner import TOP, crate_uses
+from runner import TOP, crate_uses, run
 
 USES = {name: {*used} & {*crate_uses()} for name, used in crate_uses().items()}
 TELEGRAM = "a1007f802000ffffffffffffffffffffffffffffffffffffffffc0"
@@ -36,7 +35,7 @@ def test_hook(words, wanted, tmp_path):
     assert " ".join(hook) == "id name description entry language files require_serial"
 
     def status(command, *words):
-        return subprocess.run([TOP / command, *words], cwd=tmp_path, check=False).returncode
+        return run(words, path=TOP / command, cwd=tmp_path).status
 
     for name, others in (("a sound", []), ("found", [TELEGRAM]), ("accepted", [TELEGRAM]), ("refused", ["a1"])):
         rows = [f"{group},{text}\n" for group, text in zip("AB", [TELEGRAM, *others])]
@@ -55,14 +54,14 @@ def test_hook(words, wanted, tmp_path):
 def test_step(command, wanted):
     """A step of the tests or of the gate also fails by its status, without a count and without a test."""
     script = f". tests/steps.sh\nstep it sh -c '{command}'\ncount it\ntotal"
-    ran = subprocess.run(["bash", "-uc", script], cwd=TOP, capture_output=True, text=True, check=False)
-    assert (ran.stdout.splitlines()[-1], ran.returncode) == (wanted, int("0 failed" not in wanted))
+    ran = run(("-uc", script), path="bash", cwd=TOP)
+    assert (ran.stdout.splitlines()[-1], ran.status) == (wanted, int("0 failed" not in wanted))
 
 
 def test_texts():
     """Each text that is committed is UTF-8, with line ends of Linux, also at its end, and no blanks before them."""
-    listed = subprocess.run(["git", "grep", "-Ilz", ""], cwd=TOP, capture_output=True, text=True, check=False)
-    if listed.returncode:
+    listed = run(("grep", "-Ilz", ""), path="git", cwd=TOP)
+    if listed.status:
         pytest.skip("the form of all texts (git)")
     for name in listed.stdout.split("\0")[:-1]:
         text = (TOP / name).read_bytes().decode("utf-8")

@@ -48,7 +48,7 @@ def shell(tmp_path):
             if re.search(words, commands) and not shutil.which(tool):
                 pytest.skip(f"{skipped} ({tool})")
         script = f"PATH=$PATH:.\n. examples/find-field.sh\n. examples/parallel.sh\n{commands}"
-        return run(("-c", script), path="bash", input=b"", cwd=tmp_path, env={**os.environ, **known})
+        return run(("-c", script), path="bash", cwd=tmp_path, env={**os.environ, **known})
     return ran
 
 

@@ -13,6 +13,7 @@ from pathlib import Path
 import pytest
 
 from runner import TOP, crate_uses, program
+from test_recipes import shown
 from tiny import attempt, sh
 
 # A release is made once, for all tests: their mark keeps them in one process of xdist.
@@ -38,9 +39,8 @@ def sum_of(path):
 def shows(page, folder, first="/usr/bin"):
     """The commands of a page write in this folder what the page shows, whatever their status. A folder comes first on
     the path."""
-    blocks = "".join(re.findall(r"(?ms)^```console\n(.*?)^```$", text_of(page)))
-    for command, wanted in re.findall(r"(?m)^\$ (.*)\n((?:(?!\$ ).*\n)*)", blocks):
-        assert attempt(folder, f"set +e; PATH='{first}':$PATH\n{command}")[1] == wanted
+    for commands, wanted in shown(page):
+        assert attempt(folder, f"set +e; PATH='{first}':$PATH\n{commands}")[1] == wanted
 
 
 def has_manuals(prefix):

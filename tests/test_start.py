@@ -1,10 +1,10 @@
 """The scripts that start and build the program, in a tiny tree with stand-ins for program and toolchain."""
 import os
 import platform
-import subprocess
 
 import pytest
 
+import runner
 from tiny import made, sh, write
 
 pytestmark = pytest.mark.elsewhere
@@ -27,11 +27,9 @@ USER = [] if os.getuid() else ["setpriv", "--reuid=65534", "--clear-groups", "--
                                "--ambient-caps=+dac_override"]
 
 
-def run(tree, *command, **known):
-    """Status, output and errors of a command."""
-    ran = subprocess.run(command, env={"PATH": os.environ["PATH"], **known}, cwd=tree.parent, input="a1\n", text=True,
-                         capture_output=True, check=False)
-    return ran.returncode, ran.stdout, ran.stderr
+def run(tree, command, *words, **known):
+    """The answer of a command to a line."""
+    return runner.run(words, "a1\n", path=command, cwd=tree.parent, env={"PATH": os.environ["PATH"], **known})
 
 
 def decode(tree, *before):
@@ -45,7 +43,7 @@ def a_tree(tmp_path):
     tree = made(tmp_path / "a tree")
     sh(tree, "answers $stored stored")
     yield tree
-    subprocess.run(["chmod", "-R", "u+rwX", tmp_path], check=True)
+    sh(tmp_path, "chmod -R u+rwX .")
 
 
 @pytest.mark.parametrize("command, wanted", [

@@ -3,22 +3,17 @@ pages and schemas that are made of it."""
 import difflib
 import json
 import re
-import runpy
-import sys
 
 import pytest
 
 from hostile import CHECK, DECODE, DECODE_RADIO, Job, shared
-from runner import TOP, blocks
+from runner import blocks
+from balisekit.etcs.layout import bits_of, message_fields, telegram_fields
+from from_trace import FINDINGS, NUMBERING, about, made, names, numbers_in, unit_in
+import records
+from variables.page import raw_rows
+from variables.table import COUNTED, Row, read_rows, rows_of
 
-sys.path[1:1] = [str(TOP / "companion/src"), str(TOP / "bench")]
-import records  # noqa: E402  (the path comes first)
-from balisekit.etcs.layout import bits_of, message_fields, telegram_fields  # noqa: E402
-from variables.definitions import NUMBERING, about, names, numbers_in, unit_in  # noqa: E402
-from variables.page import raw_rows  # noqa: E402
-from variables.table import COUNTED, Row, read_rows, rows_of  # noqa: E402
-
-TRACE = runpy.run_path(str(TOP / "tests/trace"))
 ROWS = read_rows()
 VARIABLES = [it for it in ROWS if it.variable]
 LAYOUTS = rows_of(ROWS)
@@ -99,7 +94,7 @@ def test_comments(row):
 
 def test_rules_and_words():
     """Each finding has a row. Each row names a section, or whose rule it is, and no word has two."""
-    assert [it.layouts for it in ROWS if it.kind == "rule"] == [f"rule {rule}" for rule, *_ in TRACE["FINDINGS"]]
+    assert [it.layouts for it in ROWS if it.kind == "rule"] == [f"rule {rule}" for rule, *_ in FINDINGS]
     words = [it.layouts for it in ROWS if it.kind == "word"]
     assert len(words) == len({*words}) and all(it.section for it in ROWS)
 
@@ -112,9 +107,9 @@ def test_raw():
             assert (row.variable, row.bits, row.numbers, row.unit) in known
 
 
-@pytest.mark.parametrize("path, text", TRACE["made"]().items(), ids=lambda it: getattr(it, "name", ""))
+@pytest.mark.parametrize("path, text", made().items(), ids=lambda it: getattr(it, "name", ""))
 def test_made(path, text):
-    """What is made of the table is what `tests/trace` makes now."""
+    """What is made of the table is what `scripts/from_trace.py` makes now."""
     there = path.read_text(encoding="utf-8").splitlines()
     assert not [*difflib.unified_diff(there, text.splitlines(), "there", "made", lineterm="", n=0)]
 

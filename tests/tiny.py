@@ -2,7 +2,7 @@
 import os
 import subprocess
 
-from runner import TOP
+from runner import TOP, run
 
 SCRIPTS = ("balisecheck", "scripts/build", "scripts/release.sh", "dist/sources", "dist/hand-over", "tests/dist",
            "tests/steps.sh")
@@ -58,9 +58,7 @@ def attempt(tree, command):
     """Status and output of a shell command in the tree. Stand-ins in the folder `tools` come first."""
     who = {f"GIT_{role}_{key}": "one" for role in ("AUTHOR", "COMMITTER") for key in ("NAME", "EMAIL")}
     known = {**os.environ, **who, "PATH": f"{tree.parent}/tools:{os.environ['PATH']}", "BALISECHECK": ""}
-    ran = subprocess.run(["bash", "-c", SHELL + command], cwd=tree, env=known, stdout=subprocess.PIPE,
-                         stderr=subprocess.STDOUT, text=True, check=False)
-    return ran.returncode, ran.stdout
+    return run(("-c", SHELL + command), path="bash", cwd=tree, env=known, stderr=subprocess.STDOUT, timeout=None)[:2]
 
 
 def sh(tree, command):

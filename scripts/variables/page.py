@@ -7,8 +7,7 @@ import json
 import re
 import sys
 
-from runner import TOP
-from variables.table import COUNTED, Row, rows_of
+from variables.table import COUNTED, TOP, Row, rows_of
 
 sys.path.insert(1, str(TOP / "companion/src"))
 from balisekit.etcs.packets import packet_name  # noqa: E402  (the path comes first)

@@ -9,9 +9,9 @@ import re
 from collections import namedtuple
 from functools import cached_property
 from itertools import groupby
+from pathlib import Path
 
-from runner import TOP
-
+TOP = Path(__file__).resolve().parents[2]
 TABLE = TOP / "docs/assurance/trace.csv"
 COLUMNS = ("layouts variable bits numbers fault when key unit meaning about section doubt "
            "unstated compared date sum").split()

@@ -1,11 +1,20 @@
-"""What the definitions in crates/*/specs state in words: the comments above them, and the names of numbers.
-
-That the program reads the bits as the definitions state is proved; tests/test_trace.py compares the table with it.
-"""
+#!/usr/bin/env -S python3 -B
+"""Makes docs/variables.md, two schemas and the counts of compared rows from docs/assurance/trace.csv, and the columns
+of this table that state what is in docs/findings.md and in the definitions of crates/*/specs: comments above them, and
+names of numbers. tests/test_trace.py compares all."""
+import csv
+import io
+import json
 import re
 
-from runner import TOP
+from variables import schemas
+from variables.page import PAGE, shown, variables_page
+from variables.table import COLUMNS, TABLE, TOP, layouts_of, read_rows
 
+COUNTING = (PAGE, TOP / "README.md", TOP / "docs/assurance/safety.md")
+COUNT = re.compile(r"\d+ of \d+ rows")
+RULE = re.compile(r"(?ms)^## (F\d+): (.*?)$.*?\(SUBSET-026, ([^)]*)\)")
+FINDINGS = RULE.findall((TOP / "docs/findings.md").read_text(encoding="utf-8"))
 COMMENTED = re.compile(r"(?m)((?:^-- .*\n)+)^(?:abbrev |unfoldable )?pub (?:record )?(\S+)")
 NAME = r"[A-Z]\w*_\w+"
 # Functions that give numbers to constructors, or parts that follow a number, by the names of their variables.
@@ -18,12 +27,13 @@ WORDS = {"V2_0": "2.0", "V2_1": "2.1", "Single": "no duplicate", "TenCentimetres
 # The words for units in comments.
 UNITS = {"5 km/h": "in steps of 5 km/h", "s": "in seconds", "‰": "in metres of height per 1,000 metres",
          "m": "in metres", "10 ms": "in units of 10 ms", "Q_SCALE": "in the unit of the packet"}
-
-
 SPECS = {str(it.relative_to(TOP)): it.read_text("utf-8") for it in sorted(TOP.glob("crates/etcs_*/specs/**/*.antt"))}
 # The comment above each definition in one line, by `FILE: NAME`.
 COMMENTS = {f"{place}: {name}": re.sub(r"\s*\n?-- ", " ", comment).strip()
             for place, text in SPECS.items() for comment, name in COMMENTED.findall(text)}
+
+
+# ---- what definitions state
 
 
 def about(variable):
@@ -58,3 +68,45 @@ def names(variable):
     lines = re.findall(rf"(?m)^{function} \(?\w+\.(\w+).* = (.*)$", "\n".join(SPECS.values())) if function else []
     return {int(number) if number.isdigit() else number.count("inr"):
             WORDS.get(name, re.sub("(?<=[a-z])(?=[A-Z])", " ", name).lower()) for name, number in lines}
+
+
+# ---- what is made
+
+
+def unstated(row, rows):
+    """The numbers whose meaning, and the unit, that no definition states. A qualifier means what it decides."""
+    if not row.variable or row.bits == "1" and any(it.condition[0] == row.variable for it in rows):
+        return ""
+    texts = about(row.variable) if row.variable != "NID_PACKET" else []
+    stated = {*names(row.variable), *(first for it in texts for first, _, words in numbers_in(it)[0] if words)}
+    lacking = [shown(first, last) for first, last, words in row.spans if words and first not in stated]
+    return ", ".join([*lacking, *[row.unit] * (row.unit not in ("", "Q_SCALE", *map(unit_in, texts)))])
+
+
+def made_row(row, rows):
+    """The row with what definitions and docs/findings.md state: rules and words consist of it."""
+    if row.kind in ("rule", "word"):
+        found = [re.sub(r"^F\d+(?: and F\d+)?: ", "", COMMENTS[it]) for it in row.about.split("; ")]
+        name, section = {rule: its for rule, *its in FINDINGS}.get(row.layouts.removeprefix("rule "), ("", row.section))
+        row = row._replace(meaning=(f"{name}: " if name else "") + "; or ".join(found), section=section)
+    return row._replace(unstated=unstated(row, rows)).sealed()
+
+
+def made():
+    """The text of each file that has something made of the table, and of the table itself."""
+    rows = read_rows()
+    rows = [made_row(it, rows) for it in rows]
+    count = f"{sum(bool(it.compared) for it in rows)} of {len(rows)} rows"
+    texts = {path: path.read_text(encoding="utf-8") for path in COUNTING} | {PAGE: variables_page(rows)}
+    texts = {path: COUNT.sub(count, text) for path, text in texts.items()}
+    meanings = {it.layouts: it.meaning for it in rows if not it.variable}
+    for name, schema in (("telegram", schemas.telegram), ("message", schemas.message)):
+        form = json.dumps(schema(layouts_of(rows), meanings), indent=2, ensure_ascii=False)
+        texts[TOP / f"schemas/{name}.json"] = f"{form}\n"
+    csv.writer(file := io.StringIO(), lineterminator="\n").writerows([COLUMNS, *rows])
+    return {TABLE: file.getvalue(), **texts}
+
+
+if __name__ == "__main__":
+    for path, text in made().items():
+        path.write_text(text, encoding="utf-8")
