@@ -5,7 +5,6 @@ import os
 import re
 import shutil
 import subprocess
-import sys
 
 import pytest
 
@@ -63,12 +62,9 @@ def numbers():
         table = [row for row in csv.DictReader(file) if not row["layouts"].startswith("raw")]
     rules, terms = (sum(row["layouts"].startswith(f"{kind} ") for row in table) for kind in ("rule", "word"))
     doubts = sum(bool(row["doubt"]) for row in table)
-    size = len(subprocess.check_output([sys.executable, TOP / "bench/documents.py", str(GROUPS)]))
     yield from ((TESTING, "{} of %d crates have none" % len(edits), edits.count(0)),
                 (ARCHITECTURE, "`check` of {} sound groups", f"{GROUPS:,}"), (ARCHITECTURE, "{} KiB of stack", STACK),
                 (PROOFS, r"\({} edits\)", f"{named:,}"), (PROOFS, "the {} in `must-fail/`", sum(edits)),
-                (PROOFS, "a document of {} MB", f"{size / 1e6:.1f}"),
-                (PROOFS, r"MB in {} MB\)", f"{(2 * size // 1024 + 10000) * 1024 / 1e6:.0f}"),
                 (SAFETY, "the {} of these rows", doubts), (SAFETY, "the {} rows `rule`", rules),
                 (SAFETY, "the {} rows `word`", terms))
     for path in TOP.glob("crates/*/specs/*.antt"):
