@@ -86,13 +86,14 @@ def undisturbed(program, some):
 @functools.lru_cache(None)
 def runs_of(program, words, each_kind=True):
     """Runs of a command, or those without one, undisturbed: all, or the first one with each kind of line."""
-    known = undisturbed(program, [job for job in jobs() if (job.words if job.words in COMMANDS else ()) == words])
+    if not each_kind:
+        return undisturbed(program, [it for it in jobs() if (it.words if it.words in COMMANDS else ()) == words])
     chosen = {}
-    for it in known if each_kind else ():
+    for it in runs_of(program, words, each_kind=False):
         for line in it[1].stdout.splitlines() or [""]:
             line = re.sub(r"^\{.*|^[0-9a-f]{20,}$", "a record", line)
             chosen.setdefault(re.sub(r"^F.*: |/\S*|\d+", "", line), it)
-    return list({it[0]: it for it in chosen.values()}.values()) if each_kind else known
+    return list({it[0]: it for it in chosen.values()}.values())
 
 
 def answers(program, words, inputs):

@@ -87,8 +87,9 @@ def in_full(line):
     repeated = re.compile(r"<([^<>]*) (\d+)>")
     while repeated.search(line):
         line = repeated.sub(lambda found: found[1] * int(found[2]), line)
-    return re.sub(r"\b(\w+)(\.{2,3})(\w) ?(\w*)", lambda found: found[1].ljust(
-        52 if found[2] == ".." else 206, found[3]) + found[4], line)
+    return line if ".." not in line else re.sub(
+        r"\b(\w+)(\.{2,3})(\w) ?(\w*)",
+        lambda found: found[1].ljust(52 if found[2] == ".." else 206, found[3]) + found[4], line)
 
 
 def flipped(digits, place):

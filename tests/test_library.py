@@ -85,10 +85,11 @@ def test_example_in_python():
     reads_telegrams(sys.executable, SOURCE / "python" / "telegrams.py", SHARED)
 
 
-def test_example_in_java():
+def test_example_in_java(tmp_path):
     need("javac", "default-jdk-headless")
     need(JNA, "libjna-java")
-    checks("java", "-XX:TieredStopAtLevel=1", "-cp", JNA, SOURCE / "java" / "Check.java", SHARED)
+    subprocess.run(["javac", "-cp", JNA, "-d", tmp_path, SOURCE / "java" / "Check.java"], check=True)
+    checks("java", "-XX:TieredStopAtLevel=1", "-cp", f"{JNA}:{tmp_path}", "Check", SHARED)
 
 
 # ---- calls

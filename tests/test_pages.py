@@ -4,7 +4,6 @@ import os
 import re
 import shutil
 import subprocess
-import sys
 
 import pytest
 
@@ -60,12 +59,9 @@ def numbers():
     edits = [len([*TOP.glob(f"crates/{name}/must-fail/*.edit")]) for name in crate_uses()]
     named = sum(path.read_text("utf-8").count("name: ") for path in TOP.glob("crates/*/edits/**/*.edits"))
     kinds, doubts = [row.kind for row in read_rows()], [row for row in read_rows() if row.doubt]
-    size = len(subprocess.check_output([sys.executable, TOP / "bench/documents.py", str(GROUPS)]))
     yield from ((TESTING, "{} of %d crates have none" % len(edits), edits.count(0)),
                 (ARCHITECTURE, "`check` of {} sound groups", f"{GROUPS:,}"), (ARCHITECTURE, "{} KiB of stack", STACK),
                 (PROOFS, r"\({} edits\)", f"{named:,}"), (PROOFS, "the {} in `must-fail/`", sum(edits)),
-                (PROOFS, "a document of {} MB", f"{size / 1e6:.1f}"),
-                (PROOFS, r"MB in {} MB\)", f"{(2 * size // 1024 + 10000) * 1024 / 1e6:.0f}"),
                 (SAFETY, "the {} of these rows", len(doubts)),
                 *((SAFETY, f"the {{}} rows `{kind}`", kinds.count(kind)) for kind in ("rule", "word")))
     for path in TOP.glob("crates/*/specs/*.antt"):
