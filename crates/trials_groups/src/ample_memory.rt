@@ -1,6 +1,6 @@
 //! The library calls of `refused_memory` with enough memory: each must give its usual result.
 
-use crate::refused_memory::{Answer, bits, cursors, lines, lists, packets, texts};
+use crate::refused_memory::{Answer, lines, records};
 use std::process::Abort;
 
 // Requires that each of the answers is yes.
@@ -12,11 +12,6 @@ fn expect_yes(rt: &impl Abort, answers: &[Answer]) {
 
 #[test]
 fn every_call_answers_while_there_is_memory(rt: HostRuntime) {
-    let alloc = rt.alloc();
-    expect_yes(&rt, &bits::answers(alloc));
-    expect_yes(&rt, &cursors::answers(alloc));
-    expect_yes(&rt, &lists::answers(alloc));
-    expect_yes(&rt, &packets::answers(alloc));
-    expect_yes(&rt, &texts::answers(alloc));
-    expect_yes(&rt, &lines::answers(alloc));
+    expect_yes(&rt, &records::answers(rt.alloc()));
+    expect_yes(&rt, &lines::answers(rt.alloc()));
 }

@@ -11,8 +11,6 @@ mod ample_memory;
 #[cfg(test)]
 mod assembly;
 #[cfg(test)]
-mod by_itself;
-#[cfg(test)]
 mod controlled;
 #[cfg(test)]
 mod halt;

@@ -1,126 +1,69 @@
-//! All readings of sound groups, in both directions and with each set of balises missed.
+//! All readings of a sound group, in both directions and with each set of balises missed.
 
-use crate::shared::group;
-use etcs_bits::Same;
-use etcs_group::{Group, Missed, Refused, assemble};
-use etcs_packet::{Run, TrackPacket};
+use crate::halt::Halt;
+use crate::shared::{group, message};
+use etcs_group::{Group, Missed, is_covered};
+use etcs_packet::Run;
+use etcs_packet::Run::{Nominal, Reverse};
 use std::alloc::Global;
 use std::test::Fail;
 
-/// A pair with one packet 21, for both directions, in both.
-const PAIR: [&str; 2] = ["a102ff802000c5601b40001fe0", "a1137f802000c5601b40001fe0"];
-
-/// Four such pairs.
+/// Four pairs. Both balises of each have the same packet, for both directions: 44, 45, 46 or 47.
 const PAIRS: [&str; 8] = [
-    "a10eff802000c5601b40001fe0",
-    "a11f7f802000c5601b40001fe0",
-    "a12eff802000c5601b40001fe0",
-    "a13f7f802000c5601b40001fe0",
-    "a14eff802000c5601b40001fe0",
-    "a15f7f802000c5601b40001fe0",
-    "a16eff802000c5601b40001fe0",
-    "a17f7f802000c5601b40001fe0",
+    "a10eff802000cb200bf",
+    "a11f7f802000cb200bf",
+    "a12eff802000cb600bf",
+    "a13f7f802000cb600bf",
+    "a14eff802000cba00bf",
+    "a15f7f802000cba00bf",
+    "a16eff802000cbe00bf",
+    "a17f7f802000cbe00bf",
 ];
 
-/// The place of the first balise of each pair, and the set of its two.
-const BOTH: [(usize, u8); 4] = [(0, 0x03), (2, 0x0c), (4, 0x30), (6, 0xc0)];
+/// The two balises of each pair as a set, and why a train that misses both makes no message.
+const BOTH: [(u8, &str); 4] = [
+    (0x03, "position 0 absent"),
+    (0x0c, "position 2 absent"),
+    (0x30, "position 4 absent"),
+    (0xc0, "position 6 absent"),
+];
 
-// The result of a reading of a group, compared with what was missed.
-#[derive(Clone, Copy, PartialEq, Eq)]
-enum Outcome {
-    // No pair is missed, and the packets are the packets of the full reading.
-    Same,
-    // A pair is missed, and the reading is refused for the right reason.
-    Refused,
-    // Anything else.
-    Wrong,
-}
-
-// The first place of the first pair that is missed.
-fn lost_place(missed: u8) -> Option<usize> {
-    'pairs: for (place, both) in BOTH {
+// What a train makes of the group with these balises missed. `whole` is the message with nothing missed.
+fn promised(missed: u8, whole: &'static str) -> &'static str {
+    if missed == 255 {
+        return "nothing read";
+    }
+    'pairs: for (both, reason) in BOTH {
         if missed & both == both {
-            return Some(place);
+            return reason;
         }
     }
-    None
+    whole
 }
 
-// The packets of the reading with these balises missed, or why there is no message.
-fn message(
+// Whether each reading in this direction is as promised, and covered if it gives the whole message.
+fn are_as_promised(
     alloc: Global,
     group: &Group,
     run: Run,
-    missed: u8,
-) -> Result<Vec<&TrackPacket>, Refused> {
-    let read = group.reading(alloc, run, Missed(missed))?;
-    assemble(alloc, run, read.as_slice())
-}
-
-// Whether two lists of packets are equal.
-fn are_equal(these: &[&TrackPacket], those: &[&TrackPacket]) -> bool {
-    'packets: for (this, that) in these.iter().zip(those) {
-        if !this.same(that) {
-            return false;
+    whole: &'static str,
+) -> Result<bool, Halt> {
+    'sets: for missed in 0..=255u8 {
+        let read = group.reading(alloc, run, Missed(missed))?;
+        let text = message(alloc, run, read.as_slice())?;
+        let wanted = promised(missed, whole);
+        let is_whole = wanted == whole;
+        if text.as_str() != wanted || is_covered(group, Missed(missed)) != is_whole {
+            return Ok(false);
         }
     }
-    these.len() == those.len()
-}
-
-// Compares the reading with these balises missed with the packets of the full reading. `all` is the set
-// of all balises.
-fn outcome_of(
-    alloc: Global,
-    group: &Group,
-    run: Run,
-    missed: u8,
-    all: u8,
-    full: &[&TrackPacket],
-) -> Outcome {
-    match (message(alloc, group, run, missed), lost_place(missed)) {
-        (Ok(packets), None) if are_equal(packets.as_slice(), full) => Outcome::Same,
-        (Err(Refused::Nothing), Some(_)) if missed == all => Outcome::Refused,
-        (Err(Refused::Absent(place)), Some(lost)) if missed != all && place == lost => {
-            Outcome::Refused
-        }
-        _ => Outcome::Wrong,
-    }
-}
-
-// The number of sets of missed balises with the packets of the full reading, and the number of sets that are
-// refused.
-fn counts(alloc: Global, group: &Group, run: Run, all: u8) -> Result<(u32, u32), Fail> {
-    let full = message(alloc, group, run, 0)?;
-    let mut same = 0u32;
-    let mut refused = 0u32;
-    'sets: for missed in 0..=all {
-        match outcome_of(alloc, group, run, missed, all, full.as_slice()) {
-            Outcome::Same => same = same.saturating_add(1),
-            Outcome::Refused => refused = refused.saturating_add(1),
-            Outcome::Wrong => {}
-        }
-    }
-    Ok((same, refused))
+    Ok(true)
 }
 
 #[test]
-fn sound_groups_are_read_whatever_duplicate_is_missed(rt: HostRuntime) -> Result<(), Fail> {
-    let alloc = rt.alloc();
-    let rows: [(&[&str], u8, (u32, u32)); 2] = [(&PAIR, 3, (3, 1)), (&PAIRS, 255, (81, 175))];
-    'rows: for (fronts, all, wanted) in rows {
-        let group = group(alloc, fronts)?;
-        assert!(rt; counts(alloc, &group, Run::Nominal, all)? == wanted);
-        assert!(rt; counts(alloc, &group, Run::Reverse, all)? == wanted);
-    }
-    Ok(())
-}
-
-#[test]
-fn each_pair_gives_its_packet_once(rt: HostRuntime) -> Result<(), Fail> {
-    let alloc = rt.alloc();
-    let group = group(alloc, &PAIRS)?;
-    'directions: for run in [Run::Nominal, Run::Reverse] {
-        assert_eq!(rt; message(alloc, &group, run, 0)?.len(), 4);
-    }
+fn a_sound_group_is_read_whatever_duplicate_is_missed(rt: HostRuntime) -> Result<(), Fail> {
+    let group = group(rt.alloc(), &PAIRS)?;
+    assert!(rt; are_as_promised(rt.alloc(), &group, Nominal, "ok 44 45 46 47")?);
+    assert!(rt; are_as_promised(rt.alloc(), &group, Reverse, "ok 47 46 45 44")?);
     Ok(())
 }

@@ -17,47 +17,20 @@ pub const SECOND: &str = "a1137f802000";
 
 pub const FIRST_7: &str = "a10283802000";
 
-pub const SECOND_7: &str = "a11303802000";
-
-pub const FIRST_8: &str = "a10284002000";
-
 pub const SECOND_8: &str = "a11304002000";
 
 /// The first digits of the first telegram of a pair, with a packet 21 for the reverse direction.
 pub const WITH_GRADIENT: &str = "a102ff802000c5401b40001fe0";
 
-/// The first digits of a long telegram with an authority and both profiles.
-pub const WITH_AUTHORITY: &str =
-    "a1007f802000c31024a5007fe007d002a813a000105080647f8da0560000140029c43f81";
-
-/// A movement authority of 1,000 m for one train, at 1 s.
-pub const MESSAGE: &str = "03048000001900080021e810901ff801f400";
-
-/// A position report of engine 1 with a packet 44, whose body is kept as bits.
-pub const REPORT: &str = "8807000000320000004000e480200081f450014002830832c00ed280";
-
-// Writes the digits to the beginning of the text.
-fn begin(text: &mut [u8], front: &str) {
+/// The short telegram that begins with these digits, at most 52, after which all bits are ones.
+pub fn telegram(alloc: Global, front: &str) -> Result<Telegram, Halt> {
+    let mut text = [b'f'; 54];
     'digits: for (digit, given) in text.iter_mut().zip(front.as_bytes()) {
         *digit = *given;
     }
-}
-
-/// The telegram that begins with these digits, after which all bits are ones: a short one if the digits fit,
-/// otherwise a long one.
-pub fn telegram(alloc: Global, front: &str) -> Result<Telegram, Halt> {
-    if front.len() <= 52 {
-        let mut text = [b'f'; 54];
-        begin(&mut text, front);
-        text[52] = b'c';
-        text[53] = b'0';
-        Ok(from_hex(alloc, &text)?)
-    } else {
-        let mut text = [b'f'; 208];
-        begin(&mut text, front);
-        text[207] = b'c';
-        Ok(from_hex(alloc, &text)?)
-    }
+    text[52] = b'c';
+    text[53] = b'0';
+    Ok(from_hex(alloc, &text)?)
 }
 
 /// The telegrams that begin with these digits.
@@ -74,18 +47,13 @@ pub fn group(alloc: Global, fronts: &[&str]) -> Result<Group, Halt> {
     Group::new(telegrams(alloc, fronts)?).map_err(|_| Halt::Other)
 }
 
-/// The groups of such telegrams.
-pub fn groups(alloc: Global, aspects: &[&[&str]]) -> Result<Vec<Group>, Halt> {
-    let mut list = Vec::new(alloc);
-    'aspects: for fronts in aspects {
-        list.push(group(alloc, fronts)?)?;
-    }
-    Ok(list)
-}
-
 /// The group that has these aspects.
 pub fn controlled(alloc: Global, aspects: &[&[&str]]) -> Result<Controlled, Halt> {
-    Controlled::new(groups(alloc, aspects)?).map_err(|_| Halt::Other)
+    let mut groups = Vec::new(alloc);
+    'aspects: for fronts in aspects {
+        groups.push(group(alloc, fronts)?)?;
+    }
+    Controlled::new(groups).map_err(|_| Halt::Other)
 }
 
 /// The message of the telegrams that a train read: `ok` and the numbers of the packets, or why there is none.

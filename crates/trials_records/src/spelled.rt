@@ -1,6 +1,6 @@
 //! Records and packets that are spelled by hand, each field as its binary digits.
 
-use etcs_bits::{Bits, Cursor, DecodeError, Fault, FaultKind, Layout, Memory, Same};
+use etcs_bits::{Bits, Cursor, DecodeError, Layout, Memory};
 use std::alloc::Global;
 
 // A packet of each layout, for the nominal direction if it has one: 592 bits.
@@ -53,15 +53,6 @@ pub fn all_kinds(alloc: Global) -> Result<Bits, Memory> {
     Ok(bits)
 }
 
-/// `len` ones.
-pub fn ones(alloc: Global, len: usize) -> Result<Bits, Memory> {
-    let mut bits = Bits::new(alloc);
-    for _ in 0..len {
-        bits.push_num(1, 1)?;
-    }
-    Ok(bits)
-}
-
 /// The record at the beginning of these digits.
 pub fn read_one<T: Layout>(alloc: Global, digits: &str) -> Result<T, DecodeError> {
     let bits = spelled(alloc, digits)?;
@@ -75,24 +66,4 @@ pub fn times<T: Copy + Drop>(alloc: Global, record: &T, count: usize) -> Result<
         items.push(*record)?;
     }
     Ok(items)
-}
-
-/// Whether the record is written with `width` bits, and is read again of them.
-pub fn comes_back<T: Layout + Same>(
-    alloc: Global,
-    record: &T,
-    width: usize,
-) -> Result<bool, DecodeError> {
-    let mut bits = Bits::new(alloc);
-    if record.is_allowed() {
-        record.write(&mut bits)?;
-    }
-    let mut cur = Cursor::new(&bits);
-    let again = T::read(alloc, &mut cur)?;
-    Ok(again.same(record) && bits.len() == width && cur.at() == width)
-}
-
-/// What is refused for this fault.
-pub fn fault(at: usize, end: usize, why: FaultKind) -> Option<DecodeError> {
-    Some(DecodeError::Fault(Fault { at, end, why }))
 }

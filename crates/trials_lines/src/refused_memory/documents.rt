@@ -48,25 +48,11 @@ fn read(alloc: Global) -> Answer {
     Ok(line.groups.len() == 2 && line.messages.is_empty())
 }
 
-// Whether this is the fault of the document that is refused, or memory ran out.
-fn is_fault(error: LineError) -> Answer {
-    match error {
-        LineError::Memory => Err(LineError::Memory),
-        why => Ok(matches!(why, LineError::Telegram(0, 0, TextError::WrongSize))),
-    }
-}
-
 fn refused(alloc: Global) -> Answer {
     match check_in_order(alloc, WRONG_SIZE.as_bytes()) {
         Ok(_) => Ok(false),
-        Err(error) => is_fault(error),
-    }
-}
-
-fn unread(alloc: Global) -> Answer {
-    match read_line(alloc, WRONG_SIZE.as_bytes()) {
-        Ok(_) => Ok(false),
-        Err(error) => is_fault(error),
+        Err(LineError::Memory) => Err(LineError::Memory),
+        Err(why) => Ok(matches!(why, LineError::Telegram(0, 0, TextError::WrongSize))),
     }
 }
 
@@ -75,48 +61,37 @@ fn refusal(alloc: Global) -> Answer {
     Ok(text.as_str() == "refused: line 7: not JSON\n")
 }
 
-// The value of a text, unless memory runs out: the text is JSON.
-fn value_of(alloc: Global, text: &str) -> Result<Value, LineError> {
-    Value::from_str(alloc, text).map_err(|_| LineError::Memory)
-}
-
 // Whether the record of a tape is sent as the text that the tape was made of.
-fn tape<T: WriteJson>(alloc: Global, form: &str) -> Answer {
+fn tape(alloc: Global) -> Answer {
     let mut scratch = Scratch::new(alloc);
-    let json = match ParsedJson::read(form, &mut scratch, Vec::new(alloc)) {
+    let json = match ParsedJson::read(TELEGRAM_FORM, &mut scratch, Vec::new(alloc)) {
         Ok(json) => json,
         Err(JsonError::Memory) => return Err(LineError::Memory),
         Err(_) => return Ok(false),
     };
-    let record = T::read_json(alloc, &json.root())?;
+    let record = Telegram::read_json(alloc, &json.root())?;
     let mut out = Writer::new(Vec::new(alloc));
     record.write_json(&mut out)?;
-    Ok(out.into_inner().as_slice() == form.as_bytes())
+    Ok(out.into_inner().as_slice() == TELEGRAM_FORM.as_bytes())
 }
 
-// The form of a record: read as a value, written as a value and in pieces.
-fn form<T: WriteJson>(alloc: Global, form: &str) -> Answer {
-    let record = T::of_form(alloc, &value_of(alloc, form)?)?;
-    let value = record.to_form(alloc)?;
-    let mut out = Writer::new(Vec::new(alloc));
-    record.write_json(&mut out)?;
-    let sent = out.into_inner();
-    let text = value.to_string(alloc).map_err(|_| LineError::Memory)?;
-    Ok(text.as_str() == form && sent.as_slice() == form.as_bytes())
+// The form of a record, read as a value and written as a value. Memory alone can be lacking: the text is JSON.
+fn form(alloc: Global) -> Answer {
+    let value = Value::from_str(alloc, MESSAGE_FORM).map_err(|_| LineError::Memory)?;
+    let written = Message::of_form(alloc, &value)?.to_form(alloc)?;
+    let text = written.to_string(alloc).map_err(|_| LineError::Memory)?;
+    Ok(text.as_str() == MESSAGE_FORM)
 }
 
-pub fn answers(alloc: Global) -> [Answer; 10] {
+pub fn answers(alloc: Global) -> [Answer; 7] {
     [
         checked(alloc),
         told(alloc),
         read(alloc),
         refused(alloc),
-        unread(alloc),
         refusal(alloc),
-        form::<Telegram>(alloc, TELEGRAM_FORM),
-        tape::<Telegram>(alloc, TELEGRAM_FORM),
-        form::<Message>(alloc, MESSAGE_FORM),
-        tape::<Message>(alloc, MESSAGE_FORM),
+        tape(alloc),
+        form(alloc),
     ]
 }
 
