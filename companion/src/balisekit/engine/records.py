@@ -35,7 +35,22 @@ Country = Annotated[int, range(1024)]
 GroupNumber = Annotated[int, range(16_384)]
 
 
-class Form(TypedDict, total=False):
+class Part(TypedDict, total=False):
+    """An object within an authority. (mypy compares a key of type `Form` at length; lists of `Form` only once.)"""
+
+    t_sectiontimer: Seconds
+    d_sectiontimerstoploc: Distance
+    t_endtimer: Seconds
+    d_endtimerstartloc: Distance
+    d_dp: Distance
+    v_releasedp: ReleaseSpeed
+    d_startol: Distance
+    t_ol: Seconds
+    d_ol: Distance
+    v_releaseol: ReleaseSpeed
+
+
+class Form(Part, total=False):
     """An object of a record. Its kind decides which of these keys it has: see `KEYS`. They are in the standard's order.
 
     A number is annotated with the values that it may have, and a list with its least and greatest length.
@@ -73,20 +88,10 @@ class Form(TypedDict, total=False):
     sections: Annotated[List[Form], 0, 31]
     l_section: Distance
     l_endsection: Distance
-    section_timer: Form
-    t_sectiontimer: Seconds
-    d_sectiontimerstoploc: Distance
-    end_timer: Form
-    t_endtimer: Seconds
-    d_endtimerstartloc: Distance
-    danger_point: Form
-    d_dp: Distance
-    v_releasedp: ReleaseSpeed
-    overlap: Form
-    d_startol: Distance
-    t_ol: Seconds
-    d_ol: Distance
-    v_releaseol: ReleaseSpeed
+    section_timer: Part
+    end_timer: Part
+    danger_point: Part
+    overlap: Part
     d_gradient: Distance
     q_gdir: Bit
     g_a: Byte
