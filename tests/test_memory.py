@@ -97,7 +97,8 @@ def test_long_document():
         answer = limited(times * len(text) // 1024 + 10000, CHECK, text)
         assert answer == answered(f"yes: groups {GROUPS}, messages 0\n"), (text[:30], times)
     sizes = len(groups_first) / 1e6, (2 * len(groups_first) // 1024 + 10000) * 1024 / 1e6
-    assert "a document of {:.1f} MB in {:.0f} MB)".format(*sizes) in (TOP / "docs/assurance/proofs.md").read_text("utf-8")
+    page = (TOP / "docs/assurance/proofs.md").read_text("utf-8")
+    assert "a document of {:.1f} MB in {:.0f} MB)".format(*sizes) in page
 
 
 def test_many_messages():
