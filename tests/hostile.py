@@ -6,6 +6,7 @@ import errno
 import functools
 import itertools
 import os
+import resource
 import shutil
 import struct
 import subprocess
@@ -29,6 +30,7 @@ Counts = collections.namedtuple("Counts", "requests refused reads failed_reads w
 ROOM = tempfile.TemporaryDirectory(prefix="hostile-")
 
 
+@functools.lru_cache(None)
 def shim(*linked):
     """The shim as a library: to be loaded before a program, or with these files linked into it."""
     path = f"{ROOM.name}/shim{len(linked)}.so"
@@ -38,10 +40,12 @@ def shim(*linked):
 
 
 class Program:
-    """The program, or another one. For a script, or without a C compiler, nothing fails and nothing is counted."""
+    """The program, or another one, with little stack (in KiB) if asked for. For a script, or without a C compiler,
+    nothing fails and nothing is counted."""
 
-    def __init__(self, path=None):
-        self.path = path or program()
+    def __init__(self, path=None, stack=None):
+        self.path, size = path or program(), (1024 * (stack or 0),) * 2
+        self.start = stack and functools.partial(resource.setrlimit, resource.RLIMIT_STACK, size)
         with open(self.path, "rb") as file:
             is_binary = file.read(4) == b"\x7fELF"
         self.shim = shim() if is_binary and shutil.which(os.environ.get("CC", "cc")) else None
@@ -54,7 +58,8 @@ class Program:
     def played(self, words, jobs):
         """The answers to jobs with the same words, each with its counts. The end by a signal is a negative status."""
         if self.shim is None:
-            return [(run(words, job.data, path=self.path), None) for job in jobs]
+            given = {"path": self.path, "preexec_fn": self.start}
+            return [(run(words, input=job.data, **given), None) for job in jobs]
         with contextlib.ExitStack() as files:
             given, taken, out, err = (files.enter_context(tempfile.TemporaryFile()) for _ in range(4))
             for job in jobs:
@@ -62,7 +67,7 @@ class Program:
             given.seek(0)
             said = {**os.environ, "LD_PRELOAD": self.shim, "HOSTILE_ANSWERS": str(taken.fileno())}
             subprocess.run([self.path, *words], stdin=given, stdout=out, stderr=err, env=said,
-                           pass_fds=[taken.fileno()], check=True)
+                           pass_fds=[taken.fileno()], preexec_fn=self.start, check=True)
             answers, stdout, stderr = (os.pread(it.fileno(), it.seek(0, 2), 0) for it in (taken, out, err))
         found, out, err = [], 0, 0
         for waited, out_end, err_end, *counts in ANSWER.iter_unpack(answers):

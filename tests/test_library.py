@@ -63,8 +63,10 @@ def reads_telegrams(command, *words):
 
 
 def checks(command, *words):
-    """An example answers as `check`."""
-    for data in (EXAMPLES / "check" / "many-findings.json").read_text(), '{"groups":[],"messages":[]}', "{}", "":
+    """An example answers as `check`. valgrind, which takes 1 s, gets an answer that needs a larger buffer, and no
+    input: other documents take the same way through the example."""
+    some = (EXAMPLES / "check" / "many-findings.json").read_text(), "", "{}", '{"groups":[],"messages":[]}'
+    for data in some[:2] if command == WATCHED[0] else some:
         assert run(words, data, path=command) == run(CHECK, data)
 
 

@@ -71,9 +71,9 @@ def test_no_other_requests():
 # ---- limits of the system
 
 
-def limited(kind, kilobytes, words, data):
-    """The answer with this limit."""
-    return run(words, data, f"ulimit -{kind} {kilobytes} || exit 98")
+def limited(kilobytes, words, data):
+    """The answer in this address space."""
+    return run(words, data, f"ulimit -v {kilobytes} || exit 98")
 
 
 @WORDS
@@ -81,8 +81,9 @@ def test_stack(words):
     """Each run answers as ever with little stack, also with 127 levels or with a key twice, which is kept complete."""
     levels = ["[" * 127 + "]" * 127, '{"a":' * 126 + "{}" + "}" * 126, '{"messages":0,"messages":[],"groups":[]}']
     some = [Job(words, data.encode()) for data in levels if words in (CHECK, ENCODE, ENCODE_RADIO)] + long_jobs(words)
-    for job, wanted, _ in undisturbed(shared(), some) + runs_of(shared(), words, each_kind=False):
-        assert limited("s", STACK, job.words, job.data) == wanted, job
+    known = undisturbed(shared(), some) + runs_of(shared(), words, each_kind=False)
+    for (job, wanted, _), (answer, _) in zip(known, Program(stack=STACK).play([job for job, *_ in known])):
+        assert answer == wanted, job
 
 
 def test_long_document():
@@ -93,15 +94,16 @@ def test_long_document():
     groups_first = subprocess.check_output(command, text=True).strip()
     messages_first = '{"messages":[],' + groups_first.removesuffix(',"messages":[]}')[1:] + "}"
     for text, times in (groups_first, 2), (messages_first, 2), ('{"messages":[],' + messages_first[1:], KEPT):
-        answer = limited("v", times * len(text) // 1024 + 10000, CHECK, text)
+        answer = limited(times * len(text) // 1024 + 10000, CHECK, text)
         assert answer == answered(f"yes: groups {GROUPS}, messages 0\n"), (text[:30], times)
     sizes = len(groups_first) / 1e6, (2 * len(groups_first) // 1024 + 10000) * 1024 / 1e6
-    assert "a document of {:.1f} MB in {:.0f} MB)".format(*sizes) in (TOP / "docs/assurance/proofs.md").read_text("utf-8")
+    page = (TOP / "docs/assurance/proofs.md").read_text("utf-8")
+    assert "a document of {:.1f} MB in {:.0f} MB)".format(*sizes) in page
 
 
 def test_many_messages():
     """Of a stream no more is kept than a line and a message."""
-    answer = limited("v", 100000, DECODE_RADIO, f"{MESSAGE * 2}\n" * 100000)
+    answer = limited(100000, DECODE_RADIO, f"{MESSAGE * 2}\n" * 100000)
     assert answer.status == 0 and (answer.stdout == f"{MESSAGE_FORM}\n" * 200000) is True
 
 
