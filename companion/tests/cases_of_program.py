@@ -4,6 +4,7 @@ from __future__ import annotations
 import subprocess
 import sys
 import tempfile
+from functools import lru_cache
 from pathlib import Path
 from typing import Any, Dict, Iterator, List, NamedTuple, Tuple, Union
 
@@ -44,7 +45,18 @@ def _examples(radio: bool) -> Iterator[Case]:
                 yield Case(path.name, text, line)
 
 
-CASES: List[Case] = [*_cases(), *_drawn(1000)]
+@lru_cache(maxsize=None)
+def cases() -> List[Case]:
+    """All but the examples. They take seconds, so that no process makes them before it needs them."""
+    return [*_cases(), *_drawn(1000)]
+
+
+@lru_cache(maxsize=None)
+def accepted() -> List[Case]:
+    """Those of them that the program reads."""
+    return [case for case in cases() if not case.answer.startswith("refused: ")]
+
+
 EXAMPLES: Dict[bool, List[Case]] = {radio: list(_examples(radio)) for radio in (False, True)}
 """The cases of `examples`, by whether they are radio messages."""
 

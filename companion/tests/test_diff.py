@@ -13,7 +13,7 @@ from typing import Any, Callable, List
 
 import link_tables
 import pytest
-from cases_of_program import CASES, TOP
+from cases_of_program import TOP, accepted
 from conftest import Run
 from telegrams import ALONE, FAULTY, FIRST, MESSAGE, OTHER, SECOND
 
@@ -273,7 +273,7 @@ def test_packets_are_paired_by_number_direction_and_order() -> None:
 
 def test_cases_of_the_program_differ_from_others_alone() -> None:
     """No form differs from itself, and each one differs from the next one unless they are equal."""
-    forms = [json.loads(case.answer) for case in CASES if not case.answer.startswith("refused: ")][:300]
+    forms = [json.loads(case.answer) for case in accepted()[:300]]
     for one, other in zip(forms, forms[1:]):
         assert differences(one, copy.deepcopy(one)) == []
         assert bool(differences(one, other)) == (one != other)

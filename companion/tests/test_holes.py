@@ -9,7 +9,7 @@ from typing import Any, Callable, Dict, Iterator, List
 
 import picture_lines
 import pytest
-from cases_of_program import CASES, EXAMPLES
+from cases_of_program import EXAMPLES, cases
 
 from balisekit.cli import main as cli
 from balisekit.drawing.letters import advance
@@ -129,7 +129,7 @@ def test_own_words_of_a_group() -> None:
 
 def test_equal_packets_are_one_object() -> None:
     """The shared object of each record, of a telegram or a message, is equal to its own object."""
-    lines = [case.answer for case in (*CASES, *EXAMPLES[False], *EXAMPLES[True])]
+    lines = [case.answer for case in (*cases(), *EXAMPLES[False], *EXAMPLES[True])]
     records = [Record(line) for line in lines if line.startswith("{")]
     assert len(records) > 500 and any("nid_message" in record.form for record in records)
     assert all(record.shared == record.form == json.loads(record.line) for record in records)

@@ -2,26 +2,29 @@
 from __future__ import annotations
 
 import json
+from typing import List
 
 import pytest
-from cases_of_program import CASES, EXAMPLES, value_at
+from cases_of_program import EXAMPLES, Case, accepted, cases, value_at
 
 from balisekit.engine import grammar
 from balisekit.etcs import layout
 
-REFUSED = [case for case in CASES if case.answer.startswith("refused: ") and " at " in case.answer]
-ACCEPTED = [case for case in CASES if not case.answer.startswith("refused: ")]
+
+def refused() -> List[Case]:
+    """The cases whose refusal names a bit."""
+    return [case for case in cases() if case.answer.startswith("refused: ") and " at " in case.answer]
 
 
 def test_there_are_cases() -> None:
     """The list of cases is not empty."""
-    assert len(REFUSED) > 2000 and len(ACCEPTED) > 1000
+    assert len(refused()) > 2000 and len(accepted()) > 1000
 
 
 @pytest.mark.uncovered
 def test_a_refusal_points_at_a_field() -> None:
     """Each refusal begins at a field. Its end is the end of that field if only this field decides it."""
-    for case in REFUSED:
+    for case in refused():
         refusal = grammar.refusal("decode", case.answer)
         assert refusal is not None and refusal.at is not None and refusal.end is not None
         bits = layout.user_bits(case.text)
@@ -42,9 +45,9 @@ def test_a_refusal_points_at_a_field() -> None:
 @pytest.mark.parametrize("radio", [False, True])
 def test_numbers_are_those_of_the_json(radio: bool) -> None:
     """Each number of the JSON is a field's, and each field that the JSON writes has its number."""
-    cases = EXAMPLES[True] if radio else [*ACCEPTED, *EXAMPLES[False]]
-    assert cases
-    for case in cases:
+    some = EXAMPLES[True] if radio else [*accepted(), *EXAMPLES[False]]
+    assert some
+    for case in some:
         form = json.loads(case.answer)
         walk = (
             layout.message_fields(layout.bits_of(case.text))

@@ -124,18 +124,18 @@ def test_10000_groups(
 
 @pytest.mark.slow
 @pytest.mark.skipif(CHROMIUM is None, reason="tests of balisekit in a browser (chromium)")
-def test_a_browser_opens_a_report_of_1000_groups(releases: Releases, program: Program, tmp_path: Path) -> None:
-    """Without a pause: in less than 13 seconds. It lays out what is seen; all of the page takes three times as long.
+def test_a_browser_opens_a_report_of_300_groups(releases: Releases, program: Program, tmp_path: Path) -> None:
+    """Without a pause: in less than 3 seconds. It lays out what is seen, in 1.9; all of the page takes 3.5.
 
     The page has a picture for each group. The browser is one process here, because others would not be waited for, and
     not counted.
     """
     pytest.importorskip("jinja2")
     page, picture = tmp_path / "report.html", tmp_path / "page.png"
-    _run(_words(program, "report", releases(1000, "OLD"), "--html", page))
-    assert page.read_text("utf-8").count('<figure class="wide"') == 1000
+    _run(_words(program, "report", releases(300, "OLD"), "--html", page))
+    assert page.read_text("utf-8").count('<figure class="wide"') == 300
     words = ("--single-process", "--window-size=1100,1400", f"--screenshot={picture}")
-    assert is_within(13, lambda: browse(tmp_path, page, *words))
+    assert is_within(3, lambda: browse(tmp_path, page, *words))
     assert picture.stat().st_size > 50_000
 
 

@@ -4,12 +4,13 @@ from __future__ import annotations
 import copy
 import json
 import re
-from functools import reduce
+from functools import lru_cache, reduce
+from itertools import product
 from operator import getitem
 from typing import Any, Dict, Iterator, List, Set, Tuple
 
 import pytest
-from cases_of_program import CASES, EXAMPLES
+from cases_of_program import EXAMPLES, accepted
 from test_check_outputs import schema
 
 from balisekit.engine import records
@@ -20,14 +21,20 @@ from hypothesis import given, strategies as st  # noqa: E402
 
 pytestmark = pytest.mark.uncovered
 EXPRESSIONS = {"telegram": records.telegram_expression, "message": records.message_expression}
-LINES: List[Tuple[str, str]] = [
-    *(("telegram", case.answer) for case in (*CASES, *EXAMPLES[False]) if case.answer.startswith("{")),
-    *(("message", case.answer) for case in EXAMPLES[True]),
-]
+PARTS = 8
+"""The parts of the longest test, for several processes."""
+SHORT = {"nid_packet": 0, "nid_vbcmk": 0}
 OTHERS: Tuple[Any, ...] = (None, True, "", "0", "00", "0g", [], {}, [{}], 0, 1)
 """Values instead of a text, a list or an object."""
 LIMITS = {"nid_packet": list(records.FROM_TRACK), "l_packet": [head for head, _ in records.BODIES.values()]}
 """Numbers within the range of a key that also decide what is accepted."""
+
+
+@lru_cache(maxsize=None)
+def lines() -> List[Tuple[str, str]]:
+    """The records of all cases and examples, and what each is."""
+    telegrams = [("telegram", case.answer) for case in (*accepted(), *EXAMPLES[False])]
+    return [*telegrams, *(("message", case.answer) for case in EXAMPLES[True])]
 
 
 def numbers(key: str) -> Set[int]:
@@ -76,18 +83,20 @@ def changed(form: Any, path: Tuple[Any, ...], key: Any, value: Any = ...) -> Any
 
 
 def test_examples_and_cases_are_accepted() -> None:
-    assert len(LINES) > 500
-    assert all(agree(name, json.loads(text)) for name, text in LINES)
-    assert all(EXPRESSIONS[name]().fullmatch(text) for name, text in LINES)
+    assert len(lines()) > 500
+    assert all(agree(name, json.loads(text)) for name, text in lines())
+    assert all(EXPRESSIONS[name]().fullmatch(text) for name, text in lines())
 
 
-def shortest() -> List[Tuple[str, str]]:
-    """For each key of telegrams and of messages the shortest line that has it."""
-    lines: Dict[Tuple[str, str], str] = {}
-    for name, text in sorted(LINES, key=lambda pair: -len(pair[1])):
-        lines.update(((name, key), text) for key in re.findall('"([a-z_0-9]+)":', text))
-        lines.update(((name, number), text) for number in re.findall('"nid_packet":[0-9]+', text))
-    return sorted({(name, text) for (name, _), text in lines.items()})
+def with_few_packets() -> Iterator[Tuple[str, str]]:
+    """Telegrams with one packet, or with a short one before it, and all messages: what is short is read sooner."""
+    for name, text in lines():
+        form = json.loads(text)
+        if name == "message" or not form["packets"]:
+            yield name, text
+        else:
+            several = ([SHORT, packet][place:] for packet in form["packets"] for place in (0, 1))
+            yield from ((name, line({**form, "packets": packets})) for packets in several)
 
 
 def keys(form: Any, path: Tuple[Any, ...]) -> Tuple[Any, ...]:
@@ -100,22 +109,23 @@ def keys(form: Any, path: Tuple[Any, ...]) -> Tuple[Any, ...]:
     return (number, *(step if isinstance(step, str) else min(step, 1) for step in path))
 
 
-def first_places() -> Iterator[Tuple[str, str, List[Tuple[Any, ...]]]]:
-    """The shortest lines, each with the places that are the first ones of their keys."""
-    seen: Set[Tuple[Any, ...]] = set()
-    for name, text in shortest():
+@lru_cache(maxsize=None)
+def first_places() -> List[Tuple[str, Any, Tuple[Any, ...]]]:
+    """For each place that telegrams or messages have, by its keys, the shortest record that has it."""
+    found: Dict[Tuple[Any, ...], Tuple[str, Any, Tuple[Any, ...]]] = {}
+    for name, text in sorted(set(with_few_packets()), key=lambda pair: (len(pair[1]), pair)):
         form = json.loads(text)
-        firsts = {keys(form, path): path for path in places(form) if (name, keys(form, path)) not in seen}
-        seen.update((name, each) for each in firsts)
-        if firsts:
-            yield name, text, list(firsts.values())
+        for path in places(form):
+            found.setdefault((name, keys(form, path)), (name, form, path))
+    return list(found.values())
 
 
-@pytest.mark.parametrize("name, text, paths", first_places())
-def test_each_key_is_needed_and_each_value_has_its_range(name: str, text: str, paths: List[Tuple[Any, ...]]) -> None:
+@pytest.mark.parametrize("part", range(PARTS))
+def test_each_key_is_needed_and_each_value_has_its_range(part: int) -> None:
     """Without each key, with an additional one, and with each of some values instead of its own."""
-    form = json.loads(text)
-    for path in paths:
+    assert len(first_places()) > 300
+    for name, form, path in first_places()[part::PARTS]:
+        assert agree(name, form)
         key = path[-1]
         for value in values(form, path):
             agree(name, changed(form, path, key, value))
@@ -125,17 +135,18 @@ def test_each_key_is_needed_and_each_value_has_its_range(name: str, text: str, p
             agree(name, changed(form, path, "nid_c", 0))
 
 
-@pytest.mark.parametrize("name, text", shortest())
-def test_commas_of_lists(name: str, text: str) -> None:
+def test_commas_of_lists() -> None:
     """One too many or too few between objects, after the last or before the first one is not accepted."""
-    for there, wrong in (("},{", "}{"), ("},{", "},,{"), ("}]", "},]"), ("[{", "[,{"), ("[]", "[,]"), ("}]", "}")):
+    changes = (("},{", "}{"), ("},{", "},,{"), ("}]", "},]"), ("[{", "[,{"), ("[]", "[,]"), ("}]", "}"))
+    texts = {(name, line(form)) for name, form, _ in first_places()}
+    for (name, text), (there, wrong) in product(texts, changes):
         for at in (match.start() for match in re.finditer(re.escape(there), text)):
             assert not EXPRESSIONS[name]().fullmatch(text[:at] + wrong + text[at + len(there) :])
 
 
 @given(st.data())  # type: ignore[misc]
 def test_several_changes(data: st.DataObject) -> None:
-    name, text = data.draw(st.sampled_from(LINES))
+    name, text = data.draw(st.sampled_from(lines()))
     form = json.loads(text)
     for _ in range(data.draw(st.integers(1, 4))):
         path = data.draw(st.sampled_from(list(places(form))))

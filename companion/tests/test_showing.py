@@ -10,7 +10,7 @@ from pathlib import Path
 from typing import Any, List
 
 import pytest
-from cases_of_program import CASES, EXAMPLES, TOP, value_at
+from cases_of_program import EXAMPLES, TOP, Case, accepted, value_at
 from conftest import Run
 from telegrams import ALONE, OTHER, SPARE, with_contents
 
@@ -23,11 +23,15 @@ from balisekit.present.telegram_text import WIDTH, form_lines, text
 from balisekit.rules import checking
 
 pytestmark = pytest.mark.uncovered
-READ = [case for case in (*CASES, *EXAMPLES[False], *EXAMPLES[True]) if not case.answer.startswith("refused: ")]
 NAME = r"(?:user bits|body|other data|[A-Z]+_[A-Z0-9_]+(?: of NID_PRVLRBG| \(2\))?)"
 SHOWN = re.compile(
     rf"(?:^|(?<=  ))({NAME}) (?:(?P<plain>[0-9]+|(?<=other data )[0-9a-f]*)(?=  |$)|[^\[\]]+? \[(?P<raw>[0-9a-f]*)\])"
 )
+
+
+def read() -> List[Case]:
+    """The cases and examples that the program reads."""
+    return [*accepted(), *EXAMPLES[False], *EXAMPLES[True]]
 
 
 def _values_in(said: str) -> "Counter[str]":
@@ -41,8 +45,8 @@ def _values_in(said: str) -> "Counter[str]":
 
 def test_every_number_is_shown() -> None:
     """The values of the JSON, and of bodies that are read, are those of the text, each as often."""
-    assert len(READ) > 1000
-    for case in READ:
+    assert len(read()) > 1000
+    for case in read():
         form = json.loads(case.answer)
         wanted = Counter(str(value) for _, value in value_at(with_contents(form)))
         assert _values_in(text(form, Here(Kilometres(Decimal("13.85"), 1)))) == wanted, case
@@ -50,7 +54,7 @@ def test_every_number_is_shown() -> None:
 
 def test_every_path_is_shown() -> None:
     """Each path of the JSON, and of bodies that are read, comes with its own value."""
-    for case in READ:
+    for case in read():
         form = json.loads(case.answer)
         shown = {value.path: value.raw for line in form_lines(form) for value in line.values}
         assert shown == dict(value_at(with_contents(form))), case
@@ -82,7 +86,7 @@ def test_bits_name_each_field() -> None:
 
     The variables of a body are listed after it, and begin where it begins.
     """
-    for case in READ:
+    for case in read():
         form = json.loads(case.answer)
         lines = list(bit_lines(case.text, form))
         at = inside = 0
@@ -108,7 +112,7 @@ def test_bits_of_another_form_are_no_answer() -> None:
 
 def test_lines_are_not_too_long() -> None:
     """No line but one with a long value is wider than a page."""
-    for case in READ:
+    for case in read():
         for line in text(json.loads(case.answer)).split("\n"):
             assert len(line) <= WIDTH or "body" in line or line.count("  ") < 12, line
 
@@ -209,7 +213,7 @@ def test_standard_input_is_cleaned_as_cells_are(
 
 def test_an_empty_body_has_no_bits() -> None:
     """A packet with only its head, in words and bit by bit."""
-    case = next(case for case in READ if '"body":""' in case.answer)
+    case = next(case for case in read() if '"body":""' in case.answer)
     form = json.loads(case.answer)
     assert "body no bits []" in text(form)
     assert any(re.fullmatch(r" +no bits +body no bits \[\]", line) for line in bit_lines(case.text, form))

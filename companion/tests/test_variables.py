@@ -5,10 +5,10 @@ import csv
 import io
 import json
 from pathlib import Path
-from typing import Any, Callable, Dict, List, Tuple
+from typing import Any, Callable, Dict, Iterator, List, Tuple
 
 import pytest
-from cases_of_program import CASES, EXAMPLES, TOP, value_at
+from cases_of_program import EXAMPLES, TOP, accepted, value_at
 from conftest import Run
 from telegrams import ALONE, FAULTY, FIRST, OTHER, SECOND, with_contents
 
@@ -17,7 +17,11 @@ from balisekit.etcs.flat import variables
 
 Write = Callable[..., Path]
 LINE = TOP / "examples" / "links" / "line.csv"
-FORMS = [json.loads(case.answer) for case in [*CASES, *EXAMPLES[False]] if not case.answer.startswith("refused: ")]
+
+
+def forms() -> Iterator[Any]:
+    """The records of all telegrams that the program reads."""
+    return (json.loads(case.answer) for case in [*accepted(), *EXAMPLES[False]])
 
 
 def rows_of(path: Path) -> List[Dict[str, str]]:
@@ -48,14 +52,15 @@ def changed(sheet: Path, number: int, column: str, cell: str) -> Path:
 @pytest.mark.uncovered
 def test_all_numbers_are_there() -> None:
     """Each number of the JSON, and of bodies that are read, has a row with its raw value, and there is no other one."""
-    for form in FORMS:
+    for form in forms():
         found = [each.raw for each in variables(form)]
         assert sorted(map(str, found)) == sorted(str(value) for _, value in value_at(with_contents(form)))
 
 
+@pytest.mark.uncovered
 def test_each_variable_is_named_once() -> None:
     """Packet, element and variable name no second value of a telegram."""
-    for form in FORMS:
+    for form in forms():
         names = [each[:3] for each in variables(form)]
         assert len(names) == len(set(names))
 
