@@ -1,5 +1,5 @@
-//! How far the limits of a speed profile go, of which hardly a telegram has room for the greatest, and packets that only
-//! code makes of their parts.
+//! How far the limits of a speed profile go, of which hardly a telegram has room for the greatest, and packets that
+//! only code makes of their parts.
 
 use crate::spelled::{read_one, times};
 use etcs_bits::{Dir, Items, Layout, Scale};
