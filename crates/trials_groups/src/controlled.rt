@@ -43,8 +43,17 @@ const PROMISED: [[&str; 4]; 4] = [
     ["ok 44", "ok 45", "ok 46", "no"],
 ];
 
-// Whether a train covers the mixture and makes of it what is promised. A digit of `number` to base 4 for each
-// balise says what it shows.
+// What a train makes of a mixture that fits, and whether the mixture is covered.
+fn result_of(alloc: Global, group: &Controlled, mixture: &Mixture) -> Result<(String, bool), Halt> {
+    if !group.fits(mixture) {
+        return Err(Halt::Other);
+    }
+    let is_covered = group.covers(mixture);
+    let read = group.mixed(alloc, mixture)?;
+    Ok((message(alloc, mixture.run, read.as_slice())?, is_covered))
+}
+
+// Whether the mixture gives what is promised. A digit of `number` to base 4 for each balise says what it shows.
 fn is_as_promised(
     alloc: Global,
     group: &Controlled,
@@ -63,19 +72,14 @@ fn is_as_promised(
         None,
         None,
     ];
-    let mixture = Mixture { run, shown };
-    if !group.fits(&mixture) {
-        return Ok(false);
-    }
+    let (text, is_covered) = result_of(alloc, group, &Mixture { run, shown })?;
     let (has_first_pair, has_second_pair) = (number % 16 < 15, number / 16 < 15);
-    let read = group.mixed(alloc, &mixture)?;
-    let text = message(alloc, run, read.as_slice())?;
     let wanted = PROMISED[first][second];
     let is_promised = has_second_pair && wanted != "no";
     Ok(
         text.starts_with("ok") == is_promised
             && (!is_promised || text.as_str() == wanted)
-            && group.covers(&mixture) == (has_first_pair && has_second_pair),
+            && is_covered == (has_first_pair && has_second_pair),
     )
 }
 

@@ -3,7 +3,7 @@
 use super::{Answer, expect_answers};
 use crate::shared::{FIRST, SECOND, WITH_GRADIENT, controlled, group};
 use etcs_check::{Line, LineChecker, check};
-use etcs_group::{Missed, Mixture, assemble};
+use etcs_group::{Controlled, Missed, Mixture, assemble};
 use etcs_packet::Run;
 use etcs_radio::from_hex;
 use std::alloc::Global;
@@ -47,16 +47,20 @@ fn reading(alloc: Global) -> Answer {
     Ok(read.len() == 1 && packets.len() == 1)
 }
 
+// Whether a train reads two telegrams of a mixture.
+fn are_two(alloc: Global, group: &Controlled, mixture: &Mixture) -> Answer {
+    if !group.fits(mixture) {
+        return Ok(false);
+    }
+    Ok(group.mixed(alloc, mixture)?.len() == 2)
+}
+
 // What a train reads of a pair that is switched while it passes.
 fn mixed(alloc: Global) -> Answer {
     let pair = controlled(alloc, &[&[FIRST, SECOND], &[FIRST, SECOND]])?;
     let shown = [Some(0), Some(1), None, None, None, None, None, None];
     let run = Run::Reverse;
-    let mixture = Mixture { run, shown };
-    if !pair.fits(&mixture) {
-        return Ok(false);
-    }
-    Ok(pair.mixed(alloc, &mixture)?.len() == 2)
+    are_two(alloc, &pair, &Mixture { run, shown })
 }
 
 pub fn answers(alloc: Global) -> [Answer; 4] {
