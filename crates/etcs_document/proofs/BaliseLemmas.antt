@@ -5,7 +5,7 @@ use Rattle.std.specs.Prelude.{IsSomeAnd, codes, if◌then◌else◌}
 use Rattle.std.proofs.lemmas.Option.{none-some, same_Some}
 use Rattle.serde_json.specs.Data.{Data}
 use Rattle.serde_json.specs.Find.{as_str, get}
-use Rattle.etcs_document.proofs.ResultLemmas.{counted_read, first_ok, mapped_ok, not_ok, part_ok, same_ok, text_ok, then_ok}
+use Rattle.etcs_document.proofs.ResultLemmas.{counted_read, first_ok, mapped_ok, part_ok, same_ok, text_ok, then_ok}
 use Rattle.etcs_document.proofs.ValueLemmas.{each_at, list_read, stands}
 use Rattle.etcs_document.specs.Document.{◌then◌, as_values, aspect_telegrams, balise_telegram, controlled_group, document_group, document_list, group_aspect, group_path, in_form, line_groups, listed_aspects, only_aspect, only_values, other_aspects, read_indexed, with_first}
 use Rattle.etcs_document.specs.DocumentFault.{bad_telegram}
@@ -56,7 +56,7 @@ IsAspectOf g a ds group = (which : Option ℕ) × (e : Data) × At ds a e × IsR
 
 aspect_among : (g a : ℕ) (ds : List Data) (aspects : List (List Telegram)) (group : List Telegram) → listed_aspects g ds ≡ Ok aspects → At aspects a group → IsAspectOf g a ds group
 unfolding listed_aspects
-aspect_among g a [] aspects group is h = absurd (not_ok _ aspects (listed_aspects g []) refl is)
+aspect_among g a [] aspects group is h = absurd cc
 aspect_among g zero (d ∷ ds) aspects group is h =
     let one = then_ok (group_aspect g None (Some 0) d) (λ first. with_first first (other_aspects g (length first) ds)) aspects is in
     let rest = first_ok one.0 (other_aspects g (length one.0) ds) aspects one.2 in

@@ -1,25 +1,20 @@
 -- Reading a document's values, and when bytes are JSON.
-use Rattle.std.proofs.Common.{◌≡◌, ◌+◌, ℕ, suc, Bool, true, false, List, [], ◌∷◌, ◌++◌, codes, length, Option, Some, None, Result, Ok, Err, refl, ap, sym, subst, ◌∙◌}
+use Rattle.std.proofs.Common.{◌≡◌, ◌+◌, ℕ, suc, Bool, true, false, List, [], ◌∷◌, ◌++◌, codes, length, Option, Some, None, Result, Ok, Err, refl, ap, ◌∙◌}
 use Rattle.std.specs.Prelude.{◌↔◌, IsTrue, if◌then◌else◌}
 use Rattle.std.specs.Option.{ok_or}
 use Rattle.std.specs.Str.{IsUtf8, is_utf8}
 use Rattle.std.proofs.lemmas.Str.{IsUtf8-from_is_utf8, is_utf8-from_IsUtf8}
-use Rattle.std.proofs.lemmas.Option.{none-some}
 use Rattle.json.specs.Json.{value}
 use Rattle.json.specs.Lex.{lex, punctuate}
 use Rattle.serde_json.specs.Data.{Data}
 use Rattle.serde_json.specs.Read.{read as read_text}
-use Rattle.etcs_document.proofs.ResultLemmas.{not_ok, same_ok}
+use Rattle.etcs_document.proofs.ResultLemmas.{same_ok}
 use Rattle.etcs_document.specs.Document.{◌then◌, document_group, document_line, document_list, document_message, json_value, line_groups, line_messages, line_of_text, read_indexed, with_first}
 use Rattle.etcs_document.specs.DocumentFault.{DocumentFault, no_json}
 use Rattle.etcs_document.specs.Verdict.{Summary, summary_of_text}
 use Rattle.etcs_radio.specs.declared.message.Message.{Message}
 use Rattle.etcs_schema.specs.Reading.{only_keys}
 use Rattle.etcs_telegram.specs.Record.{Telegram}
-
-abbrev OnlyFalse : Bool → Type 0
-OnlyFalse true = ⊥
-OnlyFalse false = Unit {0}
 
 -- ---- bytes that are JSON
 
@@ -36,23 +31,20 @@ unfolding json_value
 is_no_json bytes none = no_value (is_utf8 bytes) (read_text bytes) (λ utf8. none (IsUtf8-from_is_utf8 bytes utf8))
 
 pub not_readable : (bytes : List ℕ) → is_utf8 bytes ≡ false → IsUtf8 bytes → ⊥
-not_readable bytes unreadable utf8 = subst OnlyFalse (sym unreadable ∙ is_utf8-from_IsUtf8 bytes utf8) tt
+not_readable bytes unreadable utf8 = cc (is_utf8-from_IsUtf8 bytes utf8)
 
 -- ---- an empty input, and bytes that are not JSON
 
-read_none : read_text [] ≡ None
-unfolding lex punctuate value
-read_none = refl
-
 pub nothing_read : (bytes : List ℕ) → bytes ≡ [] → read_text bytes ≡ None
-nothing_read bytes none = ap read_text none ∙ read_none
+unfolding lex punctuate value
+nothing_read bytes none = ap read_text none
 
 pub no_value_read : (bytes : List ℕ) (d : Data) → bytes ≡ [] → read_text bytes ≡ Some d → ⊥
-no_value_read bytes d none is = none-some d (sym (nothing_read bytes none) ∙ is)
+no_value_read bytes d none is = cc (nothing_read bytes none)
 
 pub not_counted : (bytes : List ℕ) (c : Summary) → json_value bytes ≡ Err no_json → summary_of_text bytes ≡ Ok c → ⊥
 unfolding line_of_text
-not_counted bytes c bad is = not_ok no_json c (summary_of_text bytes) (rw bad refl) is
+not_counted bytes c bad is = let no : summary_of_text bytes ≡ Err no_json = rw bad refl in cc
 
 -- ---- values that are read one after the other
 
@@ -80,4 +72,4 @@ line_read d gs ms keys groups messages = rw (keys, groups, messages) refl
 
 -- if the test of a fact fails, the fact does not hold
 pub is_not : {P : Type 0} (b : Bool) → IsTrue b ↔ P → b ≡ false → P → ⊥
-is_not b tests is p = subst OnlyFalse (sym is ∙ tests.1 p) tt
+is_not b tests is p = cc (tests.1 p)

@@ -11,4 +11,3 @@ pub mod VerdictLemmas
 pub mod SoundLemmas
 pub mod YesLemmas
 pub mod PlainLemmas
-pub mod ReportLemmas

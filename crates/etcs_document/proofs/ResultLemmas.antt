@@ -1,5 +1,5 @@
 -- The parts that were read, if reading succeeded.
-use Rattle.std.proofs.Common.{◌≡◌, ◌∙◌, ℕ, Bool, true, false, List, ◌∷◌, Option, Some, None, Result, Ok, Err, refl, ap, sym, subst}
+use Rattle.std.proofs.Common.{◌≡◌, ℕ, Bool, true, false, List, ◌∷◌, Option, Some, None, Result, Ok, Err, refl}
 use Rattle.std.specs.Prelude.{◌&&◌, if◌then◌else◌, length, nat_le, nat_lt}
 use Rattle.std.specs.Result.{result_map_both}
 use Rattle.serde_json.specs.Data.{Data}
@@ -9,44 +9,33 @@ use Rattle.etcs_schema.specs.Fault.{Fault, Step}
 use Rattle.etcs_schema.specs.Reading.{◌>>=◌}
 use Rattle.etcs_telegram.specs.Record.{Telegram}
 
-abbrev or_else : {A E : Type 0} → A → Result A E → A
-or_else x (Ok y) = y
-or_else x (Err e) = x
-
 pub same_ok : {A E : Type 0} (x y : A) (r : Result A E) → r ≡ Ok x → r ≡ Ok y → x ≡ y
-same_ok x y r is was = ap (or_else y) (sym is ∙ was)
-
-abbrev IsBad : {A E : Type 0} → Result A E → Type 0
-IsBad (Ok x) = ⊥
-IsBad (Err e) = Unit {0}
-
-pub not_ok : {A E : Type 0} (e : E) (x : A) (r : Result A E) → r ≡ Err e → r ≡ Ok x → ⊥
-not_ok e x r bad good = subst IsBad (sym bad ∙ good) tt
+same_ok x y r is was = cc
 
 pub then_ok : {A B : Type 0} (r : Result A DocumentFault) (next : A → Result B DocumentFault) (y : B) → (r then next) ≡ Ok y → (x : A) × (r ≡ Ok x) × (next x ≡ Ok y)
 then_ok (Ok x) next y is = (x, refl, is)
-then_ok (Err f) next y is = absurd (not_ok f y (Err f) refl is)
+then_ok (Err f) next y is = absurd cc
 
 pub part_ok : {A B : Type 0} (r : Result A Fault) (next : A → Result B Fault) (y : B) → r >>= next ≡ Ok y → (x : A) × (r ≡ Ok x) × (next x ≡ Ok y)
 part_ok (Ok x) next y is = (x, refl, is)
-part_ok (Err f) next y is = absurd (not_ok f y (Err f) refl is)
+part_ok (Err f) next y is = absurd cc
 
 pub mapped_ok : {A E F : Type 0} (bad : E → F) (r : Result A E) (x : A) → result_map_both (λ y. y) bad r ≡ Ok x → r ≡ Ok x
-mapped_ok bad (Ok y) x is = ap Ok (same_ok y x (result_map_both (λ z. z) bad (Ok y)) refl is)
-mapped_ok bad (Err e) x is = absurd (not_ok (bad e) x (Err (bad e)) refl is)
+mapped_ok bad (Ok y) x is = cc
+mapped_ok bad (Err e) x is = absurd cc
 
 pub text_ok : {A E : Type 0} (path : List Step) (read : List ℕ → Result A E) (bad : E → DocumentFault) (o : Option (List ℕ)) (x : A) → text_or path read bad o ≡ Ok x
     → (text : List ℕ) × (o ≡ Some text) × (read text ≡ Ok x)
-text_ok path read bad None x is = absurd (not_ok _ x (text_or path read bad None) refl is)
+text_ok path read bad None x is = absurd cc
 text_ok path read bad (Some text) x is = (text, refl, mapped_ok bad (read text) x is)
 
 pub first_ok : {A : Type 0} (x : A) (r : Result (List A) DocumentFault) (xs : List A) → with_first x r ≡ Ok xs → (ys : List A) × (r ≡ Ok ys) × (x ∷ ys ≡ xs)
-first_ok x (Ok ys) xs is = (ys, refl, same_ok (x ∷ ys) xs (with_first x (Ok ys)) refl is)
-first_ok x (Err f) xs is = absurd (not_ok _ xs (with_first x (Err f)) refl is)
+first_ok x (Ok ys) xs is = (ys, refl, cc)
+first_ok x (Err f) xs is = absurd cc
 
 pub if_ok : {A : Type 0} (test : Bool) (r : Result A DocumentFault) (f : DocumentFault) (x : A) → (if test then r else Err f) ≡ Ok x → (test ≡ true) × (r ≡ Ok x)
 if_ok true r f x is = (refl, is)
-if_ok false r f x is = absurd (not_ok f x (Err f) refl is)
+if_ok false r f x is = absurd cc
 
 -- the number of balises was tested, and each was read
 pub counted_read : (g : ℕ) (a first : Option ℕ) (ds : List Data) (group : List Telegram) → aspect_telegrams g a first ds ≡ Ok group

@@ -9,11 +9,11 @@ use Rattle.serde_json.specs.Find.{get}
 use Rattle.etcs_check.specs.Laws.{AreControlled, NoFindingMeansSoundLine}
 use Rattle.etcs_check.specs.Soundness.{IsSoundLine}
 use Rattle.etcs_document.proofs.DocumentLemmas.{read_count}
-use Rattle.etcs_document.proofs.ResultLemmas.{counted_read, first_ok, not_ok, same_ok, then_ok}
+use Rattle.etcs_document.proofs.ResultLemmas.{counted_read, first_ok, same_ok, then_ok}
 use Rattle.etcs_document.proofs.ValueLemmas.{each_at}
 use Rattle.etcs_document.proofs.VerdictLemmas.{line_read, parts_read}
 use Rattle.etcs_document.specs.Document.{◌then◌, aspect_telegrams, balise_telegram, controlled_group, document_group, document_list, group_aspect, group_path, in_form, line_groups, line_of_text, listed_aspects, only_aspect, only_values, other_aspects, read_indexed, with_first}
-use Rattle.etcs_document.specs.DocumentFault.{DocumentFault, bad_aspects}
+use Rattle.etcs_document.specs.DocumentFault.{DocumentFault}
 use Rattle.etcs_document.specs.Verdict.{IsSoundText, judged, summary, summary_of_text}
 use Rattle.etcs_group.specs.Controlled.{IsControlled}
 use Rattle.etcs_group.specs.Places.{At}
@@ -79,7 +79,7 @@ only_controlled g d aspects is =
 
 pub list_controlled : (g : ℕ) (ds : List Data) (aspects : List (List Telegram)) → listed_aspects g ds ≡ Ok aspects → IsControlled aspects
 unfolding listed_aspects
-list_controlled g [] aspects is = absurd (not_ok (bad_aspects g) aspects (Err (bad_aspects g)) refl is)
+list_controlled g [] aspects is = absurd cc
 list_controlled g (d ∷ ds) aspects is =
     let first = then_ok (group_aspect g None (Some 0) d) (λ f. with_first f (other_aspects g (length f) ds)) aspects is in
     controlled_first g first.0 ds aspects (first_balises g (Some 0) d first.0 first.1) first.2

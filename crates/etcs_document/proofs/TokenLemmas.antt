@@ -17,13 +17,9 @@ use Rattle.etcs_document.specs.Tokens.{HasMembers, first_value, prepend_items}
 
 -- ---- what was converted
 
-abbrev pick : {A : Type 0} → A → Option A → A
-pick d None = d
-pick d (Some a) = a
-
 one_found : {A B : Type 0} (a : A) (r s : List Token) (x : Option B) (b : B) → option_map {U = B × List Token} (λ y. (y, r)) x ≡ Some (b, s) → (r ≡ s) × (x ≡ Some b)
 one_found a r s None b e = absurd (cc)
-one_found a r s (Some y) b e = let same = ap (pick (y, r)) e in (ap (λ p. p.1) same, ap (λ p. Some p.0) same)
+one_found {B} a r s (Some y) b e = let same : ◌≡◌ {A = B × List Token} (y, r) (b, s) = cc in (ap (λ p. p.1) same, ap (λ p. Some p.0) same)
 
 pub converted_some : {A B : Type 0} (f : A → Option B) (o : Option (A × List Token)) (b : B) (r : List Token) → converted f o ≡ Some (b, r) → (a : A) × (o ≡ Some (a, r)) × (f a ≡ Some b)
 converted_some f None b r e = absurd (cc)

@@ -34,12 +34,6 @@ pub blank_at : (text : List ℕ) (i : ℕ) → i < length text → is_space (get
 blank_at text i within blank =
     sym (blank_passed _ _ blank) ∙ ap (lex between) (sym (drop_more text i 0 within))
 
--- the byte that is read is the first of the rest
-pub byte_passed : (text begun : List ℕ) (byte : ℕ) → lex between begun ≡ lex between text → 0 < length begun
-    → get_or begun 0 0 ≡ byte → lex between text ≡ lex between (byte ∷ drop 1 begun)
-byte_passed text begun byte same some is =
-    sym same ∙ ap (lex between) (drop_more begun 0 0 some ∙ ap (λ x. x ∷ drop 1 begun) is)
-
 -- ---- marks
 
 pub comma_passed : (text rest : List ℕ) → lex between text ≡ lex between (44 ∷ rest)
@@ -152,16 +146,13 @@ behind-is : (n : ℕ) (bytes : List ℕ) → behind n bytes ≡ drop n bytes
 behind-is n bytes = take_all _ _ (omega (arith, length-drop n bytes))
 
 -- the first bytes are the bytes of the key
-pub name_passed : (text begun name prefix ended rest : List ℕ) → ArePlain name → lex between text ≡ lex between (34 ∷ begun)
-    → prefix ≡ name → take (length prefix) begun ≡ prefix → ended ≡ drop (length prefix) begun → 0 < length ended → get_or ended 0 0 ≡ 34
-    → lex between (behind 1 ended) ≡ lex between (58 ∷ rest)
-    → lex between text ≡ token (string name) ∷ colon ∷ lex between rest
+pub name_passed : (text begun name prefix ended after rest : List ℕ) → ArePlain name → lex between text ≡ lex between (34 ∷ begun)
+    → prefix ≡ name → take (length prefix) begun ≡ prefix → ended ≡ drop (length prefix) begun
+    → lex between after ≡ lex between (58 ∷ rest) → ended ≡ 34 ∷ after → lex between text ≡ token (string name) ∷ colon ∷ lex between rest
 unfolding lex
-name_passed text begun name prefix ended rest are opens same front back some quoted ends =
-    let closed : ended ≡ 34 ∷ drop 1 ended = drop_more ended 0 0 some ∙ ap (λ x. x ∷ drop 1 ended) quoted in
-    let whole : begun ≡ name ++ 34 ∷ drop 1 ended = sym (take-append-drop (length prefix) begun) ∙ ap₂ ◌++◌ (front ∙ same) (sym back ∙ closed) in
-    opens ∙ ap (λ l. lex between (34 ∷ l)) whole ∙ string_passed name (drop 1 ended) are
-    ∙ ap (λ l. token (string name) ∷ lex between l) (sym (behind-is 1 ended)) ∙ ap (λ l. token (string name) ∷ l) ends
+name_passed text begun name prefix ended after rest are opens same front back ends closed =
+    let whole : begun ≡ name ++ 34 ∷ after = sym (take-append-drop (length prefix) begun) ∙ ap₂ ◌++◌ (front ∙ same) (sym back ∙ closed) in
+    opens ∙ ap (λ l. lex between (34 ∷ l)) whole ∙ string_passed name after are ∙ ap (λ l. token (string name) ∷ l) ends
 
 -- the bytes in front of a quote are the bytes of a text
 pub text_read : (all begun : List ℕ) (len : ℕ) → lex between all ≡ lex between (34 ∷ begun) → len < length begun → get_or begun len 0 ≡ 34
@@ -173,15 +164,13 @@ text_read all begun len opens within quoted are =
     ∙ ap (λ l. token (string (take len begun)) ∷ lex between l) (sym (behind-is (len + 1) begun))
 
 -- what follows a text
-pub comma_follows : (all rest : List ℕ) → lex between rest ≡ lex between all → 0 < length rest → get_or rest 0 0 ≡ 44
-    → (punctuate after_comma (lex between (behind 1 rest)) ≡ punctuate after_value (lex between all)) × (begins_colon (lex between all) ≡ false)
+pub comma_follows : (all rest after : List ℕ) → lex between rest ≡ lex between all → rest ≡ 44 ∷ after
+    → (punctuate after_comma (lex between after) ≡ punctuate after_value (lex between all)) × (begins_colon (lex between all) ≡ false)
 unfolding lex punctuate
-comma_follows all rest same some is =
-    let first = byte_passed all rest 44 same some is in
-    (ap (λ l. punctuate after_comma (lex between l)) (behind-is 1 rest) ∙ ap (punctuate after_value) (sym first), ap begins_colon first)
+comma_follows all rest after same is =
+    let first = sym same ∙ ap (lex between) is in (ap (punctuate after_value) (sym first), ap begins_colon first)
 
-pub end_follows : (all rest : List ℕ) → lex between rest ≡ lex between all → 0 < length rest → get_or rest 0 0 ≡ 93
+pub end_follows : (all rest after : List ℕ) → lex between rest ≡ lex between all → rest ≡ 93 ∷ after
     → (punctuate after_value (lex between rest) ≡ punctuate after_value (lex between all)) × (begins_colon (lex between all) ≡ false)
 unfolding lex
-end_follows all rest same some is =
-    (ap (punctuate after_value) same, ap begins_colon (byte_passed all rest 93 same some is))
+end_follows all rest after same is = (ap (punctuate after_value) same, ap begins_colon (sym same ∙ ap (lex between) is))

@@ -1,11 +1,11 @@
 -- What was read is in the values of a document.
-use Rattle.std.proofs.Common.{◌≡◌, ◌+◌, ◌∙◌, ℕ, zero, suc, List, [], ◌∷◌, Option, Some, None, Result, Ok, Err, refl, ap, sym, subst, arith, add-zero}
+use Rattle.std.proofs.Common.{◌≡◌, ◌+◌, ◌∙◌, ℕ, zero, suc, List, [], ◌∷◌, Option, Some, None, Result, Ok, refl, ap, sym, subst, arith, add-zero}
 use Rattle.std.specs.Option.{ok_or}
 use Rattle.std.specs.Prelude.{option_map}
 use Rattle.std.proofs.lemmas.Option.{none-some, same_Some}
 use Rattle.serde_json.specs.Data.{Data, Items, array, boolean, item, no_items, null, number, object, string}
 use Rattle.serde_json.specs.Find.{as_array, at, get, get_item}
-use Rattle.etcs_document.proofs.ResultLemmas.{first_ok, not_ok, same_ok, then_ok}
+use Rattle.etcs_document.proofs.ResultLemmas.{first_ok, same_ok, then_ok}
 use Rattle.etcs_document.specs.Document.{as_values, read_indexed, with_first}
 use Rattle.etcs_document.specs.DocumentFault.{DocumentFault}
 use Rattle.etcs_schema.specs.Fault.{Kind, Step, here, key, prefixed_result}
@@ -15,7 +15,7 @@ use Rattle.etcs_group.specs.Places.{At}
 -- ---- lists at keys
 
 values_in : (step : Step) (o : Option Items) (ds : List Data) → prefixed_result step (ok_or (option_map data_list o) (here Kind)) ≡ Ok ds → (items : Items) × (o ≡ Some items) × (data_list items ≡ ds)
-values_in step None ds is = absurd (not_ok _ ds (prefixed_result step (Err (here Kind))) refl is)
+values_in step None ds is = absurd cc
 values_in step (Some items) ds is = (items, refl, same_ok (data_list items) ds (prefixed_result step (Ok (data_list items))) refl is)
 
 abbrev pub IsListAt : List ℕ → Option Data → List Data → Type 0
@@ -23,7 +23,7 @@ IsListAt name o ds = (v : Data) × (items : Items) × (o ≡ Some v) × (as_arra
 
 list_found : (name : List ℕ) (o : Option Data) (ds : List Data) → key_or as_values name o ≡ Ok ds → IsListAt name o ds
 unfolding as_values
-list_found name None ds is = absurd (not_ok _ ds (key_or as_values name None) refl is)
+list_found name None ds is = absurd cc
 list_found name (Some v) ds is = let found = values_in (key name) (as_array v) ds is in (v, found.0, refl, found.1, found.2)
 
 -- a list that was read at a key

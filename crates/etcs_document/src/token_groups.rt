@@ -36,9 +36,7 @@ pub(crate) fn items<T: FromTokens, K: Sink<T>>(
     let inner = reader.pass_open(b'[', depth)?;
     'items: while !reader.pass_close(b']') {
         let item = T::from_tokens(alloc, reader, inner)?;
-        let Ok(()) = sink.take(alloc, item) else {
-            return None;
-        };
+        sink.take(alloc, item).ok()?;
     }
     Some(())
 }
@@ -65,9 +63,7 @@ impl FromTokens for Message {
 fn balises(alloc: Global, reader: &mut TokenReader<'_>, depth: usize) -> Option<Group>
     ensures { IfSome result (λ g. IsFirst IsBalises depth reader.old g reader.new) }
 {
-    let Ok(mut telegrams) = Vec::with_capacity(alloc, 8) else {
-        return None;
-    };
+    let mut telegrams = Vec::with_capacity(alloc, 8).ok()?;
     items::<Telegram, Vec<Telegram>>(alloc, reader, depth, &mut telegrams)?;
     Group::new(telegrams).ok()
 }

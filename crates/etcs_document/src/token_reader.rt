@@ -84,11 +84,10 @@ fn pass_name<'a>(rest: &'a [u8], name: &str) -> Option<&'a [u8]>
     ensures { IfSome result (λ r. lex between rest.now ≡ token (string_token name.now) ∷ colon ∷ lex between r.now) }
 {
     let begun = pass_byte(rest, b'"')?;
-    let ended = begun.strip_prefix(name.as_bytes())?;
-    if ended.is_empty() || ended[0] != b'"' {
-        return None;
+    match begun.strip_prefix(name.as_bytes())? {
+        [b'"', ended @ ..] => pass_byte(ended, b':'),
+        _ => None,
     }
-    pass_byte(&ended[1..], b':')
 }
 
 // The length of a text of this kind after its opening quote. Telegrams have 54 or 208 digits, so no quote is sought.
@@ -119,12 +118,9 @@ fn pass_text(rest: &[u8]) -> Option<(&[u8], Place)>
         × (begins_colon (lex between rest.now) ≡ false)) }
 {
     let behind = pass_blanks(rest);
-    if behind.is_empty() {
-        return None;
-    }
-    match behind[0] {
-        b',' => Some((&behind[1..], Place::AfterComma)),
-        b']' => Some((behind, Place::AfterValue)),
+    match behind {
+        [b',', after @ ..] => Some((after, Place::AfterComma)),
+        [b']', ..] => Some((behind, Place::AfterValue)),
         _ => None,
     }
 }
@@ -186,8 +182,7 @@ impl<'a> TokenReader<'a> {
             return false;
         }
         let (rest, place) = pass_comma(rest);
-        self.rest = rest;
-        self.place = place;
+        *self = TokenReader { rest, place };
         true
     }
 
@@ -219,8 +214,7 @@ impl<'a> TokenReader<'a> {
             return None;
         }
         let (rest, place) = pass_text(&begun[len + 1..])?;
-        self.rest = rest;
-        self.place = place;
+        *self = TokenReader { rest, place };
         Some(&begun[..len])
     }
 

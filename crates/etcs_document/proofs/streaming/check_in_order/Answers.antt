@@ -4,24 +4,23 @@ use Rattle.etcs_document.proofs.StreamingLemmas.{data_counted}
 use Rattle.etcs_document.proofs.YesLemmas.{counted_none, counted_unnamed, no_finding_says_yes}
 use Rattle.etcs_document.proofs.streaming.check_in_order.Goals as goal
 
+-- what is found of the value is what the bytes mean
+pub returns-clause-exact : goal.returns-clause-exact
+returns-clause-exact c = data_counted _ _ _ c.in_ok-document.ensures.gives c.root.ensures ∙ c.in_ok-check_document.ensures
+
 -- what was found group by group is what the bytes mean
 pub returns-in-Some-clause-says : goal.returns-in-Some-clause-says
 returns-in-Some-clause-says c = λ none. no_finding_says_yes c.args.bytes.now (counted_none _ _ c.in-Some.ensures none)
 
 pub returns-clause-says : goal.returns-clause-says
-returns-clause-says c = λ none.
-    no_finding_says_yes c.args.bytes.now (counted_none _ _ (data_counted _ _ _ c.in_ok-document.ensures.gives c.root.ensures ∙ c.in_ok-check_document.ensures) none)
+returns-clause-says c = λ none. no_finding_says_yes c.args.bytes.now (counted_none _ _ (returns-clause-exact c) none)
 
 -- each finding of the bytes names its group or its message
 pub returns-in-Some-clause-unnamed : goal.returns-in-Some-clause-unnamed
 returns-in-Some-clause-unnamed c = counted_unnamed c.args.bytes.now _ c.in-Some.ensures
 
 pub returns-clause-unnamed : goal.returns-clause-unnamed
-returns-clause-unnamed c = counted_unnamed c.args.bytes.now _ (data_counted _ _ _ c.in_ok-document.ensures.gives c.root.ensures ∙ c.in_ok-check_document.ensures)
-
--- what is found of the value is what the bytes mean
-pub returns-clause-exact : goal.returns-clause-exact
-returns-clause-exact c = data_counted _ _ _ c.in_ok-document.ensures.gives c.root.ensures ∙ c.in_ok-check_document.ensures
+returns-clause-unnamed c = counted_unnamed c.args.bytes.now _ (returns-clause-exact c)
 
 -- an empty input is not a line
 pub returns-in-Some-clause-empty : goal.returns-in-Some-clause-empty

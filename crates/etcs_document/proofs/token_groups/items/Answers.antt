@@ -1,6 +1,7 @@
 use Rattle.std.proofs.Common.{◌≡◌, ◌-◌, ◌<◌, rules, length, refl, ap, arith}
 use Rattle.etcs_document.proofs.DocumentTokenLemmas.{first_shorter}
 use Rattle.etcs_document.proofs.StreamingLemmas.{all_taken, none_taken, one_taken}
+use Rattle.etcs_document.proofs.TokenLemmas.{ok_part}
 use Rattle.etcs_document.proofs.token_groups.items.Goals as goal
 
 pub items-init : goal.items-init
@@ -14,7 +15,8 @@ items-smaller g c =
 pub items-preserved : goal.items-preserved
 items-preserved g c =
     let same = c.items-test.ensures.no (search rules) in
-    one_taken g.T.FromTokens.is_value g.K.Sink.takes _ _ _ _ _ _ _ c.items.invariant _ (rw same at c.in_ok-item.ensures) c.in-Ok.ensures.taken
+    let taken = ok_part _ _ c.take.result _ c.take.ensures.taken c.in_ok-ok.ensures.value in
+    one_taken g.T.FromTokens.is_value g.K.Sink.takes _ _ _ _ _ _ _ c.items.invariant _ (rw same at c.in_ok-item.ensures) taken
 
 pub returns : goal.returns
 returns g c =
