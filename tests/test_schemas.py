@@ -17,6 +17,7 @@ jsonschema = pytest.importorskip("jsonschema", reason="JSON schemas (python3-jso
 FORM = re.compile(r"refused: line 1: (?:form range at (?:.*/body|/packets/\d+)|too big)\n")
 TEXT = re.compile(r"refused: (?:group \d+: aspects|(?:group \d+(?: aspect \d+)? balise \d+|message \d+): "
                   r"(?!spare at 15 end 17\n)(?:short|spare|length|no ).*)\n")
+SHARED = "$ref", "allOf", "properties", "items"
 # The numbers beside the ends of the spans that a key has somewhere.
 NUMBERS = collections.defaultdict(lambda: {0, 1})
 for row in read_rows():
@@ -68,16 +69,29 @@ def changes(value, path=()):
             yield change, changed
 
 
+def once(keyword):
+    """The keyword of a schema, applied once to each part of documents: those that are changed share all other parts."""
+    known = {}
+
+    def found(validator, value, part, schema):
+        place = id(value), id(part)
+        if place not in known:  # (what it keeps has its `id` for itself)
+            known[place] = value, part, [*keyword(validator, value, part, schema)]
+        return known[place][2]
+    return found
+
+
 @pytest.mark.parametrize("name", KINDS)
 def test_changed(name):
     """What the program accepts is valid. What it refuses is not, except for what no schema expresses."""
-    schema = json.loads((TOP / f"schemas/{name}.json").read_text())
-    jsonschema.Draft202012Validator.check_schema(schema)
-    validator = jsonschema.Draft202012Validator(schema)
+    schema, usual = json.loads((TOP / f"schemas/{name}.json").read_text()), jsonschema.Draft202012Validator
+    usual.check_schema(schema)
+    validator = jsonschema.validators.extend(usual, {it: once(usual.VALIDATORS[it]) for it in SHARED})(schema)
     words, values, untold = KINDS[name]
     for value in documents("*") if name == "line" else values:
-        validator.validate(value)
-    changed = [*{key: json.dumps(other) for value in values for key, other in changes(value)}.values()]
-    for document, (answer, _) in zip(changed, shared().play([Job(words, it.encode()) for it in changed])):
-        if answer.status < 2 or not untold.fullmatch(answer.stdout) or '"aspects": []' in document:
-            assert validator.is_valid(json.loads(document)) == (answer.status < 2), f"{document}\n{answer.stdout}"
+        usual(schema).validate(value)
+    changed = [*{key: other for value in values for key, other in changes(value)}.values()]
+    texts = [json.dumps(it) for it in changed]
+    for document, text, (answer, _) in zip(changed, texts, shared().play([Job(words, it.encode()) for it in texts])):
+        if answer.status < 2 or not untold.fullmatch(answer.stdout) or '"aspects": []' in text:
+            assert validator.is_valid(document) == (answer.status < 2), f"{text}\n{answer.stdout}"
