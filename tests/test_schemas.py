@@ -17,7 +17,6 @@ jsonschema = pytest.importorskip("jsonschema", reason="JSON schemas (python3-jso
 FORM = re.compile(r"refused: line 1: (?:form range at (?:.*/body|/packets/\d+)|too big)\n")
 TEXT = re.compile(r"refused: (?:group \d+: aspects|(?:group \d+(?: aspect \d+)? balise \d+|message \d+): "
                   r"(?!spare at 15 end 17\n)(?:short|spare|length|no ).*)\n")
-SHARED = "$ref", "allOf", "properties", "items"
 # The numbers beside the ends of the spans that a key has somewhere.
 NUMBERS = collections.defaultdict(lambda: {0, 1})
 for row in read_rows():
@@ -70,14 +69,14 @@ def changes(value, path=()):
 
 
 def once(keyword):
-    """The keyword of a schema, applied once to each part of documents: those that are changed share all other parts."""
+    """The keyword of a schema, applied once to each part of documents: changed ones share all parts but one."""
     known = {}
 
-    def found(validator, value, part, schema):
-        place = id(value), id(part)
-        if place not in known:  # (what it keeps has its `id` for itself)
-            known[place] = value, part, [*keyword(validator, value, part, schema)]
-        return known[place][2]
+    def found(validator, *those):
+        place = *map(id, those[1:]),  # the part, and the schema that has the keyword
+        if place not in known:  # (what is kept has its `id` for itself)
+            known[place] = those, [*keyword(validator, *those)]
+        return known[place][1]
     return found
 
 
@@ -86,10 +85,10 @@ def test_changed(name):
     """What the program accepts is valid. What it refuses is not, except for what no schema expresses."""
     schema, usual = json.loads((TOP / f"schemas/{name}.json").read_text()), jsonschema.Draft202012Validator
     usual.check_schema(schema)
-    validator = jsonschema.validators.extend(usual, {it: once(usual.VALIDATORS[it]) for it in SHARED})(schema)
+    validator = jsonschema.validators.extend(usual, {key: once(it) for key, it in usual.VALIDATORS.items()})(schema)
     words, values, untold = KINDS[name]
     for value in documents("*") if name == "line" else values:
-        usual(schema).validate(value)
+        validator.validate(value)
     changed = [*{key: other for value in values for key, other in changes(value)}.values()]
     texts = [json.dumps(it) for it in changed]
     for document, text, (answer, _) in zip(changed, texts, shared().play([Job(words, it.encode()) for it in texts])):
