@@ -56,17 +56,17 @@ class Writer:
             return given if isinstance(given, int) else next(given)
         if row.variable == "N_ITER":
             return numbers.randint(0, self.most)
-        spans = [(first, last + 1 - first) for first, last, _ in row.spans]
+        spans, sums = row.sizes
         first, size = spans[0]
-        if spans[1:]:  # (a special number is as likely as a usual one, or sometimes as all usual ones)
-            first, size = numbers.choices(spans, [it[1] for it in spans] if numbers.random() < 0.9 else None)[0]
+        if len(spans) > 1:  # (a special number is as likely as a usual one, or sometimes as all usual ones)
+            first, size = numbers.choices(spans, cum_weights=sums if numbers.random() < 0.9 else None)[0]
         return first + int(numbers.random() * size)
 
     def object(self, nodes, record, known):
         """Writes an object. `known` has its numbers, on which others depend."""
         for node in nodes:
             if isinstance(node, Row):
-                if is_there(node, known):
+                if not node.when or is_there(node, known):
                     self.variable(node, record, known)
             elif node.count:
                 items = record[node.key] = []
@@ -92,7 +92,8 @@ class Writer:
             self.after_length = self.bits
         else:
             known[row.variable] = value = self.put(self.number(row), row.width)
-            record.update(zip(row.keys, divmod(value, 1 << 14) if row.keys[1:] else [value]))
+            if row.keys:
+                record.update(zip(row.keys, divmod(value, 1 << 14) if len(row.keys) > 1 else (value,)))
 
 
 def packet(number, room, kind="packet", **given):

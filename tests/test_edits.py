@@ -80,16 +80,19 @@ pub fn twice(n: u8) -> u32 ensures { result ≡ n + n } { sum(n, n) }
 """
 PROOF = "use Rattle.tiny.proofs.twice.Goals as goal\n\npub returns : goal.returns\nreturns c = c.sum.ensures\n"
 EDIT = "name: stale\nold: sum(n, n)\nnew: n as u32 + n as u32\nrefuses: twice\n"
-TREE = {"src/lib.rt": SOURCE, "proofs/twice/Answers.antt": PROOF, "edits/lib.edits": EDIT}
+TREE = {"crates.txt": "tiny:\n", "crates/tiny/src/lib.rt": SOURCE, "crates/tiny/edits/lib.edits": EDIT,
+        "crates/tiny/proofs/twice/Answers.antt": PROOF,
+        # (the crate without the edit is not checked again: a check takes 5 s)
+        "tools/rt": f'#!/bin/sh\n[ $# = 1 ] || exec {shutil.which("rt")} "$@"\n'}
 
 
 @pytest.mark.slow
 @pytest.mark.skipif(not shutil.which("rt"), reason="tests of edits (toolchain)")
 def test_stale_edit(monkeypatch, tmp_path):
     """An edit fails if the prover refuses only a proof file that names what is gone."""
-    write(tmp_path / "crates.txt", "tiny:\n")
     for path, text in TREE.items():
-        write(tmp_path / "crates/tiny" / path, text)
+        write(tmp_path / path, text)
+    monkeypatch.setenv("PATH", f"{tmp_path}/tools", prepend=":")
     monkeypatch.setitem(EDITS["main"].__globals__, "TOP", tmp_path)
     found = EDITS["judge_all"]([*EDITS["edits_of"]("tiny")])
     assert found == [(f"tiny/stale, {LOG}", f"twice is {STALE}")]

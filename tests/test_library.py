@@ -90,7 +90,7 @@ def test_example_in_python():
 def test_example_in_java(tmp_path):
     need("javac", "default-jdk-headless")
     need(JNA, "libjna-java")
-    subprocess.run(["javac", "-cp", JNA, "-d", tmp_path, SOURCE / "java" / "Check.java"], check=True)
+    assert run(("-cp", JNA, "-d", tmp_path, SOURCE / "java" / "Check.java"), path="javac", timeout=None).status == 0
     checks("java", "-XX:TieredStopAtLevel=1", "-cp", f"{JNA}:{tmp_path}", "Check", SHARED)
 
 

@@ -71,11 +71,6 @@ def test_no_other_requests():
 # ---- limits of the system
 
 
-def limited(kilobytes, words, data):
-    """The answer in this address space."""
-    return run(words, data, f"ulimit -v {kilobytes} || exit 98")
-
-
 @WORDS
 def test_stack(words):
     """Each run answers as ever with little stack, also with 127 levels or with a key twice, which is kept complete."""
@@ -94,7 +89,7 @@ def test_long_document():
     groups_first = subprocess.check_output(command, text=True).strip()
     messages_first = '{"messages":[],' + groups_first.removesuffix(',"messages":[]}')[1:] + "}"
     for text, times in (groups_first, 2), (messages_first, 2), ('{"messages":[],' + messages_first[1:], KEPT):
-        answer = limited(times * len(text) // 1024 + 10000, CHECK, text)
+        answer = run(CHECK, text, f"ulimit -v {times * len(text) // 1024 + 10000} || exit 98")
         assert answer == answered(f"yes: groups {GROUPS}, messages 0\n"), (text[:30], times)
     sizes = len(groups_first) / 1e6, (2 * len(groups_first) // 1024 + 10000) * 1024 / 1e6
     page = (TOP / "docs/assurance/proofs.md").read_text("utf-8")
@@ -103,7 +98,7 @@ def test_long_document():
 
 def test_many_messages():
     """Of a stream no more is kept than a line and a message."""
-    answer = limited(100000, DECODE_RADIO, f"{MESSAGE * 2}\n" * 100000)
+    answer = run(DECODE_RADIO, f"{MESSAGE * 2}\n" * 100000, "ulimit -v 100000 || exit 98")
     assert answer.status == 0 and (answer.stdout == f"{MESSAGE_FORM}\n" * 200000) is True
 
 

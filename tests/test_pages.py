@@ -3,7 +3,6 @@ import html
 import os
 import re
 import shutil
-import subprocess
 
 import pytest
 

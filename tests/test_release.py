@@ -14,7 +14,7 @@ import pytest
 
 from runner import TOP, crate_uses, program
 from test_recipes import shown
-from tiny import attempt, sh
+from tiny import attempt, sh, write
 
 # A release is made once, for all tests: their mark keeps them in one process of xdist.
 pytestmark = [pytest.mark.slow, pytest.mark.xdist_group("release")]
@@ -24,7 +24,9 @@ NEEDS = {"git": "git", "advzip": "advancecomp", "help2man": "help2man", "dpkg-de
          "hatchling": "python3-hatchling", "pip": "python3-pip", "jinja2": "python3-jinja2", "pyflakes": "flake8"}
 # Stands in for the 20 s in which advzip makes a wheel of at most 700,000 bytes. It takes 0.3 s, for 1,300 bytes more.
 ADVZIP, MOST = '#!/bin/sh\nfor it; do :; done\nexec /usr/bin/advzip -q -z -2 "$it"\n', 700_000
-INSTALL = "-m pip install -q --no-index --no-deps --disable-pip-version-check *.whl"
+# Nothing is compiled but what is run, and a clone's manual page of balisekit has no help of single commands.
+INSTALL = "-m pip install -q --no-index --no-deps --no-compile --disable-pip-version-check *.whl"
+HELP = '#!/bin/sh\n[ $# != 2 ] || exec /usr/bin/python3 "$@"\n'
 INTERFACE = runpy.run_path(str(TOP / "dist/pack/unread"))["INTERFACE"]
 
 
@@ -111,17 +113,17 @@ def a_release(tmp_path_factory):
     if lacking or not (TOP / ".git").exists():
         pytest.skip(f"a release ({', '.join(lacking) or 'git'})")
     room = tmp_path_factory.mktemp("a room")
-    made, advzip = room / "made", room / "tools/advzip"
-    advzip.parent.mkdir()
-    advzip.write_text(ADVZIP)
-    advzip.chmod(0o755)
+    made, tools = room / "made", room / "tools"
+    write(tools / "advzip", ADVZIP)
+    write(tools / "help", HELP)
     with pytest.MonkeyPatch.context() as patch:
-        patch.setenv("PATH", f"{advzip.parent}:/usr/bin:/bin")
+        patch.setenv("PATH", f"{tools}:/usr/bin:/bin")
+        patch.setenv("DPKG_DEB_COMPRESSOR_LEVEL", "1")
         patch.setenv("PYTHONPYCACHEPREFIX", str(room / "compiled"))
         patch.delenv("PYTHONDONTWRITEBYTECODE", raising=False)
         release = f"BALISECHECK='{program()}' scripts/release.sh --try"
         assert sh(TOP, f"{release} '{made}' & {release} '{room / 'again'}'; wait").count("written: ") == 2
-        sh(TOP, f"scripts/install.sh '{room / 'clone'}'")
+        sh(TOP, f"BALISEKIT_PYTHON='{tools}/help' scripts/install.sh '{room / 'clone'}'")
         sh(room, "mkdir tree && tar -xzf made/*.tar.gz -C tree --strip-components=1")
         yield made
 

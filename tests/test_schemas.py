@@ -68,16 +68,29 @@ def changes(value, path=()):
             yield change, changed
 
 
+def once(keyword):
+    """The keyword of a schema, applied once to each part of documents: changed ones share all parts but one."""
+    known = {}
+
+    def found(validator, *those):
+        place = *map(id, those[1:]),  # the part, and the schema that has the keyword
+        if place not in known:  # (what is kept has its `id` for itself)
+            known[place] = those, [*keyword(validator, *those)]
+        return known[place][1]
+    return found
+
+
 @pytest.mark.parametrize("name", KINDS)
 def test_changed(name):
     """What the program accepts is valid. What it refuses is not, except for what no schema expresses."""
-    schema = json.loads((TOP / f"schemas/{name}.json").read_text())
-    jsonschema.Draft202012Validator.check_schema(schema)
-    validator = jsonschema.Draft202012Validator(schema)
+    schema, usual = json.loads((TOP / f"schemas/{name}.json").read_text()), jsonschema.Draft202012Validator
+    usual.check_schema(schema)
+    validator = jsonschema.validators.extend(usual, {key: once(it) for key, it in usual.VALIDATORS.items()})(schema)
     words, values, untold = KINDS[name]
     for value in documents("*") if name == "line" else values:
         validator.validate(value)
-    changed = [*{key: json.dumps(other) for value in values for key, other in changes(value)}.values()]
-    for document, (answer, _) in zip(changed, shared().play([Job(words, it.encode()) for it in changed])):
-        if answer.status < 2 or not untold.fullmatch(answer.stdout) or '"aspects": []' in document:
-            assert validator.is_valid(json.loads(document)) == (answer.status < 2), f"{document}\n{answer.stdout}"
+    changed = [*{key: other for value in values for key, other in changes(value)}.values()]
+    texts = [json.dumps(it) for it in changed]
+    for document, text, (answer, _) in zip(changed, texts, shared().play([Job(words, it.encode()) for it in texts])):
+        if answer.status < 2 or not untold.fullmatch(answer.stdout) or '"aspects": []' in text:
+            assert validator.is_valid(document) == (answer.status < 2), f"{text}\n{answer.stdout}"

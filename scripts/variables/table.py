@@ -8,7 +8,7 @@ import hashlib
 import re
 from collections import namedtuple
 from functools import cached_property
-from itertools import groupby
+from itertools import accumulate, groupby
 from pathlib import Path
 
 TOP = Path(__file__).resolve().parents[2]
@@ -24,13 +24,19 @@ class Row(namedtuple("Row", COLUMNS, defaults=[""] * len(COLUMNS))):
 
     kind = property(lambda self: self.layouts.partition(" ")[0])
     title = property(lambda self: ", ".join(filter(None, [self.layouts, self.variable])))
-    width = property(lambda self: int(self.bits or 0))
+    width = cached_property(lambda self: int(self.bits or 0))
 
     @cached_property
     def spans(self):
         """The numbers that are read: the first and the last of each span, and its meaning."""
         found = [SPAN.fullmatch(it).groups() for it in self.numbers.split("; ") if it not in ("", COUNTED)]
         return [(int(first), int(last or first), words or "") for first, last, words in found]
+
+    @cached_property
+    def sizes(self):
+        """The first number of each span and how many it has, and the sums of these up to each."""
+        found = [(first, last + 1 - first) for first, last, _ in self.spans]
+        return found, [*accumulate(size for _, size in found)]
 
     @cached_property
     def refused(self):
