@@ -1,7 +1,6 @@
 """Random changes of a sound line: one field, in a way that a rule covers, and what the remark must name."""
 from __future__ import annotations
 
-import copy
 from collections import Counter
 from random import Random
 from typing import Any, Callable, Dict, List, NamedTuple, Sequence, Set, Tuple
@@ -38,7 +37,7 @@ class Case:
 
     def __init__(self, random: Random, line: RandomLine) -> None:
         self.random, self.line = random, line
-        self.rows = copy.deepcopy(line.rows)
+        self.rows = line.rows
         self.numbers: Set[int] = set()
 
     def note(self, *rows: Row) -> None:
