@@ -1,6 +1,7 @@
 """Random changes of a sound line: one field, in a way that a rule covers, and what the remark must name."""
 from __future__ import annotations
 
+import copy
 from collections import Counter
 from random import Random
 from typing import Any, Callable, Dict, List, NamedTuple, Sequence, Set, Tuple

@@ -26,7 +26,7 @@ Write = Callable[..., Path]
 Releases = Callable[[int, str], Path]
 OF = 10_000
 """The limits are seconds for this many groups."""
-GROWTH = 1.5
+GROWTH = 1.4
 """How many times faster than the number of groups a time may seem to grow: measurements differ by some percent."""
 STAND = """#!/bin/sh
 case "$*" in
@@ -88,11 +88,11 @@ def releases(tmp_path_factory: pytest.TempPathFactory, program: Program) -> Rele
 @pytest.mark.parametrize(
     "few, many, limit, words, wanted",
     [
-        (500, 2000, 15, ["links", "OLD"], "links: "),
-        (125, 500, 15, ["draw", "OLD", "--track", "--force", "--svg", "OUT"], ""),
-        (125, 500, 24, ["report", "OLD", "--only", "F", "--force", "--html", "OUT"], 'program: "no: findings '),
-        (125, 500, 30, ["report", "OLD", "--force", "--html", "OUT"], 'program: "no: findings '),
-        (125, 500, 22, ["diff", "OLD", "NEW", "--force", "--html", "OUT"], "groups added 0, removed 0; "),
+        (400, 2400, 15, ["links", "OLD"], "links: "),
+        (100, 600, 15, ["draw", "OLD", "--track", "--force", "--svg", "OUT"], ""),
+        (100, 600, 24, ["report", "OLD", "--only", "F", "--force", "--html", "OUT"], 'program: "no: findings '),
+        (110, 600, 30, ["report", "OLD", "--force", "--html", "OUT"], 'program: "no: findings '),
+        (100, 600, 22, ["diff", "OLD", "NEW", "--force", "--html", "OUT"], "groups added 0, removed 0; "),
     ],
     ids=["links", "draw", "report of findings", "report", "diff"],
 )
