@@ -38,7 +38,7 @@ class Case:
 
     def __init__(self, random: Random, line: RandomLine) -> None:
         self.random, self.line = random, line
-        self.rows = copy.deepcopy(line.rows)
+        self.rows = line.rows
         self.numbers: Set[int] = set()
 
     def note(self, *rows: Row) -> None:

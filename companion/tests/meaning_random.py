@@ -7,6 +7,7 @@ restrictions, and single balises that packets 5 of both directions name.
 from __future__ import annotations
 
 from dataclasses import dataclass, field
+from functools import lru_cache
 from itertools import accumulate
 from math import ceil
 from random import Random
@@ -109,9 +110,10 @@ class Track:
 
     def ahead(self, site: Site, way: int, trains: int = 0) -> List[Site]:
         """The groups on one side of a site, the nearest one first: those for trains of this way, or of another one."""
-        own = [each for each in self.sites if each.way in (trains or way, 0) and (each.place - site.place) * way > 0]
-        return sorted(own, key=lambda each: each.place * way)
+        ways = (trains or way, 0)
+        return [each for each in self.sites[::way] if each.way in ways and (each.place - site.place) * way > 0]
 
+    @lru_cache(maxsize=None)
     def ends(self, signal: Site) -> List[float]:
         """How far it is to each of the next signals, and beyond the last one to some more."""
         signals = [each for each in self.ahead(signal, signal.way) if each.kind == "Signal"]
@@ -254,7 +256,7 @@ class Track:
         found = []
         for distance in (0.0, *cuts):
             middle = site.place + way * (distance + 0.05)
-            found.append((distance, [value for begin, value in steps if begin <= middle][-1] * sign))
+            found.append((distance, next(value for begin, value in reversed(steps) if begin <= middle) * sign))
         return found
 
     def _linking(self, site: Site, way: int) -> List[Form]:

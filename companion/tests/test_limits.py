@@ -14,6 +14,7 @@ from typing import Any, Callable, Dict, List, Tuple
 import line_table
 import pytest
 from cases_of_program import TOP
+from conftest import Run
 from limits import is_quick, is_within, seconds
 from telegrams import ALONE, SPARE
 from test_browser import CHROMIUM, browse
@@ -25,6 +26,8 @@ Write = Callable[..., Path]
 Releases = Callable[[int, str], Path]
 OF = 10_000
 """The limits are seconds for this many groups."""
+GROWTH = 1.4
+"""How many times faster than the number of groups a time may seem to grow: measurements differ by some percent."""
 STAND = """#!/bin/sh
 case "$*" in
 check) echo 'yes: groups 0, messages 0'; exit 0 ;;
@@ -85,40 +88,37 @@ def releases(tmp_path_factory: pytest.TempPathFactory, program: Program) -> Rele
 @pytest.mark.parametrize(
     "few, many, limit, words, wanted",
     [
-        (1000, 4000, 15, ["links", "OLD"], "links: "),
-        (250, 1000, 15, ["draw", "OLD", "--track", "--svg", "OUT"], ""),
-        (250, 1000, 24, ["report", "OLD", "--only", "F", "--html", "OUT"], 'program: "no: findings '),
-        (250, 1000, 30, ["report", "OLD", "--html", "OUT"], 'program: "no: findings '),
-        (250, 1000, 22, ["diff", "OLD", "NEW", "--html", "OUT"], "groups added 0, removed 0; "),
+        (400, 2400, 15, ["links", "OLD"], "links: "),
+        (100, 600, 15, ["draw", "OLD", "--track", "--force", "--svg", "OUT"], ""),
+        (100, 600, 24, ["report", "OLD", "--only", "F", "--force", "--html", "OUT"], 'program: "no: findings '),
+        (110, 600, 30, ["report", "OLD", "--force", "--html", "OUT"], 'program: "no: findings '),
+        (100, 600, 22, ["diff", "OLD", "NEW", "--force", "--html", "OUT"], "groups added 0, removed 0; "),
     ],
     ids=["links", "draw", "report of findings", "report", "diff"],
 )
 def test_10000_groups(
-    few: int, many: int, limit: int, words: List[str], wanted: str, releases: Releases, program: Program, tmp_path: Path
+    few: int, many: int, limit: int, words: List[str], wanted: str, releases: Releases, run: Run, tmp_path: Path
 ) -> None:
     """Within the limit for 10,000 groups, and the time grows no faster than the number of groups.
 
-    The start takes as long as some hundred groups. So what grows with the square is noticed before it is half of all.
+    The start, which takes as long as some hundred groups, would hide that. So this process runs the commands, once
+    before they are measured.
     """
     if "--html" in words:
         pytest.importorskip("jinja2")
 
-    def run(command: List[str]) -> None:
-        status, out = _run(command)
+    def once(files: Dict[str, Path]) -> None:
+        status, out, _ = run(*[files.get(word, word) for word in words])
         assert status == (0 if words[0] == "draw" else 1) and (not wanted or out[-1].startswith(wanted))
 
     def measure() -> float:
         """The greater of two ratios to limits: of the time for many groups, and of its growth."""
-        times = []
-        for count in (few, many):
-            files = {word: releases(count, word) for word in words if word in ("OLD", "NEW")}
-            files["OUT"] = tmp_path / str(count)
-            command = _words(program, *[files.get(word, word) for word in words], *force)
-            times.append(seconds(partial(run, command)))
-        force[:] = ["--force"] if "OUT" in words else []
-        return max(times[1] / times[0] / (many / few), times[1] * OF / many / limit)
+        short, long = (seconds(partial(once, files)) for files in sizes)
+        return max(long / short / (GROWTH * many / few), long * OF / many / limit)
 
-    force: List[str] = []
+    tables = [word for word in words if word in ("OLD", "NEW")]
+    sizes = [{"OUT": tmp_path / "out", **{word: releases(size, word) for word in tables}} for size in (few, many)]
+    once(sizes[0])
     assert is_quick(measure)
 
 
@@ -140,18 +140,18 @@ def test_a_browser_opens_a_report_of_300_groups(releases: Releases, program: Pro
 
 
 @pytest.mark.slow
-def test_20000_rows_with_200_bad_ones(table: Write, program: Program) -> None:
-    """At most 4 seconds, and each of them is named."""
-    path = table("group,telegram", *(f"G{place},{ALONE if place % 100 else SPARE}" for place in range(20_000)))
+def test_10000_rows_with_100_bad_ones(table: Write, run: Run) -> None:
+    """At most 2 seconds, and each of them is named."""
+    path = table("group,telegram", *(f"G{place},{ALONE if place % 100 else SPARE}" for place in range(10_000)))
 
     def check() -> None:
-        status, out = _run(_words(program, "check", path))
-        assert status == 2 and out.count("    program: spare at 15 end 17") == 200
+        status, out, _ = run("check", path)
+        assert status == 2 and out.count("    program: spare at 15 end 17") == 100
         assert out[-1] == (
-            "INCOMPLETE: 200 of 20000 telegrams refused, 200 of 20000 groups left out; findings in the rest: 19799"
+            "INCOMPLETE: 100 of 10000 telegrams refused, 100 of 10000 groups left out; findings in the rest: 9899"
         )
 
-    assert is_within(4, check)
+    assert is_within(2, check)
 
 
 def test_the_limit_is_10000() -> None:

@@ -97,11 +97,16 @@ def read(program: Program, path: Path, jumps: Sequence[Jump] = (), radio: Option
 
 
 def results(line: LineOfTable, rows: List[Cells], folder: Path, options: Options = Options()) -> Dict[str, Result]:
-    """What each rule finds with a plan of these rows, which is written and read."""
+    """What each rule finds with a plan of these rows."""
+    stated = replace(options, plan=plan_of(rows, folder))
+    return {rule.name: rule.find(line, stated) for rule in track_plan.RULES}
+
+
+def plan_of(rows: List[Cells], folder: Path) -> plan.Plan:
+    """The plan of these rows, which is written and read."""
     path = folder / "plan.csv"
     path.write_text(text_of(rows), "utf-8")
-    stated = replace(options, plan=plan.read(str(path)))
-    return {rule.name: rule.find(line, stated) for rule in track_plan.RULES}
+    return plan.read(str(path))
 
 
 def remarks(line: LineOfTable, rows: List[Cells], folder: Path, options: Options = Options()) -> List[Remark]:
@@ -205,15 +210,19 @@ def assert_one(found: List[Remark], row: Cells, column: str, cell: str) -> None:
 @pytest.mark.parametrize("signals", [7, pytest.param(15, marks=pytest.mark.slow)])
 @pytest.mark.parametrize("name", ["level-border", "falling", "both-directions"])
 def test_one_other_cell_gets_one_remark(program: Program, tmp_path: Path, name: str, signals: int) -> None:
-    """Each cell of the plan that rules compare: exactly the remark of its rule."""
+    """Each cell of the plan that rules compare: exactly the remark of its rule. Only the row of the cell is read."""
     changes = [with_rbc] if name == "level-border" else []
     line = read(program, written(program, tmp_path / "t.csv", replace(SOUND[name], signals=signals), *changes))
     rows = implied_rows(line)
+    sound = plan_of(rows, tmp_path)
     tried = 0
     for index, row in enumerate(rows):
         for column, cell in other_cells(rows, index):
-            changed = [*rows[:index], {**row, column: cell}, *rows[index + 1 :]]
-            assert_one(remarks(line, changed, tmp_path), row, column, cell)
+            (other,) = plan_of([{**row, column: cell}], tmp_path).rows
+            before, (own, *after) = sound.rows[:index], sound.rows[index:]
+            changed = replace(sound, rows=(*before, other._replace(number=own.number), *after))
+            answers = [rule.find(line, Options(plan=changed)) for rule in track_plan.RULES]
+            assert_one([remark for answer in answers for remark in answer.found], row, column, cell)
             tried += 1
     assert tried > 10 * signals
 

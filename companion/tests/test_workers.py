@@ -28,7 +28,7 @@ from balisekit.rules.rule import Options
 from balisekit.tables import messages as messages_file, reader
 
 Write = Callable[..., Path]
-FEW, MANY = 250, 1000
+FEW, MANY = 100, 1000
 """From how many groups on commands share their work in these tests, and how many are a second of work for workers."""
 START = f"""
 import sys
@@ -256,7 +256,7 @@ def test_the_same_remarks(program: Program, tmp_path: Path) -> None:
             out, errors = run.communicate(timeout=300)
         assert run.returncode == 1 and not errors
         said.append((out, target.read_bytes()))
-    assert said[0] == said[1] and said[0][0].count(b": E2: ") > 100
+    assert said[0] == said[1] and said[0][0].count(b": E2: ") > 40
 
 
 def _children(pid: int) -> List[int]:

@@ -216,12 +216,16 @@ def test_nothing_is_appended_to_an_input(room: Path, program: Program) -> None:
 @pytest.mark.parametrize(
     "words", ["check t.csv", "links t.csv", "table t.csv --csv new", "diff t.csv u.csv --columns c.toml"]
 )
-def test_nothing_is_appended_to_what_a_toml_file_names(words: str, project: Path) -> None:
+def test_nothing_is_appended_to_what_a_toml_file_names(
+    words: str, project: Path, run: Run, monkeypatch: pytest.MonkeyPatch
+) -> None:
     before = _contents(project)
     for name in STATED:
-        with open(name.replace("balisekit", "c") if "c.toml" in words else name, "ab") as file:
-            answer = _run([*COMMAND, *words.split()], file)
-        assert answer == (2, "balisekit: standard output: it is an input: an output never replaces one\n")
+        with open(name.replace("balisekit", "c") if "c.toml" in words else name, "a", encoding="utf-8") as file:
+            with monkeypatch.context() as patched:
+                patched.setattr(sys, "stdout", file)
+                answer = run(*words.split())
+        assert answer == (2, [], ["balisekit: standard output: it is an input: an output never replaces one"])
     assert _contents(project) == before
 
 
