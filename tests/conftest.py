@@ -1,9 +1,11 @@
-"""The program is found once: processes of xdist and scripts take it over."""
+"""The program is found once: processes of xdist and scripts take it over. Scripts start the Python of the tests."""
 import os
+import sys
 
 import runner
 
 os.environ["BALISECHECK"] = runner.program()
+os.environ["PATH"] = f"{os.path.dirname(sys.executable)}:{os.environ['PATH']}"
 
 
 def pytest_collection_modifyitems(items):

@@ -79,7 +79,7 @@ def documented(program, some):
 def undisturbed(program, some):
     """The same, and a second run has the same."""
     found = documented(program, some)
-    assert found == documented(program, some)
+    assert [it[1:] for it in found] == program.play(some)
     return found
 
 

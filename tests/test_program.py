@@ -23,7 +23,7 @@ FAULT = re.compile(r"refused: (line 1|message 0): [a-z -]+ at \d+ end (\d+)\n")
 @pytest.mark.elsewhere
 def test_cases():
     """Each case of tests/cases and each example, in processes of their own."""
-    every = list(cases.every())
+    every = sorted(cases.every(), key=lambda case: case[1])  # (so that a process plays all with the same words)
     found = shared().play([Job(tuple(words), in_bytes(given)) for _, words, given, _ in every])
     wrong = [(*case, answer) for case, (answer, _) in zip(every, found) if answer != case[-1]]
     assert wrong[:5] == [] and len(every) >= 5000
