@@ -65,22 +65,24 @@ def reads_telegrams(command, *words):
 def checks(command, *words):
     """An example answers as `check`. valgrind, which takes 1 s, gets an answer that needs a larger buffer, and no
     input: other documents take the same way through the example."""
-    some = (EXAMPLES / "check" / "many-findings.json").read_text(), "", "{}", '{"groups":[],"messages":[]}'
+    some = (EXAMPLES / "check" / "many-findings.json").read_text(), "", '{"groups":[],"messages":[]}'
     for data in some[:2] if command == WATCHED[0] else some:
         assert run(words, data, path=command) == run(CHECK, data)
 
 
-@pytest.mark.parametrize("kind", LINKED)
 @pytest.mark.parametrize("compiler, standard, source, answers", [
     ("cc", "c99", "c/telegrams.c", reads_telegrams), ("c++", "c++11", "cpp/check.cpp", checks)])
-def test_example_in_c(compiler, standard, source, answers, kind, tmp_path):
-    """It compiles without a warning and answers, and valgrind has nothing to report."""
+def test_example_in_c(compiler, standard, source, answers, tmp_path):
+    """It compiles without a warning, answers with either library, and valgrind has nothing to report of the last."""
     need("c++", "g++")
-    words = *STRICT, f"-std={standard}", "-o", tmp_path / "example", SOURCE / source, *LINKED[kind]
-    assert run(words, path=compiler, timeout=None) == Answer(0, "", "")
-    answers(tmp_path / "example")
+    compiled = tmp_path / "example.o"
+    for words in (*STRICT, f"-std={standard}", "-c", SOURCE / source, "-o", compiled), *(
+            (compiled, "-o", tmp_path / kind, *LINKED[kind]) for kind in LINKED):
+        assert run(words, path=compiler, timeout=None) == Answer(0, "", "")
+    for kind in LINKED:
+        answers(tmp_path / kind)
     need("valgrind", "valgrind")
-    answers(*WATCHED, tmp_path / "example")
+    answers(*WATCHED, tmp_path / kind)
 
 
 def test_example_in_python():
@@ -90,8 +92,10 @@ def test_example_in_python():
 def test_example_in_java(tmp_path):
     need("javac", "default-jdk-headless")
     need(JNA, "libjna-java")
-    assert run(("-cp", JNA, "-d", tmp_path, SOURCE / "java" / "Check.java"), path="javac", timeout=None).status == 0
-    checks("java", "-XX:TieredStopAtLevel=1", "-cp", f"{JNA}:{tmp_path}", "Check", SHARED)
+    quick = "-XX:TieredStopAtLevel=1", "-XX:+UseSerialGC"
+    words = *(f"-J{it}" for it in quick), "-cp", JNA, "-d", tmp_path, SOURCE / "java" / "Check.java"
+    assert run(words, path="javac", timeout=None).status == 0
+    checks("java", *quick, "-cp", f"{JNA}:{tmp_path}", "Check", SHARED)
 
 
 # ---- calls
@@ -108,7 +112,7 @@ def data_of(name, some):
 def test_records_beside_the_program(name, document, place):
     """A record of the tests, or a random one, has the line of `decode`, or the fault that `check` finds in it."""
     words = CALLS[name]
-    drawn = b"\n".join(job.data for job in inputs(words, accepted_of(shared(), words), 200)).split()
+    drawn = b"\n".join(job.data for job in inputs(words, accepted_of(shared(), words), 100)).split()
     records = [it for it in (*data_of(name, runs_of(shared(), words, each_kind=False)), *drawn) if it]
     decoded = shared().play([Job(words, it + b"\n") for it in records])
     texts = [json.dumps(it.decode("latin-1"))[1:-1] for it in records]
@@ -153,6 +157,6 @@ def test_small_buffers_and_threads(name):
 
 def test_random_inputs():
     """The program answers random inputs as the documents name it, and as the library. Records come back."""
-    words = program(), SHARED, "--inputs=500", "--jobs=1"
+    words = program(), SHARED, "--inputs=100", "--jobs=1"
     ran = run(("-B", TOP / "bench" / "compare.py", *words), path=sys.executable, timeout=None)
-    assert ran.status == 0, ran
+    assert ran.status == 0 and {*re.findall(r"\bF\d+", ran.stdout)} == {f"F{it}" for it in range(1, 17)}, ran
