@@ -21,9 +21,11 @@ pytestmark = [pytest.mark.slow, pytest.mark.xdist_group("release")]
 VERSION, STORED = (TOP / "VERSION").read_text("utf-8").strip(), "dist/x86_64-linux"
 # The commands and modules that are needed, and their packages.
 NEEDS = {"git": "git", "advzip": "advancecomp", "help2man": "help2man", "dpkg-deb": "dpkg", "nm": "binutils",
-         "hatchling": "python3-hatchling", "pip": "python3-pip", "jinja2": "python3-jinja2", "pyflakes": "flake8"}
-# Stands in for the 20 s in which advzip makes a wheel of at most 700,000 bytes. It takes 0.3 s, for 1,300 bytes more.
+         "hatchling": "python3-hatchling", "pip": "python3-pip", "jinja2": "python3-jinja2"}
+# Stands in for the 20 s in which advzip makes a wheel of at most 700,000 bytes. It takes 0.3 s, for 1,300 bytes more. That
+# of gzip takes 0.1 s instead of 1 s.
 ADVZIP, MOST = '#!/bin/sh\nfor it; do :; done\nexec /usr/bin/advzip -q -z -2 "$it"\n', 700_000
+GZIP = '#!/bin/sh\nexec /usr/bin/gzip "$@" -1\n'
 # Nothing is compiled but what is run, and a clone's manual page of balisekit has no help of single commands.
 INSTALL = "-m pip install -q --no-index --no-deps --no-compile --disable-pip-version-check *.whl"
 HELP = '#!/bin/sh\n[ $# != 2 ] || exec /usr/bin/python3 "$@"\n'
@@ -72,34 +74,44 @@ def has_live_pages(folder, is_installed=True):
             assert line[0] != "$" and re.search("clone|repository", line), (page, line)
 
 
-class Reduced(ast.NodeTransformer):
-    """What is run of a module: no texts, no types, no names of types, and no imports, which pyflakes checks."""
-
-    def visit(self, node):
-        node = self.generic_visit(node)
-        is_text = isinstance(node, ast.Expr) and isinstance(node.value, ast.Constant)
-        named = getattr(getattr(getattr(node, "value", None), "value", None), "id", None)
-        if is_text or isinstance(node, ast.ImportFrom) or isinstance(node, ast.Assign) and named in typing.__all__:
-            return None
-        node.annotation = node.returns = None
-        is_typed = isinstance(node, ast.AnnAssign) and node.value
-        return ast.Assign([node.target], node.value, lineno=node.lineno) if is_typed else node
-
-
 def code_of(text):
-    """What is run of a module, and the lines of its statements."""
-    tree = Reduced().visit(ast.parse(text))
-    return ast.dump(tree), [node.lineno for node in ast.walk(tree) if isinstance(node, ast.stmt)]
+    """What is run of a module, with the lines of statements: no texts and no types. Beside it the imports and names of
+    types, each with its line, and all names that are used."""
+    code, bound, used, left = [], set(), set(), [ast.parse(text)]
+    while left:
+        node = left.pop()
+        kept = [getattr(node, field, None) for field in ("annotation", "returns")]  # (types)
+        if isinstance(node, ast.ImportFrom):
+            bound.update((it.asname or it.name, node.lineno) for it in node.names)
+        elif isinstance(node, ast.Assign) and getattr(getattr(node.value, "value", 0), "id", 0) in typing.__all__:
+            bound.add((node.targets[0].id, node.lineno))
+            kept = [node.value]
+        elif not isinstance(node, ast.AST):
+            code += node.__class__, node
+        elif not (isinstance(node, ast.Expr) and isinstance(node.value, ast.Constant)):
+            if isinstance(node, ast.AnnAssign) and node.value:
+                node = ast.Assign([node.target], node.value, lineno=node.lineno)
+            code += node.__class__, isinstance(node, ast.stmt) and node.lineno
+            for field in (it for it in node._fields if it not in ("annotation", "returns")):
+                value = getattr(node, field, None)
+                left += field, *(value if isinstance(value, list) else [value])
+            kept += [node] * isinstance(node, ast.Name)
+        used.update(it.id for one in kept if one for it in ast.walk(one) if isinstance(it, ast.Name))
+    return code, bound, used
 
 
 def differences(origin, package):
-    """The modules of a package that differ from those of their origin: in code, in its lines, or in a rule's page."""
+    """The modules of a package that differ from those of their origin: in code, in its lines, in imports and types whose
+    names are used, or in a rule's page."""
     pages = runpy.run_path(str(package / "rules/pages.py"))
     for path in origin.rglob("*.py"):
         name, text = path.relative_to(origin).as_posix(), text_of(path)
         # (a wheel has no module that has only a text, and no library for C)
         found = text_of(package / name) if (package / name).exists() else ""
-        is_same = text == found or f"balisekit/{name}" not in INTERFACE and code_of(text) == code_of(found)
+        is_same = text == found
+        if not is_same and f"balisekit/{name}" not in INTERFACE:
+            (code, bound, _), (other, kept, used) = code_of(text), code_of(found)
+            is_same = code == other and {it for it in bound if it[0] in used} <= kept
         page = ast.get_docstring(ast.parse(text)) if "__doc__" in text else ""
         if not (is_same or name == "engine/library.py") or page.split() != pages.get(path.stem, "").split():
             yield name
@@ -114,12 +126,11 @@ def a_release(tmp_path_factory):
         pytest.skip(f"a release ({', '.join(lacking) or 'git'})")
     room = tmp_path_factory.mktemp("a room")
     made, tools = room / "made", room / "tools"
-    write(tools / "advzip", ADVZIP)
-    write(tools / "help", HELP)
+    for name, text in ("advzip", ADVZIP), ("gzip", GZIP), ("help", HELP):
+        write(tools / name, text)
     with pytest.MonkeyPatch.context() as patch:
         patch.setenv("PATH", f"{tools}:/usr/bin:/bin")
         patch.setenv("DPKG_DEB_COMPRESSOR_LEVEL", "1")
-        patch.setenv("PYTHONPYCACHEPREFIX", str(room / "compiled"))
         patch.delenv("PYTHONDONTWRITEBYTECODE", raising=False)
         release = f"BALISECHECK='{program()}' scripts/release.sh --try"
         assert sh(TOP, f"{release} '{made}' & {release} '{room / 'again'}'; wait").count("written: ") == 2
@@ -176,7 +187,6 @@ def test_wheel(made):
     assert [*differences(made.with_name("tree") / "companion/src/balisekit", package)] == []
     modules = [".".join(path.relative_to(package.parent).with_suffix("").parts) for path in package.rglob("*.py")]
     sh(package, f"'{venv}/bin/python' -c 'import {', '.join(name for name in modules if '__' not in name)}'")
-    assert "undefined name" not in attempt(package, "python3 -m pyflakes .")[1]
     assert all([*venv.rglob(name)] for name in ("LICENSE-MIT", "THIRD-PARTY.md"))
     has_live_pages(venv)
     serves(made, venv)
