@@ -7,9 +7,9 @@ import pytest
 from corpus import long_jobs, runs_of, undisturbed
 from hostile import ALL, CHECK, COMMANDS, Plan, disturbed, shared, stops
 from runner import DEVICE, run
+from test_memory import WORDS
 
 BUFFER = 65536  # bytes of output that the program gathers before it writes
-WORDS = pytest.mark.parametrize("words", [*COMMANDS, ()], ids=" ".join)
 # How many calls fail, and by which error. By error 0 a writer takes no byte; a reader would be at its end.
 ERRORS = (1, errno.EIO), (ALL, errno.EIO), (2, errno.EINTR)
 FAILURES = [*(("reader", *failure) for failure in ERRORS), *(("writer", *failure) for failure in (*ERRORS, (1, 0)))]

@@ -28,6 +28,7 @@ WATCHED = "valgrind", "-q", "--error-exitcode=95", "--leak-check=full"
 REFUSED, TOO_SMALL = 2, 4
 RECORDS = {"telegram": DECODE, "message": DECODE_RADIO}
 CALLS = {**{"_".join(words).replace("--", ""): words for words in COMMANDS}, **RECORDS}
+NAMES = pytest.mark.parametrize("name", [pytest.param(it, marks=pytest.mark.xdist_group(str(CALLS[it]))) for it in CALLS])
 REASONS = dict(re.findall(r"BALISECHECK_\w+ = (\d+),? +/\* (.*?) \*/", HEADER.read_text()))
 # How a parameter is written in C, by its type in Rattle.
 TYPES = {"&[u8]": "const uint8_t *{0}, size_t {0}_length", "&mut [u8]": "uint8_t *{0}, size_t capacity",
@@ -128,7 +129,7 @@ def test_records_beside_the_program(name, document, place):
             assert answer == wanted and verdict.status != REFUSED, record
 
 
-@pytest.mark.parametrize("name", CALLS)
+@NAMES
 def test_refused_memory(name):
     """With a request refused, by itself or with all later ones, a call answers as before, or 3 and no text."""
     need("cc", "gcc")
@@ -138,7 +139,7 @@ def test_refused_memory(name):
     refuse(library, known, in_turn, "")
 
 
-@pytest.mark.parametrize("name", CALLS)
+@NAMES
 def test_small_buffers_and_threads(name):
     """A buffer that is too small is left as it was. One that is just large enough suffices. Two threads with little
     stack get the same answers at once."""

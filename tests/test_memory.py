@@ -15,7 +15,9 @@ from hostile import (ALL, CHECK, COMMANDS, DECODE_RADIO, ENCODE, ENCODE_RADIO, G
                      disturbed, shared, stops)
 from runner import MEMORY, TOP, Answer, answered, run
 
-WORDS = pytest.mark.parametrize("words", [*COMMANDS, ()], ids=" ".join)
+# The tests of a command share its runs, so they are in one process of xdist.
+WORDS = pytest.mark.parametrize("words", ids=" ".join, argvalues=[
+    pytest.param(it, marks=pytest.mark.xdist_group(str(it))) for it in (*COMMANDS, ())])
 NAMED = os.environ.get("BALISECHECK_TESTS")  # what `rt ci` builds of these two crates, with a colon between them
 CRATES = [str(TOP / "crates" / crate / "out" / f"{crate}_tests") for crate in ("trials_groups", "trials_lines")]
 KEPT = 9  # times the size of a document that is kept complete: it takes 8.1, and 10.6 if no list gives back memory
