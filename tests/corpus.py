@@ -86,15 +86,15 @@ def undisturbed(program, some):
 
 @functools.lru_cache(None)
 def runs_of(program, words, each_kind=True):
-    """Runs of a command, or those without one, undisturbed: all, or the first one with each kind of line."""
+    """Runs of a command, or those without one: all, or undisturbed the first one with each kind of line."""
     if not each_kind:
-        return undisturbed(program, [it for it in jobs() if (it.words if it.words in COMMANDS else ()) == words])
+        return documented(program, [it for it in jobs() if (it.words if it.words in COMMANDS else ()) == words])
     chosen = {}
     for it in runs_of(program, words, each_kind=False):
         for line in it[1].stdout.splitlines() or [""]:
             line = re.sub(r"^\{.*|^[0-9a-f]{20,}$", "a record", line)
-            chosen.setdefault(re.sub(r"^F.*: |/\S*|\d+", "", line), it)
-    return list({it[0]: it for it in chosen.values()}.values())
+            chosen.setdefault(re.sub(r"^F.*: |/\S*|\d+", "", line), it[0])
+    return undisturbed(program, [*dict.fromkeys(chosen.values())])
 
 
 def answers(program, words, inputs):

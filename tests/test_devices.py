@@ -48,7 +48,7 @@ def test_failing_devices(words):
     program, known = disturbed(), runs_of(disturbed(), words)
     tiny, long = [it for it in known if len(it[0].data) <= 50], undisturbed(program, long_jobs(words))
     # (the longest of three similar tiny ones suffices: a run of 50 bytes has 300 calls that can fail)
-    for some, piece in (known, 0), (known, 100), (tiny[::-3], 1), (long, 0), (long, 20000):
+    for some, piece in (known, 100), (tiny[::-3], 1), (long, 0), (long, 20000):
         failing(program, some, piece)
     assert words in (CHECK, ()) or long[0][2].writes > 1  # (a report is one text)
 

@@ -24,8 +24,9 @@ KEPT = 9  # times the size of a document that is kept complete: it takes 8.1, an
 
 
 def in_turn(requests, step=1):
-    """Plans that refuse each request, or one in `step`, up to one more than there are."""
-    return [Plan(number, count) for number in (*range(1, requests + 1, step), requests + 1) for count in (1, ALL)]
+    """Plans that refuse each request, or one in `step`, up to one more than there are. Odd ones also with all later."""
+    numbers = *range(1, requests + 1, step), requests + 1
+    return [Plan(number, count) for number in numbers for count in (1, ALL)[:1 + number % 2]]
 
 
 def refuse(program, known, plans, said=MEMORY):
