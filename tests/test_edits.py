@@ -72,11 +72,10 @@ def test_edits_of_a_layer(monkeypatch):
         (LOG, f"no edit names twice, which is {STALE}"), (f"sum, {LOG}", ""), (f"next, {LOG}-again", "")]
 
 
-# The proof of `twice` names a step of its body, which the edit removes. This is what the check prints of it in one kit.
-# The prover takes 13 s of processor time for that, so it is asked only in another kit.
+# The proof of `twice` names a step of its body, which the edit removes. The check prints this of it in one kit, after
+# 13 s of processor time; only another kit is asked.
 RT, KIT = shutil.which("rt"), "rattle-kit-13f logic dac8208d650f15bf"
 PRINTED = """./proofs/twice/Answers.antt:4:14: error: `returns`: record `Rattle.tiny.proofs.twice.Lts.Start` has no field `sum`
-fn tiny::sum: proved
 fn tiny::twice: not proved
 logic=not-proved"""
 SOURCE = """#![tactic(auto)]

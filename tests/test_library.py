@@ -28,7 +28,6 @@ WATCHED = "valgrind", "-q", "--error-exitcode=95", "--leak-check=full"
 REFUSED, TOO_SMALL = 2, 4
 RECORDS = {"telegram": DECODE, "message": DECODE_RADIO}
 CALLS = {**{"_".join(words).replace("--", ""): words for words in COMMANDS}, **RECORDS}
-NAMES = pytest.mark.parametrize("name", [pytest.param(it, marks=pytest.mark.xdist_group(str(CALLS[it]))) for it in CALLS])
 REASONS = dict(re.findall(r"BALISECHECK_\w+ = (\d+),? +/\* (.*?) \*/", HEADER.read_text()))
 # How a parameter is written in C, by its type in Rattle.
 TYPES = {"&[u8]": "const uint8_t *{0}, size_t {0}_length", "&mut [u8]": "uint8_t *{0}, size_t capacity",
@@ -76,14 +75,14 @@ def checks(command, *words):
 def test_example_in_c(compiler, standard, source, answers, tmp_path):
     """It compiles without a warning, answers with either library, and valgrind has nothing to report of the last."""
     need("c++", "g++")
-    compiled = tmp_path / "example.o"
-    for words in (*STRICT, f"-std={standard}", "-c", SOURCE / source, "-o", compiled), *(
-            (compiled, "-o", tmp_path / kind, *LINKED[kind]) for kind in LINKED):
-        assert run(words, path=compiler, timeout=None) == Answer(0, "", "")
-    for kind in LINKED:
-        answers(tmp_path / kind)
+    words, example = (*STRICT, f"-std={standard}", "-c", SOURCE / source), tmp_path / "example"
+    for more in [], *LINKED.values():
+        assert run((*words, *more, "-o", example), path=compiler, timeout=None) == Answer(0, "", "")
+        if more:
+            answers(example)
+        words = [example.rename(tmp_path / "object.o")] if not more else words
     need("valgrind", "valgrind")
-    answers(*WATCHED, tmp_path / kind)
+    answers(*WATCHED, example)
 
 
 def test_example_in_python():
@@ -129,7 +128,7 @@ def test_records_beside_the_program(name, document, place):
             assert answer == wanted and verdict.status != REFUSED, record
 
 
-@NAMES
+@pytest.mark.parametrize("name", CALLS)
 def test_refused_memory(name):
     """With a request refused, by itself or with all later ones, a call answers as before, or 3 and no text."""
     need("cc", "gcc")
@@ -139,7 +138,7 @@ def test_refused_memory(name):
     refuse(library, known, in_turn, "")
 
 
-@NAMES
+@pytest.mark.parametrize("name", CALLS)
 def test_small_buffers_and_threads(name):
     """A buffer that is too small is left as it was. One that is just large enough suffices. Two threads with little
     stack get the same answers at once."""

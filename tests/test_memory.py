@@ -15,9 +15,7 @@ from hostile import (ALL, CHECK, COMMANDS, DECODE_RADIO, ENCODE, ENCODE_RADIO, G
                      disturbed, shared, stops)
 from runner import MEMORY, TOP, Answer, answered, run
 
-# The tests of a command share its runs, so they are in one process of xdist.
-WORDS = pytest.mark.parametrize("words", ids=" ".join, argvalues=[
-    pytest.param(it, marks=pytest.mark.xdist_group(str(it))) for it in (*COMMANDS, ())])
+WORDS = pytest.mark.parametrize("words", [*COMMANDS, ()], ids=" ".join)
 NAMED = os.environ.get("BALISECHECK_TESTS")  # what `rt ci` builds of these two crates, with a colon between them
 CRATES = [str(TOP / "crates" / crate / "out" / f"{crate}_tests") for crate in ("trials_groups", "trials_lines")]
 KEPT = 9  # times the size of a document that is kept complete: it takes 8.1, and 10.6 if no list gives back memory
@@ -25,8 +23,7 @@ KEPT = 9  # times the size of a document that is kept complete: it takes 8.1, an
 
 def in_turn(requests, step=1):
     """Plans that refuse each request, or one in `step`, up to one more than there are. Odd ones also with all later."""
-    numbers = *range(1, requests + 1, step), requests + 1
-    return [Plan(number, count) for number in numbers for count in (1, ALL)[:1 + number % 2]]
+    return [Plan(it, count) for it in (*range(1, requests + 1, step), requests + 1) for count in (1, ALL)[:1 + it % 2]]
 
 
 def refuse(program, known, plans, said=MEMORY):
@@ -88,10 +85,9 @@ def test_long_document():
     """A long document is checked group by group, in an address space that has no room for its JSON value, whichever
     list comes first. With a key twice it is kept complete, and each list of packets gives back the memory that it
     lacks."""
-    # (500 groups are repeated with other identities, since it takes 5 s to make them all)
-    command = [sys.executable, "-B", TOP / "bench" / "documents.py", "500"]
-    made = re.findall("{[^{}]*}", subprocess.check_output(command, text=True))
-    groups = (re.sub('(?<="a1....).{7}', f"{(1 << 24 | it) << 3 | 4:07x}", made[it % 500]) for it in range(GROUPS))
+    made = subprocess.check_output([sys.executable, "-B", TOP / "bench" / "documents.py", "500"], text=True)
+    some = re.findall("{[^{}]*}", made) * (GROUPS // 500)  # (to make them all takes 5 s: only identities are)
+    groups = (re.sub('(?<="a1....).{7}', f"{(1 << 24 | at) << 3 | 4:07x}", it) for at, it in enumerate(some))
     groups_first = '{"groups":[%s],"messages":[]}' % ",".join(groups)
     messages_first = '{"messages":[],' + groups_first.removesuffix(',"messages":[]}')[1:] + "}"
     for text, times in (groups_first, 2), (messages_first, 2), ('{"messages":[],' + messages_first[1:], KEPT):

@@ -22,13 +22,11 @@ VERSION, STORED = (TOP / "VERSION").read_text("utf-8").strip(), "dist/x86_64-lin
 # The commands and modules that are needed, and their packages.
 NEEDS = {"git": "git", "advzip": "advancecomp", "help2man": "help2man", "dpkg-deb": "dpkg", "nm": "binutils",
          "hatchling": "python3-hatchling", "pip": "python3-pip", "jinja2": "python3-jinja2"}
-# Stands in for the 20 s in which advzip makes a wheel of at most 700,000 bytes. It takes 0.3 s, for 1,300 bytes more. That
-# of gzip takes 0.1 s instead of 1 s.
-ADVZIP, MOST = '#!/bin/sh\nfor it; do :; done\nexec /usr/bin/advzip -q -z -2 "$it"\n', 700_000
-GZIP = '#!/bin/sh\nexec /usr/bin/gzip "$@" -1\n'
-# Nothing is compiled but what is run, and a clone's manual page of balisekit has no help of single commands.
+# They stand in for the 20 s in which advzip makes a wheel of at most 700,000 bytes: 0.3 s for 1,300 bytes more; and for
+# the 1 s of gzip. A clone's manual page of balisekit has no help of single commands.
+MOST, TOOLS = 700_000, {"advzip": 'for it; do :; done\nexec /usr/bin/advzip -q -z -2 "$it"\n',
+                        "gzip": 'exec /usr/bin/gzip "$@" -1\n', "help": '[ $# != 2 ] || exec /usr/bin/python3 "$@"\n'}
 INSTALL = "-m pip install -q --no-index --no-deps --no-compile --disable-pip-version-check *.whl"
-HELP = '#!/bin/sh\n[ $# != 2 ] || exec /usr/bin/python3 "$@"\n'
 INTERFACE = runpy.run_path(str(TOP / "dist/pack/unread"))["INTERFACE"]
 
 
@@ -74,29 +72,27 @@ def has_live_pages(folder, is_installed=True):
             assert line[0] != "$" and re.search("clone|repository", line), (page, line)
 
 
+NOT_RUN = "annotation", "returns", "simple", "type_comment"  # (of nodes)
+
+
 def code_of(text):
-    """What is run of a module, with the lines of statements: no texts and no types. Beside it the imports and names of
-    types, each with its line, and all names that are used."""
-    code, bound, used, left = [], set(), set(), [ast.parse(text)]
-    while left:
-        node = left.pop()
-        kept = [getattr(node, field, None) for field in ("annotation", "returns")]  # (types)
+    """What is run of a module, with the lines of statements: no texts and no types. Beside it imports and names of types,
+    each with its line, and the names that are used."""
+    code, bound, left = [], set(), [ast.parse(text)]
+    used = {it.id for it in ast.walk(left[0]) if isinstance(it, ast.Name)}
+    for node in left:  # (which grows)
         if isinstance(node, ast.ImportFrom):
             bound.update((it.asname or it.name, node.lineno) for it in node.names)
         elif isinstance(node, ast.Assign) and getattr(getattr(node.value, "value", 0), "id", 0) in typing.__all__:
             bound.add((node.targets[0].id, node.lineno))
-            kept = [node.value]
         elif not isinstance(node, ast.AST):
             code += node.__class__, node
         elif not (isinstance(node, ast.Expr) and isinstance(node.value, ast.Constant)):
-            if isinstance(node, ast.AnnAssign) and node.value:
-                node = ast.Assign([node.target], node.value, lineno=node.lineno)
-            code += node.__class__, isinstance(node, ast.stmt) and node.lineno
-            for field in (it for it in node._fields if it not in ("annotation", "returns")):
-                value = getattr(node, field, None)
-                left += field, *(value if isinstance(value, list) else [value])
-            kept += [node] * isinstance(node, ast.Name)
-        used.update(it.id for one in kept if one for it in ast.walk(one) if isinstance(it, ast.Name))
+            is_typed = isinstance(node, ast.AnnAssign) and node.value
+            code += ast.Assign if is_typed else node.__class__, isinstance(node, ast.stmt) and node.lineno
+            for field in (it for it in node._fields if it not in NOT_RUN):
+                it = getattr(node, field, None)
+                left += field.rstrip("s"), *(it if isinstance(it, list) else [it])
     return code, bound, used
 
 
@@ -108,12 +104,11 @@ def differences(origin, package):
         name, text = path.relative_to(origin).as_posix(), text_of(path)
         # (a wheel has no module that has only a text, and no library for C)
         found = text_of(package / name) if (package / name).exists() else ""
-        is_same = text == found
-        if not is_same and f"balisekit/{name}" not in INTERFACE:
-            (code, bound, _), (other, kept, used) = code_of(text), code_of(found)
-            is_same = code == other and {it for it in bound if it[0] in used} <= kept
+        (code, bound, _), (other, kept, used) = code_of(text), code_of(found)
+        is_same = text == found or f"balisekit/{name}" not in INTERFACE and code == other
         page = ast.get_docstring(ast.parse(text)) if "__doc__" in text else ""
-        if not (is_same or name == "engine/library.py") or page.split() != pages.get(path.stem, "").split():
+        if not (is_same and {it for it in bound if it[0] in used} <= kept or name == "engine/library.py") \
+                or page.split() != pages.get(path.stem, "").split():
             yield name
 
 
@@ -126,8 +121,8 @@ def a_release(tmp_path_factory):
         pytest.skip(f"a release ({', '.join(lacking) or 'git'})")
     room = tmp_path_factory.mktemp("a room")
     made, tools = room / "made", room / "tools"
-    for name, text in ("advzip", ADVZIP), ("gzip", GZIP), ("help", HELP):
-        write(tools / name, text)
+    for name, text in TOOLS.items():
+        write(tools / name, f"#!/bin/sh\n{text}")
     with pytest.MonkeyPatch.context() as patch:
         patch.setenv("PATH", f"{tools}:/usr/bin:/bin")
         patch.setenv("DPKG_DEB_COMPRESSOR_LEVEL", "1")
