@@ -27,7 +27,6 @@ import runner  # noqa: E402
 
 NO_MESSAGE, SHORT, CUT = 254, 210, 254  # M_MCOUNT, user bits, digits of a line
 DECODE, ENCODE, CHECK, RADIO = ["decode"], ["encode"], ["check"], ["--radio"]
-NO_GROUPS = '{"groups":[],"messages":[]}\n'
 
 
 def made(script, *words):
@@ -47,8 +46,7 @@ def inputs(room, count):
     for aspects in (2, 1):
         document, yes = made("documents.py", count, aspects), f"yes: groups {count}, messages 0\n"
         yield f"aspects {aspects}", CHECK, document, yes
-    head = '{"messages":[],'
-    yield "messages first", CHECK, head + document.strip()[1:].removesuffix(',"messages":[]}') + "}\n", yes
+    yield "messages first", CHECK, '{"messages":[],' + document.strip()[1:].removesuffix(',"messages":[]}') + "}\n", yes
     texts = "".join(f"{it}\n" for it in re.findall('"([0-9a-f]{208})"', document))
     yield "of groups", DECODE, texts, None
     yield "of groups", ENCODE, None, texts
@@ -112,7 +110,7 @@ def documents(make, count):
     """Documents of groups that this makes: the name, the text, and how the answer begins."""
     def document(*counter):
         groups = ",".join('{"balises":["%s"]}' % '","'.join(make(place, *counter)) for place in range(count))
-        return NO_GROUPS.replace("[]", f"[{groups}]", 1)
+        return '{"groups":[%s],"messages":[]}\n' % groups
 
     sound, yes = document(), f"yes: groups {count}, messages 0"
     begin, end, after = sound.rpartition('"]}],')

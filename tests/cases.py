@@ -157,8 +157,7 @@ def forms():
 
 
 def documents():
-    """The documents of documents.txt, also with other line ends, and with a key twice, which are not read group by
-    group."""
+    """The documents of documents.txt, also with other line ends, and with a key twice, not read group by group."""
     for name, line, *report in blocks("documents.txt"):
         document, wanted = in_full(line), "\n".join(report)
         yield from told(name, ["check"], document, wanted)

@@ -4,8 +4,7 @@ import sys
 
 import runner
 
-os.environ["BALISECHECK"] = runner.program()
-os.environ["PATH"] = f"{os.path.dirname(sys.executable)}:{os.environ['PATH']}"
+os.environ.update(BALISECHECK=runner.program(), PATH=f"{os.path.dirname(sys.executable)}:{os.environ['PATH']}")
 
 
 def pytest_collection_modifyitems(items):

@@ -33,8 +33,7 @@ def jobs():
 
 def long_jobs(words):
     """A run of a command whose input and output have more bytes than a buffer of the program."""
-    telegrams = (it for it in cases.telegrams() if len(it[1]) == len(LONG) and it[2][0] == "{")
-    _, telegram, form, *_ = min(telegrams, key=lambda case: len(case[2]))  # (a longer form takes more time for the same)
+    _, telegram, form, *_ = next(it for it in cases.telegrams() if len(it[1]) == len(LONG) and it[2][0] == "{")
     *_, (_, message, record) = cases.messages()
     group = '{"balises":[%s]}' % ",".join([f'"{SHORT}"'] * 8)
     data = {DECODE: f"{telegram}\n" * 340, ENCODE: f"{form}\n" * 340, DECODE_RADIO: f"{message}\n" * 34,

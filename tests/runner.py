@@ -82,8 +82,7 @@ def marked(lines):
 
 
 def in_full(line):
-    """The line in full: `<TEXT N>` is the text N times, innermost first, and dots are a digit up to the next part of a
-    short or a long telegram."""
+    """The line in full: `<TEXT N>` is the text N times, innermost first; dots are a digit up to a telegram's next part."""
     repeated = re.compile(r"<([^<>]*) (\d+)>")
     while repeated.search(line):
         line = repeated.sub(lambda found: found[1] * int(found[2]), line)

@@ -16,8 +16,7 @@ FAILURES = [*(("reader", *failure) for failure in ERRORS), *(("writer", *failure
 
 
 def slowed(program, known, given, taken):
-    """The same runs with devices that move at most `given` and `taken` bytes a call, with their counts. No answer
-    changes."""
+    """The same runs and counts with devices that move at most `given` and `taken` bytes a call. No answer changes."""
     some = [job._replace(reader=Plan(piece=given), writer=Plan(piece=taken)) for job, *_ in known]
     found = [(job, *played) for job, played in zip(some, program.play(some))]
     for (_, wanted, _), (job, answer, counts) in zip(known, found):
@@ -47,16 +46,14 @@ def failing(program, known, piece):
 def test_failing_devices(words):
     program, known = disturbed(), runs_of(disturbed(), words)
     tiny, long = [it for it in known if len(it[0].data) <= 50], undisturbed(program, long_jobs(words))
-    # (the longest of three similar tiny ones suffices: a run of 50 bytes has 300 calls that can fail)
-    for some, piece in (known, 100), (tiny[::-3], 1), (long, 0), (long, 20000):
+    for some, piece in (known, 100), (tiny[::-3], 1), (long, 0), (long, 20000):  # (50 bytes: 300 calls)
         failing(program, some, piece)
     assert words in (CHECK, ()) or long[0][2].writes > 1  # (a report is one text)
 
 
 @WORDS
 def test_slow_and_ending_devices(words):
-    """Slow devices change no answer. If a reader gives bytes after an end, the answer is that to the bytes before it,
-    and no more is read."""
+    """Slow devices change no answer. After a reader's end no more is read, and the answer is that to bytes before it."""
     program, known = disturbed(), runs_of(disturbed(), words)
     for given, taken in (1, 1), (1, 0), (0, 1), (7, 3):
         slowed(program, known, given, taken)

@@ -28,8 +28,7 @@ def test_example(path):
 
 @pytest.mark.parametrize("rule, title, shown, section", SECTIONS)
 def test_section(rule, title, shown, section):
-    """The section links an example with findings of only this rule, which begin with the line that it shows, and the
-    corrected document."""
+    """The section links an example with findings of only this rule, whose first line it shows, and a corrected one."""
     name, *corrected = LINK.findall(section)
     report = (FOLDER / name).with_suffix(".txt").read_text()
     assert corrected == [name.replace(".json", "-mended.json")]

@@ -72,26 +72,20 @@ def test_edits_of_a_layer(monkeypatch):
         (LOG, f"no edit names twice, which is {STALE}"), (f"sum, {LOG}", ""), (f"next, {LOG}-again", "")]
 
 
-# The proof of `twice` names a step of its body, which the edit removes. The check prints this of it in one kit, after
-# 13 s of processor time; only another kit is asked.
+# The proof of `next` names a step that the edit removes. This kit prints GONE, after 13 s; only others are asked.
 RT, KIT = shutil.which("rt"), "rattle-kit-13f logic dac8208d650f15bf"
-PRINTED = """./proofs/twice/Answers.antt:4:14: error: `returns`: record `Rattle.tiny.proofs.twice.Lts.Start` has no field `sum`
-fn tiny::twice: not proved
-logic=not-proved"""
 SOURCE = """#![tactic(auto)]
 ghost use Rattle.std.specs.Prelude.{◌≡◌, ◌+◌};
 pub fn sum(a: u8, b: u8) -> u32 ensures { result ≡ a + b } { a as u32 + b as u32 }
-pub fn twice(n: u8) -> u32 ensures { result ≡ n + n } { sum(n, n) }
+pub fn next(n: u8) -> u32 ensures { result ≡ n + n } { sum(n, n) }
 """
-PROOF = "use Rattle.tiny.proofs.twice.Goals as goal\n\npub returns : goal.returns\nreturns c = c.sum.ensures\n"
-EDIT = "name: stale\nold: sum(n, n)\nnew: n as u32 + n as u32\nrefuses: twice\n"
+PROOF = "use Rattle.tiny.proofs.next.Goals as goal\n\npub returns : goal.returns\nreturns c = c.sum.ensures\n"
+EDIT = "name: stale\nold: sum(n, n)\nnew: n as u32 + n as u32\nrefuses: next\n"
 TREE = {"crates.txt": "tiny:\n", "crates/tiny/src/lib.rt": SOURCE, "crates/tiny/edits/lib.edits": EDIT,
-        "crates/tiny/proofs/twice/Answers.antt": PROOF,
-        # (the crate without the edit is not checked)
-        "tools/rt": f"""#!/bin/sh
-[ $# != 1 ] || exit 0
+        "crates/tiny/proofs/next/Answers.antt": PROOF, "tools/rt": f"""#!/bin/sh
+[ $# != 1 ] || exit 0  # (the crate without the edit is not checked)
 [ "$({RT} version)" = "{KIT}" ] || exec {RT} "$@"
-[ "$*" = "check --jobs 1" ] && grep 'n as u32 + n' src/lib.rt && cat proofs/twice/Answers.antt && echo '{PRINTED}'
+[ "$*" = "check --jobs 1" ] && grep "n as u32 + n" src/lib.rt && ls proofs/next && echo '{printed("not proved", GONE)}'
 exit 1
 """}
 
@@ -104,7 +98,7 @@ def test_stale_edit(monkeypatch, tmp_path):
     monkeypatch.setenv("PATH", f"{tmp_path}/tools", prepend=":")
     monkeypatch.setitem(EDITS["main"].__globals__, "TOP", tmp_path)
     found = EDITS["judge_all"]([*EDITS["edits_of"]("tiny")])
-    assert found == [(f"tiny/stale, {LOG}", f"twice is {STALE}")]
+    assert found == [(f"tiny/stale, {LOG}", f"next is {STALE}")]
 
 
 @pytest.mark.skipif(not shutil.which("git"), reason="tests of edits (git)")

@@ -75,14 +75,12 @@ def checks(command, *words):
 def test_example_in_c(compiler, standard, source, answers, tmp_path):
     """It compiles without a warning, answers with either library, and valgrind has nothing to report of the last."""
     need("c++", "g++")
-    words, example = (*STRICT, f"-std={standard}", "-c", SOURCE / source), tmp_path / "example"
-    for more in [], *LINKED.values():
-        assert run((*words, *more, "-o", example), path=compiler, timeout=None) == Answer(0, "", "")
-        if more:
-            answers(example)
-        words = [example.rename(tmp_path / "object.o")] if not more else words
+    for linked in LINKED.values():
+        words = *STRICT, f"-std={standard}", "-o", tmp_path / "example", SOURCE / source, *linked
+        assert run(words, path=compiler, timeout=None) == Answer(0, "", "")
+        answers(tmp_path / "example")
     need("valgrind", "valgrind")
-    answers(*WATCHED, example)
+    answers(*WATCHED, tmp_path / "example")
 
 
 def test_example_in_python():
@@ -92,10 +90,9 @@ def test_example_in_python():
 def test_example_in_java(tmp_path):
     need("javac", "default-jdk-headless")
     need(JNA, "libjna-java")
-    quick = "-XX:TieredStopAtLevel=1", "-XX:+UseSerialGC"
-    words = *(f"-J{it}" for it in quick), "-cp", JNA, "-d", tmp_path, SOURCE / "java" / "Check.java"
+    words = "-J-XX:TieredStopAtLevel=1", "-cp", JNA, "-d", tmp_path, SOURCE / "java" / "Check.java"
     assert run(words, path="javac", timeout=None).status == 0
-    checks("java", *quick, "-cp", f"{JNA}:{tmp_path}", "Check", SHARED)
+    checks("java", "-XX:TieredStopAtLevel=1", "-XX:+UseSerialGC", "-cp", f"{JNA}:{tmp_path}", "Check", SHARED)
 
 
 # ---- calls

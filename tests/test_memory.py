@@ -82,12 +82,11 @@ def test_stack(words):
 
 
 def test_long_document():
-    """A long document is checked group by group, in an address space that has no room for its JSON value, whichever
-    list comes first. With a key twice it is kept complete, and each list of packets gives back the memory that it
-    lacks."""
+    """A long document is checked group by group in an address space without room for its JSON value, whichever list is
+    first. With a key twice it is kept complete, and each list of packets gives back the memory that it lacks."""
     made = subprocess.check_output([sys.executable, "-B", TOP / "bench" / "documents.py", "500"], text=True)
-    some = re.findall("{[^{}]*}", made) * (GROUPS // 500)  # (to make them all takes 5 s: only identities are)
-    groups = (re.sub('(?<="a1....).{7}', f"{(1 << 24 | at) << 3 | 4:07x}", it) for at, it in enumerate(some))
+    some = enumerate(re.findall("{[^{}]*}", made) * (GROUPS // 500))  # (to make them all takes 5 s: they repeat)
+    groups = (re.sub('(?<="a1....).{7}', f"{(1 << 24 | place) << 3 | 4:07x}", it) for place, it in some)
     groups_first = '{"groups":[%s],"messages":[]}' % ",".join(groups)
     messages_first = '{"messages":[],' + groups_first.removesuffix(',"messages":[]}')[1:] + "}"
     for text, times in (groups_first, 2), (messages_first, 2), ('{"messages":[],' + messages_first[1:], KEPT):

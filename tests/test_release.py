@@ -27,6 +27,7 @@ NEEDS = {"git": "git", "advzip": "advancecomp", "help2man": "help2man", "dpkg-de
 MOST, TOOLS = 700_000, {"advzip": 'for it; do :; done\nexec /usr/bin/advzip -q -z -2 "$it"\n',
                         "gzip": 'exec /usr/bin/gzip "$@" -1\n', "help": '[ $# != 2 ] || exec /usr/bin/python3 "$@"\n'}
 INSTALL = "-m pip install -q --no-index --no-deps --no-compile --disable-pip-version-check *.whl"
+NOT_RUN = "annotation", "returns", "simple", "type_comment"  # (fields of nodes)
 INTERFACE = runpy.run_path(str(TOP / "dist/pack/unread"))["INTERFACE"]
 
 
@@ -39,8 +40,7 @@ def sum_of(path):
 
 
 def shows(page, folder, first="/usr/bin"):
-    """The commands of a page write in this folder what the page shows, whatever their status. A folder comes first on
-    the path."""
+    """Commands of a page write what it shows in this folder, whatever their status, with another first on the path."""
     for commands, wanted in shown(page):
         assert attempt(folder, f"set +e; PATH='{first}':$PATH\n{commands}")[1] == wanted
 
@@ -72,12 +72,8 @@ def has_live_pages(folder, is_installed=True):
             assert line[0] != "$" and re.search("clone|repository", line), (page, line)
 
 
-NOT_RUN = "annotation", "returns", "simple", "type_comment"  # (of nodes)
-
-
 def code_of(text):
-    """What is run of a module, with the lines of statements: no texts and no types. Beside it imports and names of types,
-    each with its line, and the names that are used."""
+    """What is run of a module, with lines, without texts and types; imports and names of types; the names it uses."""
     code, bound, left = [], set(), [ast.parse(text)]
     used = {it.id for it in ast.walk(left[0]) if isinstance(it, ast.Name)}
     for node in left:  # (which grows)
@@ -97,8 +93,7 @@ def code_of(text):
 
 
 def differences(origin, package):
-    """The modules of a package that differ from those of their origin: in code, in its lines, in imports and types whose
-    names are used, or in a rule's page."""
+    """The modules of a package that differ: in code, lines, names that are used, or a rule's page."""
     pages = runpy.run_path(str(package / "rules/pages.py"))
     for path in origin.rglob("*.py"):
         name, text = path.relative_to(origin).as_posix(), text_of(path)
@@ -114,8 +109,7 @@ def differences(origin, package):
 
 @pytest.fixture(scope="module", name="made")
 def a_release(tmp_path_factory):
-    """The folder of a release. Beside it are another one that is made at the same time, its tarball, unpacked, and what
-    a clone installs."""
+    """The folder of a release, beside one made at the same time, its unpacked tarball, and what a clone installs."""
     lacking = [NEEDS[it] for it in NEEDS if not (shutil.which(it) or importlib.util.find_spec(it))]
     if lacking or not (TOP / ".git").exists():
         pytest.skip(f"a release ({', '.join(lacking) or 'git'})")
