@@ -82,7 +82,7 @@ def marked(lines):
 
 
 def in_full(line):
-    """The line in full: `<TEXT N>` is the text N times, innermost first; dots are a digit up to a telegram's next part."""
+    """The line in full: `<TEXT N>` is N times the text, innermost first; dots a digit up to a telegram's next part."""
     repeated = re.compile(r"<([^<>]*) (\d+)>")
     while repeated.search(line):
         line = repeated.sub(lambda found: found[1] * int(found[2]), line)
