@@ -5,7 +5,7 @@ import os
 import pytest
 
 from corpus import long_jobs, runs_of, undisturbed
-from hostile import ALL, CHECK, COMMANDS, Plan, disturbed, shared, stops
+from hostile import ALL, CHECK, Plan, disturbed, shared, stops
 from runner import DEVICE, run
 from test_memory import WORDS
 
