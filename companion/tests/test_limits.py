@@ -91,7 +91,7 @@ def releases(tmp_path_factory: pytest.TempPathFactory, program: Program) -> Rele
     [
         (400, 2400, 15, ["links", "OLD"], "links: "),
         (100, 600, 15, ["draw", "OLD", "--track", "--force", "--svg", "OUT"], ""),
-        (100, 600, 24, ["report", "OLD", "--only", "F", "--force", "--html", "OUT"], 'program: "no: findings '),
+        (120, 1200, 24, ["report", "OLD", "--only", "F", "--force", "--html", "OUT"], 'program: "no: findings '),
         (110, 600, 30, ["report", "OLD", "--force", "--html", "OUT"], 'program: "no: findings '),
         (100, 600, 22, ["diff", "OLD", "NEW", "--force", "--html", "OUT"], "groups added 0, removed 0; "),
     ],

@@ -145,10 +145,9 @@ def test_round_trip(run: Run, program: Program, tmp_path: Path, name: str) -> No
 
 
 @pytest.mark.uncovered
-@pytest.mark.parametrize("seeds", [range(5), pytest.param(range(5, 30), marks=pytest.mark.slow)])
-def test_round_trip_of_random_lines(program: Program, tmp_path: Path, seeds: range) -> None:
+def test_round_trip_of_random_lines(program: Program, tmp_path: Path) -> None:
     """So does that of lines of all kinds and scales."""
-    for seed in seeds:
+    for seed in range(9):
         line = read(program, written(program, tmp_path / "t.csv", random_line(seed)))
         found = results(line, implied_rows(line), tmp_path)
         assert all(not result.found and not result.skipped for result in found.values()), seed
