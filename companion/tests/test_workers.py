@@ -29,7 +29,7 @@ from balisekit.tables import messages as messages_file, reader
 
 Write = Callable[..., Path]
 FEW, MANY = 100, 600
-"""From how many groups on commands share their work in these tests, and how many are half a second of work for workers."""
+"""From how many groups on commands share their work in these tests, and how many keep workers busy for 0.5 s."""
 START = f"""
 import sys
 sys.path.insert(0, {str(TOP / "companion" / "src")!r})

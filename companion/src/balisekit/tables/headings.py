@@ -31,14 +31,12 @@ class Headings(NamedTuple):
 
     def places(self, row: Sequence[str]) -> Dict[str, int]:
         """Where each column is that the row has a heading for."""
-        names = {name: place for place, name in reversed(list(enumerate(compared(row))))}
-        if not self.own:  # (so for most tables, and for each of some rows)
-            return {column: names[column] for column in self.known if column in names}
-        taken, places = set(compared(list(self.own.values()))), {}
+        names, taken = compared(row), set(compared(list(self.own.values())))
+        places = {}
         for column in self.known:
             own = compared([self.own[column]]) if column in self.own else []
             plain = [] if own and self.strict or column in taken else [column]
-            place = next((names[name] for name in [*own, *plain] if name in names), None)
+            place = next((names.index(name) for name in [*own, *plain] if name in names), None)
             if place is not None:
                 places[column] = place
         return places
