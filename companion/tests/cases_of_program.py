@@ -48,7 +48,7 @@ def _examples(radio: bool) -> Iterator[Case]:
 @lru_cache(maxsize=None)
 def cases() -> List[Case]:
     """All but the examples. They take seconds, so that no process makes them before it needs them."""
-    return [*_cases(), *_drawn(1000)]
+    return [*_cases(), *_drawn(300)]
 
 
 @lru_cache(maxsize=None)

@@ -18,7 +18,7 @@ def refused() -> List[Case]:
 
 def test_there_are_cases() -> None:
     """The list of cases is not empty."""
-    assert len(refused()) > 2000 and len(accepted()) > 1000
+    assert len(refused()) > 2000 and len(accepted()) > 500
 
 
 @pytest.mark.uncovered

@@ -3,6 +3,7 @@ from __future__ import annotations
 
 import csv
 import os
+import re
 import signal
 import subprocess
 import sys
@@ -90,7 +91,7 @@ def releases(tmp_path_factory: pytest.TempPathFactory, program: Program) -> Rele
     [
         (400, 2400, 15, ["links", "OLD"], "links: "),
         (100, 600, 15, ["draw", "OLD", "--track", "--force", "--svg", "OUT"], ""),
-        (100, 600, 24, ["report", "OLD", "--only", "F", "--force", "--html", "OUT"], 'program: "no: findings '),
+        (120, 1200, 24, ["report", "OLD", "--only", "F", "--force", "--html", "OUT"], 'program: "no: findings '),
         (110, 600, 30, ["report", "OLD", "--force", "--html", "OUT"], 'program: "no: findings '),
         (100, 600, 22, ["diff", "OLD", "NEW", "--force", "--html", "OUT"], "groups added 0, removed 0; "),
     ],
@@ -102,7 +103,7 @@ def test_10000_groups(
     """Within the limit for 10,000 groups, and the time grows no faster than the number of groups.
 
     The start, which takes as long as some hundred groups, would hide that. So this process runs the commands, once
-    before they are measured.
+    for few groups before they are measured.
     """
     if "--html" in words:
         pytest.importorskip("jinja2")
@@ -117,25 +118,29 @@ def test_10000_groups(
         return max(long / short / (GROWTH * many / few), long * OF / many / limit)
 
     tables = [word for word in words if word in ("OLD", "NEW")]
-    sizes = [{"OUT": tmp_path / "out", **{word: releases(size, word) for word in tables}} for size in (few, many)]
-    once(sizes[0])
+    first, *sizes = (
+        {"OUT": tmp_path / "out", **{word: releases(size, word) for word in tables}} for size in (30, few, many)
+    )
+    run(*[first.get(word, word) for word in words])
     assert is_quick(measure)
 
 
 @pytest.mark.slow
 @pytest.mark.skipif(CHROMIUM is None, reason="tests of balisekit in a browser (chromium)")
-def test_a_browser_opens_a_report_of_300_groups(releases: Releases, program: Program, tmp_path: Path) -> None:
-    """Without a pause: in less than 3 seconds. It lays out what is seen, in 1.9; all of the page takes 3.5.
+def test_a_browser_opens_a_report_of_450_groups(releases: Releases, run: Run, tmp_path: Path) -> None:
+    """Without a pause: in less than 2 seconds. It lays out what is seen, in 1.4; all of the groups take 2.6.
 
-    The page has a picture for each group. The browser is one process here, because others would not be waited for, and
-    not counted.
+    The groups, each with a picture, are those of a small report 15 times. The browser is one process here, because
+    others would not be waited for, and not counted.
     """
     pytest.importorskip("jinja2")
     page, picture = tmp_path / "report.html", tmp_path / "page.png"
-    _run(_words(program, "report", releases(300, "OLD"), "--html", page))
-    assert page.read_text("utf-8").count('<figure class="wide"') == 300
+    run("report", releases(30, "OLD"), "--html", page)
+    groups = re.compile('<section class="group".*</section>(?=\\s*</section>)', re.DOTALL)
+    page.write_text(groups.sub(lambda found: 15 * found[0], page.read_text("utf-8")), "utf-8")
+    assert page.read_text("utf-8").count('<figure class="wide"') == 450
     words = ("--single-process", "--window-size=1100,1400", f"--screenshot={picture}")
-    assert is_within(3, lambda: browse(tmp_path, page, *words))
+    assert is_within(2, lambda: browse(tmp_path, page, *words))
     assert picture.stat().st_size > 50_000
 
 

@@ -59,7 +59,7 @@ def test_changes(run: Run, program: Program, tmp_path: Path, most: int, seeds: r
     assert +missed == unnamed
 
 
-@pytest.mark.parametrize("most, seeds", [(200, range(30)), (12, range(50))])
+@pytest.mark.parametrize("most, seeds", [(200, range(12)), (12, range(20))])
 def test_sound(program: Program, tmp_path: Path, most: int, seeds: range) -> None:
     found = {seed: made for seed in seeds for made in [found_in(program, tmp_path / "t.csv", seed, most)] if made}
     assert not found

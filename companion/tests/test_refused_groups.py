@@ -259,7 +259,7 @@ def test_a_refused_group_may_name_the_border(program: Program, tmp_path: Path) -
     assert not borders(program, tmp_path / "t.csv", rows, of_groups()).found
 
 
-@pytest.mark.parametrize("seeds", [range(12), pytest.param(range(12, 60), marks=pytest.mark.slow)])
+@pytest.mark.parametrize("seeds", [range(12), pytest.param(range(12, 36), marks=pytest.mark.slow)])
 @pytest.mark.uncovered
 def test_random_lines(program: Program, tmp_path: Path, seeds: range) -> None:
     """Sound lines get no remark, whichever of their groups, telegrams or single balises are refused."""

@@ -45,7 +45,7 @@ def _values_in(said: str) -> "Counter[str]":
 
 def test_every_number_is_shown() -> None:
     """The values of the JSON, and of bodies that are read, are those of the text, each as often."""
-    assert len(read()) > 1000
+    assert len(read()) > 500
     for case in read():
         form = json.loads(case.answer)
         wanted = Counter(str(value) for _, value in value_at(with_contents(form)))

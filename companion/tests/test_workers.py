@@ -28,8 +28,8 @@ from balisekit.rules.rule import Options
 from balisekit.tables import messages as messages_file, reader
 
 Write = Callable[..., Path]
-FEW, MANY = 100, 1000
-"""From how many groups on commands share their work in these tests, and how many are a second of work for workers."""
+FEW, MANY = 100, 600
+"""From how many groups on commands share their work in these tests, and how many keep workers busy for 0.5 s."""
 START = f"""
 import sys
 sys.path.insert(0, {str(TOP / "companion" / "src")!r})
