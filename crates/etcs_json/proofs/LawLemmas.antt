@@ -1,8 +1,9 @@
 -- The rows of each telegram and of each radio message are allowed, if none of its numbers is spare.
 -- What is written of a value whose rows are allowed is read as that value again.
-use Rattle.std.proofs.Common.{◌≡◌, Bool, true, false, Result, Ok, IfOk, refl, arith}
+use Rattle.std.proofs.Common.{◌≡◌, ◌≤◌, Bool, true, false, Result, Ok, IfOk, refl, arith}
 use Rattle.std.specs.List.{flat_map}
 use Rattle.serde_json.specs.Data.{Data}
+use Rattle.serde_json.specs.Read.{max_depth}
 use Rattle.serde_json.specs.View.{view}
 use Rattle.serde_json.specs.declared.value.Value.{Value}
 use Rattle.etcs_bits.specs.bits.Number.{worth}
@@ -22,18 +23,33 @@ use Rattle.etcs_radio.specs.declared.train_packet.TrainPacket.{TrainPacket}
 use Rattle.etcs_telegram.specs.Header.{header as header_layout}
 use Rattle.etcs_telegram.specs.Record.{Telegram}
 use Rattle.etcs_json.specs.AnyMessage.{message}
-use Rattle.etcs_json.specs.Authority.{authority}
-use Rattle.etcs_json.specs.Laws.{IsMessageInRange, IsTelegramInRange}
-use Rattle.etcs_json.specs.Messages.{movement_rows, position_rows}
-use Rattle.etcs_json.specs.Report.{lrbg_allowed, report}
-use Rattle.etcs_schema.specs.Codec.{allowed_append}
-use Rattle.etcs_json.specs.Telegrams.{telegram_rows}
-use Rattle.etcs_json.specs.TrackPackets.{track_packet}
+use Rattle.etcs_json.specs.Authority.{authority, danger_point, end_parts, end_timer, overlap, section, section_timer, terms, with_main, without_main}
+use Rattle.etcs_json.specs.Cover.{cover}
+use Rattle.etcs_json.specs.Laws.{IsMessageInRange, IsReadAgain, IsTelegramInRange}
+use Rattle.etcs_json.specs.Messages.{movement, movement_rows, position, position_rows}
+use Rattle.etcs_json.specs.Raw.{raw_packet}
+use Rattle.etcs_json.specs.RawTrain.{raw_train_packet}
+use Rattle.etcs_json.specs.Report.{lrbg_allowed, report, situation, with_one, with_two}
+use Rattle.etcs_schema.specs.Codec.{all_append, object, object_again}
+use Rattle.etcs_json.specs.Telegrams.{header, telegram, telegram_rows}
+use Rattle.etcs_json.specs.TrackPackets.{difference, gradient, gradient_element, link, linking, speed_element, speed_profile, track_packet}
 use Rattle.etcs_json.specs.TrainPackets.{train_packet}
+use Rattle.etcs_json.specs.Transition.{level_order, transition}
 use Rattle.etcs_schema.proofs.Objects.{read_again, written_again}
+use Rattle.etcs_schema.proofs.ReadBackProofs.{text_read_back}
 
 pub telegram_allowed : (t : Telegram) → IsTelegramInRange t → AreAllowed (telegram_rows t)
-telegram_allowed t allowed = allowed_append (header_layout.rows t.header) (flat_map track_layout.rows t.packets) allowed.header allowed.packets
+telegram_allowed t allowed = all_append IsAllowed (header_layout.rows t.header) (flat_map track_layout.rows t.packets) allowed.header allowed.packets
+
+-- none of a telegram's numbers has more than 64 bits, and its form is not deep
+telegram_shallow : (object telegram).back.0 ≤ max_depth
+unfolding telegram header cover linking link with_main without_main terms end_parts section section_timer end_timer danger_point overlap gradient gradient_element speed_profile speed_element difference transition level_order raw_packet
+telegram_shallow = omega arith
+
+pub telegram_again : (t : Telegram) → IsTelegramInRange t → IsReadAgain (object telegram) t
+telegram_again t allowed =
+    let rows = telegram_allowed t allowed in
+    (text_read_back (object telegram) telegram_shallow t rows, object_again telegram t rows)
 
 -- ---- messages
 
@@ -67,6 +83,15 @@ message_allowed (messages.Movement m) allowed =
     movement_in m (movement_allowed m (allowed.head.0, tt) (lrbg_allowed m.lrbg allowed.head.1.1) allowed.packets allowed.complete)
 message_allowed (messages.Position m) allowed =
     position_in m (position_allowed m (allowed.head.0, tt) allowed.head.1 allowed.packets allowed.complete)
+
+message_shallow : message.back.0 ≤ max_depth
+unfolding message movement position cover linking link with_main without_main terms end_parts section section_timer end_timer danger_point overlap gradient gradient_element speed_profile speed_element difference transition level_order raw_packet with_one with_two situation raw_train_packet
+message_shallow = omega arith
+
+pub message_again : (m : Message) → IsMessageInRange m → IsReadAgain message m
+message_again m allowed =
+    let rows = message_allowed m allowed in
+    (text_read_back message message_shallow m rows, message.again m rows)
 
 -- ---- what was written is read again
 

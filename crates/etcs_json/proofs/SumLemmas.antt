@@ -24,7 +24,7 @@ use Rattle.etcs_json.specs.ReportWriting.{first_members as report_first, last_me
 use Rattle.etcs_schema.specs.Codec.{object}
 use Rattle.etcs_json.specs.TrackPackets.{track_numbered, track_packet}
 use Rattle.etcs_json.specs.TrainPackets.{train_numbered, train_packet}
-use Rattle.etcs_schema.proofs.SortedLemmas.{made_members, members_of}
+use Rattle.etcs_schema.specs.lemmas.SortedLemmas.{made_members, members_of}
 
 -- an empty object after inserting members in the byte order of their keys
 pub made_of : (es : List Entry) (old new : Members) (d e : Data) → with_entries no_members es ≡ members_of es → object_data (members_of es) ≡ e

@@ -1,5 +1,8 @@
--- The laws of forms: the form of each telegram and of each radio message is read as that value.
-use Rattle.std.specs.Prelude.{◌≡◌, true, List, Ok}
+-- The laws of forms: the form of each telegram and of each radio message is read as that value, and the text
+-- of the form as the form.
+use Rattle.std.specs.Prelude.{◌≡◌, true, List, Some, Ok}
+use Rattle.serde_json.specs.Read.{read}
+use Rattle.serde_json.specs.Written.{compact_text}
 use Rattle.etcs_schema.specs.Prelude.{flat_map, AreAllowed, Row}
 use Rattle.etcs_profile.specs.Track.{track_packet}
 use Rattle.etcs_telegram.specs.Header.{header}
@@ -9,8 +12,12 @@ use Rattle.etcs_radio.specs.Message.{is_complete, packet_rows}
 use Rattle.etcs_radio.specs.declared.message.Message.{Message}
 use Rattle.etcs_radio.specs.declared.message.Message.TheVariants as messages
 use Rattle.etcs_json.specs.AnyMessage.{message}
-use Rattle.etcs_schema.specs.Codec.{object}
+use Rattle.etcs_schema.specs.Codec.{Codec, object}
 use Rattle.etcs_json.specs.Telegrams.{telegram}
+
+-- The text of the form of x is read as that form, and the form is read as x.
+abbrev pub IsReadAgain : {X : Type 0} → Codec X → X → Type 0
+IsReadAgain form x = (read (compact_text (form.to x)) ≡ Some (form.to x)) × (form.of (form.to x) ≡ Ok x)
 
 -- ---- telegrams
 
@@ -20,10 +27,9 @@ pub record IsTelegramInRange (t : Telegram) : Type 0 where
   pub header : AreAllowed (header.rows t.header)
   pub packets : AreAllowed (flat_map track_packet.rows t.packets)
 
--- The form of a telegram is read as that telegram.
+-- The form of a telegram is read as that telegram, and the text of the form as the form.
 abbrev pub TelegramsAreReadAgain : Type 0
-TelegramsAreReadAgain =
-    (t : Telegram) → IsTelegramInRange t → (object telegram).of ((object telegram).to t) ≡ Ok t
+TelegramsAreReadAgain = (t : Telegram) → IsTelegramInRange t → IsReadAgain (object telegram) t
 
 -- Two telegrams with one form are equal.
 abbrev pub TelegramsHaveFormsOfTheirOwn : Type 0
@@ -44,9 +50,9 @@ pub record IsMessageInRange (m : Message) : Type 0 where
   pub packets : AreAllowed (packet_rows m)
   pub complete : is_complete m ≡ true
 
--- The form of a message is read as that message.
+-- The form of a message is read as that message, and the text of the form as the form.
 abbrev pub MessagesAreReadAgain : Type 0
-MessagesAreReadAgain = (m : Message) → IsMessageInRange m → message.of (message.to m) ≡ Ok m
+MessagesAreReadAgain = (m : Message) → IsMessageInRange m → IsReadAgain message m
 
 -- Two messages with one form are equal.
 abbrev pub MessagesHaveFormsOfTheirOwn : Type 0

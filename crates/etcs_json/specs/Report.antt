@@ -42,11 +42,12 @@ side = named_numbers train3_variable train3_number train3_value train3_names
 
 pub length_keys : (n : ℕ) → HasKeys (length_numbered.next n) (codes "l_trainint" ∷ [])
 length_keys n =
-    keys_by _ _ _ (n == 0) tt (keys_by _ _ _ (n == 1) (λ _. tt) (keys_by _ _ _ (n == 2) (λ _. tt) tt))
+    keys_by _ _ _ (n == 0) tt
+    (keys_by _ _ _ (n == 1) (refl, λ _. tt) (keys_by _ _ _ (n == 2) (refl, λ _. tt) tt))
 
 -- Q_LENGTH, and L_TRAININT at 1 and 2: whether the train is complete, and its length
 abbrev pub integrity : MemberCodec q_length.rows
-integrity = keyed_variables (codes "q_length" ∷ codes "l_trainint" ∷ []) q_length length_keys
+integrity = keyed_variables (codes "q_length" ∷ codes "l_trainint" ∷ []) q_length (refl, length_keys)
 
 -- ---- the members after the groups
 

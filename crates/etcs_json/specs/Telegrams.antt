@@ -1,8 +1,8 @@
 -- The form of a telegram (SUBSET-026, 8.4.2). Each key is named as the standard names its variable, in
 -- small letters. NID_C and NID_BG are the identity of the balise's group. `user_bits` and `packets` are
 -- this project's. Keys are in the order in which they are read.
-use Rattle.std.specs.Prelude.{◌≡◌, ◌++◌, ℕ, ◌==◌, ◌||◌, Bool, true, List, [], Ok, codes, if◌then◌else◌, refl}
-use Rattle.etcs_schema.specs.Prelude.{ap, ◌∙◌, flat_map, Row}
+use Rattle.std.specs.Prelude.{◌≡◌, ◌<◌, ◌++◌, ℕ, ◌==◌, ◌||◌, Bool, true, List, [], Ok, codes, if◌then◌else◌, refl}
+use Rattle.etcs_schema.specs.Prelude.{ap, arith, ◌∙◌, flat_map, Row}
 use Rattle.etcs_bits.specs.declared.layout.fault.FaultKind.TheVariants.{Downlink, Loop}
 use Rattle.etcs_bits.specs.variables.Variables.{only as only_number}
 use Rattle.etcs_profile.specs.Track.{track_packet as track_layout}
@@ -13,6 +13,7 @@ use Rattle.etcs_telegram.specs.declared.size.Size.{Size}
 use Rattle.etcs_telegram.specs.declared.size.Size.TheVariants.{Short, Long}
 use Rattle.etcs_schema.specs.Lists.{listed}
 use Rattle.etcs_schema.specs.Reading.{as_kind, allowed_number}
+use Rattle.etcs_schema.specs.ReadBack.{number_back}
 use Rattle.etcs_json.specs.Report.{identity}
 use Rattle.etcs_schema.specs.Codec.{ObjectMembers, MemberCodec, Codec, closed, key, named, number_again, number_data, struct, unstated, ◌then◌}
 use Rattle.etcs_json.specs.TrackPackets.{track_packet}
@@ -30,6 +31,10 @@ pub is_one : (s : Size) → is_size (user_bits s) ≡ true
 is_one Short = refl
 is_one Long = refl
 
+pub is_few : (s : Size) → user_bits s < 831
+is_few Short = omega arith
+is_few Long = omega arith
+
 pub size_again : (s : Size) → size_from_bits (user_bits s) ≡ s
 size_again Short = refl
 size_again Long = refl
@@ -43,6 +48,7 @@ size = record {
   again =
       λ s _. ap (as_kind size_from_bits) (number_again is_size (user_bits s) (is_one s))
       ∙ ap Ok (size_again s);
+  back = (0, λ n deep s _. number_back 831 n (user_bits s) deep (is_few s));
 }
 
 -- the header; the bits have Q_UPDOWN and Q_MEDIA too

@@ -13,11 +13,11 @@ use Rattle.etcs_schema.specs.Variables.{number}
 pub level_keys : (n : ℕ) → HasKeys (level_numbered.next n) (codes "nid_ntc" ∷ [])
 level_keys n =
     keys_by _ _ _ (n == 0) tt
-    (keys_by _ _ _ (n == 1) (λ _. tt) (keys_by _ _ _ (n == 2) tt (keys_by _ _ _ (n == 3) tt tt)))
+    (keys_by _ _ _ (n == 1) (refl, λ _. tt) (keys_by _ _ _ (n == 2) tt (keys_by _ _ _ (n == 3) tt tt)))
 
 -- the number of a level at this key, and NID_NTC
 abbrev pub level : List ℕ → MemberCodec m_level.rows
-level name = keyed_variables (name ∷ codes "nid_ntc" ∷ []) m_level level_keys
+level name = keyed_variables (name ∷ codes "nid_ntc" ∷ []) m_level (refl, level_keys)
 
 -- one level of the order
 unfoldable pub level_order : ObjectMembers level_order_layout.rows

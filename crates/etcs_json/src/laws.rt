@@ -3,8 +3,8 @@
 
 ghost use Rattle.etcs_json.specs.Laws.{MessagesAreReadAgain, MessagesHaveFormsOfTheirOwn, TelegramsAreReadAgain, TelegramsHaveFormsOfTheirOwn};
 
-/// The form of a telegram is read as that telegram, if none of its numbers is spare. Each value of
-/// `etcs_telegram::Telegram` is such a telegram.
+/// The form of a telegram is read as that telegram, if none of its numbers is spare. The text of the form
+/// is read as the form. Each value of `etcs_telegram::Telegram` is such a telegram.
 pub fn telegrams_are_read_again()
     ensures { TelegramsAreReadAgain }
 {}
@@ -15,7 +15,8 @@ pub fn telegrams_have_forms_of_their_own()
 {}
 
 /// The form of a radio message is read as that message, if none of its numbers is spare and it
-/// contains the packet that it must contain. Each value of `etcs_radio::Message` is such a message.
+/// contains the packet that it must contain. The text of the form is read as the form. Each value of
+/// `etcs_radio::Message` is such a message.
 pub fn messages_are_read_again()
     ensures { MessagesAreReadAgain }
 {}

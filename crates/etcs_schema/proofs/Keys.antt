@@ -14,7 +14,7 @@ use Rattle.etcs_schema.specs.Fault.{Returns, Unknown, here}
 use Rattle.etcs_schema.specs.Reading.{known_or, only_keys}
 use Rattle.etcs_schema.specs.Writing.{sorted_keys}
 use Rattle.etcs_schema.specs.declared.error.FormError.{FormError}
-use Rattle.etcs_schema.proofs.SortedLemmas.{among_onto}
+use Rattle.etcs_schema.specs.lemmas.SortedLemmas.{among_onto}
 
 pub any_key : (name : List ℕ) (keys : List (Bor (List ℕ))) → list_any (λ l. bytes_eq name l.now) keys ≡ is_known name (map (λ l. l.now) keys)
 any_key name [] = refl

@@ -6,10 +6,10 @@ pub mod ItemLemmas
 pub mod KeyLemmas
 pub mod PassLemmas
 pub mod TextLemmas
-pub mod SortedLemmas
 pub mod Objects
 pub mod ListLemmas
 pub mod WritingLemmas
 pub mod BodyTextLemmas
 pub mod PathLemmas
 pub mod AnyList
+pub mod ReadBackProofs

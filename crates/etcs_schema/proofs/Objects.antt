@@ -13,7 +13,7 @@ use Rattle.etcs_schema.specs.Fault.{Fault, ReturnsError, Returns, IsPrefixedFaul
 use Rattle.etcs_schema.specs.Reading.{◌>>=◌, required_member, key_or, known_or, any_member, only_keys}
 use Rattle.etcs_schema.specs.Writing.{sorted}
 use Rattle.etcs_schema.specs.declared.error.FormError.{FormError}
-use Rattle.etcs_schema.proofs.SortedLemmas.{onto_sorted}
+use Rattle.etcs_schema.specs.lemmas.SortedLemmas.{onto_sorted}
 use Rattle.etcs_schema.proofs.TapeLemmas.{some_mapped}
 
 fails_at : {Y : Type 0} (o : Option Fault) (f : Fault) (r : Result Y Fault) → IfSome o (λ g. g ≡ f) → r ≡ Err f → IfSome o (λ g. r ≡ Err g)

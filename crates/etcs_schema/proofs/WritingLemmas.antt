@@ -8,7 +8,7 @@ use Rattle.serde_json.specs.Written.{items_outline, members_outline}
 use Rattle.etcs_schema.specs.Entries.{Entry, are_apart, entries_object}
 use Rattle.etcs_schema.specs.Writing.{each_tokens, entries_tokens, sorted, data_tokens}
 use Rattle.etcs_schema.specs.Codec.{Object, encoded_items}
-use Rattle.etcs_schema.proofs.SortedLemmas.{made_members, members_of}
+use Rattle.etcs_schema.specs.lemmas.SortedLemmas.{made_members, members_of}
 
 -- ---- arrays
 

@@ -1,11 +1,12 @@
 -- Values that are distinguished by a number, such as packets by NID_PACKET. The number is read before any
 -- other key of the object, and decides the form of the whole object.
-use Rattle.std.specs.Prelude.{◌≡◌, ℕ, ◌++◌, ◌==◌, ◌⊎◌, Bool, true, false, List, ◌∷◌, Option, Some, None, Result, Ok, Err, if◌then◌else◌, refl}
-use Rattle.etcs_schema.specs.Prelude.{is_itself, ap, inl, inr, subst, sym, ◌∙◌, ne_eqb, true≢false, Data, Members, as_object, get, AreAllowed, IsAllowed, Row, Variable, alone, row}
+use Rattle.std.specs.Prelude.{◌≡◌, ℕ, ◌≤◌, ◌++◌, ◌==◌, ◌⊎◌, max, Bool, true, false, List, ◌∷◌, Option, Some, None, Result, Ok, Err, if◌then◌else◌, refl}
+use Rattle.etcs_schema.specs.Prelude.{is_itself, arith, ap, inl, inr, subst, sym, ◌∙◌, ne_eqb, true≢false, Data, Members, as_object, get, AreAllowed, IsAllowed, Row, Variable, alone, row}
 use Rattle.etcs_bits.specs.layout.Choice.{either_allows, either_number, either_rows}
 use Rattle.etcs_schema.specs.Entries.{Entry, HasEntries, are_apart, entries_object}
 use Rattle.etcs_schema.specs.lemmas.EntryLemmas.{object_has_entries}
 use Rattle.etcs_schema.specs.Fault.{Fault, Kind, Range, at_once, here, key as key_step}
+use Rattle.etcs_schema.specs.ReadBack.{IsReadBack, ReadsBack}
 use Rattle.etcs_schema.specs.Reading.{◌>>=◌, as_kind, allowed_number, required_member}
 use Rattle.etcs_schema.specs.Codec.{ObjectMembers, MemberCodec, Codec, rest_allowed, fixed, key_again, named, number_again, number_data, object, ◌then◌}
 
@@ -72,6 +73,7 @@ pub record Choice (name : List ℕ) (x : Variable) (X : Type 0) : Type 0 where
   pub is_number : (v : X) → allows (number v) ≡ true
   pub has_number : (v : X) → HasNumber name (number v) (to v)
   pub again : (v : X) → AreAllowed (alone x (number v) ++ rows v) → of (number v) (to v) ≡ Ok v
+  pub back : ReadsBack (λ v. alone x (number v) ++ rows v) (λ n v. IsReadBack n (to v))
 
 -- only the number k
 abbrev pub last : {name : List ℕ} {x : Variable} {k : ℕ} {A : Type 0} {rows : A → List Row}
@@ -86,6 +88,10 @@ last {name = name} {x = x} {k = k} {rows = rows} o = record {
   has_number = λ v. begins_with name k (with_number o) v (o.members.to v) refl;
   again =
       λ v allowed. rw (is_itself k) ((object (with_number o)).again v (rest_allowed x k (rows v) allowed));
+  back = (
+    (object (with_number o)).back.0,
+    λ n deep v allowed. (object (with_number o)).back.1 n deep v (rest_allowed x k (rows v) allowed),
+  );
 }
 
 -- one of two functions, by the kind of the value
@@ -125,6 +131,15 @@ either_again {x = x} {k = k} {rows = rows} o c fresh (inl v) allowed =
 either_again {k = k} o c fresh (inr v) allowed =
     rw (is_another c.allows k (c.number v) fresh (c.is_number v)) (ap (as_kind inr) (c.again v allowed))
 
+pub either_back : {name : List ℕ} {x : Variable} {k : ℕ} {A B : Type 0} {rows : A → List Row}
+    (o : NumberedMembers name k rows) (c : Choice name x B) (n : ℕ)
+    → max (object (with_number o)).back.0 c.back.0 ≤ n
+    → (v : A ⊎ B) → AreAllowed (alone x (either_number k c.number v) ++ either_rows rows c.rows v)
+    → IsReadBack n (by_kind (object (with_number o)).to c.to v)
+either_back {x = x} {k = k} {rows = rows} o c n deep (inl v) allowed =
+    (object (with_number o)).back.1 n (omega arith) v (rest_allowed x k (rows v) allowed)
+either_back o c n deep (inr v) allowed = c.back.1 n (omega arith) v allowed
+
 -- the number k, or one of other numbers
 abbrev pub either : {name : List ℕ} {x : Variable} {k : ℕ} {A B : Type 0} {rows : A → List Row}
     → NumberedMembers name k rows → (c : Choice name x B) → c.allows k ≡ false
@@ -138,6 +153,7 @@ either {k = k} {rows = rows} o c fresh = record {
   is_number = either_is_number k c fresh;
   has_number = either_has_number o c;
   again = either_again o c fresh;
+  back = (max (object (with_number o)).back.0 c.back.0, either_back o c);
 }
 
 pub as_other : (x y : Variable) (n : ℕ) (rows : List Row) → x.width ≡ y.width → y.allows n ≡ true
@@ -160,6 +176,11 @@ others {x = x} y number rows o same is_number has_number = record {
   is_number = is_number;
   has_number = has_number;
   again = λ v allowed. (object o).again v (as_other x y (number v) (rows v) same (is_number v) allowed);
+  back = (
+    (object o).back.0,
+    λ n deep v allowed.
+        (object o).back.1 n deep v (as_other x y (number v) (rows v) same (is_number v) allowed),
+  );
 }
 
 -- ---- the number first, and then the form that it decides
@@ -185,4 +206,5 @@ chosen {x = x} name test c passes = record {
   to = c.to;
   of = λ d. tag_member (allowed_number test) name d >>= λ n. c.of n d;
   again = chosen_again name test c passes;
+  back = c.back;
 }

@@ -1,11 +1,16 @@
 -- The JSON form of a type: what a value is written as, what is read, and that reading what was written gives
--- the same value, if the rows of its bits are allowed.
-use Rattle.std.specs.Prelude.{◌≡◌, ◌≤◌, ◌+◌, ◌++◌, ◌==◌, ℕ, Bool, true, List, [], ◌∷◌, length, Option, Some, None, Result, Ok, Err, if◌then◌else◌, refl}
-use Rattle.etcs_schema.specs.Prelude.{is_itself, flat_map, ap, ◌∙◌, arith, and_from, le-leb, Data, Items, item, no_items, array, number, unsigned, body_rows, counted_rows, option_rows, pair_rows, l_packet, AreAllowed, Row, Variable, alone, width}
+-- the same value, if the rows of its bits are allowed. The text of what was written is read back, too.
+use Rattle.std.specs.Prelude.{◌≡◌, ◌≤◌, ◌+◌, ◌-◌, ◌++◌, ◌==◌, ℕ, suc, max, Bool, true, List, [], ◌∷◌, length, Option, Some, None, IfSome, Result, Ok, Err, if◌then◌else◌, option_map, refl}
+use Rattle.std.specs.List.{AllByRecursion}
+use Rattle.json.specs.Tree.{ItemsHaveNumbers, items_depth}
+use Rattle.serde_json.specs.Read.{of_items}
+use Rattle.serde_json.specs.Written.{items_outline}
+use Rattle.etcs_schema.specs.Prelude.{is_itself, flat_map, ap, ◌∙◌, arith, and_from, le-leb, Data, Items, item, no_items, array, number, unsigned, body_rows, counted_rows, option_rows, pair_rows, l_packet, AreAllowed, IsAllowed, Row, Variable, alone, width}
 use Rattle.etcs_bits.specs.lemmas.RowLemmas.{allowed_first, allowed_second}
 use Rattle.etcs_bits.specs.layout.Struct.{Struct}
 use Rattle.etcs_schema.specs.Entries.{Entry, entry_keys, entries_object, are_apart, HasEntries}
 use Rattle.etcs_schema.specs.lemmas.EntryLemmas.{object_has_entries, object_known, holds_parts, entry_keys-append}
+use Rattle.etcs_schema.specs.ReadBack.{AreReadBack, IsReadBack, NumbersAreRead, ReadsBack, number_back, number_depth, object_back}
 use Rattle.etcs_schema.specs.Fault.{Fault, Range, key as key_step, prefixed_result, here}
 use Rattle.etcs_schema.specs.Reading.{◌>>=◌, allowed_number, indexed_items, data_list, bounded_list, only_keys, required_member, key_or, optional_member, option_or, as_kind}
 
@@ -15,6 +20,7 @@ pub record Codec (X : Type 0) : Type 0 where
   pub to : X → Data
   pub of : Data → Result X Fault
   pub again : (x : X) → AreAllowed (rows x) → of (to x) ≡ Ok x
+  pub back : ReadsBack rows (λ n x. IsReadBack n (to x))
 
 -- some members of an object, in the order in which they are read
 pub record MemberCodec {X : Type 0} (rows : X → List Row) : Type 0 where
@@ -23,6 +29,13 @@ pub record MemberCodec {X : Type 0} (rows : X → List Row) : Type 0 where
   pub of : Data → Result X Fault
   pub has_keys : (x : X) → entry_keys (to x) ≡ keys
   pub again : (x : X) (d : Data) → AreAllowed (rows x) → HasEntries (to x) d → of d ≡ Ok x
+  pub back : ReadsBack rows (λ n x. AreReadBack n (to x))
+
+-- the rows after one row are allowed
+pub rest_allowed : (x : Variable) (n : ℕ) (rows : List Row) → AreAllowed (alone x n ++ rows)
+    → AreAllowed rows
+unfolding alone
+rest_allowed x n rows allowed = allowed.1
 
 -- ---- values
 
@@ -42,6 +55,7 @@ renamed make parts same s = record {
   to = λ y. s.to (parts y);
   of = λ d. as_kind make (s.of d);
   again = λ y allowed. ap (as_kind make) (s.again (parts y) allowed) ∙ ap Ok (same y);
+  back = (s.back.0, λ n deep y. s.back.1 n deep (parts y));
 }
 
 -- the forms of the items
@@ -76,6 +90,25 @@ pub counted_again : {X : Type 0} (s : Codec X) (xs : List X) → AreAllowed (cou
 unfolding alone
 counted_again s xs h = list_again s 0 31 xs (omega arith) (omega (arith, h.0.0)) h.1
 
+items_back : {X : Type 0} (s : Codec X) (n : ℕ) → s.back.0 ≤ n → NumbersAreRead → n ≤ 127 → (xs : List X)
+    → AreAllowed (flat_map s.rows xs)
+    → (of_items (items_outline (encoded_items s.to xs)) ≡ Some (encoded_items s.to xs))
+    × ItemsHaveNumbers (items_outline (encoded_items s.to xs))
+    × (items_depth (items_outline (encoded_items s.to xs)) ≤ n)
+unfolding IsReadBack
+items_back s n deep numbers few [] h = (refl, tt, omega arith)
+items_back s n deep numbers few (x ∷ xs) h =
+    let one = s.back.1 n deep x (allowed_first (s.rows x) (flat_map s.rows xs) h) numbers few in
+    let more = items_back s n deep numbers few xs (allowed_second (s.rows x) (flat_map s.rows xs) h) in
+    (rw (one.0, more.0) refl, (one.1, more.1), omega arith)
+
+pub list_back : {X : Type 0} (s : Codec X) (n : ℕ) → suc s.back.0 ≤ n → (xs : List X)
+    → AreAllowed (flat_map s.rows xs) → IsReadBack n (array (encoded_items s.to xs))
+unfolding IsReadBack
+list_back s n deep xs h numbers few =
+    let all = items_back s (n - 1) (omega arith) numbers (omega arith) xs h in
+    (ap (option_map array) all.0, all.1, omega arith)
+
 -- up to 31 items, after their count
 abbrev pub list : {X : Type 0} → Codec X → Codec (List X)
 list s = record {
@@ -83,6 +116,7 @@ list s = record {
   to = λ xs. array (encoded_items s.to xs);
   of = bounded_list s.of 0 31;
   again = counted_again s;
+  back = (suc s.back.0, λ n deep xs h. list_back s n deep xs (rest_allowed _ _ (flat_map s.rows xs) h));
 }
 
 abbrev pub first_and_rest : {X : Type 0} → List X → Result (X × List X) Fault
@@ -93,20 +127,26 @@ first_and_rest (x ∷ xs) = Ok (x, xs)
 abbrev pub first_and_others : {X : Type 0} → (Data → Result X Fault) → ℕ → Data → Result (X × List X) Fault
 first_and_others read high d = bounded_list read 1 high d >>= first_and_rest
 
-pub allowed_append : (xs ys : List Row) → AreAllowed xs → AreAllowed ys → AreAllowed (xs ++ ys)
-allowed_append [] ys a b = b
-allowed_append (r ∷ xs) ys a b = (a.0, allowed_append xs ys a.1 b)
+pub all_append : {A : Type 0} (P : A → Type 0) (xs ys : List A) → AllByRecursion P xs → AllByRecursion P ys
+    → AllByRecursion P (xs ++ ys)
+all_append P [] ys a b = b
+all_append P (x ∷ xs) ys a b = (a.0, all_append P xs ys a.1 b)
+
+pub all_allowed : {X : Type 0} (rows : X → List Row) (p : X × List X)
+    → AreAllowed (pair_rows rows (counted_rows rows) p) → AreAllowed (flat_map rows (p.0 ∷ p.1))
+unfolding alone
+all_allowed rows p h =
+    all_append IsAllowed (rows p.0) (flat_map rows p.1) (allowed_first (rows p.0) (counted_rows rows p.1) h)
+    (allowed_second (rows p.0) (counted_rows rows p.1) h).1
 
 pub first_again : {X : Type 0} (s : Codec X) (p : X × List X)
     → AreAllowed (pair_rows s.rows (counted_rows s.rows) p)
     → first_and_others s.of 32 (array (encoded_items s.to (p.0 ∷ p.1))) ≡ Ok p
 unfolding alone
 first_again s p h =
-    let first = allowed_first (s.rows p.0) (counted_rows s.rows p.1) h in
     let further = allowed_second (s.rows p.0) (counted_rows s.rows p.1) h in
-    let whole = allowed_append (s.rows p.0) (flat_map s.rows p.1) first further.1 in
     ap (λ r. r >>= first_and_rest)
-    (list_again s 1 32 (p.0 ∷ p.1) (omega arith) (omega (arith, further.0.0)) whole)
+    (list_again s 1 32 (p.0 ∷ p.1) (omega arith) (omega (arith, further.0.0)) (all_allowed s.rows p h))
 
 -- 1 to 32 items: the first, and the others after their count
 abbrev pub non_empty_list : {X : Type 0} → Codec X → Codec (X × List X)
@@ -115,6 +155,7 @@ non_empty_list s = record {
   to = λ p. array (encoded_items s.to (p.0 ∷ p.1));
   of = first_and_others s.of 32;
   again = first_again s;
+  back = (suc s.back.0, λ n deep p h. list_back s n deep (p.0 ∷ p.1) (all_allowed s.rows p h));
 }
 
 -- ---- members
@@ -133,6 +174,7 @@ key name s = record {
   of = required_member s.of name;
   has_keys = λ x. refl;
   again = λ x d allowed. key_again s.to s.of name x d (s.again x allowed);
+  back = (s.back.0, λ n deep x h. (s.back.1 n deep x h, tt));
 }
 
 abbrev pub optional : {X : Type 0} → (X → Data) → Option X → Option Data
@@ -146,6 +188,12 @@ unfolding optional_member alone
 option_again s name None d allowed holds = ap (option_or s.of name) holds.0
 option_again s name (Some x) d allowed holds = rw (holds.0, s.again x allowed.1) refl
 
+pub option_back : {X : Type 0} (s : Codec X) (name : List ℕ) (n : ℕ) → s.back.0 ≤ n → (o : Option X)
+    → AreAllowed (option_rows s.rows o) → AreReadBack n ((name, optional s.to o) ∷ [])
+unfolding alone
+option_back s name n deep None h = (tt, tt)
+option_back s name n deep (Some x) h = (s.back.1 n deep x h.1, tt)
+
 -- a key that is present if and only if the option is `Some`
 abbrev pub optional_key : {X : Type 0} → List ℕ → (s : Codec X) → MemberCodec (option_rows s.rows)
 optional_key name s = record {
@@ -154,6 +202,7 @@ optional_key name s = record {
   of = optional_member s.of name;
   has_keys = λ o. refl;
   again = option_again s name;
+  back = (s.back.0, option_back s name);
 }
 
 abbrev pub decoded_pair : {A B : Type 0} → (Data → Result A Fault) → (Data → Result B Fault) → Data
@@ -171,6 +220,14 @@ then_again {rows_a = rows_a} {rows_b = rows_b} a b p d allowed holds =
       b.again p.1 d (allowed_second (rows_a p.0) (rows_b p.1) allowed) parts.1,
     ) refl
 
+pub then_back : {A B : Type 0} {rows_a : A → List Row} {rows_b : B → List Row} (a : MemberCodec rows_a)
+    (b : MemberCodec rows_b) (n : ℕ) → max a.back.0 b.back.0 ≤ n → (p : A × B)
+    → AreAllowed (pair_rows rows_a rows_b p) → AreReadBack n (a.to p.0 ++ b.to p.1)
+then_back {rows_a = rows_a} {rows_b = rows_b} a b n deep p h =
+    all_append (λ e. IfSome e.1 (IsReadBack n)) (a.to p.0) (b.to p.1)
+    (a.back.1 n (omega arith) p.0 (allowed_first (rows_a p.0) (rows_b p.1) h))
+    (b.back.1 n (omega arith) p.1 (allowed_second (rows_a p.0) (rows_b p.1) h))
+
 -- members, and then more members
 infixr 5 ◌then◌
 abbrev pub ◌then◌ : {A B : Type 0} {rows_a : A → List Row} {rows_b : B → List Row}
@@ -182,6 +239,7 @@ a then b = record {
   of = decoded_pair a.of b.of;
   has_keys = λ p. entry_keys-append (a.to p.0) (b.to p.1) ∙ rw (a.has_keys p.0, b.has_keys p.1) refl;
   again = then_again a b;
+  back = (max a.back.0 b.back.0, then_back a b);
 }
 
 -- the members of a struct are the members of its parts
@@ -195,6 +253,7 @@ named with_parts parts_of same a = record {
   again =
       λ y d allowed holds. ap (λ r. r >>= λ x. Ok (with_parts x)) (a.again (parts_of y) d allowed holds)
       ∙ ap Ok (same y);
+  back = (a.back.0, λ n deep y. a.back.1 n deep (parts_of y));
 }
 
 -- members as a struct, whose bits have the same parts
@@ -211,13 +270,8 @@ with_bits rows keeps a = record {
   of = a.of;
   has_keys = a.has_keys;
   again = λ x d allowed. a.again x d (keeps x allowed);
+  back = (a.back.0, λ n deep x allowed. a.back.1 n deep x (keeps x allowed));
 }
-
--- the rows after one row are allowed
-pub rest_allowed : (x : Variable) (n : ℕ) (rows : List Row) → AreAllowed (alone x n ++ rows)
-    → AreAllowed rows
-unfolding alone
-rest_allowed x n rows allowed = allowed.1
 
 -- members after a number that is in the bits, but not a member
 abbrev pub unstated : {X : Type 0} {rows : X → List Row} (x : Variable) (n : ℕ) → MemberCodec rows
@@ -241,6 +295,7 @@ fixed name k = record {
   again = λ _ d _ holds. ap (λ r. r >>= λ _. Ok tt)
       (key_again number_data (allowed_number (λ n. n == k)) name k d
       (number_again (λ n. n == k) k (is_itself k)) holds);
+  back = (number_depth (suc k), λ n deep _ _. (number_back (suc k) n k deep (omega arith), tt));
 }
 
 abbrev pub only : {X : Type 0} → Fault → (X → Bool) → X → Result X Fault
@@ -249,11 +304,8 @@ only fault holds x = if holds x then Ok x else Err fault
 -- members of records that pass a test; allowed rows pass it, and a record that fails it has the fault
 abbrev pub tested : {X : Type 0} {rows : X → List Row} → Fault → (test : X → Bool)
     → ((x : X) → AreAllowed (rows x) → test x ≡ true) → MemberCodec rows → MemberCodec rows
-tested fault test passes a = record {
-  keys = a.keys;
-  to = a.to;
+tested fault test passes a = record a {
   of = λ d. a.of d >>= only fault test;
-  has_keys = a.has_keys;
   again = λ x d allowed holds. rw (a.again x d allowed holds, passes x allowed) refl;
 }
 
@@ -279,6 +331,13 @@ object_again o x allowed =
     let holds = object_has_entries (o.members.to x) (ap are_apart (o.members.has_keys x) ∙ o.apart) in
     rw known (o.members.again x (entries_object (o.members.to x)) allowed holds)
 
+pub object_back_of : {X : Type 0} {rows : X → List Row} (o : ObjectMembers rows) (n : ℕ)
+    → suc o.members.back.0 ≤ n → (x : X) → AreAllowed (rows x)
+    → IsReadBack n (entries_object (o.members.to x))
+object_back_of o n deep x allowed =
+    object_back n (o.members.to x) (ap are_apart (o.members.has_keys x) ∙ o.apart) (omega arith)
+    (o.members.back.1 (n - 1) (omega arith) x allowed)
+
 -- an object with only these members
 abbrev pub object : {X : Type 0} {rows : X → List Row} → ObjectMembers rows → Codec X
 object {rows = rows} o = record {
@@ -286,6 +345,7 @@ object {rows = rows} o = record {
   to = λ x. entries_object (o.members.to x);
   of = λ d. only_keys o.members.keys d >>= λ u. o.members.of d;
   again = object_again o;
+  back = (suc o.members.back.0, object_back_of o);
 }
 
 -- the members of an object, with the rows of its bits

@@ -4,6 +4,7 @@ use Rattle.std.specs.Prelude.{◌≡◌, ◌+◌, ◌-◌, ◌^◌, ◌&&◌, �
 use Rattle.etcs_schema.specs.Prelude.{arith, Data, string, l_kept, kept_bits, AreAllowed}
 use Rattle.etcs_schema.specs.BodyText.{decoded_body, body_text}
 use Rattle.etcs_schema.specs.lemmas.BodyLemmas.{body_again}
+use Rattle.etcs_schema.specs.ReadBack.{number_back, string_back}
 use Rattle.etcs_schema.specs.Entries.{HasEntries}
 use Rattle.etcs_schema.specs.Fault.{Fault}
 use Rattle.etcs_schema.specs.Reading.{◌>>=◌, required_member, allowed_number}
@@ -50,4 +51,8 @@ counted_body before = record {
   of = decoded_counted_body (before + 13);
   has_keys = λ body. refl;
   again = counted_body_again before;
+  back = (
+    0,
+    λ n deep body h. (number_back (2 ^ 13) n _ deep h.0.0, (string_back n (body_text body), tt)),
+  );
 }

@@ -1,9 +1,10 @@
 -- The variables of a layout as members of an object, each at its own key. Keys without a variable must be
 -- absent: NID_NTC is in the object if and only if it is in the bits.
-use Rattle.std.specs.Prelude.{◌≡◌, ℕ, Bool, true, false, List, [], ◌∷◌, Option, Result, Ok, Err, if◌then◌else◌, drop, option_map, refl}
-use Rattle.etcs_schema.specs.Prelude.{slice_get, ap, sym, ◌∙◌, Data, AreRowsOf, Fields, nothing, field, ◌▹◌, sized, Format, AreAllowed, Row, row}
+use Rattle.std.specs.Prelude.{◌≡◌, ◌^◌, ℕ, Bool, true, false, List, [], ◌∷◌, Option, Result, Ok, Err, if◌then◌else◌, drop, option_map, refl}
+use Rattle.etcs_schema.specs.Prelude.{slice_get, arith, ap, sym, ◌∙◌, Data, AreRowsOf, Fields, nothing, field, ◌▹◌, sized, Format, AreAllowed, Row, row}
 use Rattle.etcs_schema.specs.Entries.{Entry, HasEntries, entry_keys}
 use Rattle.etcs_schema.specs.Fault.{Fault, Range, here}
+use Rattle.etcs_schema.specs.ReadBack.{AreReadBack, number_back, number_depth}
 use Rattle.etcs_schema.specs.Reading.{◌>>=◌, allowed_number, required_member, absent_member, unwanted_or}
 use Rattle.etcs_schema.specs.Codec.{MemberCodec, key_again, number_again, number_data, optional}
 use Rattle.etcs_schema.specs.Variables.{is_allowed, number_allowed}
@@ -27,10 +28,10 @@ rows_read (field x next) (k ∷ ks) d =
     >>= λ rows. Ok (row x n ∷ rows)
 rows_read other ks d = Err (here Range)
 
--- there is a key for each variable, whatever the numbers are
+-- there is a key for each variable, whatever the numbers are, and the variable has at most 64 bits
 abbrev pub HasKeys : Fields → List (List ℕ) → Type 0
 HasKeys nothing ks = Unit {0}
-HasKeys (field x next) (k ∷ ks) = (n : ℕ) → HasKeys (next n) ks
+HasKeys (field x next) (k ∷ ks) = (number_depth (2 ^ x.width) ≡ 0) × ((n : ℕ) → HasKeys (next n) ks)
 HasKeys other ks = ⊥
 
 -- the fields after a number have keys if the fields of both branches have keys
@@ -43,23 +44,27 @@ pub keys_at : (ks : List (List ℕ)) (rows : List Row) → entry_keys (variable_
 keys_at [] rows = refl
 keys_at (k ∷ ks) rows = ap (λ ls. k ∷ ls) (keys_at ks (drop 1 rows))
 
-pub rows_again : (fields : Fields) (ks : List (List ℕ)) → HasKeys fields ks → (rows : List Row)
-    → AreRowsOf fields rows → AreAllowed rows
-    → (d : Data) → HasEntries (variable_entries ks rows) d → rows_read fields ks d ≡ Ok rows
+pub rows_again : (n : ℕ) (fields : Fields) (ks : List (List ℕ)) → HasKeys fields ks → (rows : List Row)
+    → AreRowsOf fields rows → AreAllowed rows → AreReadBack n (variable_entries ks rows)
+    × ((d : Data) → HasEntries (variable_entries ks rows) d → rows_read fields ks d ≡ Ok rows)
 unfolding absent_member
-rows_again nothing [] has rows are allowed d holds = ap Ok (sym are)
-rows_again nothing (k ∷ ks) has rows are allowed d holds =
-    let free = rw are at holds in
-    rw (ap (unwanted_or k) free.0, rows_again nothing ks has [] refl tt d free.1) (ap Ok (sym are))
-rows_again (field x next) [] has rows are allowed d holds = absurd has
-rows_again (field x next) (k ∷ ks) has rows are allowed d holds =
+rows_again n nothing [] has rows are allowed = (tt, λ d holds. ap Ok (sym are))
+rows_again n nothing (k ∷ ks) has rows are allowed =
+    let rest = rows_again n nothing ks has [] refl tt in
+    rw are ((tt, rest.0), λ d holds. rw (ap (unwanted_or k) holds.0) (rest.1 d holds.1))
+rows_again n (field x next) [] has rows are allowed = absurd has
+rows_again n (field x next) (k ∷ ks) has rows are allowed =
     let both = rw are.2 at allowed in
-    let there = rw are.2 at holds in
-    let first = key_again number_data (allowed_number (is_allowed x)) k are.0 d
-    (number_again (is_allowed x) are.0 (number_allowed x are.0 both.0)) (there.0, tt) in
-    rw (first, rows_again (next are.0) ks (has are.0) are.1 are.3 both.1 d there.1) (ap Ok (sym are.2))
-rows_again (a ▹ b) ks has rows are allowed d holds = absurd has
-rows_again (sized before body) ks has rows are allowed d holds = absurd has
+    let rest = rows_again n (next are.0) ks (has.1 are.0) are.1 are.3 both.1 in
+    let read = number_again (is_allowed x) are.0 (number_allowed x are.0 both.0) in
+    rw are.2 (
+      (number_back (2 ^ x.width) n are.0 (omega (arith, has.0)) both.0.0, rest.0),
+      λ d holds.
+          rw (key_again number_data (allowed_number (is_allowed x)) k are.0 d read (holds.0, tt), rest.1 d holds.1)
+          refl,
+    )
+rows_again n (a ▹ b) ks has rows are allowed = absurd has
+rows_again n (sized before body) ks has rows are allowed = absurd has
 
 -- the variables of a layout, each at its key
 abbrev pub keyed_variables : {X : Type 0} (ks : List (List ℕ)) (layout : Format X) → HasKeys layout.fields ks
@@ -71,6 +76,10 @@ keyed_variables ks layout has = record {
   has_keys = λ x. keys_at ks (layout.rows x);
   again = λ x d allowed holds.
       ap (λ r. r >>= λ rows. Ok (layout.of rows))
-      (rows_again layout.fields ks has (layout.rows x) (layout.laid.are_rows x) allowed d holds) ∙ ap Ok
-      (layout.laid.is_record x);
+      ((rows_again 0 layout.fields ks has (layout.rows x) (layout.laid.are_rows x) allowed).1 d holds)
+      ∙ ap Ok (layout.laid.is_record x);
+  back = (
+    0,
+    λ n _ x h. (rows_again n layout.fields ks has (layout.rows x) (layout.laid.are_rows x) h).0,
+  );
 }

@@ -6,6 +6,7 @@ pub mod Reading
 pub mod json_value
 pub mod Codec
 pub mod Writing
+pub mod ReadBack
 pub mod Variables
 pub mod KeyedVariables
 pub mod Choices

@@ -1,10 +1,10 @@
 -- Lists of any length, and records with a condition that is checked after they are read.
-use Rattle.std.specs.Prelude.{◌≡◌, ◌++◌, Bool, true, false, List, Option, Some, None, Result, Ok, Err}
+use Rattle.std.specs.Prelude.{◌≡◌, ◌++◌, suc, Bool, true, false, List, Option, Some, None, Result, Ok, Err}
 use Rattle.etcs_schema.specs.Prelude.{flat_map, Data, Items, array, as_array, AreAllowed, Row, alone}
 use Rattle.etcs_bits.specs.declared.layout.fault.FaultKind.TheVariants.{Spare}
 use Rattle.etcs_schema.specs.Fault.{Fault, Kind, here}
 use Rattle.etcs_schema.specs.Reading.{data_list, indexed_items}
-use Rattle.etcs_schema.specs.Codec.{MemberCodec, Codec, items_again, encoded_items, with_bits, tested}
+use Rattle.etcs_schema.specs.Codec.{MemberCodec, Codec, items_again, list_back, encoded_items, with_bits, tested}
 
 -- ---- lists
 
@@ -28,6 +28,7 @@ listed s = record {
   to = λ xs. array (encoded_items s.to xs);
   of = unbounded_list s.of;
   again = listed_again s;
+  back = (suc s.back.0, list_back s);
 }
 
 -- ---- records with a condition

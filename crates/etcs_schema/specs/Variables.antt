@@ -1,5 +1,5 @@
 -- The variables of the standard as whole numbers of JSON (SUBSET-026, 7.5.1).
-use Rattle.std.specs.Prelude.{◌≡◌, ℕ, ◌^◌, ◌&&◌, Bool, true, false, Ok, ltb, refl}
+use Rattle.std.specs.Prelude.{◌≡◌, ◌≤◌, ℕ, ◌^◌, ◌&&◌, Bool, true, false, Ok, ltb, refl}
 use Rattle.etcs_schema.specs.Prelude.{and_from, lt-ltb, Fields, field, AreAllowed, IsAllowed, Variable, alone, row, dir_number, dir_variable, dup_number, duplicate_variable, plain, scale_number, scale_variable, version_number, version_variable}
 use Rattle.etcs_bits.specs.bits.Number.{worth}
 use Rattle.etcs_bits.specs.declared.layout.fault.FaultKind.TheVariants.{Spare}
@@ -10,6 +10,7 @@ use Rattle.etcs_bits.specs.declared.variables.version.Version.{Version}
 use Rattle.etcs_bits.specs.layout.Values.{AreNames}
 use Rattle.etcs_bits.specs.lemmas.VariableLemmas.{dir_names, dup_names, scale_names, version_names}
 use Rattle.etcs_bits.specs.variables.VariableValues.{dir_value, dup_value, flag_value, scale_value, version_value}
+use Rattle.etcs_schema.specs.ReadBack.{IsReadBack, number_back, number_depth}
 use Rattle.etcs_schema.specs.Reading.{allowed_number}
 use Rattle.etcs_schema.specs.Codec.{Codec, number_again, number_data, renamed}
 
@@ -25,10 +26,20 @@ pub variable_again : (x : Variable) (n : ℕ) → AreAllowed (alone x n)
 unfolding alone
 variable_again x n allowed = number_again (is_allowed x) n (number_allowed x n allowed.0)
 
+pub variable_back : (x : Variable) (n : ℕ) → number_depth (2 ^ x.width) ≤ n → (k : ℕ) → AreAllowed (alone x k)
+    → IsReadBack n (number_data k)
+unfolding alone
+variable_back x n deep k allowed = number_back (2 ^ x.width) n k deep allowed.0.0
+
 -- a variable as its number
 abbrev pub variable : Variable → Codec ℕ
-variable x =
-    record { rows = alone x; to = number_data; of = allowed_number (is_allowed x); again = variable_again x }
+variable x = record {
+  rows = alone x;
+  to = number_data;
+  of = allowed_number (is_allowed x);
+  again = variable_again x;
+  back = (number_depth (2 ^ x.width), variable_back x);
+}
 
 -- the first variable of some fields; without fields, a variable that allows no number
 abbrev pub first_variable : Fields → Variable

@@ -2,3 +2,4 @@
 pub mod EntryLemmas
 pub mod BodyLemmas
 pub mod AppendLemmas
+pub mod SortedLemmas

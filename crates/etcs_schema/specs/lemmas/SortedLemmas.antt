@@ -6,6 +6,7 @@ use Rattle.std.proofs.lemmas.Bool.Decides.{nat_tests}
 use Rattle.std.proofs.lemmas.Cmp.{nat_list_cmp_total}
 use Rattle.std.proofs.lemmas.Map.Text.{is_eq-slice_cmp}
 use Rattle.std.specs.Cmp.Lexicographic.{slice_cmp}
+use Rattle.std.specs.List.{AllByRecursion}
 use Rattle.std.specs.Ordering.{match_ordering, ordering_reverse}
 use Rattle.serde_json.specs.Data.{Data, Members, member, no_members, put}
 use Rattle.etcs_schema.specs.lemmas.EntryLemmas.{apart_sym}
@@ -45,32 +46,43 @@ not_inserted : (k : List ℕ) (e : Entry) (es : List Entry) → bytes_eq k e.0 �
 not_inserted k e es other none = among_inserted k e es ∙ or_from _ _ other none
 
 -- the keys of the first are none of the second's
-AreNew : List Entry → List Entry → Type 0
-AreNew [] done = Unit {0}
-AreNew (e ∷ es) done = (is_known e.0 (entry_keys done) ≡ false) × AreNew es done
+abbrev AreNew : List Entry → List Entry → Type 0
+AreNew es done = AllByRecursion (λ e. is_known e.0 (entry_keys done) ≡ false) es
 
 new_at_first : (es : List Entry) → AreNew es []
-unfolding AreNew
 new_at_first [] = tt
 new_at_first (e ∷ es) = (refl, new_at_first es)
 
 still_new : (e : Entry) (es done : List Entry) → is_known e.0 (entry_keys es) ≡ false → AreNew es done → AreNew es (insert e done)
-unfolding AreNew
 still_new e [] done none new = tt
 still_new e (f ∷ fs) done none new =
     let both = or_parts _ _ none in
     (not_inserted f.0 e done (apart_sym e.0 f.0 both.0) new.0, still_new e fs done both.1 new.1)
 
-IsAbove : List ℕ → List Entry → Type 0
-IsAbove k [] = Unit {0}
-IsAbove k (e ∷ es) = (slice_cmp nat_cmp k e.0 ≡ Less) × IsAbove k es
+-- what holds for an entry and for each of others, holds for each of them in any order
 
-IsAscending : List Entry → Type 0
+all_inserted_at : (P : Entry → Type 0) (o : Ordering) (e f : Entry) (fs : List Entry) → P e → AllByRecursion P (f ∷ fs) → AllByRecursion P (insert e fs)
+    → AllByRecursion P (match_ordering o (e ∷ f ∷ fs) (e ∷ f ∷ fs) (f ∷ insert e fs))
+all_inserted_at P Less e f fs one others later = (one, others)
+all_inserted_at P Equal e f fs one others later = (one, others)
+all_inserted_at P Greater e f fs one others later = (others.0, later)
+
+all_inserted : (P : Entry → Type 0) (e : Entry) (es : List Entry) → P e → AllByRecursion P es → AllByRecursion P (insert e es)
+all_inserted P e [] one others = (one, tt)
+all_inserted P e (f ∷ fs) one others = all_inserted_at P _ e f fs one others (all_inserted P e fs one others.1)
+
+pub all_onto : (P : Entry → Type 0) (done es : List Entry) → AllByRecursion P done → AllByRecursion P es → AllByRecursion P (insert_all done es)
+all_onto P done [] before more = before
+all_onto P done (e ∷ es) before more = all_onto P (insert e done) es (all_inserted P e done more.0 before) more.1
+
+abbrev IsAbove : List ℕ → List Entry → Type 0
+IsAbove k es = AllByRecursion (λ e. slice_cmp nat_cmp k e.0 ≡ Less) es
+
+abbrev IsAscending : List Entry → Type 0
 IsAscending [] = Unit {0}
 IsAscending (e ∷ es) = IsAbove e.0 es × IsAscending es
 
 above_all : (k l : List ℕ) (es : List Entry) → slice_cmp nat_cmp k l ≡ Less → IsAbove l es → IsAbove k es
-unfolding IsAbove
 above_all k l [] less above = tt
 above_all k l (e ∷ es) less above = (nat_list_cmp_total.trans k l e.0 less above.0, above_all k l es less above.1)
 
@@ -79,7 +91,6 @@ put_first_or k l d None ms less rest = rest
 put_first_or k l d (Some e) ms less rest = rw less refl
 
 put_first : (k : List ℕ) (d : Data) (es : List Entry) → IsAbove k es → put k d (members_of es) ≡ member k d (members_of es)
-unfolding IsAbove
 put_first k d [] above = refl
 put_first k d (e ∷ es) above = put_first_or k e.0 d e.1 (members_of es) above.0 (put_first k d es above.1)
 
@@ -93,13 +104,11 @@ not_equal k l other equal = true≢false (sym (ap is_eq equal) ∙ is_eq-slice_c
 put_some_at : (o : Ordering) (k : List ℕ) (d : Data) (f : Entry) (fs : List Entry) → slice_cmp nat_cmp k f.0 ≡ o
     → IsAbove f.0 fs → bytes_eq k f.0 ≡ false → put k d (members_of fs) ≡ members_of (insert (k, Some d) fs)
     → put k d (members_of (f ∷ fs)) ≡ members_of (match_ordering o ((k, Some d) ∷ f ∷ fs) ((k, Some d) ∷ f ∷ fs) (f ∷ insert (k, Some d) fs))
-unfolding IsAbove
 put_some_at Less k d f fs is above other later = put_first k d (f ∷ fs) (is, above_all k f.0 fs is above)
 put_some_at Equal k d f fs is above other later = absurd (not_equal k f.0 other is)
 put_some_at Greater k d f fs is above other later = put_later k f.0 d f.1 (members_of fs) _ is later
 
 put_some : (k : List ℕ) (d : Data) (es : List Entry) → IsAscending es → is_known k (entry_keys es) ≡ false → put k d (members_of es) ≡ members_of (insert (k, Some d) es)
-unfolding IsAscending
 put_some k d [] up none = refl
 put_some k d (f ∷ fs) up none =
     let both = or_parts _ _ none in
@@ -119,58 +128,35 @@ put_insert : (k : List ℕ) (o : Option Data) (es : List Entry) → IsAscending 
 put_insert k None es up none = insert_none k es
 put_insert k (Some d) es up none = put_some k d es up none
 
-above_insert_at : (o : Ordering) (l : List ℕ) (e f : Entry) (fs : List Entry) → slice_cmp nat_cmp l e.0 ≡ Less → slice_cmp nat_cmp l f.0 ≡ Less → IsAbove l fs → IsAbove l (insert e fs)
-    → IsAbove l (match_ordering o (e ∷ f ∷ fs) (e ∷ f ∷ fs) (f ∷ insert e fs))
-unfolding IsAbove
-above_insert_at Less l e f fs one two rest later = (one, (two, rest))
-above_insert_at Equal l e f fs one two rest later = (one, (two, rest))
-above_insert_at Greater l e f fs one two rest later = (two, later)
-
-above_insert : (l : List ℕ) (e : Entry) (es : List Entry) → slice_cmp nat_cmp l e.0 ≡ Less → IsAbove l es → IsAbove l (insert e es)
-unfolding IsAbove
-above_insert l e [] less above = (less, tt)
-above_insert l e (f ∷ fs) less above = above_insert_at _ l e f fs less above.0 above.1 (above_insert l e fs less above.1)
-
 ascending_insert_at : (o : Ordering) (e f : Entry) (fs : List Entry) → slice_cmp nat_cmp e.0 f.0 ≡ o → bytes_eq e.0 f.0 ≡ false → IsAbove f.0 fs → IsAscending fs → IsAscending (insert e fs)
     → IsAscending (match_ordering o (e ∷ f ∷ fs) (e ∷ f ∷ fs) (f ∷ insert e fs))
-unfolding IsAbove IsAscending
 ascending_insert_at Less e f fs is other above up later = ((is, above_all e.0 f.0 fs is above), (above, up))
 ascending_insert_at Equal e f fs is other above up later = absurd (not_equal e.0 f.0 other is)
 ascending_insert_at Greater e f fs is other above up later =
     let back : slice_cmp nat_cmp f.0 e.0 ≡ Less = nat_list_cmp_total.antisymm f.0 e.0 ∙ ap ordering_reverse is in
-    (above_insert f.0 e fs back above, later)
+    (all_inserted (λ g. slice_cmp nat_cmp f.0 g.0 ≡ Less) e fs back above, later)
 
 ascending_insert : (e : Entry) (es : List Entry) → IsAscending es → is_known e.0 (entry_keys es) ≡ false → IsAscending (insert e es)
-unfolding IsAbove IsAscending
 ascending_insert e [] up none = (tt, tt)
 ascending_insert e (f ∷ fs) up none =
     let both = or_parts _ _ none in
     ascending_insert_at _ e f fs refl both.0 up.0 up.1 (ascending_insert e fs up.1 both.1)
 
-onto_members : (done es : List Entry) → IsAscending done → are_apart (entry_keys es) ≡ true → AreNew es done → with_entries (members_of done) es ≡ members_of (insert_all done es)
-unfolding AreNew
-onto_members done [] up apart new = refl
+onto_members : (done es : List Entry) → IsAscending done → are_apart (entry_keys es) ≡ true → AreNew es done
+    → (with_entries (members_of done) es ≡ members_of (insert_all done es)) × IsAscending (insert_all done es)
+onto_members done [] up apart new = (refl, up)
 onto_members done (e ∷ es) up apart new =
     let both = and_parts _ _ apart in
-    rw (put_insert e.0 e.1 done up new.0)
-    (onto_members (insert e done) es (ascending_insert e done up new.0) both.1 (still_new e es done (not-true _ both.0) new.1))
+    let rest = onto_members (insert e done) es (ascending_insert e done up new.0) both.1 (still_new e es done (not-true _ both.0) new.1) in
+    (ap (λ ms. with_entries ms es) (put_insert e.0 e.1 done up new.0) ∙ rest.0, rest.1)
 
 -- members that are inserted one after the other make one object, in any order
 pub made_members : (es : List Entry) → are_apart (entry_keys es) ≡ true → with_entries no_members es ≡ members_of (sorted es)
-unfolding IsAscending
-made_members es apart = onto_members [] es tt apart (new_at_first es)
+made_members es apart = (onto_members [] es tt apart (new_at_first es)).0
 
 -- ---- entries that are in order
 
-ascending_onto : (done es : List Entry) → IsAscending done → are_apart (entry_keys es) ≡ true → AreNew es done → IsAscending (insert_all done es)
-unfolding AreNew
-ascending_onto done [] up apart new = up
-ascending_onto done (e ∷ es) up apart new =
-    let both = and_parts _ _ apart in
-    ascending_onto (insert e done) es (ascending_insert e done up new.0) both.1 (still_new e es done (not-true _ both.0) new.1)
-
 above_in : (l : List ℕ) (done : List Entry) (f : Entry) (fs : List Entry) → IsAbove l (done ++ f ∷ fs) → slice_cmp nat_cmp l f.0 ≡ Less
-unfolding IsAbove
 above_in l [] f fs above = above.0
 above_in l (e ∷ done) f fs above = above_in l done f fs above.1
 
@@ -183,7 +169,6 @@ put_last_at k None l p ms ns less rest = ap (member_or l p) rest
 put_last_at k (Some d) l p ms ns less rest = put_later k l d p ms ns (nat_list_cmp_total.antisymm k l ∙ ap ordering_reverse less) rest
 
 put_last : (done : List Entry) (f : Entry) (fs : List Entry) → IsAscending (done ++ f ∷ fs) → put_or f.0 f.1 (members_of done) ≡ members_of (done ++ f ∷ [])
-unfolding IsAscending
 put_last [] f fs up = put_alone f.0 f.1
 put_last (e ∷ done) f fs up = put_last_at f.0 f.1 e.0 e.1 (members_of done) _ (above_in e.0 done f fs up.0) (put_last done f fs up.1)
 
@@ -195,5 +180,4 @@ onto_last done (f ∷ fs) up =
 
 -- members that are sorted first make the same object
 pub onto_sorted : (es : List Entry) → are_apart (entry_keys es) ≡ true → with_entries no_members (sorted es) ≡ with_entries no_members es
-unfolding IsAscending
-onto_sorted es apart = onto_last [] (sorted es) (ascending_onto [] es tt apart (new_at_first es)) ∙ sym (made_members es apart)
+onto_sorted es apart = onto_last [] (sorted es) (onto_members [] es tt apart (new_at_first es)).1 ∙ sym (made_members es apart)
