@@ -77,8 +77,7 @@ def cut(name, fields):
 
 
 def refused(name, text, fields, ahead):
-    """The packet with other digits in the field above each line `not`: in a telegram of each size that has room for it,
-    and at the end of a long one."""
+    """The packet with other digits in each field above a `not`: where telegrams have room, and at a long one's end."""
     for other in re.finditer(r"(?m)^ +not ([01]+): (.*)", text):
         field = len(re.findall(r"(?m)^ +[01]+ ", text[:other.start()])) - 1
         changed = ahead + "".join((*fields[:field], other[1], *fields[field + 1:]))

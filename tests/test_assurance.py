@@ -14,9 +14,9 @@ DEFINED = re.compile(rf"`({CRATE})/(\w+\.antt)`: ((?:`\w+`(?:, )?)+)")
 
 
 @functools.lru_cache(None)
-def source(pattern):
-    """The texts of the files of the crates with such a path."""
-    return "\n".join(path.read_text("utf-8") for path in sorted(TOP.glob(f"crates/{pattern}")))
+def source(pattern, but=""):
+    """The texts of the files of the crates with such a path, which is in no folder of that other name."""
+    return "\n".join(path.read_text("utf-8") for path in sorted(TOP.glob(f"crates/{pattern}")) if but not in path.parts)
 
 
 def has_call(crate, owner, name, clauses):
@@ -63,19 +63,21 @@ def test_sources():
 
 
 def defined(text):
-    """How many lines of a file of specs/ belong to definitions, without comments and the lines unfolding. Imports,
-    definitions and proofs are separated by empty lines, and a proof begins with a name and its type."""
+    """The definitions in a text of specs/, without comments and the lines unfolding. Imports, definitions and proofs
+    are separated by empty lines, and a proof begins with a name and its type."""
     parts = re.findall(r"(?:.+\n)+", re.sub(r"(?m)^ *(?:--|unfolding ).*\n", "", text))
-    return sum(part.count("\n") for part in parts if not re.match(r"(?:pub )?(?:(?:use|mod) |\S+ :\s)", part))
+    return "".join(part for part in parts if not re.match(r"(?:pub )?(?:(?:use|mod) |\S+ :\s)", part))
 
 
 def test_definitions():
-    """The page on proofs lists how many lines of definitions each crate has. Lemmas are no definitions."""
-    counts = {crate: defined(source(f"{crate}/specs/**/*.antt")) for crate in crate_uses()}
+    """The page on proofs lists how many lines of definitions each crate has. No other one names those of lemmas."""
+    counts = {crate: defined(source(f"{crate}/specs/**/*.antt", "lemmas")).count("\n") for crate in crate_uses()}
     counts["all"] = sum(counts.values())
     listed = re.findall(r"(?m)^\| (\w+) \| ([\d,]+) \|$", PROOFS)
     assert listed == [(name, f"{count:,}") for name, count in counts.items() if count]
-    assert counts["all"] > 3000 and defined(source("*/specs/lemmas/**/*.antt")) == 0
+    others = defined(source("*/specs/**/*.antt", "lemmas")) + source("*/src/**/*.rt")
+    for name in re.findall(r"(?m)^abbrev (?:pub )?(\w+) :", source("*/specs/lemmas/**/*.antt")):
+        assert counts["all"] > 3000 and not re.search(rf"\b{name}\b", others), name
 
 
 def test_pins():

@@ -137,8 +137,7 @@ def test_refused_memory(name):
 
 @pytest.mark.parametrize("name", CALLS)
 def test_small_buffers_and_threads(name):
-    """A buffer that is too small is left as it was. One that is just large enough suffices. Two threads with little
-    stack get the same answers at once."""
+    """Too small a buffer stays, one just large enough suffices. Two threads with little stack get the same at once."""
     library = Library(SHARED)
     known = {data: library.call(name, data) for data in data_of(name, runs_of(shared(), CALLS[name]))}
     for data, wanted in known.items():
