@@ -11,8 +11,7 @@ import shlex
 from runner import EXAMPLES, answered, blocks, in_full, marked, respelled
 import records
 
-FORM, RADIO = records.FORM, ["--radio"]
-SHORT, LONG = 210, records.USER_BITS
+FORM, RADIO, SHORT, LONG = records.FORM, ["--radio"], 210, records.USER_BITS
 # A telegram without packets, a radio message, and forms.
 TELEGRAM, MESSAGE = in_full("a1007f802000..f c0"), "03048000001900080021e810901ff801f400"
 ALONE, MOVEMENT, POSITION = ((EXAMPLES / f"{name}.json").read_text().strip() for name in (
@@ -186,8 +185,12 @@ def examples():
 
 
 def streams():
-    """The runs of streams.txt, and two messages that are cut anywhere into lines."""
+    """The runs of streams.txt, a report with more bytes than a buffer, and two messages cut anywhere into lines."""
     yield from runs("streams.txt")
+    report = "no: findings 2999\n" + "".join([f"F14 group {it}: identity used before\n" for it in range(1, 1000)] + [
+        f"F10 message {it} nominal: no gradient\nF12 message {it} nominal: no speed profile\n" for it in range(1000)])
+    document = {"groups": [{"balises": [TELEGRAM]}] * 1000, "messages": [MESSAGE] * 1000}
+    yield "a long report", ["check"], json.dumps(document), answered(report)
     two = MESSAGE * 2
     for end in range(2, 73, 2):
         folded = "\n".join(two[at:at + end] for at in range(0, len(two), end))
@@ -204,8 +207,13 @@ def common(*more):
 
 
 def every():
-    """All cases."""
-    yield from (*common(*packets()), *streams())
+    """All cases, and in one run all lines that a command accepts, and then one that it refuses."""
+    yield from (some := [*common(*packets()), *streams()])
+    for words in ["decode"], ["encode"], ["decode", *RADIO], ["encode", *RADIO]:
+        lines = {given: wanted.stdout for _, those, given, wanted in some if those == words
+                 and wanted.status == 0 and given.count("\n") == wanted.stdout.count("\n") == 1}
+        lines["x\n"] = f"refused: line {len(lines) + 1}: not {'JSON' if 'encode' in words else 'hexadecimal'}\n"
+        yield "all lines", words, "".join(lines), answered("".join(lines.values()))
 
 
 if __name__ == "__main__":

@@ -51,9 +51,7 @@ def judged(monkeypatch, names, *outputs):
 
 
 @pytest.mark.parametrize("outputs, why", [
-    ([printed(OPEN)], ""),
-    ([printed(WAITS, OTHER)], ""),
-    ([printed("proved")], "next is proved"),
+    ([printed(OPEN)], ""), ([printed(WAITS, OTHER)], ""), ([printed("proved")], "next is proved"),
     ([printed(WAITS), printed(WAITS)], "next is only waiting for what it calls"),
     ([printed(WAITS, GONE)], f"next is {STALE}"),
     ([printed("no proof: the limit was met")], "next is reported in an unknown form: no proof: the limit was met"),

@@ -57,8 +57,7 @@ KINDS = {
     "speeds": (packet("speeds", "elements", 32, differences=[]), 8),
     "differences": (packet("speeds", "elements", 1, differences=DIFFERENCES), 17),
     "level orders": (packet("level-transition", "transitions", 32), 12),
-    "sections": (PARTS, 5), "parts": ({**PARTS, "sections": []}, 40),
-}
+    "sections": (PARTS, 5), "parts": ({**PARTS, "sections": []}, 40)}
 
 
 def pairs(packets, heads=PAIR):

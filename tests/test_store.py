@@ -6,8 +6,7 @@ import pytest
 
 from tiny import FILES, NUMBERED, attempt, made, sh, write
 
-pytestmark = [pytest.mark.elsewhere,
-              pytest.mark.skipif(not shutil.which("git"), reason="storing and releasing (git)")]
+pytestmark = [pytest.mark.elsewhere, pytest.mark.skipif(not shutil.which("git"), reason="storing and releasing (git)")]
 TODAY = datetime.datetime.now(datetime.timezone.utc).date()
 # A stand-in for both calls of readelf.
 READELF = """#!/bin/sh
@@ -103,16 +102,13 @@ VERSIONED = ("ABOUT", "../../VERSION", "../../man/balisecheck.1", "../../CHANGEL
 
 
 @pytest.mark.parametrize("command, why", [
-    ("rm ABOUT", "ABOUT has these lines"),
-    ("touch libc.so.6", "nothing else is stored"),
+    ("rm ABOUT", "ABOUT has these lines"), ("touch libc.so.6", "nothing else is stored"),
     *((f"sed -i s/1[.]2[.]9/9.9.9/ {name}", "the version is that of") for name in VERSIONED),
     (f"sed -i s/1[.]2[.]9/9.9.9/ ../RELEASES {' '.join(VERSIONED)}", "the version is that of"),
     ("sed -i '$d' ../RELEASES", "the last line of dist/RELEASES"),
     ("sed -i '2p; 2s/ [^ ]* 2/ 0 2/' ../RELEASES", "no number there is of two programs"),
-    ("echo >>balisecheck", "program and library are undamaged"),
-    ("echo >>libbalisecheck.a", "program and library are undamaged"),
-    ("chmod -x balisecheck", "the stored program can be run"),
-    ("sed -i s/2.34/2.17/ ABOUT", "it needs this C library"),
+    *((f"echo >>{name}", "program and library are undamaged") for name in ("balisecheck", "libbalisecheck.a")),
+    ("chmod -x balisecheck", "the stored program can be run"), ("sed -i s/2.34/2.17/ ABOUT", "it needs this C library"),
     ("echo GLIBC_2.36 >>libbalisecheck.so", "the stored library needs no more"),
     ("sed -i 's/^commit .*/commit 0123/' ABOUT", "the commit of its sources is in this history"),
     ("echo >>../../crates/etcs_low/src/lib.rt", "the stored program is of these sources"),
