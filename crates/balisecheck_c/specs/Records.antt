@@ -14,7 +14,7 @@ use Rattle.etcs_telegram.specs.Record.{Telegram}
 use Rattle.etcs_telegram.specs.TextMeaning.{telegram_of_text}
 use Rattle.etcs_telegram.specs.declared.error.TextError.{TextError}
 use Rattle.etcs_telegram.specs.declared.error.TextError.TheVariants as texts
-use Rattle.etcs_run.specs.JsonLine.{json_line_text}
+use Rattle.etcs_json.specs.JsonLine.{json_line_text}
 use Rattle.etcs_run.specs.Output.{Output}
 use Rattle.etcs_run.specs.declared.status.Status.TheVariants as statuses
 use Rattle.balisecheck_c.specs.Answer.{IsOutOfMemory, IsPut}

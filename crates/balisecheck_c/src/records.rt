@@ -5,7 +5,7 @@ ghost use Rattle.etcs_radio.specs.Text.{HasPackets as HasMessagePackets};
 ghost use Rattle.etcs_radio.specs.declared.error.RadioTextError.{RadioTextError};
 ghost use Rattle.etcs_telegram.specs.Text.{HasPackets as HasTelegramPackets};
 ghost use Rattle.etcs_telegram.specs.declared.error.TextError.{TextError};
-ghost use Rattle.etcs_run.specs.JsonLine.{json_line_text};
+ghost use Rattle.etcs_json.specs.JsonLine.{json_line_text};
 ghost use Rattle.etcs_run.specs.TelegramLines.{IsEarly};
 ghost use Rattle.balisecheck_c.specs.Answer.{memory_status};
 ghost use Rattle.balisecheck_c.specs.Fault.{message_fault, telegram_fault};
@@ -14,9 +14,9 @@ ghost use Rattle.balisecheck_c.specs.declared.fault.Fault.{Fault};
 
 use crate::answer::{out_of_memory, put};
 use crate::fault::Fault;
-use etcs_json::WriteJson;
+use etcs_json::{WriteJson, json_line};
 use etcs_radio::RadioTextError;
-use etcs_run::{Status, json_line};
+use etcs_run::Status;
 use etcs_telegram::TextError;
 use std::alloc::Global;
 

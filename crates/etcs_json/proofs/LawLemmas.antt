@@ -1,7 +1,8 @@
 -- The rows of each telegram and of each radio message are allowed, if none of its numbers is spare.
 -- What is written of a value whose rows are allowed is read as that value again.
-use Rattle.std.proofs.Common.{◌≡◌, ◌≤◌, Bool, true, false, Result, Ok, IfOk, refl, arith}
+use Rattle.std.proofs.Common.{◌≡◌, ◌++◌, ◌≤◌, ℕ, Bool, true, false, List, codes, Result, Ok, IfOk, refl, subst, arith}
 use Rattle.std.specs.List.{flat_map}
+use Rattle.std.proofs.lemmas.List.{append_cancel_right}
 use Rattle.serde_json.specs.Data.{Data}
 use Rattle.serde_json.specs.Read.{max_depth}
 use Rattle.serde_json.specs.View.{view}
@@ -25,12 +26,13 @@ use Rattle.etcs_telegram.specs.Record.{Telegram}
 use Rattle.etcs_json.specs.AnyMessage.{message}
 use Rattle.etcs_json.specs.Authority.{authority, danger_point, end_parts, end_timer, overlap, section, section_timer, terms, with_main, without_main}
 use Rattle.etcs_json.specs.Cover.{cover}
+use Rattle.etcs_json.specs.JsonLine.{IsReadAs, json_line_text}
 use Rattle.etcs_json.specs.Laws.{IsMessageInRange, IsReadAgain, IsTelegramInRange}
 use Rattle.etcs_json.specs.Messages.{movement, movement_rows, position, position_rows}
 use Rattle.etcs_json.specs.Raw.{raw_packet}
 use Rattle.etcs_json.specs.RawTrain.{raw_train_packet}
 use Rattle.etcs_json.specs.Report.{lrbg_allowed, report, situation, with_one, with_two}
-use Rattle.etcs_schema.specs.Codec.{all_append, object, object_again}
+use Rattle.etcs_schema.specs.Codec.{Codec, all_append, object, object_again}
 use Rattle.etcs_json.specs.Telegrams.{header, telegram, telegram_rows}
 use Rattle.etcs_json.specs.TrackPackets.{difference, gradient, gradient_element, link, linking, speed_element, speed_profile, track_packet}
 use Rattle.etcs_json.specs.TrainPackets.{train_packet}
@@ -46,10 +48,8 @@ telegram_shallow : (object telegram).back.0 ≤ max_depth
 unfolding telegram header cover linking link with_main without_main terms end_parts section section_timer end_timer danger_point overlap gradient gradient_element speed_profile speed_element difference transition level_order raw_packet
 telegram_shallow = omega arith
 
-pub telegram_again : (t : Telegram) → IsTelegramInRange t → IsReadAgain (object telegram) t
-telegram_again t allowed =
-    let rows = telegram_allowed t allowed in
-    (text_read_back (object telegram) telegram_shallow t rows, object_again telegram t rows)
+pub telegram_again : (t : Telegram) → AreAllowed (telegram_rows t) → IsReadAgain (object telegram) t
+telegram_again t rows = (text_read_back (object telegram) telegram_shallow t rows, object_again telegram t rows)
 
 -- ---- messages
 
@@ -88,10 +88,13 @@ message_shallow : message.back.0 ≤ max_depth
 unfolding message movement position cover linking link with_main without_main terms end_parts section section_timer end_timer danger_point overlap gradient gradient_element speed_profile speed_element difference transition level_order raw_packet with_one with_two situation raw_train_packet
 message_shallow = omega arith
 
-pub message_again : (m : Message) → IsMessageInRange m → IsReadAgain message m
-message_again m allowed =
-    let rows = message_allowed m allowed in
-    (text_read_back message message_shallow m rows, message.again m rows)
+pub message_again : (m : Message) → AreAllowed (message.rows m) → IsReadAgain message m
+message_again m rows = (text_read_back message message_shallow m rows, message.again m rows)
+
+-- a line that is written for a record is read as that record
+pub line_again : {X : Type 0} (form : Codec X) (x : X) (line : List ℕ) → json_line_text form x ≡ line ++ codes "\n" → IsReadAgain form x → IsReadAs form line x
+unfolding json_line_text
+line_again form x line same again = subst (λ l. IsReadAs form l x) (append_cancel_right _ _ _ same) again
 
 -- ---- what was written is read again
 

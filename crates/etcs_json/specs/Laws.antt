@@ -1,7 +1,6 @@
 -- The laws of forms: the form of each telegram and of each radio message is read as that value, and the text
 -- of the form as the form.
-use Rattle.std.specs.Prelude.{◌≡◌, true, List, Some, Ok}
-use Rattle.serde_json.specs.Read.{read}
+use Rattle.std.specs.Prelude.{◌≡◌, true, List}
 use Rattle.serde_json.specs.Written.{compact_text}
 use Rattle.etcs_schema.specs.Prelude.{flat_map, AreAllowed, Row}
 use Rattle.etcs_profile.specs.Track.{track_packet}
@@ -12,12 +11,13 @@ use Rattle.etcs_radio.specs.Message.{is_complete, packet_rows}
 use Rattle.etcs_radio.specs.declared.message.Message.{Message}
 use Rattle.etcs_radio.specs.declared.message.Message.TheVariants as messages
 use Rattle.etcs_json.specs.AnyMessage.{message}
+use Rattle.etcs_json.specs.JsonLine.{IsReadAs}
 use Rattle.etcs_schema.specs.Codec.{Codec, object}
 use Rattle.etcs_json.specs.Telegrams.{telegram}
 
 -- The text of the form of x is read as that form, and the form is read as x.
 abbrev pub IsReadAgain : {X : Type 0} → Codec X → X → Type 0
-IsReadAgain form x = (read (compact_text (form.to x)) ≡ Some (form.to x)) × (form.of (form.to x) ≡ Ok x)
+IsReadAgain form x = IsReadAs form (compact_text (form.to x)) x
 
 -- ---- telegrams
 

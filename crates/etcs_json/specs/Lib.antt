@@ -11,4 +11,5 @@ pub mod Messages
 pub mod TrainPackets
 pub mod Telegrams
 pub mod AnyMessage
+pub mod JsonLine
 pub mod Laws

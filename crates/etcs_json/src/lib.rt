@@ -10,6 +10,7 @@
 //! makes from a text in less time. Documents of railway lines are in `etcs_document`.
 #![tactic(auto)]
 
+mod canonical;
 mod form;
 pub mod laws;
 mod members;
@@ -17,6 +18,7 @@ mod messages;
 mod packets;
 mod reading;
 mod record;
+mod record_line;
 mod writing;
 
 pub use etcs_schema::{
@@ -24,3 +26,4 @@ pub use etcs_schema::{
 };
 pub use form::{Form, WriteJson};
 pub use record::Record;
+pub use record_line::{json_line, message_of_line, telegram_of_line};

@@ -2,7 +2,6 @@ pub mod Counted
 pub mod Command
 pub mod TextLines
 pub mod TextLineMeaning
-pub mod JsonLine
 pub mod TelegramLines
 pub mod HexText
 pub mod FormLines

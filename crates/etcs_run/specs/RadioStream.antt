@@ -17,7 +17,7 @@ use Rattle.etcs_document.specs.Refusal.{line_words}
 use Rattle.etcs_document.specs.declared.refusal.LineFault.TheVariants.{Text}
 use Rattle.etcs_document.specs.declared.refusal.Refusal.TheVariants.{Message}
 use Rattle.etcs_document.specs.declared.refusal.StreamFault.TheVariants.{BelowThree, CutOff, Fault}
-use Rattle.etcs_run.specs.JsonLine.{json_line_text}
+use Rattle.etcs_json.specs.JsonLine.{json_line_text}
 use Rattle.etcs_run.specs.TextLineMeaning.{line_refusal}
 use Rattle.etcs_run.specs.Output.{Output, prepend, refusal_output}
 use Rattle.etcs_run.specs.TextLines.{trimmed}

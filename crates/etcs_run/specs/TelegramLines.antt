@@ -11,7 +11,7 @@ use Rattle.etcs_document.specs.Refusal.{line_words}
 use Rattle.etcs_schema.specs.Codec.{object}
 use Rattle.etcs_json.specs.Telegrams.{telegram}
 use Rattle.etcs_document.specs.declared.refusal.LineFault.TheVariants.{Text}
-use Rattle.etcs_run.specs.JsonLine.{json_line_text}
+use Rattle.etcs_json.specs.JsonLine.{json_line_text}
 use Rattle.etcs_run.specs.TextLineMeaning.{Meaning}
 
 -- the line that is written for a telegram that was read, or the reason why none was

@@ -1,16 +1,19 @@
 //! `Encoding`, the command `encode`: a line of JSON, the form of a telegram or of a radio message, becomes a line of
-//! hexadecimal text. Each line is read once, into a tape of its tokens. The trait `Encoded`: what is written for a
-//! value.
+//! hexadecimal text. A line that `decode` writes is parsed in one pass, and any other line as a JSON value. The trait
+//! `Encoded`: a record that is read from a line and has a text.
 
-ghost use Rattle.std.specs.Prelude.{◌≡◌, ◌++◌, ℕ, List, Result, codes, IfOk};
+ghost use Rattle.std.specs.Prelude.{◌≡◌, ◌++◌, ℕ, List, Result, codes, IfOk, IfSome};
 ghost use Rattle.serde_json.specs.View.{view};
+ghost use Rattle.etcs_json.specs.JsonLine.{IsReadAs};
+ghost use Rattle.etcs_schema.specs.Codec.{Codec};
+ghost use Rattle.etcs_schema.specs.Fault.{Returns};
 ghost use Rattle.etcs_run.specs.FormLines.{or_fault, parsed_record, parsed_value};
 ghost use Rattle.etcs_run.specs.TextLineMeaning.{Gives};
 
 use crate::text_line_meaning::{TextLineMeaning, Unwritten};
 use etcs_bits::Memory;
 use etcs_document::LineFault;
-use etcs_json::Form;
+use etcs_json::{Form, message_of_line, telegram_of_line};
 use etcs_radio::Message;
 use etcs_schema::{FormError, JsonError, JsonValue, ParsedJson};
 use etcs_telegram::Telegram;
@@ -31,10 +34,10 @@ fn value_of(alloc: Global, line: &[u8]) -> Result<Value, Unwritten>
 }
 
 // The record whose form the JSON value is.
-fn record_of<T: Form, N: JsonValue>(alloc: Global, node: &N) -> Result<T, Unwritten>
-    ensures { Gives (λ x. x) result (or_fault (T.codec.of (N.value node.now))) }
+fn record_of<T: Encoded, N: JsonValue>(alloc: Global, node: &N) -> Result<T, Unwritten>
+    ensures { Gives (λ x. x) result (or_fault (T.form.of (N.value node.now))) }
 {
-    match T::read_json(alloc, node) {
+    match T::read_form(alloc, node) {
         Ok(record) => Ok(record),
         Err(why) => match why {
             FormError::Memory => Err(Unwritten::Memory),
@@ -43,17 +46,21 @@ fn record_of<T: Form, N: JsonValue>(alloc: Global, node: &N) -> Result<T, Unwrit
     }
 }
 
-// The record whose form the line is. A line that is too long for a tape is read as a value.
-fn record_in_line<T: Form>(
+// The record whose form the line is. `written` is the buffer of an earlier line.
+fn record_in_line<T: Encoded>(
     alloc: Global,
     scratch: &mut Scratch,
+    written: &mut Vec<u8>,
     line: &[u8],
 ) -> Result<T, Unwritten>
-    ensures { Gives (λ x. x) result (parsed_record T.codec line.now) }
+    ensures { Gives (λ x. x) result (parsed_record T.form line.now) }
 {
     let Ok(text) = str::from_utf8(line) else {
         return Err(Unwritten::Refused(LineFault::Json));
     };
+    if let Some(record) = T::of_line(alloc, written, line) {
+        return Ok(record);
+    }
     match ParsedJson::read(text, scratch, Vec::new(alloc)) {
         Ok(json) => record_of(alloc, &json.root()),
         Err(JsonError::NotJson) => Err(Unwritten::Refused(LineFault::Json)),
@@ -73,9 +80,20 @@ fn ended_line(mut line: Vec<u8>, digits: &str) -> Result<Vec<u8>, Memory>
 }
 
 /// A record that has a text in hexadecimal digits: a telegram or a radio message.
-pub trait Encoded {
+pub trait Encoded: Drop {
+    /// The form of the record.
+    ghost form: { Codec Self };
+
     /// The line of the record's canonical text, or the reason why there is none, in words.
     ghost line: { Self → Result (List ℕ) (List ℕ) };
+
+    /// Reads the record's form from a JSON value.
+    fn read_form<N: JsonValue>(alloc: Global, node: &N) -> Result<Self, FormError>
+        ensures { Returns (λ x. x) result (form.of (N.value node.now)) };
+
+    /// The record whose form the text is, if it is as `json_line` writes it. `None` is inconclusive.
+    fn of_line(alloc: Global, room: &mut Vec<u8>, text: &[u8]) -> Option<Self>
+        ensures { IfSome result (λ x. IsReadAs form text.now x) };
 
     /// The record's text as a line. `room` is the buffer of an earlier line.
     fn text_line(&self, alloc: Global, room: Vec<u8>) -> Result<Vec<u8>, Unwritten>
@@ -84,9 +102,21 @@ pub trait Encoded {
 
 // A telegram has no text if it has more bits than its size.
 impl Encoded for Telegram {
+    ghost use Rattle.etcs_json.specs.Telegrams.{telegram};
+    ghost use Rattle.etcs_schema.specs.Codec.{object};
     ghost use Rattle.etcs_run.specs.FormLines.{telegram_line};
 
+    ghost form = { object telegram };
+
     ghost line = { telegram_line };
+
+    fn read_form<N: JsonValue>(alloc: Global, node: &N) -> Result<Self, FormError> {
+        Form::read_json(alloc, node)
+    }
+
+    fn of_line(alloc: Global, room: &mut Vec<u8>, text: &[u8]) -> Option<Self> {
+        telegram_of_line(alloc, room, text)
+    }
 
     fn text_line(&self, alloc: Global, room: Vec<u8>) -> Result<Vec<u8>, Unwritten> {
         match etcs_telegram::to_hex(alloc, self) {
@@ -99,9 +129,20 @@ impl Encoded for Telegram {
 
 // A message has no text if it has more than 1,023 bytes.
 impl Encoded for Message {
+    ghost use Rattle.etcs_json.specs.AnyMessage.{message};
     ghost use Rattle.etcs_run.specs.FormLines.{message_line};
 
+    ghost form = { message };
+
     ghost line = { message_line };
+
+    fn read_form<N: JsonValue>(alloc: Global, node: &N) -> Result<Self, FormError> {
+        Form::read_json(alloc, node)
+    }
+
+    fn of_line(alloc: Global, room: &mut Vec<u8>, text: &[u8]) -> Option<Self> {
+        message_of_line(alloc, room, text)
+    }
 
     fn text_line(&self, alloc: Global, room: Vec<u8>) -> Result<Vec<u8>, Unwritten> {
         match etcs_radio::to_hex(alloc, self) {
@@ -118,6 +159,8 @@ impl Encoded for Message {
 pub struct Encoding<T> {
     // Room for the strings of a line.
     scratch: Scratch,
+    // Room for what is written of a record, to compare it with the line.
+    written: Vec<u8>,
     record: PhantomData<T>,
 }
 
@@ -126,19 +169,20 @@ impl<T> Encoding<T> {
     pub fn new(alloc: Global) -> Encoding<T> {
         Encoding {
             scratch: Scratch::new(alloc),
+            written: Vec::new(alloc),
             record: PhantomData,
         }
     }
 }
 
 #[tactic(auto, unfolding(crate::specs::FormLines::encoded))]
-impl<T: Form + Encoded> TextLineMeaning for Encoding<T> {
+impl<T: Encoded> TextLineMeaning for Encoding<T> {
     ghost use Rattle.etcs_run.specs.FormLines.{encoded};
 
-    ghost meaning = { encoded T.codec T.line };
+    ghost meaning = { encoded T.form T.line };
 
     fn text(&mut self, alloc: Global, room: Vec<u8>, line: &[u8]) -> Result<Vec<u8>, Unwritten> {
-        let record: T = record_in_line(alloc, &mut self.scratch, line)?;
+        let record: T = record_in_line(alloc, &mut self.scratch, &mut self.written, line)?;
         record.text_line(alloc, room)
     }
 }

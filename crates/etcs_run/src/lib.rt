@@ -5,11 +5,11 @@
 //! [`run`] executes the words of a command line, from a [`Counted`] reader to a [`Counted`] writer, and
 //! [`execute`] a [`Command`]. Their contracts state what is written for every input: `specs/Commands.antt`
 //! defines that text, and `specs/Ran.antt` what is promised about it. Both return a [`Status`], or a [`RunError`] if an allocation
-//! or a device failed. [`json_line`] writes one record. Read `program.rt` first, then `answering.rt`,
-//! `text_line_command.rt`, `text_line_meaning.rt`, `each_text_line.rt` and `text_lines.rt`. The meaning of a
-//! line is in `telegram_lines.rt` and `form_lines.rt`. A stream is decoded in `radio_decoding.rt`, independent
-//! of the ends of its lines. A document is checked as a whole, in `checking.rt`. Standard input and output are
-//! not part of the crate.
+//! or a device failed. Read `program.rt` first, then `answering.rt`, `text_line_command.rt`,
+//! `text_line_meaning.rt`, `each_text_line.rt` and `text_lines.rt`. The meaning of a line is in
+//! `telegram_lines.rt` and `form_lines.rt`. A stream is decoded in `radio_decoding.rt`, independent of the ends
+//! of its lines. A document is checked as a whole, in `checking.rt`. Standard input and output are not part of
+//! the crate.
 #![tactic(auto)]
 
 mod answering;
@@ -23,7 +23,6 @@ mod form_lines;
 mod output;
 mod program;
 mod radio_decoding;
-mod record_line;
 mod status;
 mod telegram_lines;
 mod text_line_command;
@@ -35,5 +34,4 @@ pub use command::Command;
 pub use counted::Counted;
 pub use error::RunError;
 pub use program::{execute, run};
-pub use record_line::json_line;
 pub use status::Status;

@@ -5,9 +5,9 @@ ghost use Rattle.etcs_telegram.specs.declared.error.TextError.{TextError};
 ghost use Rattle.etcs_run.specs.TextLineMeaning.{Gives};
 ghost use Rattle.etcs_run.specs.TelegramLines.{IsEarly};
 
-use crate::record_line::json_line;
 use crate::text_line_meaning::{TextLineMeaning, Unwritten};
 use etcs_document::LineFault;
+use etcs_json::json_line;
 use etcs_telegram::{TextError, from_hex};
 use std::alloc::Global;
 

@@ -3,8 +3,8 @@ use Rattle.std.specs.Prelude.{codes}
 use Rattle.serde_json.proofs.Texts.{print-outline}
 use Rattle.etcs_digits.specs.JsonLineWriter.{puts}
 use Rattle.etcs_schema.specs.Writing.{data_tokens}
-use Rattle.etcs_run.specs.JsonLine.{json_line_text}
-use Rattle.etcs_run.proofs.record_line.json_line.Goals as goal
+use Rattle.etcs_json.specs.JsonLine.{json_line_text}
+use Rattle.etcs_json.proofs.record_line.json_line.Goals as goal
 
 -- the buffer has the value's form, and then the end of the line
 pub returns : goal.returns
