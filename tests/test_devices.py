@@ -53,7 +53,7 @@ def test_failing_devices(words):
 
 @WORDS
 def test_slow_and_ending_devices(words):
-    """Slow devices change no answer. After a reader's end no more is read, and the answer is that to bytes before it."""
+    """Slow devices change no answer. After a reader's end no more is read, and bytes before it are answered."""
     program, known = disturbed(), runs_of(disturbed(), words)
     for given, taken in (1, 1), (1, 0), (0, 1), (7, 3):
         slowed(program, known, given, taken)
