@@ -1,10 +1,7 @@
 pub mod Keys
 pub mod NumberLemmas
-pub mod TapeLemmas
 pub mod MemberLemmas
-pub mod ItemLemmas
 pub mod KeyLemmas
-pub mod PassLemmas
 pub mod TextLemmas
 pub mod Objects
 pub mod ListLemmas

@@ -10,8 +10,7 @@ use Rattle.etcs_schema.specs.Fault.{ReturnsError, Fault, Returns, IsPrefixedErro
 use Rattle.etcs_schema.specs.Reading.{has_bounded_length, ◌>>=◌, bounded_list_or, data_list, indexed_items, bounded_list, with_first}
 use Rattle.etcs_schema.specs.Codec.{encoded_items}
 use Rattle.etcs_schema.specs.declared.error.FormError.{FormError}
-use Rattle.etcs_schema.proofs.Objects.{fails_same, fails_under, none_mapped}
-use Rattle.etcs_schema.proofs.TapeLemmas.{or_this, some_mapped}
+use Rattle.etcs_schema.proofs.Objects.{fails_same, fails_under, none_mapped, or_this, some_mapped}
 
 -- ---- the items of a list, as a node has them
 

@@ -14,7 +14,18 @@ use Rattle.etcs_schema.specs.Reading.{◌>>=◌, required_member, key_or, known_
 use Rattle.etcs_schema.specs.Writing.{sorted}
 use Rattle.etcs_schema.specs.declared.error.FormError.{FormError}
 use Rattle.etcs_schema.specs.lemmas.SortedLemmas.{onto_sorted}
-use Rattle.etcs_schema.proofs.TapeLemmas.{some_mapped}
+
+-- ---- an option that is mapped
+
+abbrev pub or_this : {A : Type 0} → A → Option A → A
+or_this a None = a
+or_this a (Some b) = b
+
+pub some_mapped : {A B : Type 0} (f : A → B) (b : B) (o : Option A) → option_map f o ≡ Some b → (a : A) × (o ≡ Some a) × (f a ≡ b)
+some_mapped f b None e = absurd (cc)
+some_mapped f b (Some a) e = (a, refl, ap (or_this b) e)
+
+-- ---- faults
 
 fails_at : {Y : Type 0} (o : Option Fault) (f : Fault) (r : Result Y Fault) → IfSome o (λ g. g ≡ f) → r ≡ Err f → IfSome o (λ g. r ≡ Err g)
 fails_at None f r is read = tt

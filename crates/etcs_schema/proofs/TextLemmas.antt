@@ -1,92 +1,89 @@
--- Parsing a text to a tape, with the pass over its tokens, reads what serde_json reads.
-use Rattle.std.proofs.Common.{◌≡◌, ◌∙◌, ◌&&◌, ◌≤◌, ℕ, true, false, List, [], ◌∷◌, ◌++◌, Option, Some, None, option_and_then, ap, sym, refl, subst, arith, append-nil}
-use Rattle.std.specs.Prelude.{is_some, nat_le}
-use Rattle.std.proofs.lemmas.Bool.{and_parts}
-use Rattle.std.proofs.lemmas.Bool.Decides.{nat_tests}
-use Rattle.json.specs.Token.{Token}
-use Rattle.json.specs.Lex.{tokens}
+-- What serde_json reads of a tree: its data, if all numbers are in range.
+use Rattle.std.proofs.Common.{◌≡◌, ◌∙◌, ◌&&◌, ◌+◌, ◌<◌, ℕ, Bool, true, Global, List, [], ◌∷◌, drop, get_or, length, Option, Some, None, IfSome, option_map, option_and_then, ap, ap₂, sym, refl, subst}
+use Rattle.std.specs.Borrow.{Bor}
+use Rattle.std.specs.List.{list_all}
+use Rattle.std.specs.Prelude.{is_some}
+use Rattle.std.proofs.lemmas.List.{drop_more}
 use Rattle.json.specs.Json as json
-use Rattle.json.specs.Json.{document, if_last, value}
-use Rattle.json.specs.Find.{BeginsWith}
-use Rattle.json.specs.Tree.{depth, json_tokens}
-use Rattle.json.proofs.Found.{Some_inj}
-use Rattle.json.proofs.Nesting.{value-depth}
-use Rattle.json.proofs.Printed.Trees.{value-json_tokens}
-use Rattle.json.proofs.Unique.Spelling.{tokens-document, value-json_tokens_back}
-use Rattle.serde_json.specs.Data.{Data}
-use Rattle.serde_json.specs.Read.{of_json, read}
-use Rattle.etcs_schema.specs.json_value.Tape.{are_in_range, tokens_data, is_sound}
-use Rattle.etcs_schema.proofs.PassLemmas.{pass_tells}
-use Rattle.etcs_schema.proofs.TapeLemmas.{sound_from}
+use Rattle.json.specs.Value.{items_view, members_view, value_view}
+use Rattle.json.specs.declared.value.Value.{Value}
+use Rattle.serde_json.specs.Data.{Num, Data, Items, Members, array, item, no_members, number, object, put}
+use Rattle.serde_json.specs.Read.{number_of, of_items, of_json, of_members}
+use Rattle.etcs_schema.specs.json_value.Texts.{json_data, items_data, members_data, number_or_null}
 
--- ---- the value of a text, at one depth and at another
+-- ---- whether it is read
 
--- what is read at 127 levels is read at 128
-prefixed : (ts r : List Token) (j : json.Json) → value 127 ts ≡ Some (j, r) → value 128 ts ≡ Some (j, r)
-prefixed ts r j e =
-    ap (value 128) (value-json_tokens_back 127 ts r j e) ∙ value-json_tokens j 128 r (omega (arith, value-depth 127 ts r j e))
+mapped_some : {A B : Type 0} (f : A → B) (o : Option A) → is_some (option_map f o) ≡ is_some o
+mapped_some f None = refl
+mapped_some f (Some a) = refl
 
-abbrev last : Option (json.Json × List Token) → Option json.Json
-last o = option_and_then (λ p. if_last p.0 p.1) o
+item_some : (o : Option Data) (p : Option Items) → is_some (option_and_then (λ d. option_map (item d) p) o) ≡ is_some o && is_some p
+item_some None p = refl
+item_some (Some d) p = mapped_some (item d) p
 
-last_is : (o : Option (json.Json × List Token)) (j : json.Json) → last o ≡ Some j → o ≡ Some (j, [])
-last_is None j e = absurd (cc)
-last_is (Some (i, [])) j e = ap (λ x. Some (x, [])) (Some_inj i j e)
-last_is (Some (i, t ∷ ts)) j e = absurd (cc)
+items_some : (vs : List (Value Global)) → is_some (of_items (items_view vs)) ≡ list_all (λ v. is_some (of_json (value_view v))) vs
+items_some [] = refl
+items_some (v ∷ vs) = item_some (of_json (value_view v)) (of_items (items_view vs)) ∙ ap (λ b. is_some (of_json (value_view v)) && b) (items_some vs)
 
--- what serde_json reads is what the tape reads
-same_at : (ts : List Token) (o : Option json.Json) (j : json.Json) → last (value 127 ts) ≡ o → o ≡ Some j → last (value 128 ts) ≡ Some j
-same_at ts o j e is = ap last (prefixed ts [] j (last_is (value 127 ts) j (e ∙ is)))
+member_some : (f : Data → Option Members) (rest : Bool) → ((d : Data) → is_some (f d) ≡ rest) → (o : Option Data) → is_some (option_and_then f o) ≡ is_some o && rest
+member_some f rest e None = refl
+member_some f rest e (Some d) = e d
 
--- ---- a text that is not JSON
+members_some : (ms : List (Bor (List ℕ) × Value Global)) (old : Members) → is_some (of_members (members_view ms) old) ≡ list_all (λ m. is_some (of_json (value_view m.1))) ms
+members_some [] old = refl
+members_some (m ∷ ms) old = member_some (λ d. of_members (members_view ms) (put m.0.now d old)) _ (λ d. members_some ms (put m.0.now d old)) (of_json (value_view m.1))
 
-none_read : (text : List ℕ) (o : Option json.Json) → last (value 127 (tokens text)) ≡ o → document text ≡ None → read text ≡ None
-none_read text None e none = ap (option_and_then of_json) e
-none_read text (Some j) e none = let some : document text ≡ Some j = same_at (tokens text) (Some j) j e refl in absurd (cc)
+pub array_some : (vs : List (Value Global)) → is_some (of_json (json.array (items_view vs))) ≡ list_all (λ v. is_some (of_json (value_view v))) vs
+array_some vs = mapped_some array (of_items (items_view vs)) ∙ items_some vs
 
-pub not_json : (text : List ℕ) → document text ≡ None → read text ≡ None
-not_json text none = none_read text (last (value 127 (tokens text))) refl none
+pub object_some : (ms : List (Bor (List ℕ) × Value Global)) → is_some (of_json (json.object (members_view ms))) ≡ list_all (λ m. is_some (of_json (value_view m.1))) ms
+object_some ms = mapped_some object (of_members (members_view ms) no_members) ∙ members_some ms no_members
 
--- ---- a text that is JSON
+-- one of the remaining elements, and those after it
+pub one_tested : {X : Type 0} (p : X → Bool) (xs : List X) (i : ℕ) (x : X) (b all : Bool) → i < length xs → x ≡ get_or xs i x → b ≡ p x → all ≡ list_all p (drop i xs) → all ≡ b && list_all p (drop (i + 1) xs)
+one_tested p xs i x b all within is tested so_far =
+    so_far ∙ ap (list_all p) (drop_more xs i x within ∙ ap (λ y. y ∷ drop (i + 1) xs) (sym is)) ∙ ap (λ c. c && list_all p (drop (i + 1) xs)) (sym tested)
 
--- a value that was read by the tape, and that the pass lets through
-passed_at : (text : List ℕ) (j : json.Json) → document text ≡ Some j → (o : Option Data) → of_json j ≡ o → is_some o ≡ true → nat_le (depth j) 127 ≡ true → (is_sound (tokens text) ≡ true) × (read text ≡ Some (tokens_data (tokens text)))
-passed_at text j is None e some flat = absurd (cc)
-passed_at text j is (Some d) e some flat =
-    let spelled : tokens text ≡ json_tokens j ++ [] = tokens-document text j is ∙ sym (append-nil (json_tokens j)) in
-    let low : depth j ≤ 127 = grind (arith, nat_tests) in
-    let whole : value 127 (tokens text) ≡ Some (j, []) = ap (value 127) spelled ∙ value-json_tokens j 127 [] low in
-    let begins : BeginsWith (tokens text) j = (127, [], whole) in
-    let sound = sound_from (tokens text) j d begins e in
-    (sound.0, ap (λ o. option_and_then of_json (last o)) whole ∙ e ∙ ap Some (sym sound.1))
+-- ---- what is read
 
-pub passed : (text : List ℕ) (j : json.Json) → document text ≡ Some j → are_in_range (Some 0) (tokens text) ≡ true → (is_sound (tokens text) ≡ true) × (read text ≡ Some (tokens_data (tokens text)))
-passed text j is pass =
-    let tells : is_some (of_json j) && nat_le (depth j) 127 ≡ true = sym (pass_tells j) ∙ ap (are_in_range (Some 0)) (sym (tokens-document text j is)) ∙ pass in
-    let parts = and_parts (is_some (of_json j)) (nat_le (depth j) 127) tells in
-    passed_at text j is (of_json j) refl parts.0 parts.1
+number_is : (o : Option Num) → IfSome (option_map number o) (λ d. d ≡ number_or_null o)
+number_is None = tt
+number_is (Some n) = refl
 
--- a value that serde_json reads is let through
-read_passes : (text : List ℕ) (j : json.Json) → document text ≡ Some j → is_some (of_json j) && nat_le (depth j) 127 ≡ false → (o : Option json.Json) → last (value 127 (tokens text)) ≡ o → (p : Option Data) → of_json j ≡ p → option_and_then of_json o ≡ None
-read_passes text j is stopped None e p f = refl
-read_passes text j is stopped (Some i) e None f =
-    let same : i ≡ j = Some_inj i j (sym (same_at (tokens text) (Some i) i e refl) ∙ is) in
-    ap of_json same ∙ f
-read_passes text j is stopped (Some i) e (Some d) f =
-    let same : i ≡ j = Some_inj i j (sym (same_at (tokens text) (Some i) i e refl) ∙ is) in
-    let low : depth j ≤ 127 = subst (λ x. depth x ≤ 127) same (value-depth 127 (tokens text) [] i (last_is (value 127 (tokens text)) i e)) in
-    let shallow : nat_le (depth j) 127 ≡ true = grind (arith, nat_tests) in
-    let never : true ≡ false = sym (ap (λ o. is_some o && nat_le (depth j) 127) f ∙ shallow) ∙ stopped in
-    absurd (cc)
+mapped_is : {A B : Type 0} (f : A → B) (o : Option A) (a : A) → IfSome o (λ b. b ≡ a) → IfSome (option_map f o) (λ b. b ≡ f a)
+mapped_is f None a is = tt
+mapped_is f (Some b) a is = ap f is
 
-pub stopped : (text : List ℕ) (j : json.Json) → document text ≡ Some j → are_in_range (Some 0) (tokens text) ≡ false → read text ≡ None
-stopped text j is pass =
-    let tells : is_some (of_json j) && nat_le (depth j) 127 ≡ false = sym (pass_tells j) ∙ ap (are_in_range (Some 0)) (sym (tokens-document text j is)) ∙ pass in
-    read_passes text j is tells (last (value 127 (tokens text))) refl (of_json j) refl
+item_is : (o : Option Data) (p : Option Items) (d : Data) (ds : Items) → IfSome o (λ e. e ≡ d) → IfSome p (λ es. es ≡ ds) → IfSome (option_and_then (λ e. option_map (item e) p) o) (λ es. es ≡ item d ds)
+item_is None p d ds first rest = tt
+item_is (Some e) None d ds first rest = tt
+item_is (Some e) (Some es) d ds first rest = ap₂ item first rest
 
-document_at : (o : Option json.Json) → is_some o ≡ true → (j : json.Json) × (o ≡ Some j)
-document_at None some = absurd (cc)
-document_at (Some j) some = (j, refl)
+member_is : (f : Data → Option Members) (o : Option Data) (d : Data) (new : Members) → IfSome o (λ e. e ≡ d) → IfSome (f d) (λ ms. ms ≡ new) → IfSome (option_and_then f o) (λ ms. ms ≡ new)
+member_is f None d new first rest = tt
+member_is f (Some e) d new first rest = subst (λ x. IfSome (f x) (λ ms. ms ≡ new)) (sym first) rest
 
-pub read_document : (text : List ℕ) → is_some (document text) ≡ true → (j : json.Json) × (document text ≡ Some j)
-read_document text some = document_at (document text) some
+mutual
+  json_is : (j : json.Json) → IfSome (of_json j) (λ d. d ≡ json_data j)
+  json_is json.null = refl
+  json_is (json.boolean b) = refl
+  json_is (json.number s) = number_is (number_of s)
+  json_is (json.string s) = refl
+  json_is (json.array js) = mapped_is array (of_items js) (items_data js) (items_is js)
+  json_is (json.object ms) = mapped_is object (of_members ms no_members) (members_data ms no_members) (members_is ms no_members)
+
+  items_is : (js : json.Items) → IfSome (of_items js) (λ ds. ds ≡ items_data js)
+  items_is json.no_items = refl
+  items_is (json.item j js) = item_is (of_json j) (of_items js) (json_data j) (items_data js) (json_is j) (items_is js)
+
+  members_is : (ms : json.Members) (old : Members) → IfSome (of_members ms old) (λ new. new ≡ members_data ms old)
+  members_is json.no_members old = refl
+  members_is (json.member k j ms) old =
+      member_is (λ d. of_members ms (put k d old)) (of_json j) (json_data j) (members_data ms (put k (json_data j) old)) (json_is j) (members_is ms (put k (json_data j) old))
+
+read_at : (o : Option Data) (d : Data) → IfSome o (λ e. e ≡ d) → true ≡ is_some o → o ≡ Some d
+read_at None d is some = absurd (cc)
+read_at (Some e) d is some = ap Some is
+
+pub json_read : (j : json.Json) → true ≡ is_some (of_json j) → of_json j ≡ Some (json_data j)
+json_read j some = read_at (of_json j) (json_data j) (json_is j) some

@@ -1,3 +1,2 @@
--- Read-only JSON values: what can be asked about them, and the values that the tokens of a tape represent.
-pub mod Tape
+-- Read-only JSON values: the data that the trees of texts represent.
 pub mod Texts

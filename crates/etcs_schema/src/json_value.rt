@@ -1,6 +1,6 @@
 //! The trait `JsonValue`: read-only JSON values. Readers of forms are generic over it, so that one reader serves
-//! values of `serde_json` and positions on a tape of tokens, which is made in less time. `reading` and `keys` contain
-//! what all these readers share.
+//! values of `serde_json` and the trees of `json`, which take less memory. `reading` and `keys` contain what all
+//! these readers share.
 
 ghost use Rattle.std.specs.Prelude.{◌≡◌, ◌∷◌, [], List, map, option_map, option_and_then, MatchOption};
 ghost use Rattle.serde_json.specs.Data.{Data};
@@ -12,8 +12,8 @@ pub(crate) mod keys;
 mod numbers;
 pub(crate) mod parsed_json;
 mod serde_value;
-mod tape_range;
-pub(crate) mod tape_value;
+mod tree_range;
+mod tree_value;
 
 /// A read-only JSON value.
 pub trait JsonValue: Drop {

@@ -2,8 +2,8 @@
 //!
 //! A form is described once, as a `Codec`: what is written, what is read, and that reading what was written
 //! gives the same value (`specs/Codec.antt`). A form is read from a [`JsonValue`]: a value of `serde_json`, or the
-//! tape of tokens that [`ParsedJson::read`] makes from a text in less time. It is written to a [`TokenWriter`]. A value
-//! that is not a form has a [`FormError`], the first fault with its path.
+//! tree that [`ParsedJson::read`] makes of a text, which takes less memory. It is written to a [`TokenWriter`]. A
+//! value that is not a form has a [`FormError`], the first fault with its path.
 #![tactic(auto)]
 
 mod error;
@@ -15,5 +15,4 @@ pub use error::{FormError, Path, Step};
 pub use json_value::JsonValue;
 pub use json_value::keys::check_keys;
 pub use json_value::parsed_json::{JsonError, ParsedJson};
-pub use json_value::tape_value::{TapeItems, TapeValue};
 pub use token_writer::TokenWriter;

@@ -1,7 +1,7 @@
 //! `check_keys` and its helpers: which keys an object may have.
 
-ghost use Rattle.std.specs.Prelude.{◌≡◌, is_some, map};
-ghost use Rattle.std.specs.List.{list_any};
+ghost use Rattle.std.specs.Prelude.{◌≡◌, map};
+ghost use Rattle.std.specs.List.{list_all, list_any};
 ghost use Rattle.std.specs.Str.{bytes_eq};
 ghost use Rattle.serde_json.specs.View.{members_view};
 ghost use Rattle.etcs_schema.specs.Entries.{are_known, is_known};
@@ -26,22 +26,6 @@ pub(crate) fn is_key(name: &str, keys: &[&str]) -> bool
     is_one_of(name, keys)
 }
 
-/// The index after a key that is in the list at `from` or later, 0 for any other key of the list, and `None`
-/// if the key is not in the list. So keys that come in the order of the list are found at once.
-#[inline]
-pub(crate) fn place_after(name: &str, keys: &[&str], from: usize) -> Option<usize>
-    ensures { is_some result ≡ is_known name.now (map (λ l. l.now) keys.now) }
-{
-    let mut place = from;
-    'places: while place < keys.len() {
-        if name == keys[place] {
-            return Some(place + 1);
-        }
-        place += 1;
-    }
-    if is_key(name, keys) { Some(0) } else { None }
-}
-
 /// Whether each key of an object is one of these.
 pub(crate) fn all_among(members: &Map<String, Value>, keys: &[&str]) -> bool
     ensures { result ≡ are_known (map (λ l. l.now) keys.now) (members_view members.now.entries) }
@@ -52,6 +36,13 @@ pub(crate) fn all_among(members: &Map<String, Value>, keys: &[&str]) -> bool
         }
     }
     true
+}
+
+/// Whether each key of these members is one of these keys.
+pub(crate) fn are_among(members: &[(&str, json::Value<'_>)], keys: &[&str]) -> bool
+    ensures { result ≡ list_all (λ m. is_known m.0.now (map (λ l. l.now) keys.now)) members.now }
+{
+    members.iter().all(|member| is_key(member.0, keys))
 }
 
 /// Refuses a value that is not an object, and an object with a key that is none of these. Refusing allocates

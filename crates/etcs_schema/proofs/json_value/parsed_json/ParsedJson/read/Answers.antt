@@ -1,28 +1,14 @@
-use Rattle.std.proofs.Common.{◌∙◌, Some, Err, ap, sym}
-use Rattle.etcs_schema.specs.json_value.Tape.{are_in_range, tokens_data, is_sound}
-use Rattle.etcs_schema.proofs.TextLemmas.{not_json, passed, read_document, stopped}
+use Rattle.std.proofs.Common.{◌≡◌, ◌∙◌, [], Some, ap, option_and_then, rules}
+use Rattle.json.specs.Json.{if_last, value}
+use Rattle.json.specs.Lex.{tokens}
+use Rattle.json.specs.Value.{value_view}
+use Rattle.serde_json.specs.Read.{of_json}
+use Rattle.etcs_schema.proofs.TextLemmas.{json_read}
 use Rattle.etcs_schema.proofs.json_value.parsed_json.ParsedJson.read.Goals as goal
 
-pub returns-in-Err-Invalid-clause-not_json : goal.returns-in-Err-Invalid-clause-not_json
-returns-in-Err-Invalid-clause-not_json c = λ _. not_json c.args.text.now (c.in-Err-Invalid.ensures.invalid (ap Err c.in-Err-Invalid.field-0-is))
-
--- the tape has the text's tokens
-
-pub invariant_of-result : goal.invariant_of-result
-invariant_of-result c =
-    let text = c.args.text.now in
-    let j = read_document text c.in-Ok.ensures.ok.1 in
-    record { sound = ap is_sound c.in-Ok.ensures.ok.0 ∙ (passed text j.0 j.1 (sym (c.if-are_in_range.ensures ∙ ap (are_in_range (Some 0)) (c.nodes.ensures.tokens ∙ c.in-Ok.ensures.ok.0)))).0 }
-
-pub returns-then-are_in_range-clause-ok : goal.returns-then-are_in_range-clause-ok
-returns-then-are_in_range-clause-ok c =
-    let text = c.args.text.now in
-    let j = read_document text c.in-Ok.ensures.ok.1 in
-    (passed text j.0 j.1 (sym (c.if-are_in_range.ensures ∙ ap (are_in_range (Some 0)) (c.nodes.ensures.tokens ∙ c.in-Ok.ensures.ok.0)))).1
-    ∙ ap (λ ts. Some (tokens_data ts)) (sym c.in-Ok.ensures.ok.0)
-
-pub returns-clause-not_json : goal.returns-clause-not_json
-returns-clause-not_json c = λ _.
-    let text = c.args.text.now in
-    let j = read_document text c.in-Ok.ensures.ok.1 in
-    stopped text j.0 j.1 (sym (c.if-are_in_range.ensures ∙ ap (are_in_range (Some 0)) (c.nodes.ensures.tokens ∙ c.in-Ok.ensures.ok.0)))
+-- nothing follows the value
+pub returns-then-is_in_range-clause-ok : goal.returns-then-is_in_range-clause-ok
+returns-then-is_in_range-clause-ok c =
+    let j = value_view c.in-Ok-read.value in
+    let is : value 127 (tokens c.args.text.now) ≡ Some (j, []) = search rules in
+    ap (λ o. option_and_then of_json (option_and_then (λ p. if_last p.0 p.1) o)) is ∙ json_read j c.if-is_in_range.ensures
