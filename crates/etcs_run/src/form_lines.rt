@@ -3,11 +3,10 @@
 //! `Encoded`: a record that is read from a line and has a text.
 
 ghost use Rattle.std.specs.Prelude.{◌≡◌, ◌++◌, ℕ, List, Result, codes, IfOk, IfSome};
-ghost use Rattle.serde_json.specs.View.{view};
 ghost use Rattle.etcs_json.specs.JsonLine.{IsReadAs};
 ghost use Rattle.etcs_schema.specs.Codec.{Codec};
 ghost use Rattle.etcs_schema.specs.Fault.{Returns};
-ghost use Rattle.etcs_run.specs.FormLines.{or_fault, parsed_record, parsed_value};
+ghost use Rattle.etcs_run.specs.FormLines.{or_fault, parsed_record};
 ghost use Rattle.etcs_run.specs.TextLineMeaning.{Gives};
 
 use crate::text_line_meaning::{TextLineMeaning, Unwritten};
@@ -18,20 +17,8 @@ use etcs_radio::Message;
 use etcs_schema::{FormError, JsonError, JsonValue, ParsedJson};
 use etcs_telegram::Telegram;
 use json::Scratch;
-use serde_json::Value;
 use std::alloc::Global;
 use std::marker::PhantomData;
-
-// The JSON value of a line.
-fn value_of(alloc: Global, line: &[u8]) -> Result<Value, Unwritten>
-    ensures { Gives view result (parsed_value line.now) }
-{
-    match Value::from_slice(alloc, line) {
-        Ok(value) => Ok(value),
-        Err(error) if error.is_memory() => Err(Unwritten::Memory),
-        Err(_) => Err(Unwritten::Refused(LineFault::Json)),
-    }
-}
 
 // The record whose form the JSON value is.
 fn record_of<T: Encoded, N: JsonValue>(alloc: Global, node: &N) -> Result<T, Unwritten>
@@ -61,11 +48,10 @@ fn record_in_line<T: Encoded>(
     if let Some(record) = T::of_line(alloc, written, line) {
         return Ok(record);
     }
-    match ParsedJson::read(text, scratch, Vec::new(alloc)) {
+    match ParsedJson::read(alloc, text, scratch) {
         Ok(json) => record_of(alloc, &json.root()),
         Err(JsonError::NotJson) => Err(Unwritten::Refused(LineFault::Json)),
         Err(JsonError::Memory) => Err(Unwritten::Memory),
-        Err(JsonError::TooLong) => record_of(alloc, &&value_of(alloc, line)?),
     }
 }
 

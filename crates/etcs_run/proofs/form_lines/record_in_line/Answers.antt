@@ -12,7 +12,7 @@ returns-in_default g c = no_record g.T.Encoded.form c.args.line.now (λ utf8. ab
 pub returns-in-Some : goal.returns-in-Some
 returns-in-Some g c = text_read g.T.Encoded.form c.args.line.now _ _ _ refl c.in-Ok.ensures.cases.1 c.in-Some.ensures.0 refl ∙ ap or_fault c.in-Some.ensures.1
 
--- the tape has the value of the line
+-- the tree has the value of the line
 pub returns-in-Ok-read : goal.returns-in-Ok-read
 returns-in-Ok-read g c =
     gives_same (λ x. x) _ _ _ c.record_of.ensures
