@@ -1,6 +1,6 @@
 //! The trait `JsonValue`: read-only JSON values. Readers of forms are generic over it, so that one reader serves
-//! values of `serde_json` and the trees of `json`, which take less memory. `reading` and `keys` contain what all
-//! these readers share.
+//! references to all trees: values of `serde_json`, and values of `json`, which take less memory. `reading` and
+//! `keys` contain what all these readers share.
 
 ghost use Rattle.std.specs.Prelude.{◌≡◌, ◌∷◌, [], List, map, option_map, option_and_then, MatchOption};
 ghost use Rattle.serde_json.specs.Data.{Data};
@@ -12,6 +12,7 @@ pub(crate) mod keys;
 mod numbers;
 pub(crate) mod parsed_json;
 mod serde_value;
+pub(crate) mod tree;
 mod tree_range;
 mod tree_value;
 

@@ -15,4 +15,5 @@ pub use error::{FormError, Path, Step};
 pub use json_value::JsonValue;
 pub use json_value::keys::check_keys;
 pub use json_value::parsed_json::{JsonError, ParsedJson};
+pub use json_value::tree::JsonTree;
 pub use token_writer::TokenWriter;

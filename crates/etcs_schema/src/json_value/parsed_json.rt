@@ -4,9 +4,9 @@ ghost use Rattle.std.specs.Prelude.{◌≡◌, ◌<◌, ◌⊎◌, length, Some,
 ghost use Rattle.json.specs.Lex.{tokens};
 ghost use Rattle.json.specs.Reads.{opens};
 ghost use Rattle.json.specs.Scratch.{room};
+ghost use Rattle.json.specs.Value.{value_view};
 ghost use Rattle.serde_json.specs.Read.{read};
 
-use crate::JsonValue;
 use crate::json_value::tree_range::is_in_range;
 use json::{Reader, Scratch, Value};
 use std::alloc::Global;
@@ -30,7 +30,7 @@ pub struct ParsedJson<'a> {
 }
 
 impl<'a> ParsedJson<'a> {
-    ghost use Rattle.etcs_schema.specs.json_value.Texts.{text_data};
+    ghost use Rattle.etcs_schema.specs.json_value.Texts.{json_data, text_data};
 
     /// Reads a text as `serde_json` does. The tree borrows strings from the text, and strings with escapes from
     /// the scratch, which grows to the length of the text.
@@ -64,7 +64,7 @@ impl<'a> ParsedJson<'a> {
 
     /// The value of the text.
     pub fn root(&self) -> &Value<'a>
-        ensures { ⟦<&'a Value<'a> as JsonValue>⟧.value result ≡ text_data self.now }
+        ensures { json_data (value_view result.now) ≡ text_data self.now }
     {
         &self.value
     }

@@ -5,7 +5,7 @@ use Rattle.serde_json.specs.Find.{as_object}
 use Rattle.etcs_schema.specs.Entries.{are_known}
 use Rattle.etcs_schema.specs.json_value.Texts.{json_data}
 use Rattle.etcs_schema.proofs.KeyLemmas.{all_known, keys_known}
-use Rattle.etcs_schema.proofs.json_value.tree_value.RefValueJsonValue.has_only.Goals as goal
+use Rattle.etcs_schema.proofs.json_value.tree_value.ValueJsonTree.has_only.Goals as goal
 
 pub returns-in-Object : goal.returns-in-Object
 returns-in-Object c =
