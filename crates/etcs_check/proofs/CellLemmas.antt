@@ -33,7 +33,7 @@ use Rattle.etcs_check.specs.declared.finding.Spot.{Spot}
 use Rattle.etcs_group.proofs.PlaceLemmas.{element_passes-at}
 use Rattle.etcs_check.proofs.FactLemmas.{passed, packet_stands}
 use Rattle.etcs_check.proofs.MemberLemmas.{IsListed, each-at, each-listed, rules-listed, made_of, At-append_cases, filter-at, at-filter, flat_map-at, at-flat_map, At-append_left, At-append_right}
-use Rattle.etcs_check.proofs.OrderLemmas.{AreOrdered, AreOrdered-filter, IsBlock, no_block, fact_block, joined, under, blocks, each_block, rising, one_list}
+use Rattle.etcs_check.proofs.OrderLemmas.{AreOrdered, AreOrdered-filter, IsBlock, no_block, one_block, joined, under, blocks, each_block, rising, one_list}
 
 -- there is no fact against a group
 abbrev pub HasNoGroupFact : Bool → Aspects → Type 0
@@ -53,41 +53,15 @@ numbered_from m (suc n) = let e : suc m ≡ m + 1 = omega arith in λ i. e i ∷
 none_rising : (n : ℕ) (i : ℕ) (o : Option ℕ) → At (none_and n) i o → none_first o ≡ 0 + i
 none_rising n i o at = rising none_first (none_and n) 0 (ap (λ l. 0 ∷ l) (numbered_from 0 n)) i o at
 
-module _ (spot : Spot) (count : ℕ) (packets : Option ℕ → List TrackPacket) where
-  abbrev to_aspect : List ℕ
-  to_aspect = site_order spot.site ∷ site_place spot.site ∷ []
-
-  abbrev to_direction : List ℕ
-  to_direction = site_order spot.site ∷ site_place spot.site ∷ none_first spot.aspect ∷ []
-
-  abbrev to_balise : Option Run → List ℕ
-  to_balise run = site_order spot.site ∷ site_place spot.site ∷ none_first spot.aspect ∷ direction_order run ∷ []
-
-  abbrev to_packet : Option Run → Option ℕ → List ℕ
-  to_packet run b = site_order spot.site ∷ site_place spot.site ∷ none_first spot.aspect ∷ direction_order run ∷ none_first b ∷ []
-
-  abbrev to_rule : Option Run → Option ℕ → Option ℕ → List ℕ
-  to_rule run b k = site_order spot.site ∷ site_place spot.site ∷ none_first spot.aspect ∷ direction_order run ∷ none_first b ∷ none_first k ∷ []
-
-  cell_block : (run : Option Run) (b k : Option ℕ) → IsBlock cell_order (to_rule run b k) 1 (1 + length all_rules) (flat_map (λ rule. new_finding rule spot run b k ∷ []) all_rules)
-  cell_block run b k = blocks cell_order (to_rule run b k) (λ rule. new_finding rule spot run b k ∷ []) all_rules 1 (λ i n rule e at.
-      let f = rising rule_number all_rules 1 refl i rule at in
-      fact_block cell_order (to_rule run b k) n (rule_number rule) [] true (new_finding rule spot run b k) (f ∙ sym e) refl)
-
-  packets_block : (run : Option Run) (b : Option ℕ) → IsBlock cell_order (to_packet run b) 0 (0 + length (none_and (length (packets b)))) (flat_map (rule_findings spot run b) (none_and (length (packets b))))
-  packets_block run b = blocks cell_order (to_packet run b) (rule_findings spot run b) (none_and (length (packets b))) 0 (λ i n k e at.
-      let f = none_rising (length (packets b)) i k at in
-      under cell_order (to_packet run b) n (none_first k) (f ∙ sym e) (cell_block run b k))
-
-  balises_block : (run : Option Run) → IsBlock cell_order (to_balise run) 0 (0 + length (none_and count)) (flat_map (λ b. flat_map (rule_findings spot run b) (none_and (length (packets b)))) (none_and count))
-  balises_block run = blocks cell_order (to_balise run) (λ b. flat_map (rule_findings spot run b) (none_and (length (packets b)))) (none_and count) 0 (λ i n b e at.
-      let f = none_rising count i b at in
-      under cell_order (to_balise run) n (none_first b) (f ∙ sym e) (packets_block run b))
-
-  spot_block : IsBlock cell_order to_aspect (none_first spot.aspect) (suc (none_first spot.aspect)) (spot_cells spot count packets)
-  spot_block = under cell_order to_aspect (none_first spot.aspect) (none_first spot.aspect) refl
-      (blocks cell_order to_direction (λ run. flat_map (λ b. flat_map (rule_findings spot run b) (none_and (length (packets b)))) (none_and count)) directions 0 (λ i n run e at.
-      under cell_order to_direction n (direction_order run) (rising direction_order directions 0 refl i run at ∙ sym e) (balises_block run)))
+-- the cells of a spot: by running direction, by balise, by packet and by rule
+spot_block : (spot : Spot) (count : ℕ) (packets : Option ℕ → List TrackPacket) → IsBlock cell_order (site_order spot.site ∷ site_place spot.site ∷ []) (none_first spot.aspect) (suc (none_first spot.aspect)) (spot_cells spot count packets)
+spot_block spot count packets =
+    let at_balise = λ (run : Option Run) (b : Option ℕ). flat_map (rule_findings spot run b) (none_and (length (packets b))) in
+    under cell_order _ (none_first spot.aspect) (none_first spot.aspect) refl (blocks cell_order _ (λ run. flat_map (at_balise run) (none_and count)) directions 0 (λ i n run e at.
+    under cell_order _ n (direction_order run) (rising direction_order directions 0 refl i run at ∙ sym e) (blocks cell_order _ (at_balise run) (none_and count) 0 (λ i n b e at.
+    under cell_order _ n (none_first b) (none_rising count i b at ∙ sym e) (blocks cell_order _ (rule_findings spot run b) (none_and (length (packets b))) 0 (λ i n k e at.
+    under cell_order _ n (none_first k) (none_rising (length (packets b)) i k at ∙ sym e) (blocks cell_order _ (λ rule. new_finding rule spot run b k ∷ []) all_rules 1 (λ i n rule e at.
+    one_block cell_order _ n (rule_number rule) [] (new_finding rule spot run b k) (rising rule_number all_rules 1 refl i rule at ∙ sym e) refl))))))))
 
 -- ---- sorted by rule
 
