@@ -122,9 +122,10 @@ past_greater r (Some m) None = sym (or-false (falls_short r m))
 past_greater (Ends n) (Some m) (Some k) = max_past n m k
 past_greater Open (Some m) (Some k) = refl
 
-past_said : (r : Reach) (packets : List TrackPacket) → list_any (exceeds r) packets ≡ option_map_or (falls_short r) (packets_summary packets).limit false
-past_said r [] = refl
-past_said r (p ∷ ps) = ap (λ s. exceeds r p || s) (past_said r ps) ∙ sym (past_greater r (packet_limit p) (packets_summary ps).limit)
+-- some packet passes a test if and only if the summary shows it
+any_said : (has : PacketSummary → Bool) (test : TrackPacket → Bool) → has nothing ≡ false → ((p : TrackPacket) (s : PacketSummary) → has (both (by_one p) s) ≡ (test p || has s)) → (packets : List TrackPacket) → list_any test packets ≡ has (packets_summary packets)
+any_said has test none more [] = sym none
+any_said has test none more (p ∷ ps) = ap (λ s. test p || s) (any_said has test none more ps) ∙ sym (more p (packets_summary ps))
 
 -- a profile is short if and only if it ends before the greatest location
 pub short-before : (reach : TrackPacket → Option Reach) (packets : List TrackPacket) (p : TrackPacket) → is_short reach packets p ≡ ends_early reach (packets_summary packets).limit p
@@ -132,7 +133,7 @@ short-before reach packets p = go (reach p)
   where
     go : (o : Option Reach) → option_map_or (λ r. list_any (exceeds r) packets) o false ≡ option_map_or (λ r. option_map_or (falls_short r) (packets_summary packets).limit false) o false
     go None = refl
-    go (Some r) = past_said r packets
+    go (Some r) = any_said (λ s. option_map_or (falls_short r) s.limit false) (exceeds r) refl (λ p s. past_greater r (packet_limit p) s.limit) packets
 
 -- ---- the parts of the summary
 
@@ -142,19 +143,10 @@ some_greater (Some m) None = refl
 some_greater (Some m) (Some n) = refl
 
 some_said : (packets : List TrackPacket) → list_any (λ p. is_some (packet_limit p)) packets ≡ is_some (packets_summary packets).limit
-some_said [] = refl
-some_said (p ∷ ps) = ap (λ s. is_some (packet_limit p) || s) (some_said ps) ∙ sym (some_greater (packet_limit p) (packets_summary ps).limit)
-
-gradient_said : (packets : List TrackPacket) → (packets_summary packets).has_gradient ≡ list_any (λ p. is_some (gradient_reach p)) packets
-gradient_said [] = refl
-gradient_said (p ∷ ps) = ap (λ b. is_some (gradient_reach p) || b) (gradient_said ps)
-
-speed_said : (packets : List TrackPacket) → (packets_summary packets).has_speed ≡ list_any (λ p. is_some (speed_reach p)) packets
-speed_said [] = refl
-speed_said (p ∷ ps) = ap (λ b. is_some (speed_reach p) || b) (speed_said ps)
+some_said = any_said (λ s. is_some s.limit) (λ p. is_some (packet_limit p)) refl (λ p s. some_greater (packet_limit p) s.limit)
 
 pub lacks_gradient-is : (packets : List TrackPacket) → (is_some (packets_summary packets).limit && not (packets_summary packets).has_gradient) ≡ lacks gradient_reach packets
-lacks_gradient-is packets = ap₂ (λ a b. a && not b) (sym (some_said packets)) (gradient_said packets)
+lacks_gradient-is packets = ap₂ (λ a b. a && not b) (sym (some_said packets)) (sym (any_said (λ s. s.has_gradient) (λ p. is_some (gradient_reach p)) refl (λ p s. refl) packets))
 
 pub lacks_speed-is : (packets : List TrackPacket) → (is_some (packets_summary packets).limit && not (packets_summary packets).has_speed) ≡ lacks speed_reach packets
-lacks_speed-is packets = ap₂ (λ a b. a && not b) (sym (some_said packets)) (speed_said packets)
+lacks_speed-is packets = ap₂ (λ a b. a && not b) (sym (some_said packets)) (sym (any_said (λ s. s.has_speed) (λ p. is_some (speed_reach p)) refl (λ p s. refl) packets))

@@ -29,7 +29,7 @@ use Rattle.etcs_check.specs.declared.finding.Rule.TheVariants as rules
 use Rattle.etcs_check.specs.Duplicates.{same_held}
 use Rattle.etcs_check.specs.Laws.{SoundGroupsAreDecided}
 use Rattle.etcs_check.proofs.NumberLemmas.{Decides-same_packets}
-use Rattle.etcs_check.proofs.ProfileLemmas.{HaveProfiles, profiles-from, profiles-one, long-said, said-long}
+use Rattle.etcs_check.proofs.ProfileLemmas.{gradients_in, speeds_in, profiles-from, profiles-one, long-said, said-long}
 use Rattle.etcs_check.proofs.FormedLemmas.{first_counted}
 use Rattle.etcs_check.proofs.PairLemmas.{duplicates-equal, only-covered}
 
@@ -189,12 +189,6 @@ module _ (group : List Telegram) (sound : IsSoundGroup group) where
       let lt = slice_get_within t.packets k p at' in
       subst (λ q. is_modelled q ≡ true) (get_or_from_slice_get t.packets k p p at') (sound.formed.modelled b t at k p lt)
 
-  gradients : (run : Run) → HaveProfiles gradient_reach (group_message run group)
-  gradients run i p limit at is = (said_reached run i p limit at is).0
-
-  speeds : (run : Run) → HaveProfiles speed_reach (group_message run group)
-  speeds run i p limit at is = (said_reached run i p limit at is).1
-
   -- an aspect that is like aspect 0, and that its counters distinguish from the aspects before it
   pub parts-from_sound : (aspects : List (List Telegram)) (a : ℕ) → ((b : ℕ) → AspectPart aspects a group rules.HeaderDiffers None (Some b) None)
       → ((b : ℕ) → AspectPart aspects a group rules.MarksDiffer None (Some b) None) → ((b : ℕ) → AspectPart aspects a group rules.NotToldApart None (Some b) None) → HasAspectParts aspects a group
@@ -210,10 +204,10 @@ module _ (group : List Telegram) (sound : IsSoundGroup group) where
       go rules.CountersDiffer None (Some b) None = λ j t u at low first. fitting.equal b j t u at first.0 low first.1
       go rules.DuplicatesDiffer (Some run) (Some b) None = equal_next run b
       go rules.NotModelled None (Some b) (Some k) = all_modelled b k
-      go rules.NoGradient (Some run) None None = profiles-one gradient_reach (group_message run group) (gradients run)
-      go rules.GradientShort (Some run) (Some b) (Some k) = long-said gradient_reach group run (gradients run) b k
-      go rules.NoSpeed (Some run) None None = profiles-one speed_reach (group_message run group) (speeds run)
-      go rules.SpeedShort (Some run) (Some b) (Some k) = long-said speed_reach group run (speeds run) b k
+      go rules.NoGradient (Some run) None None = profiles-one gradient_reach (group_message run group) (gradients_in (group_message run group) (said_reached run))
+      go rules.GradientShort (Some run) (Some b) (Some k) = long-said gradient_reach group run (gradients_in (group_message run group) (said_reached run)) b k
+      go rules.NoSpeed (Some run) None None = profiles-one speed_reach (group_message run group) (speeds_in (group_message run group) (said_reached run))
+      go rules.SpeedShort (Some run) (Some b) (Some k) = long-said speed_reach group run (speeds_in (group_message run group) (said_reached run)) b k
       go rules.MarksDiffer None (Some b) None = marks b
       go rules.NotToldApart None (Some b) None = fresh b
       go rule run b k = tt
