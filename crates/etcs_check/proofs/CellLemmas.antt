@@ -7,7 +7,8 @@ use Rattle.std.specs.Cmp.Lexicographic.{slice_cmp}
 use Rattle.std.specs.declared.cmp.Ordering.TheVariants.{Less, Equal}
 use Rattle.std.proofs.lemmas.Bool.{both_ways, and_parts, or_cases, eqb-true, eq-eqb, false_from_ne_true}
 use Rattle.std.proofs.lemmas.Cmp.{nat_cmp_total, tied_itself}
-use Rattle.std.proofs.lemmas.Option.{none-some, same_Some, slice_get_within}
+use Rattle.std.proofs.lemmas.Option.{none-some, same_Some, slice_get_within, slice_get-get_or}
+use Rattle.std.proofs.lemmas.List.FromFn.{length-map-range_with_len, get_or-map-range_with_len}
 use mathlib.Core.Logic.{inl, inr}
 use Rattle.etcs_profile.specs.declared.run.Run.{Run}
 use Rattle.etcs_profile.specs.declared.run.Run.TheVariants as runs
@@ -142,14 +143,11 @@ abbrev InRange : ℕ → Option ℕ → Type 0
 InRange n None = ⊤
 InRange n (Some i) = i < n
 
-at_from : (m n i : ℕ) → i < n → At (map (λ (j : ℕ). Some j) (range_with_len m n)) i (Some (m + i))
-at_from m zero i lt = absurd (omega arith)
-at_from m (suc n) zero lt = let e : m ≡ m + 0 = omega arith in ap (λ k. Some (Some k)) e
-at_from m (suc n) (suc i) lt = let e : (m + 1) + i ≡ m + suc i = omega arith in subst (λ k. At (map (λ (j : ℕ). Some j) (range_with_len (m + 1) n)) i (Some k)) e (at_from (m + 1) n i (omega arith))
-
 in_range : (n : ℕ) (o : Option ℕ) → InRange n o → (i : ℕ) × At (none_and n) i o
 in_range n None h = (0, refl)
-in_range n (Some i) h = let e : 0 + i ≡ i = omega arith in (suc i, subst (λ k. At (map (λ (j : ℕ). Some j) (range_with_len 0 n)) i (Some k)) e (at_from 0 n i h))
+in_range n (Some i) h =
+    let e : 0 + i ≡ i = omega arith in
+    (suc i, slice_get-get_or (map (λ j. Some j) (range_with_len 0 n)) i None (rw length-map-range_with_len h) ∙ ap Some (get_or-map-range_with_len (λ j. Some j) 0 n i i None h e))
 
 a_direction : (run : Option Run) → (i : ℕ) × At directions i run
 a_direction None = (0, refl)

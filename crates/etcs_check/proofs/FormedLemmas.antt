@@ -83,11 +83,10 @@ counter-says group t one lt = elim (and_cases (ltb t.header.counter 254) (is_oth
 pub inside-is : (group : List Telegram) (b : ℕ) (t : Telegram) → At group b t → (t.header.dup ≢ dups.Single → IsSome (partner_place group b)) → is_outside (length group) t.header.dup b ≡ false
 inside-is group b t at has = go t.header.dup refl has
   where
-    named : (o : Option ℕ) → partner_place group b ≡ o → IsSome o → (q : ℕ) × (named_neighbour t.header.dup b ≡ Some q) × (q < length group)
-    named None e h = absurd (both_ways false refl h)
-    named (Some q) e h =
+    named : IsSome (partner_place group b) → (q : ℕ) × (named_neighbour t.header.dup b ≡ Some q) × (q < length group)
+    named = each_of (partner_place group b) (λ o. IsSome o → (q : ℕ) × (named_neighbour t.header.dup b ≡ Some q) × (q < length group)) (λ h. absurd (both_ways false refl h)) (λ q e _.
         let r = partner-says group b q e in
-        (q, subst (λ (x : Telegram). named_neighbour x.header.dup b ≡ Some q) (one_at group b r.0 t r.1 at) r.2, r.3)
+        (q, subst (λ (x : Telegram). named_neighbour x.header.dup b ≡ Some q) (one_at group b r.0 t r.1 at) r.2, r.3))
 
     first : (b q : ℕ) → named_neighbour dups.Previous b ≡ Some q → eqb b 0 ≡ false
     first zero q e = absurd (none-some q e)
@@ -96,12 +95,12 @@ inside-is group b t at has = go t.header.dup refl has
     go : (m : Dup) → t.header.dup ≡ m → (t.header.dup ≢ dups.Single → IsSome (partner_place group b)) → is_outside (length group) m b ≡ false
     go dups.Single e has = refl
     go dups.Next e has =
-        let n = named (partner_place group b) refl (has (λ f. let g : dups.Next ≡ dups.Single = sym e ∙ f in cc)) in
+        let n = named (has (λ f. let g : dups.Next ≡ dups.Single = sym e ∙ f in cc)) in
         let s = same_Some (b + 1) n.0 (sym (ap (λ m. named_neighbour m b) e) ∙ n.1) in
         let w = n.2 in
         ne_eqb _ _ (omega arith)
     go dups.Previous e has =
-        let n = named (partner_place group b) refl (has (λ f. let g : dups.Previous ≡ dups.Single = sym e ∙ f in cc)) in
+        let n = named (has (λ f. let g : dups.Previous ≡ dups.Single = sym e ∙ f in cc)) in
         first b n.0 (sym (ap (λ m. named_neighbour m b) e) ∙ n.1)
 
 -- a partner whose partner is the balise answers

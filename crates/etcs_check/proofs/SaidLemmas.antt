@@ -20,6 +20,7 @@ use Rattle.etcs_check.specs.Findings.{falls_short, exceeds, is_short, lacks}
 use Rattle.etcs_check.specs.Profiles.{packet_limit, gradient_reach, speed_reach}
 use Rattle.etcs_check.specs.PacketSummary.{greater, ends_early, nothing, both, by_one, packets_summary}
 use Rattle.etcs_check.specs.declared.packet_summary.PacketSummary.{PacketSummary}
+use Rattle.etcs_check.proofs.FactLemmas.{each_of}
 use Rattle.etcs_check.proofs.NoteLemmas.{drop_at}
 
 -- ---- sums, which may be made in any order
@@ -129,11 +130,9 @@ any_said has test none more (p ∷ ps) = ap (λ s. test p || s) (any_said has te
 
 -- a profile is short if and only if it ends before the greatest location
 pub short-before : (reach : TrackPacket → Option Reach) (packets : List TrackPacket) (p : TrackPacket) → is_short reach packets p ≡ ends_early reach (packets_summary packets).limit p
-short-before reach packets p = go (reach p)
-  where
-    go : (o : Option Reach) → option_map_or (λ r. list_any (exceeds r) packets) o false ≡ option_map_or (λ r. option_map_or (falls_short r) (packets_summary packets).limit false) o false
-    go None = refl
-    go (Some r) = any_said (λ s. option_map_or (falls_short r) s.limit false) (exceeds r) refl (λ p s. past_greater r (packet_limit p) s.limit) packets
+short-before reach packets p =
+    each_of (reach p) (λ o. option_map_or (λ r. list_any (exceeds r) packets) o false ≡ option_map_or (λ r. option_map_or (falls_short r) (packets_summary packets).limit false) o false) refl
+    (λ r _. any_said (λ s. option_map_or (falls_short r) s.limit false) (exceeds r) refl (λ p s. past_greater r (packet_limit p) s.limit) packets)
 
 -- ---- the parts of the summary
 
