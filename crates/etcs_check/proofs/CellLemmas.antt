@@ -55,7 +55,8 @@ none_rising : (n : ℕ) (i : ℕ) (o : Option ℕ) → At (none_and n) i o → n
 none_rising n i o at = rising none_first (none_and n) 0 (ap (λ l. 0 ∷ l) (numbered_from 0 n)) i o at
 
 -- the cells of a spot: by running direction, by balise, by packet and by rule
-spot_block : (spot : Spot) (count : ℕ) (packets : Option ℕ → List TrackPacket) → IsBlock cell_order (site_order spot.site ∷ site_place spot.site ∷ []) (none_first spot.aspect) (suc (none_first spot.aspect)) (spot_cells spot count packets)
+spot_block : (spot : Spot) (count : ℕ) (packets : Option ℕ → List TrackPacket)
+    → IsBlock cell_order (site_order spot.site ∷ site_place spot.site ∷ []) (none_first spot.aspect) (suc (none_first spot.aspect)) (spot_cells spot count packets)
 spot_block spot count packets =
     let at_balise = λ (run : Option Run) (b : Option ℕ). flat_map (rule_findings spot run b) (none_and (length (packets b))) in
     under cell_order _ (none_first spot.aspect) (none_first spot.aspect) refl (blocks cell_order _ (λ run. flat_map (at_balise run) (none_and count)) directions 0 (λ i n run e at.
@@ -89,8 +90,7 @@ at-by_rule xs j f at = rules-listed (λ rule. filter (has_rule rule) xs) f.rule 
 site_is : (s t : Site) → site_order s ≡ site_order t → site_place s ≡ site_place t → s ≡ t
 site_is (sites.Group m) (sites.Group n) e h = ap sites.Group h
 site_is (sites.Message m) (sites.Message n) e h = ap sites.Message h
-site_is (sites.Group m) (sites.Message n) e h = absurd (omega (arith, e))
-site_is (sites.Message m) (sites.Group n) e h = absurd (omega (arith, e))
+site_is s t e h = absurd (omega (arith, e))
 
 -- the cells of a site, and those of them that are facts
 module _ (site : Site) {low high : ℕ} {cells : List Finding} (block : IsBlock cell_order (site_order site ∷ site_place site ∷ []) low high cells) (test : Finding → Bool) where
@@ -182,9 +182,6 @@ module _ (first : Telegrams) (before : Aspects) (group : Telegrams) where
   aspect_range rules.NotModelled None (Some b) (Some k) h = packet_of group b k is_unmodelled h
   aspect_range rules.GradientShort (Some run) (Some b) (Some k) h = packet_of group b k (is_short_profile gradient_reach (aspect_speech group) run (Some b)) h
   aspect_range rules.SpeedShort (Some run) (Some b) (Some k) h = packet_of group b k (is_short_profile speed_reach (aspect_speech group) run (Some b)) h
-  aspect_range rules.NotModelled None None (Some k) h = absurd (both_ways false refl h)
-  aspect_range rules.GradientShort (Some run) None (Some k) h = absurd (both_ways false refl h)
-  aspect_range rules.SpeedShort (Some run) None (Some k) h = absurd (both_ways false refl h)
   aspect_range rule None None None h = (tt, tt)
   aspect_range rule (Some run) None None h = (tt, tt)
   aspect_range rule None (Some b) None h = (place_of group b (balise_fact first before group rule b) h, tt)
@@ -233,9 +230,8 @@ packet_range : (packets : List TrackPacket) (rule : Rule) (run : Option Run) (b 
 packet_range packets rules.NotModelled None None (Some k) h = (tt, place_of packets k is_unmodelled h)
 packet_range packets rules.GradientShort (Some run) None (Some k) h = (tt, place_of packets k (is_short_profile gradient_reach (message_speech packets) run None) h)
 packet_range packets rules.SpeedShort (Some run) None (Some k) h = (tt, place_of packets k (is_short_profile speed_reach (message_speech packets) run None) h)
-packet_range packets rules.NotModelled None (Some b) (Some k) h = absurd (both_ways false refl h)
-packet_range packets rules.GradientShort (Some run) (Some b) (Some k) h = absurd (both_ways false refl h)
-packet_range packets rules.SpeedShort (Some run) (Some b) (Some k) h = absurd (both_ways false refl h)
+packet_range packets rule None (Some b) (Some k) h = absurd (both_ways false refl h)
+packet_range packets rule (Some run) (Some b) (Some k) h = absurd (both_ways false refl h)
 packet_range packets rule None None None h = (tt, tt)
 packet_range packets rule (Some run) None None h = (tt, tt)
 packet_range packets rule run b k h = absurd (both_ways false refl h)

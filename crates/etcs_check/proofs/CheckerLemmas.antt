@@ -32,7 +32,8 @@ group_taken old new h g is controlled numbered found others count counted kept =
     let used : is_kept old.identities (identity_number h) ≡ is_used gs h = was.seen (identity_number h) ∙ sym (used-among gs h was.numbered numbered) in
     record {
       about_groups =
-          found ∙ ap₂ ◌++◌ (was.about_groups ∙ append-nil (group_list gs)) (ap₂ (λ n u. group_findings (sites.Group n) u h) was.groups_counted used) ∙ sym (groups_found gs h) ∙ sym (append-nil (group_list (gs ++ h ∷ [])));
+          found ∙ ap₂ ◌++◌ (was.about_groups ∙ append-nil (group_list gs)) (ap₂ (λ n u. group_findings (sites.Group n) u h) was.groups_counted used)
+          ∙ sym (groups_found gs h) ∙ sym (append-nil (group_list (gs ++ h ∷ [])));
       about_messages = others ∙ was.about_messages;
       groups_counted = count ∙ ap (λ n. n + 1) was.groups_counted ∙ sym (length-append gs (h ∷ []));
       messages_counted = counted ∙ was.messages_counted;

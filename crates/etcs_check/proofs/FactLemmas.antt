@@ -11,7 +11,7 @@ use Rattle.etcs_telegram.specs.Record.{Telegram}
 use Rattle.etcs_group.specs.Group.{Telegrams, Aspects}
 use Rattle.etcs_group.specs.Packets.{is_silent, group_message}
 use Rattle.etcs_group.specs.Places.{At, element_passes}
-use Rattle.etcs_group.proofs.PlaceLemmas.{element_passes-at, element_passes-none}
+use Rattle.etcs_group.proofs.PlaceLemmas.{element_passes-at}
 use Rattle.etcs_check.specs.Facts.{aspect_packets, aspect_speech, is_short_profile, aspect_fact, whole_fact, fact_of_aspect, group_fact}
 use Rattle.etcs_check.specs.Findings.{is_said_and_short}
 use Rattle.etcs_check.specs.Violation.{NamesAspect}
@@ -42,19 +42,14 @@ pub packet_as : (group : Telegrams) (b k : ℕ) (test : TrackPacket → Bool) (t
 packet_as group b k test t p at at' = ap (λ l. element_passes l k test) (packets_as group b t at) ∙ element_passes-at t.packets k test p at'
 
 module _ (reach : TrackPacket → Option Reach) (group : Telegrams) (run : Run) (b : ℕ) where
-  short_as : (t : Telegram) (p : TrackPacket) → At group b t → is_short_profile reach (aspect_speech group) run (Some b) p ≡ is_said_and_short reach (group_message run group) run (is_silent run t.header.dup (length group) b) p
+  pub short_as : (t : Telegram) (p : TrackPacket) → At group b t
+      → is_short_profile reach (aspect_speech group) run (Some b) p ≡ is_said_and_short reach (group_message run group) run (is_silent run t.header.dup (length group) b) p
   short_as t p at =
       ap (λ q. is_said_and_short reach (group_message run group) run q p) (element_passes-at group b (λ (t : Telegram). is_silent run t.header.dup (length group) b) t at)
 
   pub profile_as : (k : ℕ) (t : Telegram) (p : TrackPacket) → At group b t → At t.packets k p
       → element_passes (aspect_packets group (Some b)) k (is_short_profile reach (aspect_speech group) run (Some b)) ≡ is_said_and_short reach (group_message run group) run (is_silent run t.header.dup (length group) b) p
   profile_as k t p at at' = packet_as group b k (is_short_profile reach (aspect_speech group) run (Some b)) t p at at' ∙ short_as t p at
-
-  pub none_short : (k : ℕ) → ((t : Telegram) (p : TrackPacket) → At group b t → At t.packets k p → is_said_and_short reach (group_message run group) run (is_silent run t.header.dup (length group) b) p ≡ false)
-      → element_passes (aspect_packets group (Some b)) k (is_short_profile reach (aspect_speech group) run (Some b)) ≡ false
-  none_short k h = element_passes-none (aspect_packets group (Some b)) k (is_short_profile reach (aspect_speech group) run (Some b)) (λ p at.
-      let s = packet_stands group b k p at in
-      short_as s.0 p s.1 ∙ h s.0 p s.1 s.2)
 
 -- ---- a group: the fact is about the whole, or about the aspect that is named
 

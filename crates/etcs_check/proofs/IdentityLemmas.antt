@@ -218,9 +218,8 @@ same_identity_of o p = option_map_or (λ i. option_map_or (same_identity i) p fa
 
 identities-say : (o p : Option Identity) → same_identity_of o p ≡ true → o ≡ p
 unfolding same_identity_of
-identities-say None p h = absurd (both_ways _ refl h)
-identities-say (Some i) None h = absurd (both_ways _ refl h)
 identities-say (Some i) (Some j) h = ap Some ((Decides-same_identity i j).0 h)
+identities-say o p h = absurd (both_ways _ refl h)
 
 identities-are : (i : Identity) (o p : Option Identity) → o ≡ Some i → o ≡ p → same_identity_of o p ≡ true
 unfolding same_identity_of

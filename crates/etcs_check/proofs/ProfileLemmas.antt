@@ -76,7 +76,7 @@ lacks-from_one reach packets h = elim (cases_Bool (list_any (λ p. is_some (pack
       and_right (list_any (λ p. is_some (packet_limit p)) packets) _ (not_from_true _ (at_list_any (λ p. is_some (reach p)) packets p.0 p.1 p.2 p.3))
 ]
 
--- the two kinds of packets that are reached
+-- the profiles of each kind, if the packets are reached
 pub gradients_in : (packets : List TrackPacket) → AreReached packets → HaveProfiles gradient_reach packets
 gradients_in packets reached i a limit at is = (reached i a limit at is).0
 

@@ -3,10 +3,9 @@ use Rattle.std.proofs.Common.{◌≡◌, ℕ, ◌+◌, ◌≤◌, Bool, true, fa
 use Rattle.std.specs.List.{list_any, flat_map, enumerate_from}
 use Rattle.std.specs.Option.{option_map_or}
 use Rattle.std.proofs.Math.Bool.{or_assoc, or_comm, or-false}
-use Rattle.std.proofs.lemmas.Bool.{lt-ltb, le-ltb, cases_lt}
+use Rattle.std.proofs.lemmas.Bool.Decides.{nat_tests}
 use Rattle.std.proofs.lemmas.List.{drop_all, append-nil, reverse-append}
 use Rattle.std.proofs.lemmas.List.Concat.{flat_map-append}
-use mathlib.Core.Logic.{inl, inr}
 use Rattle.etcs_group.specs.Places.{At}
 use Rattle.etcs_group.specs.Packets.{balise_packets, group_message}
 use Rattle.etcs_group.specs.Reading.{in_passing_order}
@@ -30,14 +29,11 @@ greater-none None = refl
 greater-none (Some m) = refl
 
 greater-assoc : (a b c : Option ℕ) → greater (greater a b) c ≡ greater a (greater b c)
-greater-assoc None b c = refl
-greater-assoc (Some m) None c = refl
-greater-assoc (Some m) (Some n) None = refl
 greater-assoc (Some m) (Some n) (Some k) = ap Some (omega arith)
+greater-assoc a b c = refl
 
 greater-comm : (a b : Option ℕ) → greater a b ≡ greater b a
-greater-comm None None = refl
-greater-comm None (Some n) = refl
+greater-comm None b = sym (greater-none b)
 greater-comm (Some m) None = refl
 greater-comm (Some m) (Some n) = ap Some (omega arith)
 
@@ -109,13 +105,7 @@ said_whole run group = sym (said-passing (λ (e : ℕ × Telegram). balise_packe
 -- ---- some location lies past a reach if and only if the greatest one does
 
 max_past : (n a b : ℕ) → ltb n (max a b) ≡ (ltb n a || ltb n b)
-max_past n a b = elim (cases_lt n a) [
-  | inl lt ↦ lt-ltb n (max a b) (omega arith) ∙ sym (ap (λ s. s || ltb n b) (lt-ltb n a lt))
-  | inr ge ↦ elim (cases_lt n b) [
-    | inl lt ↦ lt-ltb n (max a b) (omega arith) ∙ sym (ap₂ ◌||◌ (le-ltb n a ge) (lt-ltb n b lt))
-    | inr ge' ↦ le-ltb n (max a b) (omega arith) ∙ sym (ap₂ ◌||◌ (le-ltb n a ge) (le-ltb n b ge'))
-  ]
-]
+max_past n a b = grind (arith, nat_tests)
 
 past_greater : (r : Reach) (a b : Option ℕ) → option_map_or (falls_short r) (greater a b) false ≡ (option_map_or (falls_short r) a false || option_map_or (falls_short r) b false)
 past_greater r None b = refl
@@ -124,7 +114,8 @@ past_greater (Ends n) (Some m) (Some k) = max_past n m k
 past_greater Open (Some m) (Some k) = refl
 
 -- some packet passes a test if and only if the summary shows it
-any_said : (has : PacketSummary → Bool) (test : TrackPacket → Bool) → has nothing ≡ false → ((p : TrackPacket) (s : PacketSummary) → has (both (by_one p) s) ≡ (test p || has s)) → (packets : List TrackPacket) → list_any test packets ≡ has (packets_summary packets)
+any_said : (has : PacketSummary → Bool) (test : TrackPacket → Bool) → has nothing ≡ false → ((p : TrackPacket) (s : PacketSummary) → has (both (by_one p) s) ≡ (test p || has s))
+    → (packets : List TrackPacket) → list_any test packets ≡ has (packets_summary packets)
 any_said has test none more [] = sym none
 any_said has test none more (p ∷ ps) = ap (λ s. test p || s) (any_said has test none more ps) ∙ sym (more p (packets_summary ps))
 
@@ -137,9 +128,8 @@ short-before reach packets p =
 -- ---- the parts of the summary
 
 some_greater : (a b : Option ℕ) → is_some (greater a b) ≡ (is_some a || is_some b)
-some_greater None b = refl
-some_greater (Some m) None = refl
 some_greater (Some m) (Some n) = refl
+some_greater a b = refl
 
 some_said : (packets : List TrackPacket) → list_any (λ p. is_some (packet_limit p)) packets ≡ is_some (packets_summary packets).limit
 some_said = any_said (λ s. is_some s.limit) (λ p. is_some (packet_limit p)) refl (λ p s. some_greater (packet_limit p) s.limit)

@@ -37,10 +37,7 @@ use Rattle.etcs_check.proofs.PairLemmas.{duplicates-equal, only-covered}
 
 are_pair-says : (m n : Dup) → are_pair m n ≡ true → (m ≡ dups.Next) × (n ≡ dups.Previous)
 are_pair-says dups.Next dups.Previous h = (refl, refl)
-are_pair-says dups.Next dups.Single h = absurd (both_ways _ refl h)
-are_pair-says dups.Next dups.Next h = absurd (both_ways _ refl h)
-are_pair-says dups.Single n h = absurd (both_ways _ refl h)
-are_pair-says dups.Previous n h = absurd (both_ways _ refl h)
+are_pair-says m n h = absurd (both_ways _ refl h)
 
 -- the second of a pair is after the first, and their packets differ
 pub pair-says : (run : Run) (t : Telegram) (o : Option Telegram) → pair_differs run t o ≡ true → (u : Telegram) × (o ≡ Some u) × (t.header.dup ≡ dups.Next) × (u.header.dup ≡ dups.Previous) × (held_packets run t ≢ held_packets run u)
