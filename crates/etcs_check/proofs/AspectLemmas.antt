@@ -1,8 +1,8 @@
 -- A controlled group is sound if and only if each part of it holds. What is read of a mixture is decided.
-use Rattle.std.proofs.Common.{◌≡◌, ◌≢◌, ℕ, zero, suc, ◌<◌, Bool, true, false, ltb, ◌||◌, List, [], ◌∷◌, length, slice_get, take, Option, Some, None, refl, sym, ap, subst, ◌∙◌, arith}
-use Rattle.std.specs.List.{list_all}
+use Rattle.std.proofs.Common.{◌≡◌, ◌≢◌, ℕ, ◌<◌, Bool, true, false, ltb, ◌||◌, List, [], ◌∷◌, length, slice_get, take, get_or, Option, Some, None, refl, sym, ap, subst, ◌∙◌, arith}
 use Rattle.std.specs.Option.{option_map_or}
-use Rattle.std.proofs.lemmas.Option.{none-some, same_Some, slice_get_within}
+use Rattle.std.proofs.lemmas.Option.{slice_get_within, slice_get-get_or, get_or_from_slice_get}
+use Rattle.std.proofs.lemmas.List.Sums.{AllPass-from_list_all, list_all-from_AllPass}
 use Rattle.std.proofs.lemmas.Bool.{both_ways, cases_lt, and_parts, and_from, and_cases, and_left, and_right, or_cases, or_left, or_right, eqb-true, eq-eqb, ltb-true, lt-ltb, le-ltb, not-false, not_from_true}
 use mathlib.Core.Logic.{◌⊎◌, inl, inr}
 use Rattle.etcs_telegram.specs.Record.{Telegram}
@@ -13,34 +13,28 @@ use Rattle.etcs_group.specs.Laws.{MakesOneMessage}
 use Rattle.etcs_group.proofs.PlaceLemmas.{some_at, one_at, at_list_any, list_any-at, At-take, at_take}
 use Rattle.etcs_group.proofs.MixtureLemmas.{mixtures_are_decided}
 use Rattle.etcs_check.specs.Soundness.{IsSoundGroup, IsSoundControlled, first_aspect}
-use Rattle.etcs_check.specs.Findings.{has_counter, is_counter_taken, mark_differs}
+use Rattle.etcs_check.specs.Findings.{has_counter, is_counter_taken}
 use Rattle.etcs_check.specs.Aspects.{all_pass, is_steady, has_aspect_counter, is_ambiguous}
 use Rattle.etcs_check.specs.Violation.{GroupPart}
 use Rattle.etcs_profile.specs.declared.run.Run.{Run}
 use Rattle.etcs_check.specs.Laws.{SoundMixturesAreDecided}
 use Rattle.etcs_check.specs.declared.finding.Rule.{Rule}
 use Rattle.etcs_check.specs.declared.finding.Rule.TheVariants as rules
-use Rattle.etcs_check.proofs.NumberLemmas.{Decides-same_mark, Decides-same_telegram}
+use Rattle.etcs_check.proofs.NumberLemmas.{Decides-same_telegram}
 use Rattle.etcs_check.proofs.SoundLemmas.{HasAspectParts, alike_both, sound-from_parts, parts-from_sound}
 
 -- ---- tests of all aspects
 
-list_all-at : {X : Type 0} (p : X → Bool) (xs : List X) → list_all p xs ≡ true → (i : ℕ) (x : X) → At xs i x → p x ≡ true
-list_all-at p [] h i x at = absurd (none-some x at)
-list_all-at p (y ∷ xs) h zero x at = ap p (sym (same_Some y x at)) ∙ (and_parts (p y) (list_all p xs) h).0
-list_all-at p (y ∷ xs) h (suc i) x at = list_all-at p xs (and_parts (p y) (list_all p xs) h).1 i x at
-
-at-list_all : {X : Type 0} (p : X → Bool) (xs : List X) → ((i : ℕ) (x : X) → At xs i x → p x ≡ true) → list_all p xs ≡ true
-at-list_all p [] h = refl
-at-list_all p (y ∷ xs) h = and_from (p y) (list_all p xs) (h 0 y refl) (at-list_all p xs (λ i x at. h (suc i) x at))
-
 all_pass-says : (test : Telegram → Bool) (b : ℕ) (aspects : List (List Telegram)) → all_pass test b aspects ≡ true → (a : ℕ) (t : Telegram) → Shows aspects a b t → test t ≡ true
 all_pass-says test b aspects h a t has =
-    ap (λ o. option_map_or test o false) (sym has.2) ∙ list_all-at (λ group. option_map_or test (slice_get group b) false) aspects h a has.0 has.1
+    ap (λ o. option_map_or test o false) (sym has.2) ∙ subst (λ (group : List Telegram). option_map_or test (slice_get group b) false ≡ true) (get_or_from_slice_get aspects a has.0 has.0 has.1)
+    (AllPass-from_list_all (λ group. option_map_or test (slice_get group b) false) aspects h a has.0 (slice_get_within aspects a has.0 has.1))
 
 all_pass-is : (test : Telegram → Bool) (b : ℕ) (aspects : List (List Telegram)) → ((a : ℕ) (group : List Telegram) → At aspects a group → (t : Telegram) × At group b t × (test t ≡ true)) → all_pass test b aspects ≡ true
 all_pass-is test b aspects h =
-    at-list_all (λ group. option_map_or test (slice_get group b) false) aspects (λ a group at. let t = h a group at in ap (λ o. option_map_or test o false) t.1 ∙ t.2)
+    list_all-from_AllPass (λ group. option_map_or test (slice_get group b) false) aspects (λ a d lt.
+    let t = h a (get_or aspects a d) (slice_get-get_or aspects a d lt) in
+    ap (λ o. option_map_or test o false) t.1 ∙ t.2)
 
 -- ---- the first aspect
 
@@ -130,12 +124,6 @@ aspect_long aspects controlled a group at =
     let l = as_long aspects controlled a group at in
     let f = first_long aspects controlled in
     omega arith
-
-pub mark-says : (t f : Telegram) → mark_differs (Some f) t ≡ false → t.header.dup ≡ f.header.dup
-mark-says t f h = (Decides-same_mark t.header.dup f.header.dup).0 (not-false _ h)
-
-pub mark-is : (t f : Telegram) → t.header.dup ≡ f.header.dup → mark_differs (Some f) t ≡ false
-mark-is t f e = not_from_true _ ((Decides-same_mark t.header.dup f.header.dup).1 e)
 
 -- an earlier aspect has a counter that is taken
 pub taken-at : (aspects : List (List Telegram)) (a : ℕ) (t : Telegram) → is_counter_taken (take a aspects) t ≡ true → (c : ℕ) × (q : ℕ) × (u : Telegram) × (c < a) × Shows aspects c q u × (t.header.counter < 254) × (u.header.counter ≡ t.header.counter)

@@ -7,7 +7,8 @@ use Rattle.std.specs.Cmp.Lexicographic.{slice_cmp}
 use Rattle.std.specs.declared.cmp.Ordering.TheVariants.{Less, Equal}
 use Rattle.std.proofs.lemmas.Bool.{both_ways, and_parts, or_cases, eqb-true, eq-eqb, false_from_ne_true}
 use Rattle.std.proofs.lemmas.Cmp.{nat_cmp_total, tied_itself}
-use Rattle.std.proofs.lemmas.Option.{none-some, same_Some, slice_get_within}
+use Rattle.std.proofs.lemmas.Option.{none-some, same_Some, slice_get_within, slice_get-get_or}
+use Rattle.std.proofs.lemmas.List.FromFn.{length-map-range_with_len, get_or-map-range_with_len}
 use mathlib.Core.Logic.{inl, inr}
 use Rattle.etcs_profile.specs.declared.run.Run.{Run}
 use Rattle.etcs_profile.specs.declared.run.Run.TheVariants as runs
@@ -33,7 +34,7 @@ use Rattle.etcs_check.specs.declared.finding.Spot.{Spot}
 use Rattle.etcs_group.proofs.PlaceLemmas.{element_passes-at}
 use Rattle.etcs_check.proofs.FactLemmas.{passed, packet_stands}
 use Rattle.etcs_check.proofs.MemberLemmas.{IsListed, each-at, each-listed, rules-listed, made_of, At-append_cases, filter-at, at-filter, flat_map-at, at-flat_map, At-append_left, At-append_right}
-use Rattle.etcs_check.proofs.OrderLemmas.{AreOrdered, AreOrdered-filter, IsBlock, no_block, fact_block, joined, under, blocks, each_block, rising, one_list}
+use Rattle.etcs_check.proofs.OrderLemmas.{AreOrdered, AreOrdered-filter, IsBlock, no_block, one_block, joined, under, blocks, each_block, rising, one_list}
 
 -- there is no fact against a group
 abbrev pub HasNoGroupFact : Bool → Aspects → Type 0
@@ -53,41 +54,16 @@ numbered_from m (suc n) = let e : suc m ≡ m + 1 = omega arith in λ i. e i ∷
 none_rising : (n : ℕ) (i : ℕ) (o : Option ℕ) → At (none_and n) i o → none_first o ≡ 0 + i
 none_rising n i o at = rising none_first (none_and n) 0 (ap (λ l. 0 ∷ l) (numbered_from 0 n)) i o at
 
-module _ (spot : Spot) (count : ℕ) (packets : Option ℕ → List TrackPacket) where
-  abbrev to_aspect : List ℕ
-  to_aspect = site_order spot.site ∷ site_place spot.site ∷ []
-
-  abbrev to_direction : List ℕ
-  to_direction = site_order spot.site ∷ site_place spot.site ∷ none_first spot.aspect ∷ []
-
-  abbrev to_balise : Option Run → List ℕ
-  to_balise run = site_order spot.site ∷ site_place spot.site ∷ none_first spot.aspect ∷ direction_order run ∷ []
-
-  abbrev to_packet : Option Run → Option ℕ → List ℕ
-  to_packet run b = site_order spot.site ∷ site_place spot.site ∷ none_first spot.aspect ∷ direction_order run ∷ none_first b ∷ []
-
-  abbrev to_rule : Option Run → Option ℕ → Option ℕ → List ℕ
-  to_rule run b k = site_order spot.site ∷ site_place spot.site ∷ none_first spot.aspect ∷ direction_order run ∷ none_first b ∷ none_first k ∷ []
-
-  cell_block : (run : Option Run) (b k : Option ℕ) → IsBlock cell_order (to_rule run b k) 1 (1 + length all_rules) (flat_map (λ rule. new_finding rule spot run b k ∷ []) all_rules)
-  cell_block run b k = blocks cell_order (to_rule run b k) (λ rule. new_finding rule spot run b k ∷ []) all_rules 1 (λ i n rule e at.
-      let f = rising rule_number all_rules 1 refl i rule at in
-      fact_block cell_order (to_rule run b k) n (rule_number rule) [] true (new_finding rule spot run b k) (f ∙ sym e) refl)
-
-  packets_block : (run : Option Run) (b : Option ℕ) → IsBlock cell_order (to_packet run b) 0 (0 + length (none_and (length (packets b)))) (flat_map (rule_findings spot run b) (none_and (length (packets b))))
-  packets_block run b = blocks cell_order (to_packet run b) (rule_findings spot run b) (none_and (length (packets b))) 0 (λ i n k e at.
-      let f = none_rising (length (packets b)) i k at in
-      under cell_order (to_packet run b) n (none_first k) (f ∙ sym e) (cell_block run b k))
-
-  balises_block : (run : Option Run) → IsBlock cell_order (to_balise run) 0 (0 + length (none_and count)) (flat_map (λ b. flat_map (rule_findings spot run b) (none_and (length (packets b)))) (none_and count))
-  balises_block run = blocks cell_order (to_balise run) (λ b. flat_map (rule_findings spot run b) (none_and (length (packets b)))) (none_and count) 0 (λ i n b e at.
-      let f = none_rising count i b at in
-      under cell_order (to_balise run) n (none_first b) (f ∙ sym e) (packets_block run b))
-
-  spot_block : IsBlock cell_order to_aspect (none_first spot.aspect) (suc (none_first spot.aspect)) (spot_cells spot count packets)
-  spot_block = under cell_order to_aspect (none_first spot.aspect) (none_first spot.aspect) refl
-      (blocks cell_order to_direction (λ run. flat_map (λ b. flat_map (rule_findings spot run b) (none_and (length (packets b)))) (none_and count)) directions 0 (λ i n run e at.
-      under cell_order to_direction n (direction_order run) (rising direction_order directions 0 refl i run at ∙ sym e) (balises_block run)))
+-- the cells of a spot: by running direction, by balise, by packet and by rule
+spot_block : (spot : Spot) (count : ℕ) (packets : Option ℕ → List TrackPacket)
+    → IsBlock cell_order (site_order spot.site ∷ site_place spot.site ∷ []) (none_first spot.aspect) (suc (none_first spot.aspect)) (spot_cells spot count packets)
+spot_block spot count packets =
+    let at_balise = λ (run : Option Run) (b : Option ℕ). flat_map (rule_findings spot run b) (none_and (length (packets b))) in
+    under cell_order _ (none_first spot.aspect) (none_first spot.aspect) refl (blocks cell_order _ (λ run. flat_map (at_balise run) (none_and count)) directions 0 (λ i n run e at.
+    under cell_order _ n (direction_order run) (rising direction_order directions 0 refl i run at ∙ sym e) (blocks cell_order _ (at_balise run) (none_and count) 0 (λ i n b e at.
+    under cell_order _ n (none_first b) (none_rising count i b at ∙ sym e) (blocks cell_order _ (rule_findings spot run b) (none_and (length (packets b))) 0 (λ i n k e at.
+    under cell_order _ n (none_first k) (none_rising (length (packets b)) i k at ∙ sym e) (blocks cell_order _ (λ rule. new_finding rule spot run b k ∷ []) all_rules 1 (λ i n rule e at.
+    one_block cell_order _ n (rule_number rule) [] (new_finding rule spot run b k) (rising rule_number all_rules 1 refl i rule at ∙ sym e) refl))))))))
 
 -- ---- sorted by rule
 
@@ -114,8 +90,7 @@ at-by_rule xs j f at = rules-listed (λ rule. filter (has_rule rule) xs) f.rule 
 site_is : (s t : Site) → site_order s ≡ site_order t → site_place s ≡ site_place t → s ≡ t
 site_is (sites.Group m) (sites.Group n) e h = ap sites.Group h
 site_is (sites.Message m) (sites.Message n) e h = ap sites.Message h
-site_is (sites.Group m) (sites.Message n) e h = absurd (omega (arith, e))
-site_is (sites.Message m) (sites.Group n) e h = absurd (omega (arith, e))
+site_is s t e h = absurd (omega (arith, e))
 
 -- the cells of a site, and those of them that are facts
 module _ (site : Site) {low high : ℕ} {cells : List Finding} (block : IsBlock cell_order (site_order site ∷ site_place site ∷ []) low high cells) (test : Finding → Bool) where
@@ -168,14 +143,11 @@ abbrev InRange : ℕ → Option ℕ → Type 0
 InRange n None = ⊤
 InRange n (Some i) = i < n
 
-at_from : (m n i : ℕ) → i < n → At (map (λ (j : ℕ). Some j) (range_with_len m n)) i (Some (m + i))
-at_from m zero i lt = absurd (omega arith)
-at_from m (suc n) zero lt = let e : m ≡ m + 0 = omega arith in ap (λ k. Some (Some k)) e
-at_from m (suc n) (suc i) lt = let e : (m + 1) + i ≡ m + suc i = omega arith in subst (λ k. At (map (λ (j : ℕ). Some j) (range_with_len (m + 1) n)) i (Some k)) e (at_from (m + 1) n i (omega arith))
-
 in_range : (n : ℕ) (o : Option ℕ) → InRange n o → (i : ℕ) × At (none_and n) i o
 in_range n None h = (0, refl)
-in_range n (Some i) h = let e : 0 + i ≡ i = omega arith in (suc i, subst (λ k. At (map (λ (j : ℕ). Some j) (range_with_len 0 n)) i (Some k)) e (at_from 0 n i h))
+in_range n (Some i) h =
+    let e : 0 + i ≡ i = omega arith in
+    (suc i, slice_get-get_or (map (λ j. Some j) (range_with_len 0 n)) i None (rw length-map-range_with_len h) ∙ ap Some (get_or-map-range_with_len (λ j. Some j) 0 n i i None h e))
 
 a_direction : (run : Option Run) → (i : ℕ) × At directions i run
 a_direction None = (0, refl)
@@ -210,9 +182,6 @@ module _ (first : Telegrams) (before : Aspects) (group : Telegrams) where
   aspect_range rules.NotModelled None (Some b) (Some k) h = packet_of group b k is_unmodelled h
   aspect_range rules.GradientShort (Some run) (Some b) (Some k) h = packet_of group b k (is_short_profile gradient_reach (aspect_speech group) run (Some b)) h
   aspect_range rules.SpeedShort (Some run) (Some b) (Some k) h = packet_of group b k (is_short_profile speed_reach (aspect_speech group) run (Some b)) h
-  aspect_range rules.NotModelled None None (Some k) h = absurd (both_ways false refl h)
-  aspect_range rules.GradientShort (Some run) None (Some k) h = absurd (both_ways false refl h)
-  aspect_range rules.SpeedShort (Some run) None (Some k) h = absurd (both_ways false refl h)
   aspect_range rule None None None h = (tt, tt)
   aspect_range rule (Some run) None None h = (tt, tt)
   aspect_range rule None (Some b) None h = (place_of group b (balise_fact first before group rule b) h, tt)
@@ -261,9 +230,8 @@ packet_range : (packets : List TrackPacket) (rule : Rule) (run : Option Run) (b 
 packet_range packets rules.NotModelled None None (Some k) h = (tt, place_of packets k is_unmodelled h)
 packet_range packets rules.GradientShort (Some run) None (Some k) h = (tt, place_of packets k (is_short_profile gradient_reach (message_speech packets) run None) h)
 packet_range packets rules.SpeedShort (Some run) None (Some k) h = (tt, place_of packets k (is_short_profile speed_reach (message_speech packets) run None) h)
-packet_range packets rules.NotModelled None (Some b) (Some k) h = absurd (both_ways false refl h)
-packet_range packets rules.GradientShort (Some run) (Some b) (Some k) h = absurd (both_ways false refl h)
-packet_range packets rules.SpeedShort (Some run) (Some b) (Some k) h = absurd (both_ways false refl h)
+packet_range packets rule None (Some b) (Some k) h = absurd (both_ways false refl h)
+packet_range packets rule (Some run) (Some b) (Some k) h = absurd (both_ways false refl h)
 packet_range packets rule None None None h = (tt, tt)
 packet_range packets rule (Some run) None None h = (tt, tt)
 packet_range packets rule run b k h = absurd (both_ways false refl h)

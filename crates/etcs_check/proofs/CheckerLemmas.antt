@@ -23,30 +23,24 @@ pub unless_refused : {A E : Type 0} (r : Result A E) (P : Type 0) → is_err r �
 unless_refused (Ok x) P fine p = p
 unless_refused (Err e) P fine p = absurd (both_ways _ fine refl)
 
-taken : (old new : CheckerState) (g : List (List Telegram)) → IsControlled g → HasIdentity g
-    → new.about_groups ≡ old.about_groups ++ group_findings (sites.Group old.groups) (is_kept old.identities (identity_number g)) g → new.about_messages ≡ old.about_messages
-    → new.groups ≡ old.groups + 1 → new.messages ≡ old.messages → ((n : ℕ) → is_kept new.identities n ≡ (eqb (identity_number g) n || is_kept old.identities n))
-    → TakesGroups old (g ∷ []) new
-taken old new g controlled numbered found others count counted kept gs ms was =
-    let used : is_kept old.identities (identity_number g) ≡ is_used gs g = was.seen (identity_number g) ∙ sym (used-among gs g was.numbered numbered) in
-    record {
-      about_groups =
-          found ∙ ap₂ ◌++◌ (was.about_groups ∙ append-nil (group_list gs)) (ap₂ (λ n u. group_findings (sites.Group n) u g) was.groups_counted used) ∙ sym (groups_found gs g) ∙ sym (append-nil (group_list (gs ++ g ∷ [])));
-      about_messages = others ∙ was.about_messages;
-      groups_counted = count ∙ ap (λ n. n + 1) was.groups_counted ∙ sym (length-append gs (g ∷ []));
-      messages_counted = counted ∙ was.messages_counted;
-      seen = kept_and gs g (is_kept old.identities) (is_kept new.identities) kept was.seen;
-      numbered = each_and HasIdentity gs g was.numbered numbered;
-      controlled = each_and IsControlled gs g was.controlled controlled;
-    }
-
 -- a checker takes a group, if the identity and findings of an equal group are known
 pub group_taken : (old new : CheckerState) (h g : List (List Telegram)) → h ≡ g → IsControlled h → HasIdentity h
     → new.about_groups ≡ old.about_groups ++ group_findings (sites.Group old.groups) (is_kept old.identities (identity_number h)) h → new.about_messages ≡ old.about_messages
     → new.groups ≡ old.groups + 1 → new.messages ≡ old.messages → ((n : ℕ) → is_kept new.identities n ≡ (eqb (identity_number h) n || is_kept old.identities n))
     → TakesGroups old (g ∷ []) new
-group_taken old new h g is controlled numbered found others count counted kept =
-    subst (λ x. TakesGroups old (x ∷ []) new) is (taken old new h controlled numbered found others count counted kept)
+group_taken old new h g is controlled numbered found others count counted kept = subst (λ x. TakesGroups old (x ∷ []) new) is (λ gs ms was.
+    let used : is_kept old.identities (identity_number h) ≡ is_used gs h = was.seen (identity_number h) ∙ sym (used-among gs h was.numbered numbered) in
+    record {
+      about_groups =
+          found ∙ ap₂ ◌++◌ (was.about_groups ∙ append-nil (group_list gs)) (ap₂ (λ n u. group_findings (sites.Group n) u h) was.groups_counted used)
+          ∙ sym (groups_found gs h) ∙ sym (append-nil (group_list (gs ++ h ∷ [])));
+      about_messages = others ∙ was.about_messages;
+      groups_counted = count ∙ ap (λ n. n + 1) was.groups_counted ∙ sym (length-append gs (h ∷ []));
+      messages_counted = counted ∙ was.messages_counted;
+      seen = kept_and gs h (is_kept old.identities) (is_kept new.identities) kept was.seen;
+      numbered = each_and HasIdentity gs h was.numbered numbered;
+      controlled = each_and IsControlled gs h was.controlled controlled;
+    })
 
 pub message_taken : (old new : CheckerState) (m : Message) → new.about_messages ≡ old.about_messages ++ line_message_findings old.messages m → new.about_groups ≡ old.about_groups
     → new.messages ≡ old.messages + 1 → new.groups ≡ old.groups → ((n : ℕ) → is_kept new.identities n ≡ is_kept old.identities n) → TakesMessages old (m ∷ []) new

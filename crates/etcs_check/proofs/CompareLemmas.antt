@@ -2,18 +2,16 @@
 use Rattle.std.proofs.Common.{◌≡◌, ◌≢◌, ℕ, ◌+◌, ◌<◌, ◌≤◌, Bool, true, false, cond, ◌&&◌, eqb, List, [], ◌∷◌, length, drop, sym, ap, ◌∙◌, refl, arith}
 use Rattle.std.specs.List.{filter}
 use Rattle.std.specs.Cmp.Lexicographic.{pointwise}
-use Rattle.std.proofs.lemmas.Option.{get_or_from_slice_get, slice_get_within}
-use Rattle.std.proofs.lemmas.List.{drop_more, drop_all}
+use Rattle.std.proofs.lemmas.List.{drop_all}
 use Rattle.std.proofs.lemmas.Bool.{cases_lt, eq-eqb, ne_eqb, and_left, and_right, and_from}
 use mathlib.Core.Logic.{inl, inr}
 use Rattle.etcs_group.specs.Places.{At}
 use Rattle.etcs_group.proofs.PlaceLemmas.{some_at}
+use Rattle.etcs_check.proofs.NoteLemmas.{drop_at}
 
 module _ {X : Type 0} (same : X → X → Bool) (holds : X → Bool) where
   pub passes_here : (xs : List X) (i : ℕ) (x : X) → At xs i x → holds x ≡ true → filter holds (drop i xs) ≡ x ∷ filter holds (drop (i + 1) xs)
-  passes_here xs i x at h =
-      let e : drop i xs ≡ x ∷ drop (i + 1) xs = drop_more xs i x (slice_get_within xs i x at) ∙ ap (λ y. y ∷ drop (i + 1) xs) (get_or_from_slice_get xs i x x at) in
-      ap (filter holds) e ∙ ap (λ b. cond b (x ∷ filter holds (drop (i + 1) xs)) (filter holds (drop (i + 1) xs))) h
+  passes_here xs i x at h = ap (filter holds) (drop_at xs i x at) ∙ ap (λ b. cond b (x ∷ filter holds (drop (i + 1) xs)) (filter holds (drop (i + 1) xs))) h
 
   pub passes_end : (xs : List X) (i : ℕ) → length xs ≤ i → filter holds (drop i xs) ≡ []
   passes_end xs i le = ap (filter holds) (drop_all i xs le)

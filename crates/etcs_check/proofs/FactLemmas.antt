@@ -11,7 +11,7 @@ use Rattle.etcs_telegram.specs.Record.{Telegram}
 use Rattle.etcs_group.specs.Group.{Telegrams, Aspects}
 use Rattle.etcs_group.specs.Packets.{is_silent, group_message}
 use Rattle.etcs_group.specs.Places.{At, element_passes}
-use Rattle.etcs_group.proofs.PlaceLemmas.{element_passes-at, element_passes-none}
+use Rattle.etcs_group.proofs.PlaceLemmas.{element_passes-at}
 use Rattle.etcs_check.specs.Facts.{aspect_packets, aspect_speech, is_short_profile, aspect_fact, whole_fact, fact_of_aspect, group_fact}
 use Rattle.etcs_check.specs.Findings.{is_said_and_short}
 use Rattle.etcs_check.specs.Violation.{NamesAspect}
@@ -20,12 +20,13 @@ use Rattle.etcs_check.specs.declared.finding.Rule.{Rule}
 
 -- ---- tests of the element at a place
 
+-- a property of what an option may be
+pub each_of : {X : Type 0} (o : Option X) (P : Option X → Type 0) → P None → ((x : X) → o ≡ Some x → P (Some x)) → P o
+each_of None P none some = none
+each_of (Some x) P none some = some x refl
+
 pub passed : {X : Type 0} (xs : List X) (i : ℕ) (test : X → Bool) → element_passes xs i test ≡ true → (x : X) × At xs i x × (test x ≡ true)
-passed {X} xs i test h = go (slice_get xs i) refl h
-  where
-    go : (o : Option X) → slice_get xs i ≡ o → option_map_or test o false ≡ true → (x : X) × At xs i x × (test x ≡ true)
-    go None e h = absurd (both_ways false refl h)
-    go (Some x) e h = (x, e, h)
+passed {X} xs i test h = each_of (slice_get xs i) (λ o. option_map_or test o false ≡ true → (x : X) × (o ≡ Some x) × (test x ≡ true)) (λ h. absurd (both_ways false refl h)) (λ x _ h. (x, refl, h)) h
 
 -- ---- packets of a balise
 
@@ -34,29 +35,21 @@ packets_as group b t at = ap (λ o. option_map_or (λ (t : Telegram). t.packets)
 
 -- a packet of a balise is a packet of its telegram
 pub packet_stands : (group : Telegrams) (b k : ℕ) (p : TrackPacket) → At (aspect_packets group (Some b)) k p → (t : Telegram) × At group b t × At t.packets k p
-packet_stands group b k p h = go (slice_get group b) refl h
-  where
-    go : (o : Option Telegram) → slice_get group b ≡ o → At (option_map_or (λ (t : Telegram). t.packets) o []) k p → (t : Telegram) × At group b t × At t.packets k p
-    go None e h = absurd (none-some p h)
-    go (Some t) e h = (t, e, h)
+packet_stands group b k p h = each_of (slice_get group b) (λ o. At (option_map_or (λ (t : Telegram). t.packets) o []) k p → (t : Telegram) × (o ≡ Some t) × At t.packets k p)
+    (λ h. absurd (none-some p h)) (λ t _ h. (t, refl, h)) h
 
 pub packet_as : (group : Telegrams) (b k : ℕ) (test : TrackPacket → Bool) (t : Telegram) (p : TrackPacket) → At group b t → At t.packets k p → element_passes (aspect_packets group (Some b)) k test ≡ test p
 packet_as group b k test t p at at' = ap (λ l. element_passes l k test) (packets_as group b t at) ∙ element_passes-at t.packets k test p at'
 
 module _ (reach : TrackPacket → Option Reach) (group : Telegrams) (run : Run) (b : ℕ) where
-  short_as : (t : Telegram) (p : TrackPacket) → At group b t → is_short_profile reach (aspect_speech group) run (Some b) p ≡ is_said_and_short reach (group_message run group) run (is_silent run t.header.dup (length group) b) p
+  pub short_as : (t : Telegram) (p : TrackPacket) → At group b t
+      → is_short_profile reach (aspect_speech group) run (Some b) p ≡ is_said_and_short reach (group_message run group) run (is_silent run t.header.dup (length group) b) p
   short_as t p at =
       ap (λ q. is_said_and_short reach (group_message run group) run q p) (element_passes-at group b (λ (t : Telegram). is_silent run t.header.dup (length group) b) t at)
 
   pub profile_as : (k : ℕ) (t : Telegram) (p : TrackPacket) → At group b t → At t.packets k p
       → element_passes (aspect_packets group (Some b)) k (is_short_profile reach (aspect_speech group) run (Some b)) ≡ is_said_and_short reach (group_message run group) run (is_silent run t.header.dup (length group) b) p
   profile_as k t p at at' = packet_as group b k (is_short_profile reach (aspect_speech group) run (Some b)) t p at at' ∙ short_as t p at
-
-  pub none_short : (k : ℕ) → ((t : Telegram) (p : TrackPacket) → At group b t → At t.packets k p → is_said_and_short reach (group_message run group) run (is_silent run t.header.dup (length group) b) p ≡ false)
-      → element_passes (aspect_packets group (Some b)) k (is_short_profile reach (aspect_speech group) run (Some b)) ≡ false
-  none_short k h = element_passes-none (aspect_packets group (Some b)) k (is_short_profile reach (aspect_speech group) run (Some b)) (λ p at.
-      let s = packet_stands group b k p at in
-      short_as s.0 p s.1 ∙ h s.0 p s.1 s.2)
 
 -- ---- a group: the fact is about the whole, or about the aspect that is named
 

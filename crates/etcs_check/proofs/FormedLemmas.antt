@@ -1,5 +1,5 @@
 -- The facts about headers, duplicate flags and counters, and the parts of soundness that they break.
-use Rattle.std.proofs.Common.{◌≡◌, ◌≢◌, ℕ, zero, suc, ◌+◌, ◌<◌, ◌≤◌, true, false, cond, eqb, ltb, List, [], ◌∷◌, length, slice_get, Option, Some, None, refl, sym, ap, subst, ◌∙◌, arith, IsSome}
+use Rattle.std.proofs.Common.{◌≡◌, ◌≢◌, ℕ, zero, suc, ◌+◌, ◌<◌, ◌≤◌, true, false, cond, eqb, ltb, List, [], ◌∷◌, length, Option, Some, None, refl, sym, ap, subst, ◌∙◌, arith, IsSome}
 use Rattle.std.specs.Bool.{beq}
 use Rattle.std.specs.Cmp.{booleans_Decides}
 use Rattle.std.proofs.lemmas.Option.{none-some, same_Some, slice_get_within}
@@ -15,6 +15,7 @@ use Rattle.etcs_group.proofs.PlaceLemmas.{one_at}
 use Rattle.etcs_group.proofs.MarkLemmas.{partner-says, partner-is}
 use Rattle.etcs_check.specs.Duplicates.{same_identity}
 use Rattle.etcs_check.specs.Findings.{header_differs, is_outside, is_other, is_unanswered, first_counter, counter_differs}
+use Rattle.etcs_check.proofs.FactLemmas.{each_of}
 use Rattle.etcs_check.proofs.NumberLemmas.{Decides-version, Decides-same_identity}
 use Rattle.etcs_check.specs.Violation.{IsFirstCounted}
 
@@ -30,7 +31,7 @@ alike-says t first h =
       linked = (booleans_Decides t.header.linked first.header.linked).0 q.1;
     }
 
-alike-is : (t first : Telegram) → AreAlike t first → header_differs (Some first) t ≡ false
+pub alike-is : (t first : Telegram) → AreAlike t first → header_differs (Some first) t ≡ false
 alike-is t first a =
     not_from_true _ (and_from _ _ (eq-eqb _ _ (ap version_number a.version))
     (and_from _ _ ((Decides-same_identity _ _).1 a.identity) ((booleans_Decides t.header.linked first.header.linked).1 a.linked)))
@@ -78,23 +79,14 @@ counter-says group t one lt = elim (and_cases (ltb t.header.counter 254) (is_oth
 
 -- ---- no fact if the part holds
 
--- a telegram like balise 0 of aspect 0, if there is one
-pub alike_first : (first : List Telegram) (t : Telegram) → ((f : Telegram) → At first 0 f → AreAlike t f) → header_differs (slice_get first 0) t ≡ false
-alike_first first t h = go (slice_get first 0) refl
-  where
-    go : (o : Option Telegram) → slice_get first 0 ≡ o → header_differs o t ≡ false
-    go None e = refl
-    go (Some f) e = alike-is t f (h f e)
-
 -- a duplicate flag with a partner is not outside
 pub inside-is : (group : List Telegram) (b : ℕ) (t : Telegram) → At group b t → (t.header.dup ≢ dups.Single → IsSome (partner_place group b)) → is_outside (length group) t.header.dup b ≡ false
 inside-is group b t at has = go t.header.dup refl has
   where
-    named : (o : Option ℕ) → partner_place group b ≡ o → IsSome o → (q : ℕ) × (named_neighbour t.header.dup b ≡ Some q) × (q < length group)
-    named None e h = absurd (both_ways false refl h)
-    named (Some q) e h =
+    named : IsSome (partner_place group b) → (q : ℕ) × (named_neighbour t.header.dup b ≡ Some q) × (q < length group)
+    named = each_of (partner_place group b) (λ o. IsSome o → (q : ℕ) × (named_neighbour t.header.dup b ≡ Some q) × (q < length group)) (λ h. absurd (both_ways false refl h)) (λ q e _.
         let r = partner-says group b q e in
-        (q, subst (λ (x : Telegram). named_neighbour x.header.dup b ≡ Some q) (one_at group b r.0 t r.1 at) r.2, r.3)
+        (q, subst (λ (x : Telegram). named_neighbour x.header.dup b ≡ Some q) (one_at group b r.0 t r.1 at) r.2, r.3))
 
     first : (b q : ℕ) → named_neighbour dups.Previous b ≡ Some q → eqb b 0 ≡ false
     first zero q e = absurd (none-some q e)
@@ -103,21 +95,17 @@ inside-is group b t at has = go t.header.dup refl has
     go : (m : Dup) → t.header.dup ≡ m → (t.header.dup ≢ dups.Single → IsSome (partner_place group b)) → is_outside (length group) m b ≡ false
     go dups.Single e has = refl
     go dups.Next e has =
-        let n = named (partner_place group b) refl (has (λ f. let g : dups.Next ≡ dups.Single = sym e ∙ f in cc)) in
+        let n = named (has (λ f. let g : dups.Next ≡ dups.Single = sym e ∙ f in cc)) in
         let s = same_Some (b + 1) n.0 (sym (ap (λ m. named_neighbour m b) e) ∙ n.1) in
         let w = n.2 in
         ne_eqb _ _ (omega arith)
     go dups.Previous e has =
-        let n = named (partner_place group b) refl (has (λ f. let g : dups.Previous ≡ dups.Single = sym e ∙ f in cc)) in
+        let n = named (has (λ f. let g : dups.Previous ≡ dups.Single = sym e ∙ f in cc)) in
         first b n.0 (sym (ap (λ m. named_neighbour m b) e) ∙ n.1)
 
 -- a partner whose partner is the balise answers
 pub answered-is : (group : List Telegram) (b : ℕ) → ((q : ℕ) → partner_place group b ≡ Some q → partner_place group q ≡ Some b) → is_unanswered group (partner_place group b) b ≡ false
-answered-is group b answers = go (partner_place group b) refl
-  where
-    go : (o : Option ℕ) → partner_place group b ≡ o → is_unanswered group o b ≡ false
-    go None e = refl
-    go (Some q) e = other-is_false (partner_place group q) b (answers q e)
+answered-is group b answers = each_of (partner_place group b) (λ o. is_unanswered group o b ≡ false) refl (λ q e. other-is_false (partner_place group q) b (answers q e))
 
 -- the counter of the first telegram with one below 254
 pub first_counter-is : (ts : List Telegram) (j : ℕ) (u : Telegram) → IsFirstCounted ts j u → first_counter ts ≡ Some u.header.counter

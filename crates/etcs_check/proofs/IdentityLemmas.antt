@@ -1,5 +1,5 @@
 -- One more bit in a table, one more group that was seen, and what the bits show.
-use Rattle.std.proofs.Common.{◌≡◌, ◌≢◌, ℕ, zero, suc, ◌+◌, ◌*◌, ◌/◌, ◌%◌, ◌^◌, ◌<◌, ◌≤◌, Bool, true, false, ◌&&◌, ◌||◌, eqb, List, [], ◌∷◌, ◌++◌, length, get_or, map, set, vec_items, replicate, take, Option, Some, None, bit_or, slice_get, refl, sym, ap, ap₂, subst, ◌∙◌, arith}
+use Rattle.std.proofs.Common.{◌≡◌, ◌≢◌, ℕ, zero, suc, ◌+◌, ◌*◌, ◌/◌, ◌%◌, ◌^◌, ◌<◌, ◌≤◌, Bool, true, false, ◌&&◌, ◌||◌, eqb, List, [], ◌∷◌, ◌++◌, length, get_or, map, set, vec_items, replicate, take, Option, Some, None, bit_or, refl, sym, ap, ap₂, subst, ◌∙◌, arith}
 use Rattle.std.specs.Global.{Vec}
 use Rattle.std.specs.Int.{w64}
 use Rattle.std.specs.Option.{option_map_or}
@@ -9,6 +9,7 @@ use Rattle.std.proofs.lemmas.Nat.{div-add-mod', mod_below, div_below}
 use Rattle.std.proofs.lemmas.Nat.Bits.{bit_at_set_same, bit_at_set_other, bit_at-zero}
 use Rattle.std.proofs.lemmas.Bool.{both_ways, cases_eq, cases_lt, ne_eqb, eq-eqb, eqb-true, or_parts, false_from_ne_true}
 use Rattle.std.proofs.lemmas.List.{get_or_past, get_or-set_same, get_or-set_other, get_or-replicate, get_or-map, length-map, length-replicate, map-set, take_all}
+use Rattle.std.proofs.lemmas.Bool.Decides.{Decides-eqb, same_from_decides}
 use Rattle.std.proofs.lemmas.List.Folds.{list_any-append, list_any_more}
 use Rattle.std.proofs.lemmas.Option.{none-some, slice_get_within, get_or_from_slice_get, same_Some}
 use mathlib.Core.Logic.{inl, inr}
@@ -28,7 +29,7 @@ use Rattle.etcs_check.proofs.FindingLemmas.{for_each-says}
 use Rattle.etcs_check.specs.Identities.{number_of_identity, identity_number, HasIdentity, HaveIdentities, has_bit, is_kept, is_marked, has_identity_number, HasNoRepeat, HasRepeat}
 use Rattle.etcs_check.specs.Soundness.{aspect_identity, group_identity}
 use Rattle.etcs_check.proofs.NoteLemmas.{each_stands}
-use Rattle.etcs_check.proofs.NumberLemmas.{identity_same, same_bool, Decides-same_identity}
+use Rattle.etcs_check.proofs.NumberLemmas.{identity_same, Decides-same_identity}
 
 -- ---- identities and their numbers
 
@@ -51,7 +52,7 @@ one_number g h a b =
     ∙ test ∙ sym (ap₂ eqb (number-is g a.0 a.1) (number-is h b.0 b.1))
   where
     test : same_identity a.0 b.0 ≡ eqb (number_of_identity a.0) (number_of_identity b.0)
-    test = same_bool _ _ (λ h. eq-eqb _ _ (ap number_of_identity ((Decides-same_identity a.0 b.0).0 h))) (λ h. (Decides-same_identity a.0 b.0).1 (same_number a.0 b.0 a.3 b.3 (eqb-true _ _ h)))
+    test = same_from_decides _ _ (Decides-same_identity a.0 b.0) (λ h. same_number a.0 b.0 a.3 b.3 (eqb-true _ _ h), λ e. eq-eqb _ _ (ap number_of_identity e))
 
 -- an earlier group has the identity if and only if one has its number
 pub used-among : (earlier : List (List (List Telegram))) (g : List (List Telegram)) → HaveIdentities earlier → HasIdentity g → is_used earlier g ≡ has_identity_number earlier (identity_number g)
@@ -67,7 +68,7 @@ part_marked : (was now : ℕ → ℕ → Bool) (b q : ℕ) → 0 < b → ((r : �
 part_marked was now b q some own others p = elim (cases_eq (p / b) (q / b)) [
   | inl same ↦
       let whole : q % b ≡ p % b → q ≡ p = λ r. sym (div-add-mod' q b) ∙ ap₂ (λ x y. x * b + y) (sym same) r ∙ div-add-mod' p b in
-      let rest : eqb (q % b) (p % b) ≡ eqb q p = same_bool _ _ (λ h. eq-eqb q p (whole (eqb-true _ _ h))) (λ h. eq-eqb _ _ (ap (λ x. x % b) (eqb-true q p h))) in
+      let rest : eqb (q % b) (p % b) ≡ eqb q p = same_from_decides _ _ (λ h. whole (eqb-true _ _ h), λ e. eq-eqb _ _ (ap (λ x. x % b) e)) (Decides-eqb q p) in
       ap (λ i. now i (p % b)) same ∙ own (p % b) (mod_below p b some) ∙ ap₂ ◌||◌ rest (ap (λ i. was i (p % b)) (sym same))
   | inr other ↦ others (p / b) (p % b) other ∙ ap (λ e. e || was (p / b) (p % b)) (sym (ne_eqb q p (λ e. other (ap (λ x. x / b) (sym e)))))
 ]
@@ -107,7 +108,7 @@ among_more groups i g x at =
     ∙ ap (λ h. has_identity_number (take i groups) x || eqb (identity_number h) x) (get_or_from_slice_get groups i g g at)
 
 eqb_moved : (base q p : ℕ) → eqb q p ≡ eqb (base + q) (base + p)
-eqb_moved base q p = same_bool _ _ (λ h. eq-eqb _ _ (ap (λ x. base + x) (eqb-true q p h))) (λ h. let e = eqb-true (base + q) (base + p) h in eq-eqb q p (omega arith))
+eqb_moved base q p = same_from_decides _ _ (Decides-eqb q p) (λ h. let e = eqb-true (base + q) (base + p) h in omega arith, λ e. eq-eqb _ _ (ap (λ x. base + x) e))
 
 -- its identity is of this part, and was marked
 pub seen_marked : (base n : ℕ) (table new : List ℕ) (groups : List (List (List Telegram))) (i : ℕ) (g : List (List Telegram)) (q : ℕ) → At groups i g → identity_number g ≡ base + q
@@ -217,9 +218,8 @@ same_identity_of o p = option_map_or (λ i. option_map_or (same_identity i) p fa
 
 identities-say : (o p : Option Identity) → same_identity_of o p ≡ true → o ≡ p
 unfolding same_identity_of
-identities-say None p h = absurd (both_ways _ refl h)
-identities-say (Some i) None h = absurd (both_ways _ refl h)
 identities-say (Some i) (Some j) h = ap Some ((Decides-same_identity i j).0 h)
+identities-say o p h = absurd (both_ways _ refl h)
 
 identities-are : (i : Identity) (o p : Option Identity) → o ≡ Some i → o ≡ p → same_identity_of o p ≡ true
 unfolding same_identity_of

@@ -22,5 +22,4 @@ pub mod SaidLemmas
 pub mod SortLemmas
 pub mod WalkLemmas
 pub mod CellLemmas
-pub mod PlaceLemmas
 pub mod GroupLemmas

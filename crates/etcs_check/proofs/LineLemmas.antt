@@ -36,7 +36,7 @@ use Rattle.etcs_check.proofs.FactLemmas.{passed, group_means, aspect_stands}
 use Rattle.etcs_check.proofs.IdentityLemmas.{identity-at, unused-is, unused-says}
 use Rattle.etcs_check.proofs.MemberLemmas.{none_at, at-filter, filter-at}
 use Rattle.etcs_check.proofs.PartLemmas.{aspect_holds, aspect_unbroken, whole_holds, whole_unbroken, message_holds, message_unbroken, message_whole}
-use Rattle.etcs_check.proofs.ProfileLemmas.{HaveProfiles, profiles-from, profiles-one, profiles-long}
+use Rattle.etcs_check.proofs.ProfileLemmas.{HaveProfiles, gradients_in, speeds_in, profiles-from, profiles-one, profiles-long}
 
 -- ---- groups
 
@@ -94,18 +94,12 @@ sound_message : (m : Message) → IsSoundMessage m → HasMessageParts m
 sound_message (messages.Position m) sound = λ rule run b k. tt
 sound_message (messages.Movement m) sound = go
   where
-    gradients : (run : Run) → HaveProfiles gradient_reach (filter (holds run) m.packets)
-    gradients run i a limit at is = (sound.1 run i a limit at is).0
-
-    speeds : (run : Run) → HaveProfiles speed_reach (filter (holds run) m.packets)
-    speeds run i a limit at is = (sound.1 run i a limit at is).1
-
     go : (rule : Rule) (run : Option Run) (b k : Option ℕ) → PacketsPart m.packets rule run b k
     go rules.NotModelled None None (Some k) = λ p at. subst (λ q. is_modelled q ≡ true) (get_or_from_slice_get m.packets k p p at) (sound.0 k p (slice_get_within m.packets k p at))
-    go rules.NoGradient (Some run) None None = profiles-one gradient_reach (filter (holds run) m.packets) (gradients run)
-    go rules.GradientShort (Some run) None (Some k) = long_held gradient_reach m.packets run (gradients run) k
-    go rules.NoSpeed (Some run) None None = profiles-one speed_reach (filter (holds run) m.packets) (speeds run)
-    go rules.SpeedShort (Some run) None (Some k) = long_held speed_reach m.packets run (speeds run) k
+    go rules.NoGradient (Some run) None None = profiles-one gradient_reach (filter (holds run) m.packets) (gradients_in (filter (holds run) m.packets) (sound.1 run))
+    go rules.GradientShort (Some run) None (Some k) = long_held gradient_reach m.packets run (gradients_in (filter (holds run) m.packets) (sound.1 run)) k
+    go rules.NoSpeed (Some run) None None = profiles-one speed_reach (filter (holds run) m.packets) (speeds_in (filter (holds run) m.packets) (sound.1 run))
+    go rules.SpeedShort (Some run) None (Some k) = long_held speed_reach m.packets run (speeds_in (filter (holds run) m.packets) (sound.1 run)) k
     go rule run b k = tt
 
 -- ---- sites of a line

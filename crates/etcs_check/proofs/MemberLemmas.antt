@@ -1,5 +1,5 @@
 -- Members of joined, filtered and numbered lists, of lists of findings, and of the message of a group.
-use Rattle.std.proofs.Common.{◌≡◌, ℕ, zero, suc, ◌+◌, Bool, true, false, cond, List, [], ◌∷◌, ◌++◌, length, reverse, Some, refl, sym, ap, subst, ◌∙◌, arith}
+use Rattle.std.proofs.Common.{◌≡◌, ℕ, zero, suc, ◌+◌, ◌-◌, Bool, true, false, cond, List, [], ◌∷◌, ◌++◌, length, reverse, Some, refl, sym, ap, subst, ◌∙◌, arith}
 use Rattle.std.specs.List.{flat_map, enumerate_from, filter}
 use Rattle.std.proofs.lemmas.Option.{none-some, same_Some}
 use Rattle.std.proofs.lemmas.List.{reverse-reverse}
@@ -15,9 +15,10 @@ use Rattle.etcs_telegram.specs.Record.{Telegram}
 use Rattle.etcs_group.proofs.PlaceLemmas.{At-reverse}
 use Rattle.etcs_check.specs.Findings.{all_rules, new_finding, for_each}
 use Rattle.etcs_check.specs.declared.finding.Finding.{Finding}
+use Rattle.etcs_check.specs.Order.{rule_number}
 use Rattle.etcs_check.specs.declared.finding.Rule.{Rule}
+use Rattle.etcs_check.specs.declared.finding.Rule.TheVariants as rules
 use Rattle.etcs_check.specs.declared.finding.Spot.{Spot}
-use Rattle.etcs_check.proofs.FindingLemmas.{rule_place}
 
 pub At-append_left : {X : Type 0} (xs ys : List X) (i : ℕ) (x : X) → At xs i x → At (xs ++ ys) i x
 At-append_left [] ys i x h = absurd (none-some x h)
@@ -103,6 +104,11 @@ pub each-listed : {X : Type 0} (g : ℕ → X → List Finding) (xs : List X) (b
 each-listed {X} g xs b x f at h =
     let z : b ≡ 0 + b = omega arith in
     at-flat_map (λ (e : ℕ × X). g e.0 e.1) (enumerate_from 0 xs) b (0 + b, x) h.0 f (at-enumerate 0 xs b x at) (subst (λ m. At (g m x) h.0 f) z h.1)
+
+-- each rule has its place in the list
+pub rule_place : (r : Rule) → (k : ℕ) × At all_rules k r
+rule_place rules.PositionWrong = (0, refl)
+rule_place r = (rule_number r - 1, refl)
 
 pub rules-listed : (g : Rule → List Finding) (r : Rule) (f : Finding) → IsListed f (g r) → IsListed f (flat_map g all_rules)
 rules-listed g r f h = let p = rule_place r in at-flat_map g all_rules p.0 r h.0 f p.1 h.1

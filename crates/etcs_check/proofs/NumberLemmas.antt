@@ -1,5 +1,5 @@
 -- The numbers in the rows of a packet decide the packet, and the parts of a telegram the telegram.
-use Rattle.std.proofs.Common.{◌≡◌, ℕ, ◌+◌, Bool, true, false, eqb, List, [], ◌∷◌, ◌++◌, map, refl, sym, ap, ap₂, subst, ◌∙◌, ◌↔◌, IsTrue}
+use Rattle.std.proofs.Common.{◌≡◌, ℕ, ◌+◌, true, false, eqb, List, [], ◌∷◌, ◌++◌, map, refl, sym, ap, ap₂, subst, ◌∙◌}
 use Rattle.std.specs.Bool.{Decides, beq}
 use Rattle.std.specs.Cmp.{booleans_Decides}
 use Rattle.std.specs.Cmp.Lexicographic.{pointwise}
@@ -27,20 +27,15 @@ use Rattle.etcs_check.specs.Laws.{PacketsAreTheirNumbers, TelegramsAreTheirParts
 numbers : List Row → List ℕ
 numbers rows = map (λ r. r.number) rows
 
-same_head : {X : Type 0} (x y : X) (xs ys : List X) → x ∷ xs ≡ y ∷ ys → x ≡ y
-same_head x y xs ys e = cc
-
-same_tail : {X : Type 0} (x y : X) (xs ys : List X) → x ∷ xs ≡ y ∷ ys → xs ≡ ys
-same_tail x y xs ys e = cc
-
 -- complete lists of one table's rows, with other numbers after them, are equal if the numbers are equal
 rows_decided : (fields : Fields) (xs ys : List Row) (us vs : List ℕ) → AreRowsOf fields xs → AreRowsOf fields ys → numbers xs ++ us ≡ numbers ys ++ vs → (xs ≡ ys) × (us ≡ vs)
 unfolding numbers
 rows_decided nothing xs ys us vs p q e = (p ∙ sym q, rw (p, q) at e)
 rows_decided (field x next) xs ys us vs p q e =
     let h : p.0 ∷ (numbers p.1 ++ us) ≡ q.0 ∷ (numbers q.1 ++ vs) = rw (p.2, q.2) at e in
-    let n = same_head _ _ _ _ h in
-    let r = rows_decided (next q.0) p.1 q.1 us vs (subst (λ k. AreRowsOf (next k) p.1) n p.3) q.3 (same_tail _ _ _ _ h) in
+    let n : p.0 ≡ q.0 = cc in
+    let more : numbers p.1 ++ us ≡ numbers q.1 ++ vs = cc in
+    let r = rows_decided (next q.0) p.1 q.1 us vs (subst (λ k. AreRowsOf (next k) p.1) n p.3) q.3 more in
     (p.2 ∙ ap₂ (λ k more. row x k ∷ more) n r.0 ∙ sym q.2, r.1)
 rows_decided (a ▹ b) xs ys us vs p q e =
     let h : numbers p.0 ++ (numbers p.1 ++ us) ≡ numbers q.0 ++ (numbers q.1 ++ vs) = sym (both p.0 p.1 us) ∙ (rw (p.2, q.2) at e) ∙ both q.0 q.1 vs in
@@ -52,8 +47,9 @@ rows_decided (a ▹ b) xs ys us vs p q e =
     both f s ws = ap (λ l. l ++ ws) (map-append (λ (r : Row). r.number) f s) ∙ append_assoc (numbers f) (numbers s) ws
 rows_decided (sized before body) xs ys us vs p q e =
     let h : (before + width xs) ∷ (numbers p.0 ++ us) ≡ (before + width ys) ∷ (numbers q.0 ++ vs) = sym (headed xs p.0 us p.1) ∙ e ∙ headed ys q.0 vs q.1 in
-    let n = same_head _ _ _ _ h in
-    let r = rows_decided body p.0 q.0 us vs p.2 q.2 (same_tail _ _ _ _ h) in
+    let n : before + width xs ≡ before + width ys = cc in
+    let more : numbers p.0 ++ us ≡ numbers q.0 ++ vs = cc in
+    let r = rows_decided body p.0 q.0 us vs p.2 q.2 more in
     (p.1 ∙ ap₂ (λ k more. row l_packet k ∷ more) n r.0 ∙ sym q.1, r.1)
   where
     headed : (rows more : List Row) (ws : List ℕ) → rows ≡ row l_packet (before + width rows) ∷ more → numbers rows ++ ws ≡ (before + width rows) ∷ (numbers more ++ ws)
@@ -79,23 +75,6 @@ Decides-same_packets xs ys = slice_eq-Decides Decides-same_packet xs ys (pointwi
 
 pub packets_are_their_numbers : PacketsAreTheirNumbers
 packets_are_their_numbers p q = Decides-same_packet p q
-
-pub same_bool : (a b : Bool) → (a ≡ true → b ≡ true) → (b ≡ true → a ≡ true) → a ≡ b
-same_bool true b f g = sym (f refl)
-same_bool false true f g = g refl
-same_bool false false f g = refl
-
--- a test that decides equality of two packets is the comparison of their numbers
-pub same_packet-is : (r : Bool) (p q : TrackPacket) → (IsTrue r ↔ (p ≡ q)) → r ≡ same_packet p q
-same_packet-is r p q h =
-    let d = Decides-same_packet p q in
-    same_bool r (same_packet p q) (λ e. d.1 (h.0 e)) (λ e. h.1 (d.0 e))
-
--- a test that decides equality of two lists of packets
-pub packets_told : (r : Bool) (xs ys : List TrackPacket) → (IsTrue r ↔ (xs ≡ ys)) → r ≡ pointwise same_packet xs ys
-packets_told r xs ys h =
-    let d = Decides-same_packets xs ys in
-    same_bool r (pointwise same_packet xs ys) (λ e. d.1 (h.0 e)) (λ e. h.1 (d.0 e))
 
 -- ---- identities, versions and marks
 

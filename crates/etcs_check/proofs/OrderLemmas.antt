@@ -1,5 +1,5 @@
 -- Lists in strict order: their members determine them, and they are made of blocks, one after another.
-use Rattle.std.proofs.Common.{◌≡◌, ℕ, zero, suc, ◌+◌, ◌<◌, ◌≤◌, Bool, true, false, cond, List, [], ◌∷◌, ◌++◌, length, map, if◌then◌else◌, refl, sym, ap, ap₂, subst, ◌∙◌, arith}
+use Rattle.std.proofs.Common.{◌≡◌, ℕ, zero, suc, ◌+◌, ◌<◌, ◌≤◌, Bool, true, false, cond, List, [], ◌∷◌, ◌++◌, length, map, refl, sym, ap, ap₂, subst, ◌∙◌, arith}
 use Rattle.std.specs.List.{filter, flat_map, enumerate_from, range_with_len}
 use Rattle.std.specs.Ordering.{nat_cmp, ordering_then, ordering_reverse, is_lt}
 use Rattle.std.specs.Cmp.{nat_cmp_is}
@@ -80,10 +80,9 @@ module _ {X : Type 0} (order : X → List ℕ) where
   one_ordered x i zero y z lt at at' = absurd (omega arith)
   one_ordered x i (suc j) y z lt at at' = absurd (none-some z at')
 
-  -- one member if a fact holds
-  pub fact_block : (p : List ℕ) (n m : ℕ) (rest : List ℕ) (fact : Bool) (x : X) → m ≡ n → order x ≡ p ++ m ∷ rest → IsBlock p n (suc n) (if fact then x ∷ [] else [])
-  fact_block p n m rest false x e is = no_block p n (suc n)
-  fact_block p n m rest true x e is = record { begins = one_begins p n rest x (is ∙ ap (λ k. p ++ k ∷ rest) e); ordered = one_ordered x }
+  -- one member
+  pub one_block : (p : List ℕ) (n m : ℕ) (rest : List ℕ) (x : X) → m ≡ n → order x ≡ p ++ m ∷ rest → IsBlock p n (suc n) (x ∷ [])
+  one_block p n m rest x e is = record { begins = one_begins p n rest x (is ∙ ap (λ k. p ++ k ∷ rest) e); ordered = one_ordered x }
 
   -- one block after another
   pub joined : (p : List ℕ) {low mid high : ℕ} {xs ys : List X} → low ≤ mid → mid ≤ high → IsBlock p low mid xs → IsBlock p mid high ys → IsBlock p low high (xs ++ ys)

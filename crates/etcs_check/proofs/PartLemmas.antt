@@ -22,21 +22,14 @@ use Rattle.etcs_check.specs.Violation.{AspectPart, GroupPart, PacketsPart, Messa
 use Rattle.etcs_check.specs.declared.finding.Rule.{Rule}
 use Rattle.etcs_check.specs.declared.finding.Rule.TheVariants as rules
 use Rattle.etcs_group.proofs.PlaceLemmas.{element_passes-at, element_passes-none}
-use Rattle.etcs_check.proofs.FactLemmas.{packet_stands, packet_as, profile_as, none_short}
-use Rattle.etcs_check.proofs.FormedLemmas.{alike-says, inside-says, answered-says, counter-says, first_counter-is, alike_first, inside-is, answered-is, equal-is}
+use Rattle.etcs_check.proofs.FactLemmas.{each_of, packet_stands, packet_as, profile_as, short_as}
+use Rattle.etcs_check.proofs.FormedLemmas.{alike-says, inside-says, answered-says, counter-says, first_counter-is, alike-is, inside-is, answered-is, equal-is}
+use Rattle.etcs_check.proofs.NumberLemmas.{Decides-same_mark}
 use Rattle.etcs_check.proofs.ProfileLemmas.{one-from_lacks, lacks-from_one, at-long, long-at}
 use Rattle.etcs_check.proofs.SoundLemmas.{pair-equal, pair-says}
-use Rattle.etcs_check.proofs.AspectLemmas.{mark-says, mark-is, taken-at, fresh-says, told_place, untold-is}
+use Rattle.etcs_check.proofs.AspectLemmas.{taken-at, fresh-says, told_place, untold-is}
 
 -- ---- aspects
-
--- the duplicate flag of the same balise in aspect 0, if there is one
-marks-are : (first : List Telegram) (b : ℕ) (t : Telegram) → ((f : Telegram) → At first b f → t.header.dup ≡ f.header.dup) → mark_differs (slice_get first b) t ≡ false
-marks-are first b t h = go (slice_get first b) refl
-  where
-    go : (o : Option Telegram) → slice_get first b ≡ o → mark_differs o t ≡ false
-    go None e = refl
-    go (Some f) e = mark-is t f (h f e)
 
 module _ (aspects : List (List Telegram)) (a : ℕ) (group : List Telegram) where
   abbrev fact : Rule → ℕ → Telegram → Bool
@@ -53,8 +46,9 @@ module _ (aspects : List (List Telegram)) (a : ℕ) (group : List Telegram) wher
       at-long reach (group_message run group) run (is_silent run t.header.dup (length group) b) p (sym (profile_as reach group run b k t p here there) ∙ none)
 
   none_short_at : (reach : TrackPacket → Option Reach) (run : Run) (b k : ℕ) → IsLongProfile reach group run b k → element_passes (aspect_packets group (Some b)) k (is_short_profile reach (aspect_speech group) run (Some b)) ≡ false
-  none_short_at reach run b k part = none_short reach group run b k (λ t p here there.
-      long-at reach (group_message run group) run (is_silent run t.header.dup (length group) b) p (part t p here there))
+  none_short_at reach run b k part = element_passes-none (aspect_packets group (Some b)) k (is_short_profile reach (aspect_speech group) run (Some b)) (λ p at.
+      let s = packet_stands group b k p at in
+      short_as reach group run b s.0 p s.1 ∙ long-at reach (group_message run group) run (is_silent run s.0.header.dup (length group) b) p (part s.0 p s.1 s.2))
 
   pub aspect_holds : (rule : Rule) (run : Option Run) (b k : Option ℕ) → aspect_fact (first_aspect aspects) (take a aspects) group rule run b k ≡ false → AspectPart aspects a group rule run b k
   aspect_holds rules.PositionWrong None (Some b) None none = λ t here. eqb-true _ _ (not-false _ (at rules.PositionWrong b none t here))
@@ -72,7 +66,8 @@ module _ (aspects : List (List Telegram)) (a : ℕ) (group : List Telegram) wher
   aspect_holds rules.GradientShort (Some run) (Some b) (Some k) none = long_at gradient_reach run b k none
   aspect_holds rules.NoSpeed (Some run) None None none = one-from_lacks speed_reach (group_message run group) none
   aspect_holds rules.SpeedShort (Some run) (Some b) (Some k) none = long_at speed_reach run b k none
-  aspect_holds rules.MarksDiffer None (Some b) None none = λ t first here at_f. mark-says t first (ap (λ o. mark_differs o t) (sym at_f) ∙ at rules.MarksDiffer b none t here)
+  aspect_holds rules.MarksDiffer None (Some b) None none = λ t first here at_f.
+      (Decides-same_mark t.header.dup first.header.dup).0 (not-false _ (ap (λ o. mark_differs o t) (sym at_f) ∙ at rules.MarksDiffer b none t here))
   aspect_holds rules.NotToldApart None (Some b) None none = λ c q t u lt here has low same.
       fresh-says aspects a t (at rules.NotToldApart b none t here) c q u lt has low (sym same)
   aspect_holds rule run b k none = tt
@@ -80,7 +75,8 @@ module _ (aspects : List (List Telegram)) (a : ℕ) (group : List Telegram) wher
   pub aspect_unbroken : (rule : Rule) (run : Option Run) (b k : Option ℕ) → AspectPart aspects a group rule run b k → aspect_fact (first_aspect aspects) (take a aspects) group rule run b k ≡ false
   aspect_unbroken rules.PositionWrong None (Some b) None part = none_at rules.PositionWrong b (λ t here. not_from_true _ (eq-eqb _ _ (part t here)))
   aspect_unbroken rules.TotalWrong None (Some b) None part = none_at rules.TotalWrong b (λ t here. not_from_true _ (eq-eqb _ _ (part t here)))
-  aspect_unbroken rules.HeaderDiffers None (Some b) None part = none_at rules.HeaderDiffers b (λ t here. alike_first (first_aspect aspects) t (λ f at0. part t f here at0))
+  aspect_unbroken rules.HeaderDiffers None (Some b) None part = none_at rules.HeaderDiffers b (λ t here. each_of (slice_get (first_aspect aspects) 0) (λ o. header_differs o t ≡ false) refl (λ f at0.
+      alike-is t f (part t f here at0)))
   aspect_unbroken rules.MarkOutside None (Some b) None part = none_at rules.MarkOutside b (λ t here. inside-is group b t here (part t here))
   aspect_unbroken rules.MarkUnanswered None (Some b) None part = none_at rules.MarkUnanswered b (λ t here. answered-is group b part)
   aspect_unbroken rules.CounterUnfit None (Some b) None part = none_at rules.CounterUnfit b (λ t here. ne_eqb _ _ (part t here))
@@ -95,13 +91,13 @@ module _ (aspects : List (List Telegram)) (a : ℕ) (group : List Telegram) wher
   aspect_unbroken rules.GradientShort (Some run) (Some b) (Some k) part = none_short_at gradient_reach run b k part
   aspect_unbroken rules.NoSpeed (Some run) None None part = lacks-from_one speed_reach (group_message run group) part
   aspect_unbroken rules.SpeedShort (Some run) (Some b) (Some k) part = none_short_at speed_reach run b k part
-  aspect_unbroken rules.MarksDiffer None (Some b) None part = none_at rules.MarksDiffer b (λ t here. marks-are (first_aspect aspects) b t (λ f at_f. part t f here at_f))
+  aspect_unbroken rules.MarksDiffer None (Some b) None part = none_at rules.MarksDiffer b (λ t here. each_of (slice_get (first_aspect aspects) b) (λ o. mark_differs o t ≡ false) refl (λ f at_f.
+      not_from_true _ ((Decides-same_mark t.header.dup f.header.dup).1 (part t f here at_f))))
   aspect_unbroken rules.NotToldApart None (Some b) None part = none_at rules.NotToldApart b (λ t here. false_from_ne_true _ (λ taken.
       let r = taken-at aspects a t taken in
       part r.0 r.1 t r.2 r.3 here r.4 r.5 (sym r.6)))
-  aspect_unbroken rules.NotModelled None None (Some k) part = refl
-  aspect_unbroken rules.GradientShort (Some run) None (Some k) part = refl
-  aspect_unbroken rules.SpeedShort (Some run) None (Some k) part = refl
+  aspect_unbroken rule None None (Some k) part = refl
+  aspect_unbroken rule (Some run) None (Some k) part = refl
   aspect_unbroken rule None (Some b) None part = element_passes-none group b (fact rule b) (λ t here. refl)
   aspect_unbroken rule run b k part = refl
 
@@ -140,9 +136,8 @@ module _ (packets : List TrackPacket) where
   packets_unbroken rules.NoSpeed (Some run) None None part = lacks-from_one speed_reach (filter (holds run) packets) part
   packets_unbroken rules.SpeedShort (Some run) None (Some k) part =
       element_passes-none packets k (is_short_profile speed_reach (message_speech packets) run None) (λ p at. long-at speed_reach (filter (holds run) packets) run false p (λ _. part p at))
-  packets_unbroken rules.NotModelled None (Some b) (Some k) part = refl
-  packets_unbroken rules.GradientShort (Some run) (Some b) (Some k) part = refl
-  packets_unbroken rules.SpeedShort (Some run) (Some b) (Some k) part = refl
+  packets_unbroken rule None (Some b) (Some k) part = refl
+  packets_unbroken rule (Some run) (Some b) (Some k) part = refl
   packets_unbroken rule run b k part = refl
 
 pub message_holds : (m : Message) (rule : Rule) (run : Option Run) (b k : Option ℕ) → message_fact m rule None run b k ≡ false → MessagePart m rule run b k

@@ -14,9 +14,10 @@ use Rattle.etcs_group.specs.Places.{At}
 use Rattle.etcs_group.specs.Packets.{group_message}
 use Rattle.etcs_group.proofs.PlaceLemmas.{at_list_any, list_any-at, list_any-none}
 use Rattle.etcs_profile.specs.declared.track.TrackPacket.TheVariants as packets
-use Rattle.etcs_check.specs.Profiles.{gradient_reach, speed_reach, packet_limit, Reaches, HasProfiles}
+use Rattle.etcs_check.specs.Profiles.{gradient_reach, speed_reach, packet_limit, Reaches, AreReached, HasProfiles}
 use Rattle.etcs_check.specs.Violation.{HasProfile, IsLong, IsLongProfile}
 use Rattle.etcs_check.specs.Findings.{lacks, falls_short, exceeds, is_short, is_said_and_short}
+use Rattle.etcs_check.proofs.FactLemmas.{each_of}
 use Rattle.etcs_check.proofs.MemberLemmas.{said-site, site-said}
 
 is_some-says : {X : Type 0} (o : Option X) → is_some o ≡ true → (x : X) × (o ≡ Some x)
@@ -44,15 +45,8 @@ short-says reach packets p h r has i a limit at is =
     not_past r limit (false_from_ne_true _ (λ past. both_ways _ none (at_list_any (exceeds r) packets i a at (rw is past))))
 
 short-from : (reach : TrackPacket → Option Reach) (packets : List TrackPacket) (p : TrackPacket) → ((r : Reach) → reach p ≡ Some r → ReachesAll packets r) → is_short reach packets p ≡ false
-short-from reach packets p h = go (reach p) refl
-  where
-    no_limit : (r : Reach) (o : Option ℕ) → ((limit : ℕ) → o ≡ Some limit → Reaches r limit) → option_map_or (falls_short r) o false ≡ false
-    no_limit r None g = refl
-    no_limit r (Some limit) g = reaches-not_past r limit (g limit refl)
-
-    go : (o : Option Reach) → reach p ≡ o → option_map_or (λ r. list_any (exceeds r) packets) o false ≡ false
-    go None e = refl
-    go (Some r) e = list_any-none (exceeds r) packets (λ i a at. no_limit r (packet_limit a) (λ limit is. h r e i a limit at is))
+short-from reach packets p h = each_of (reach p) (λ o. option_map_or (λ r. list_any (exceeds r) packets) o false ≡ false) refl (λ r e. list_any-none (exceeds r) packets (λ i a at.
+    each_of (packet_limit a) (λ o. option_map_or (falls_short r) o false ≡ false) refl (λ limit is. reaches-not_past r limit (h r e i a limit at is))))
 
 -- ---- a list of packets
 
@@ -81,6 +75,13 @@ lacks-from_one reach packets h = elim (cases_Bool (list_any (λ p. is_some (pack
       let p = h r.0 r.1 e.0 r.2 e.1 in
       and_right (list_any (λ p. is_some (packet_limit p)) packets) _ (not_from_true _ (at_list_any (λ p. is_some (reach p)) packets p.0 p.1 p.2 p.3))
 ]
+
+-- the profiles of each kind, if the packets are reached
+pub gradients_in : (packets : List TrackPacket) → AreReached packets → HaveProfiles gradient_reach packets
+gradients_in packets reached i a limit at is = (reached i a limit at is).0
+
+pub speeds_in : (packets : List TrackPacket) → AreReached packets → HaveProfiles speed_reach packets
+speeds_in packets reached i a limit at is = (reached i a limit at is).1
 
 -- there is a profile
 pub profiles-one : (reach : TrackPacket → Option Reach) (packets : List TrackPacket) → HaveProfiles reach packets → HasProfile reach packets

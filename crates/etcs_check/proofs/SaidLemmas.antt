@@ -3,10 +3,9 @@ use Rattle.std.proofs.Common.{◌≡◌, ℕ, ◌+◌, ◌≤◌, Bool, true, fa
 use Rattle.std.specs.List.{list_any, flat_map, enumerate_from}
 use Rattle.std.specs.Option.{option_map_or}
 use Rattle.std.proofs.Math.Bool.{or_assoc, or_comm, or-false}
-use Rattle.std.proofs.lemmas.Bool.{lt-ltb, le-ltb, cases_lt}
+use Rattle.std.proofs.lemmas.Bool.Decides.{nat_tests}
 use Rattle.std.proofs.lemmas.List.{drop_all, append-nil, reverse-append}
 use Rattle.std.proofs.lemmas.List.Concat.{flat_map-append}
-use mathlib.Core.Logic.{inl, inr}
 use Rattle.etcs_group.specs.Places.{At}
 use Rattle.etcs_group.specs.Packets.{balise_packets, group_message}
 use Rattle.etcs_group.specs.Reading.{in_passing_order}
@@ -20,6 +19,7 @@ use Rattle.etcs_check.specs.Findings.{falls_short, exceeds, is_short, lacks}
 use Rattle.etcs_check.specs.Profiles.{packet_limit, gradient_reach, speed_reach}
 use Rattle.etcs_check.specs.PacketSummary.{greater, ends_early, nothing, both, by_one, packets_summary}
 use Rattle.etcs_check.specs.declared.packet_summary.PacketSummary.{PacketSummary}
+use Rattle.etcs_check.proofs.FactLemmas.{each_of}
 use Rattle.etcs_check.proofs.NoteLemmas.{drop_at}
 
 -- ---- sums, which may be made in any order
@@ -29,14 +29,11 @@ greater-none None = refl
 greater-none (Some m) = refl
 
 greater-assoc : (a b c : Option ℕ) → greater (greater a b) c ≡ greater a (greater b c)
-greater-assoc None b c = refl
-greater-assoc (Some m) None c = refl
-greater-assoc (Some m) (Some n) None = refl
 greater-assoc (Some m) (Some n) (Some k) = ap Some (omega arith)
+greater-assoc a b c = refl
 
 greater-comm : (a b : Option ℕ) → greater a b ≡ greater b a
-greater-comm None None = refl
-greater-comm None (Some n) = refl
+greater-comm None b = sym (greater-none b)
 greater-comm (Some m) None = refl
 greater-comm (Some m) (Some n) = ap Some (omega arith)
 
@@ -108,13 +105,7 @@ said_whole run group = sym (said-passing (λ (e : ℕ × Telegram). balise_packe
 -- ---- some location lies past a reach if and only if the greatest one does
 
 max_past : (n a b : ℕ) → ltb n (max a b) ≡ (ltb n a || ltb n b)
-max_past n a b = elim (cases_lt n a) [
-  | inl lt ↦ lt-ltb n (max a b) (omega arith) ∙ sym (ap (λ s. s || ltb n b) (lt-ltb n a lt))
-  | inr ge ↦ elim (cases_lt n b) [
-    | inl lt ↦ lt-ltb n (max a b) (omega arith) ∙ sym (ap₂ ◌||◌ (le-ltb n a ge) (lt-ltb n b lt))
-    | inr ge' ↦ le-ltb n (max a b) (omega arith) ∙ sym (ap₂ ◌||◌ (le-ltb n a ge) (le-ltb n b ge'))
-  ]
-]
+max_past n a b = grind (arith, nat_tests)
 
 past_greater : (r : Reach) (a b : Option ℕ) → option_map_or (falls_short r) (greater a b) false ≡ (option_map_or (falls_short r) a false || option_map_or (falls_short r) b false)
 past_greater r None b = refl
@@ -122,39 +113,29 @@ past_greater r (Some m) None = sym (or-false (falls_short r m))
 past_greater (Ends n) (Some m) (Some k) = max_past n m k
 past_greater Open (Some m) (Some k) = refl
 
-past_said : (r : Reach) (packets : List TrackPacket) → list_any (exceeds r) packets ≡ option_map_or (falls_short r) (packets_summary packets).limit false
-past_said r [] = refl
-past_said r (p ∷ ps) = ap (λ s. exceeds r p || s) (past_said r ps) ∙ sym (past_greater r (packet_limit p) (packets_summary ps).limit)
+-- some packet passes a test if and only if the summary shows it
+any_said : (has : PacketSummary → Bool) (test : TrackPacket → Bool) → has nothing ≡ false → ((p : TrackPacket) (s : PacketSummary) → has (both (by_one p) s) ≡ (test p || has s))
+    → (packets : List TrackPacket) → list_any test packets ≡ has (packets_summary packets)
+any_said has test none more [] = sym none
+any_said has test none more (p ∷ ps) = ap (λ s. test p || s) (any_said has test none more ps) ∙ sym (more p (packets_summary ps))
 
 -- a profile is short if and only if it ends before the greatest location
 pub short-before : (reach : TrackPacket → Option Reach) (packets : List TrackPacket) (p : TrackPacket) → is_short reach packets p ≡ ends_early reach (packets_summary packets).limit p
-short-before reach packets p = go (reach p)
-  where
-    go : (o : Option Reach) → option_map_or (λ r. list_any (exceeds r) packets) o false ≡ option_map_or (λ r. option_map_or (falls_short r) (packets_summary packets).limit false) o false
-    go None = refl
-    go (Some r) = past_said r packets
+short-before reach packets p =
+    each_of (reach p) (λ o. option_map_or (λ r. list_any (exceeds r) packets) o false ≡ option_map_or (λ r. option_map_or (falls_short r) (packets_summary packets).limit false) o false) refl
+    (λ r _. any_said (λ s. option_map_or (falls_short r) s.limit false) (exceeds r) refl (λ p s. past_greater r (packet_limit p) s.limit) packets)
 
 -- ---- the parts of the summary
 
 some_greater : (a b : Option ℕ) → is_some (greater a b) ≡ (is_some a || is_some b)
-some_greater None b = refl
-some_greater (Some m) None = refl
 some_greater (Some m) (Some n) = refl
+some_greater a b = refl
 
 some_said : (packets : List TrackPacket) → list_any (λ p. is_some (packet_limit p)) packets ≡ is_some (packets_summary packets).limit
-some_said [] = refl
-some_said (p ∷ ps) = ap (λ s. is_some (packet_limit p) || s) (some_said ps) ∙ sym (some_greater (packet_limit p) (packets_summary ps).limit)
-
-gradient_said : (packets : List TrackPacket) → (packets_summary packets).has_gradient ≡ list_any (λ p. is_some (gradient_reach p)) packets
-gradient_said [] = refl
-gradient_said (p ∷ ps) = ap (λ b. is_some (gradient_reach p) || b) (gradient_said ps)
-
-speed_said : (packets : List TrackPacket) → (packets_summary packets).has_speed ≡ list_any (λ p. is_some (speed_reach p)) packets
-speed_said [] = refl
-speed_said (p ∷ ps) = ap (λ b. is_some (speed_reach p) || b) (speed_said ps)
+some_said = any_said (λ s. is_some s.limit) (λ p. is_some (packet_limit p)) refl (λ p s. some_greater (packet_limit p) s.limit)
 
 pub lacks_gradient-is : (packets : List TrackPacket) → (is_some (packets_summary packets).limit && not (packets_summary packets).has_gradient) ≡ lacks gradient_reach packets
-lacks_gradient-is packets = ap₂ (λ a b. a && not b) (sym (some_said packets)) (gradient_said packets)
+lacks_gradient-is packets = ap₂ (λ a b. a && not b) (sym (some_said packets)) (sym (any_said (λ s. s.has_gradient) (λ p. is_some (gradient_reach p)) refl (λ p s. refl) packets))
 
 pub lacks_speed-is : (packets : List TrackPacket) → (is_some (packets_summary packets).limit && not (packets_summary packets).has_speed) ≡ lacks speed_reach packets
-lacks_speed-is packets = ap₂ (λ a b. a && not b) (sym (some_said packets)) (speed_said packets)
+lacks_speed-is packets = ap₂ (λ a b. a && not b) (sym (some_said packets)) (sym (any_said (λ s. s.has_speed) (λ p. is_some (speed_reach p)) refl (λ p s. refl) packets))

@@ -29,7 +29,7 @@ use Rattle.etcs_check.specs.declared.finding.Rule.TheVariants as rules
 use Rattle.etcs_check.specs.Duplicates.{same_held}
 use Rattle.etcs_check.specs.Laws.{SoundGroupsAreDecided}
 use Rattle.etcs_check.proofs.NumberLemmas.{Decides-same_packets}
-use Rattle.etcs_check.proofs.ProfileLemmas.{HaveProfiles, profiles-from, profiles-one, long-said, said-long}
+use Rattle.etcs_check.proofs.ProfileLemmas.{gradients_in, speeds_in, profiles-from, profiles-one, long-said, said-long}
 use Rattle.etcs_check.proofs.FormedLemmas.{first_counted}
 use Rattle.etcs_check.proofs.PairLemmas.{duplicates-equal, only-covered}
 
@@ -37,10 +37,7 @@ use Rattle.etcs_check.proofs.PairLemmas.{duplicates-equal, only-covered}
 
 are_pair-says : (m n : Dup) → are_pair m n ≡ true → (m ≡ dups.Next) × (n ≡ dups.Previous)
 are_pair-says dups.Next dups.Previous h = (refl, refl)
-are_pair-says dups.Next dups.Single h = absurd (both_ways _ refl h)
-are_pair-says dups.Next dups.Next h = absurd (both_ways _ refl h)
-are_pair-says dups.Single n h = absurd (both_ways _ refl h)
-are_pair-says dups.Previous n h = absurd (both_ways _ refl h)
+are_pair-says m n h = absurd (both_ways _ refl h)
 
 -- the second of a pair is after the first, and their packets differ
 pub pair-says : (run : Run) (t : Telegram) (o : Option Telegram) → pair_differs run t o ≡ true → (u : Telegram) × (o ≡ Some u) × (t.header.dup ≡ dups.Next) × (u.header.dup ≡ dups.Previous) × (held_packets run t ≢ held_packets run u)
@@ -48,10 +45,7 @@ pair-says run t None h = absurd (both_ways _ refl h)
 pair-says run t (Some u) h =
     let p = and_parts (are_pair t.header.dup u.header.dup) (not (same_held run t u)) h in
     let marks = are_pair-says t.header.dup u.header.dup p.0 in
-    (u, refl, marks.0, marks.1, λ same. both_ways _ (not_same p.1) ((Decides-same_packets (held_packets run t) (held_packets run u)).1 same))
-  where
-    not_same : not (same_held run t u) ≡ true → same_held run t u ≡ false
-    not_same g = not-true _ g
+    (u, refl, marks.0, marks.1, λ same. both_ways _ (not-true _ p.1) ((Decides-same_packets (held_packets run t) (held_packets run u)).1 same))
 
 -- a pair that does not differ has equal packets
 pub pair-equal : (run : Run) (t u : Telegram) → pair_differs run t (Some u) ≡ false → t.header.dup ≡ dups.Next → u.header.dup ≡ dups.Previous → held_packets run t ≡ held_packets run u
@@ -71,26 +65,20 @@ module _ (group : List Telegram) (run : Run) (formed : IsWellFormed group) (equa
       let says = partner-says group b p partner in
       by_mark t.header.dup refl (subst (λ (x : Telegram). named_neighbour x.header.dup b ≡ Some p) (one_at group b says.0 t says.1 at) says.2)
     where
-      by_next : p ≡ suc b → t.header.dup ≡ dups.Next → held_packets run t ≡ held_packets run u
-      by_next is e =
-          let n = next-at group formed b t at e in
-          let au' = subst (λ k. At group k u) is au in
-          let same = one_at group (suc b) n.1 u n.2 au' in
-          next_equal b t u at au' e (ap (λ (x : Telegram). x.header.dup) (sym same) ∙ n.3)
-
-      by_previous : (a : ℕ) (v : Telegram) → b ≡ suc a → p ≡ a → At group a v → v.header.dup ≡ dups.Next → t.header.dup ≡ dups.Previous → held_packets run t ≡ held_packets run u
-      by_previous a v is there av f e =
-          let au' = subst (λ k. At group k u) there au in
-          let same = one_at group a v u av au' in
-          sym (next_equal a u t au' (subst (λ k. At group k t) is at) (ap (λ (x : Telegram). x.header.dup) (sym same) ∙ f) e)
-
       by_mark : (m : Dup) → t.header.dup ≡ m → named_neighbour m b ≡ Some p → held_packets run t ≡ held_packets run u
       by_mark dups.Single e n = absurd (none-some p n)
-      by_mark dups.Next e n = let q = same_Some (b + 1) p n in by_next (omega arith) e
+      by_mark dups.Next e n =
+          let is : p ≡ suc b = (let q = same_Some (b + 1) p n in omega arith) in
+          let r = next-at group formed b t at e in
+          let au' = subst (λ k. At group k u) is au in
+          let same = one_at group (suc b) r.1 u r.2 au' in
+          next_equal b t u at au' e (ap (λ (x : Telegram). x.header.dup) (sym same) ∙ r.3)
       by_mark dups.Previous e n =
           let r = previous-at group formed b t at e in
           let n' : named_neighbour dups.Previous (suc r.0) ≡ Some p = ap (named_neighbour dups.Previous) (sym r.1) ∙ n in
-          by_previous r.0 r.2 r.1 (sym (same_Some r.0 p n')) r.3 r.4 e
+          let au' = subst (λ k. At group k u) (sym (same_Some r.0 p n')) au in
+          let same = one_at group r.0 r.2 u r.3 au' in
+          sym (next_equal r.0 u t au' (subst (λ k. At group k t) r.1 at) (ap (λ (x : Telegram). x.header.dup) (sym same) ∙ r.4) e)
 
 -- ---- sound if all parts hold
 
@@ -198,12 +186,6 @@ module _ (group : List Telegram) (sound : IsSoundGroup group) where
       let lt = slice_get_within t.packets k p at' in
       subst (λ q. is_modelled q ≡ true) (get_or_from_slice_get t.packets k p p at') (sound.formed.modelled b t at k p lt)
 
-  gradients : (run : Run) → HaveProfiles gradient_reach (group_message run group)
-  gradients run i p limit at is = (said_reached run i p limit at is).0
-
-  speeds : (run : Run) → HaveProfiles speed_reach (group_message run group)
-  speeds run i p limit at is = (said_reached run i p limit at is).1
-
   -- an aspect that is like aspect 0, and that its counters distinguish from the aspects before it
   pub parts-from_sound : (aspects : List (List Telegram)) (a : ℕ) → ((b : ℕ) → AspectPart aspects a group rules.HeaderDiffers None (Some b) None)
       → ((b : ℕ) → AspectPart aspects a group rules.MarksDiffer None (Some b) None) → ((b : ℕ) → AspectPart aspects a group rules.NotToldApart None (Some b) None) → HasAspectParts aspects a group
@@ -219,10 +201,10 @@ module _ (group : List Telegram) (sound : IsSoundGroup group) where
       go rules.CountersDiffer None (Some b) None = λ j t u at low first. fitting.equal b j t u at first.0 low first.1
       go rules.DuplicatesDiffer (Some run) (Some b) None = equal_next run b
       go rules.NotModelled None (Some b) (Some k) = all_modelled b k
-      go rules.NoGradient (Some run) None None = profiles-one gradient_reach (group_message run group) (gradients run)
-      go rules.GradientShort (Some run) (Some b) (Some k) = long-said gradient_reach group run (gradients run) b k
-      go rules.NoSpeed (Some run) None None = profiles-one speed_reach (group_message run group) (speeds run)
-      go rules.SpeedShort (Some run) (Some b) (Some k) = long-said speed_reach group run (speeds run) b k
+      go rules.NoGradient (Some run) None None = profiles-one gradient_reach (group_message run group) (gradients_in (group_message run group) (said_reached run))
+      go rules.GradientShort (Some run) (Some b) (Some k) = long-said gradient_reach group run (gradients_in (group_message run group) (said_reached run)) b k
+      go rules.NoSpeed (Some run) None None = profiles-one speed_reach (group_message run group) (speeds_in (group_message run group) (said_reached run))
+      go rules.SpeedShort (Some run) (Some b) (Some k) = long-said speed_reach group run (speeds_in (group_message run group) (said_reached run)) b k
       go rules.MarksDiffer None (Some b) None = marks b
       go rules.NotToldApart None (Some b) None = fresh b
       go rule run b k = tt

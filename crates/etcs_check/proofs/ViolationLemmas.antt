@@ -5,8 +5,6 @@ use Rattle.std.proofs.lemmas.Option.{none-some}
 use Rattle.std.proofs.lemmas.Bool.{both_ways, false_from_ne_true, or_parts}
 use mathlib.Core.Logic.{inl, inr}
 use Rattle.etcs_profile.specs.declared.run.Run.{Run}
-use Rattle.etcs_profile.specs.declared.track.TrackPacket.{TrackPacket}
-use Rattle.etcs_profile.specs.declared.reach.Reach.{Reach}
 use Rattle.etcs_radio.specs.declared.message.Message.{Message}
 use Rattle.etcs_telegram.specs.Record.{Telegram}
 use Rattle.etcs_group.specs.Places.{At}
@@ -20,7 +18,7 @@ use Rattle.etcs_check.specs.Findings.{pair_differs}
 use Rattle.etcs_check.specs.Violation.{full_packets, AffectsReadings, DependsOnMissed, ViolatesGroup, IsNew, ViolatesSite, HasSiteParts}
 use Rattle.etcs_check.specs.Laws.{AreControlled, FindingsAreFacts, PartsHoldUnlessFound, ASoundLineHasNoViolation}
 use Rattle.etcs_check.specs.Line.{findings}
-use Rattle.etcs_check.specs.Profiles.{gradient_reach, speed_reach}
+use Rattle.etcs_check.specs.Profiles.{AreReached, gradient_reach, speed_reach}
 use Rattle.etcs_check.specs.Soundness.{first_aspect}
 use Rattle.etcs_check.specs.declared.finding.Finding.{Finding}
 use Rattle.etcs_check.specs.declared.finding.Rule.{Rule}
@@ -33,14 +31,14 @@ use Rattle.etcs_check.proofs.FactLemmas.{passed, group_means, aspect_stands}
 use Rattle.etcs_check.proofs.LineLemmas.{new-is, new-says, no_finding_means_sound_line}
 use Rattle.etcs_check.proofs.PairLemmas.{duplicates-equal, only-covered}
 use Rattle.etcs_check.proofs.PartLemmas.{aspect_holds, aspect_unbroken, whole_holds, whole_unbroken, message_holds, message_unbroken, message_whole}
-use Rattle.etcs_check.proofs.ProfileLemmas.{HaveProfiles, profiles-one, long-said}
+use Rattle.etcs_check.proofs.ProfileLemmas.{gradients_in, speeds_in, profiles-one, long-said}
 use Rattle.etcs_check.proofs.SoundLemmas.{fitting-from_accepted, pair-says}
 
 -- ---- readings
 
 -- the message is the packets of the reading with nothing missed
-of_said : (reach : TrackPacket → Option Reach) (group : List Telegram) (run : Run) → IsWellFormed group → HaveProfiles reach (full_packets group run) → HaveProfiles reach (group_message run group)
-of_said reach group run formed h = subst (HaveProfiles reach) (sym (said-packets group formed run)) h
+said_reached : (group : List Telegram) (run : Run) → IsWellFormed group → AreReached (full_packets group run) → AreReached (group_message run group)
+said_reached group run formed reached = subst AreReached (sym (said-packets group formed run)) reached
 
 pair_affects : (group : List Telegram) (run : Run) (b : ℕ) (t : Telegram) → At group b t → pair_differs run t (slice_get group (b + 1)) ≡ true → IsWellFormed group → DependsOnMissed group run b
 pair_affects group run b t at differs formed =
@@ -59,16 +57,16 @@ module _ (aspects : List (List Telegram)) (a : ℕ) (group : List Telegram) wher
       let r = passed group b (λ t. pair_differs run t (slice_get group (b + 1))) h in
       pair_affects group run b r.0 r.1 r.2
   readings_affected rules.NoGradient (Some run) None None h = λ formed reached.
-      let said = of_said gradient_reach group run formed (λ i p limit at is. (reached i p limit at is).0) in
+      let said = gradients_in (group_message run group) (said_reached group run formed reached) in
       both_ways _ (aspect_unbroken aspects a group rules.NoGradient (Some run) None None (profiles-one gradient_reach (group_message run group) said)) h
   readings_affected rules.GradientShort (Some run) (Some b) (Some k) h = λ formed reached.
-      let said = of_said gradient_reach group run formed (λ i p limit at is. (reached i p limit at is).0) in
+      let said = gradients_in (group_message run group) (said_reached group run formed reached) in
       both_ways _ (aspect_unbroken aspects a group rules.GradientShort (Some run) (Some b) (Some k) (long-said gradient_reach group run said b k)) h
   readings_affected rules.NoSpeed (Some run) None None h = λ formed reached.
-      let said = of_said speed_reach group run formed (λ i p limit at is. (reached i p limit at is).1) in
+      let said = speeds_in (group_message run group) (said_reached group run formed reached) in
       both_ways _ (aspect_unbroken aspects a group rules.NoSpeed (Some run) None None (profiles-one speed_reach (group_message run group) said)) h
   readings_affected rules.SpeedShort (Some run) (Some b) (Some k) h = λ formed reached.
-      let said = of_said speed_reach group run formed (λ i p limit at is. (reached i p limit at is).1) in
+      let said = speeds_in (group_message run group) (said_reached group run formed reached) in
       both_ways _ (aspect_unbroken aspects a group rules.SpeedShort (Some run) (Some b) (Some k) (long-said speed_reach group run said b k)) h
   readings_affected rules.GradientShort (Some run) None (Some k) h = absurd (both_ways false refl h)
   readings_affected rules.SpeedShort (Some run) None (Some k) h = absurd (both_ways false refl h)
