@@ -214,7 +214,8 @@ def _begin(processors: int, *words: object) -> "subprocess.Popen[bytes]":
 
     def begin() -> None:
         os.sched_setaffinity(0, own)
-        signal.signal(signal.SIGINT, signal.SIG_DFL)  # (a job in the background ignores it)
+        for number in (signal.SIGINT, signal.SIGHUP):  # (a job in the background, or below nohup, ignores them)
+            signal.signal(number, signal.SIG_DFL)
 
     return subprocess.Popen(
         [sys.executable, "-c", START, *map(str, words)],
