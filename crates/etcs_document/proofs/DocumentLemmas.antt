@@ -1,11 +1,12 @@
 -- Reading a document's values, and when bytes are JSON.
-use Rattle.std.proofs.Common.{◌≡◌, ◌+◌, ℕ, suc, Bool, true, false, List, [], ◌∷◌, ◌++◌, codes, length, Option, Some, None, Result, Ok, Err, refl, ap, ◌∙◌}
-use Rattle.std.specs.Prelude.{◌↔◌, IsTrue, if◌then◌else◌}
+use Rattle.std.proofs.Common.{◌≡◌, ◌+◌, ◌<◌, ℕ, suc, Bool, true, false, List, [], ◌∷◌, ◌++◌, codes, length, Option, Some, None, Result, Ok, Err, inl, inr, refl, ap, sym, subst, arith, ◌∙◌}
+use Rattle.std.specs.Prelude.{◌↔◌, ◌⊎◌, IsTrue, if◌then◌else◌}
 use Rattle.std.specs.Option.{ok_or}
 use Rattle.std.specs.Str.{IsUtf8, is_utf8}
 use Rattle.std.proofs.lemmas.Str.{IsUtf8-from_is_utf8, is_utf8-from_IsUtf8}
 use Rattle.json.specs.Json.{value}
-use Rattle.json.specs.Lex.{lex, punctuate}
+use Rattle.json.specs.Lex.{lex, punctuate, tokens}
+use Rattle.json.specs.Reads.{opens}
 use Rattle.serde_json.specs.Data.{Data}
 use Rattle.serde_json.specs.Read.{read as read_text}
 use Rattle.etcs_document.proofs.ResultLemmas.{same_ok}
@@ -38,6 +39,11 @@ not_readable bytes unreadable utf8 = cc (is_utf8-from_IsUtf8 bytes utf8)
 pub nothing_read : (bytes : List ℕ) → bytes ≡ [] → read_text bytes ≡ None
 unfolding lex punctuate value
 nothing_read bytes none = ap read_text none
+
+pub nothing_opens : (text : List ℕ) (room : ℕ) → text ≡ [] → IsTrue (opens (tokens text)) ⊎ (room < length text) → ⊥
+unfolding lex punctuate
+nothing_opens text room none (inl opened) = let no : false ≡ true = ap (λ t. opens (tokens t)) (sym none) ∙ opened in absurd (cc)
+nothing_opens text room none (inr short) = let no : room < 0 = subst (λ t. room < length t) none short in absurd (omega arith)
 
 pub no_value_read : (bytes : List ℕ) (d : Data) → bytes ≡ [] → read_text bytes ≡ Some d → ⊥
 no_value_read bytes d none is = cc (nothing_read bytes none)

@@ -11,11 +11,11 @@ use crate::line_error::LineError;
 use etcs_check::Line;
 use etcs_group::Controlled;
 use etcs_radio::Message;
-use etcs_schema::{JsonError, JsonValue, ParsedJson, check_keys};
+use etcs_schema::{JsonError, JsonTree, ParsedJson, check_keys};
 use json::Scratch;
 use std::alloc::Global;
 
-/// Reads the bytes as one JSON value, on a tape of its tokens.
+/// Reads the bytes as one JSON value.
 #[tactic(auto, unfolding(crate::specs::Document::json_value))]
 pub(crate) fn read_json<'a>(
     alloc: Global,
@@ -29,24 +29,23 @@ pub(crate) fn read_json<'a>(
     let Ok(text) = str::from_utf8(bytes) else {
         return Err(LineError::NotJson);
     };
-    match ParsedJson::read(text, scratch, Vec::new(alloc)) {
+    match ParsedJson::read(alloc, text, scratch) {
         Ok(json) => Ok(json),
         Err(JsonError::NotJson) => Err(LineError::NotJson),
-        Err(_) if bytes.is_empty() => Err(LineError::NotJson),
-        Err(_) => Err(LineError::Memory),
+        Err(JsonError::Memory) => Err(LineError::Memory),
     }
 }
 
 // Reads the railway line of a document: the groups, and then the messages.
 #[tactic(auto, unfolding(crate::specs::Document::document_line, crate::specs::Document::line_groups, crate::specs::Document::line_messages))]
-fn read_document<N: JsonValue>(alloc: Global, value: &N) -> Result<Line, LineError>
-    ensures { Gives (λ l. (l.groups.items, l.messages.items)) result (document_line (N.value value.now)) }
+fn read_document<T: JsonTree>(alloc: Global, tree: &T) -> Result<Line, LineError>
+    ensures { Gives (λ l. (l.groups.items, l.messages.items)) result (document_line (T.value tree.now)) }
 {
-    check_keys(alloc, value, &["groups", "messages"])?;
+    check_keys(alloc, &tree, &["groups", "messages"])?;
     let mut groups = Vec::new(alloc);
-    read_list::<Controlled, N, Vec<Controlled>>(alloc, value, "groups", &mut groups)?;
+    read_list::<Controlled, _, Vec<Controlled>>(alloc, &tree, "groups", &mut groups)?;
     let mut messages = Vec::new(alloc);
-    read_list::<Message, N, Vec<Message>>(alloc, value, "messages", &mut messages)?;
+    read_list::<Message, _, Vec<Message>>(alloc, &tree, "messages", &mut messages)?;
     Ok(Line { groups, messages })
 }
 
@@ -58,9 +57,8 @@ fn read_document<N: JsonValue>(alloc: Global, value: &N) -> Result<Line, LineErr
 /// The error is the first fault, depth first: `NotJson`; then the form of the document; then group by group
 /// its form, the number of its balises and each balise, or its list of aspects, aspect by aspect; and only
 /// then the messages. The number of balises of an aspect is compared with aspect 0 before its balises are
-/// read. The only other error is that memory ran out, which any document longer than 4,294,967,040 bytes gets. A
-/// fault might then be unreported, except that the input is empty or not UTF-8. After an error nothing is
-/// returned of what was read.
+/// read. The only other error is that memory ran out. A fault might then be unreported, except that the input is
+/// empty or not UTF-8. After an error nothing is returned of what was read.
 #[tactic(auto, unfolding(crate::specs::Document::line_of_text))]
 pub fn read_line(alloc: Global, bytes: &[u8]) -> Result<Line, LineError>
     ensures exact { Gives (λ l. (l.groups.items, l.messages.items)) result (line_of_text bytes.now) }
@@ -71,5 +69,5 @@ pub fn read_line(alloc: Global, bytes: &[u8]) -> Result<Line, LineError>
 {
     let mut scratch = Scratch::new(alloc);
     let document = read_json(alloc, bytes, &mut scratch)?;
-    read_document(alloc, &document.root())
+    read_document(alloc, document.root())
 }

@@ -20,7 +20,7 @@ use crate::token_reader::TokenReader;
 use etcs_check::{Finding, LineChecker};
 use etcs_group::Controlled;
 use etcs_radio::Message;
-use etcs_schema::{JsonValue, check_keys};
+use etcs_schema::{JsonTree, check_keys};
 use json::Scratch;
 use std::alloc::Global;
 
@@ -90,14 +90,14 @@ pub(crate) fn quick_check(alloc: Global, bytes: &[u8]) -> Option<Checked>
 
 // Checks the line of a document, and keeps no group and no message.
 #[tactic(auto, unfolding(crate::specs::Document::document_line, crate::specs::Document::line_groups, crate::specs::Document::line_messages))]
-fn check_document<N: JsonValue>(alloc: Global, value: &N) -> Result<Checked, LineError>
+fn check_document<T: JsonTree>(alloc: Global, tree: &T) -> Result<Checked, LineError>
     ensures { Gives (λ c. ((c.groups, c.messages), c.findings.items)) result
-        ((document_line (N.value value.now) then λ line. Ok (judged line)) then λ verdict. Ok (summary verdict)) }
+        ((document_line (T.value tree.now) then λ line. Ok (judged line)) then λ verdict. Ok (summary verdict)) }
 {
-    check_keys(alloc, value, &["groups", "messages"])?;
+    check_keys(alloc, &tree, &["groups", "messages"])?;
     let mut checker = LineChecker::new(alloc);
-    read_list::<Controlled, N, LineChecker>(alloc, value, "groups", &mut checker)?;
-    read_list::<Message, N, LineChecker>(alloc, value, "messages", &mut checker)?;
+    read_list::<Controlled, _, LineChecker>(alloc, &tree, "groups", &mut checker)?;
+    read_list::<Message, _, LineChecker>(alloc, &tree, "messages", &mut checker)?;
     Ok(found_by(checker)?)
 }
 
@@ -107,8 +107,9 @@ fn check_document<N: JsonValue>(alloc: Global, value: &N) -> Result<Checked, Lin
 /// A document without repeated keys and without escapes in strings is read group by group and message by
 /// message, in either order of the two lists. This takes memory for the identities, the findings, and the
 /// records of one group or message at a time. Any other document, a document that is refused, and a document
-/// for which memory ran out are read again as JSON: this takes five bytes more for each byte, and 24 bytes for
-/// each key, text, bracket and brace.
+/// for which memory ran out are read again as JSON. This takes one byte more for each byte, 32 bytes for each
+/// item of a list, and 48 bytes for each member of an object. Each list and object has room for four of them, or
+/// for up to twice as many as it contains.
 ///
 /// The errors are the same as for [`check_text`](crate::check_text). After an error neither counts nor findings
 /// are returned.
@@ -133,5 +134,5 @@ pub fn check_in_order(alloc: Global, bytes: &[u8]) -> Result<Checked, LineError>
     }
     let mut scratch = Scratch::new(alloc);
     let document = read_json(alloc, bytes, &mut scratch)?;
-    Ok(check_document(alloc, &document.root())?)
+    Ok(check_document(alloc, document.root())?)
 }

@@ -10,4 +10,4 @@ pub use etcs_document::{
     read_line, refusal_text, report, report_counts,
 };
 pub use etcs_json::{Form, Record, WriteJson};
-pub use etcs_schema::{FormError, JsonError, JsonValue, ParsedJson, Step, TapeItems, TapeValue};
+pub use etcs_schema::{FormError, JsonError, JsonTree, JsonValue, ParsedJson, Step};

@@ -6,8 +6,8 @@
 //! gives the same value. [`WriteJson`] writes a form token by token. Read `form.rt` and `record.rt` first,
 //! with `specs/TrackPackets.antt`, then `packets/track_form.rt`.
 //!
-//! A form is read from a [`JsonValue`]: a value of `serde_json`, or the tape of tokens that [`ParsedJson::read`]
-//! makes from a text in less time. Documents of railway lines are in `etcs_document`.
+//! A form is read from a [`JsonValue`]: a value of `serde_json`, or the tree that [`ParsedJson::read`] makes of a
+//! text, which takes less memory. Documents of railway lines are in `etcs_document`.
 #![tactic(auto)]
 
 mod canonical;
@@ -22,7 +22,7 @@ mod record_line;
 mod writing;
 
 pub use etcs_schema::{
-    FormError, JsonError, JsonValue, ParsedJson, Path, Step, TapeItems, TapeValue, check_keys,
+    FormError, JsonError, JsonTree, JsonValue, ParsedJson, Path, Step, check_keys,
 };
 pub use form::{Form, WriteJson};
 pub use record::Record;

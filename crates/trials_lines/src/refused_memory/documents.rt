@@ -2,8 +2,8 @@
 
 use super::{Answer, expect_answers};
 use etcs_form::{
-    Form, JsonError, LineError, LineFault, ParsedJson, Refusal, WriteJson, check_in_order,
-    check_text, read_line, refusal_text, report, report_counts,
+    Form, FormError, JsonError, JsonTree, LineError, LineFault, ParsedJson, Refusal, WriteJson,
+    check_in_order, check_text, read_line, refusal_text, report, report_counts,
 };
 use etcs_radio::Message;
 use etcs_telegram::{Telegram, TextError};
@@ -61,15 +61,20 @@ fn refusal(alloc: Global) -> Answer {
     Ok(text.as_str() == "refused: line 7: not JSON\n")
 }
 
-// Whether the record of a tape is sent as the text that the tape was made of.
-fn tape(alloc: Global) -> Answer {
+// The telegram whose form the tree is.
+fn telegram_of<T: JsonTree>(alloc: Global, tree: &T) -> Result<Telegram, FormError> {
+    Telegram::read_json(alloc, &tree)
+}
+
+// Whether the record of a text is written as that text.
+fn text(alloc: Global) -> Answer {
     let mut scratch = Scratch::new(alloc);
-    let json = match ParsedJson::read(TELEGRAM_FORM, &mut scratch, Vec::new(alloc)) {
+    let json = match ParsedJson::read(alloc, TELEGRAM_FORM, &mut scratch) {
         Ok(json) => json,
         Err(JsonError::Memory) => return Err(LineError::Memory),
-        Err(_) => return Ok(false),
+        Err(JsonError::NotJson) => return Ok(false),
     };
-    let record = Telegram::read_json(alloc, &json.root())?;
+    let record = telegram_of(alloc, json.root())?;
     let mut out = Writer::new(Vec::new(alloc));
     record.write_json(&mut out)?;
     Ok(out.into_inner().as_slice() == TELEGRAM_FORM.as_bytes())
@@ -90,7 +95,7 @@ pub fn answers(alloc: Global) -> [Answer; 7] {
         read(alloc),
         refused(alloc),
         refusal(alloc),
-        tape(alloc),
+        text(alloc),
         form(alloc),
     ]
 }
