@@ -1,6 +1,6 @@
 -- Reading a document's values, and when bytes are JSON.
 use Rattle.std.proofs.Common.{◌≡◌, ◌+◌, ◌<◌, ℕ, suc, Bool, true, false, List, [], ◌∷◌, ◌++◌, codes, length, Option, Some, None, Result, Ok, Err, inl, inr, refl, ap, sym, subst, arith, ◌∙◌}
-use Rattle.std.specs.Prelude.{◌↔◌, ◌⊎◌, IsTrue, if◌then◌else◌}
+use Rattle.std.specs.Prelude.{◌⊎◌, IsTrue, if◌then◌else◌}
 use Rattle.std.specs.Option.{ok_or}
 use Rattle.std.specs.Str.{IsUtf8, is_utf8}
 use Rattle.std.proofs.lemmas.Str.{IsUtf8-from_is_utf8, is_utf8-from_IsUtf8}
@@ -75,7 +75,3 @@ pub line_read : (d : Data) (gs : List (List (List Telegram))) (ms : List Message
     → (document_list (codes "groups") d then read_indexed document_group 0) ≡ Ok gs → (document_list (codes "messages") d then read_indexed document_message 0) ≡ Ok ms → document_line d ≡ Ok (gs, ms)
 unfolding document_line line_groups line_messages
 line_read d gs ms keys groups messages = rw (keys, groups, messages) refl
-
--- if the test of a fact fails, the fact does not hold
-pub is_not : {P : Type 0} (b : Bool) → IsTrue b ↔ P → b ≡ false → P → ⊥
-is_not b tests is p = cc (tests.1 p)
