@@ -14,17 +14,17 @@ use etcs_bits::Memory;
 use etcs_document::LineFault;
 use etcs_json::{Form, message_of_line, telegram_of_line};
 use etcs_radio::Message;
-use etcs_schema::{FormError, JsonError, JsonValue, ParsedJson};
+use etcs_schema::{FormError, JsonError, JsonTree, JsonValue, ParsedJson};
 use etcs_telegram::Telegram;
 use json::Scratch;
 use std::alloc::Global;
 use std::marker::PhantomData;
 
 // The record whose form the JSON value is.
-fn record_of<T: Encoded, N: JsonValue>(alloc: Global, node: &N) -> Result<T, Unwritten>
-    ensures { Gives (λ x. x) result (or_fault (T.form.of (N.value node.now))) }
+fn record_of<T: Encoded, V: JsonTree>(alloc: Global, tree: &V) -> Result<T, Unwritten>
+    ensures { Gives (λ x. x) result (or_fault (T.form.of (V.value tree.now))) }
 {
-    match T::read_form(alloc, node) {
+    match T::read_form(alloc, &tree) {
         Ok(record) => Ok(record),
         Err(why) => match why {
             FormError::Memory => Err(Unwritten::Memory),
@@ -49,7 +49,7 @@ fn record_in_line<T: Encoded>(
         return Ok(record);
     }
     match ParsedJson::read(alloc, text, scratch) {
-        Ok(json) => record_of(alloc, &json.root()),
+        Ok(json) => record_of(alloc, json.root()),
         Err(JsonError::NotJson) => Err(Unwritten::Refused(LineFault::Json)),
         Err(JsonError::Memory) => Err(Unwritten::Memory),
     }

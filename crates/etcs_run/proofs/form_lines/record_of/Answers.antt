@@ -4,4 +4,4 @@ use Rattle.etcs_run.proofs.form_lines.record_of.Goals as goal
 -- the form's first fault, in words
 pub returns-in_default : goal.returns-in_default
 returns-in_default g c =
-    form_refused c.in-Err.why (g.T.Encoded.form.of (g.N.JsonValue.value c.args.node.now)) c.in_default.not-Memory c.in-Err.ensures
+    form_refused c.in-Err.why (g.T.Encoded.form.of (g.V.JsonTree.value c.args.tree.now)) c.in_default.not-Memory c.in-Err.ensures
