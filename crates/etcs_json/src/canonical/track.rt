@@ -28,7 +28,7 @@ impl FromCanonical for Difference {
 
 impl FromCanonical for Items<Difference> {
     fn parse(line: &mut Scanner<'_>) -> Option<Items<Difference>> {
-        Items::new(Vec::parse(line)?).ok()
+        Some(Items::new(Vec::parse(line)?))
     }
 }
 
