@@ -19,7 +19,6 @@ mod packets;
 mod reading;
 mod record;
 mod record_line;
-mod writing;
 
 pub use etcs_schema::{
     FormError, JsonError, JsonValue, ParsedJson, Path, Step, TapeItems, TapeValue, check_keys,

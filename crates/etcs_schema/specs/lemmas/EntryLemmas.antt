@@ -1,5 +1,5 @@
 -- An object of entries with different keys has each of them, and no other key.
-use Rattle.std.specs.Prelude.{◌≡◌, ◌++◌, ℕ, Bool, true, false, List, [], ◌∷◌, Option, Some, None, refl}
+use Rattle.std.specs.Prelude.{◌≡◌, ◌++◌, ℕ, true, false, List, [], ◌∷◌, Option, Some, None, refl}
 use Rattle.etcs_schema.specs.Prelude.{◌∙◌, Ordering, Less, Equal, Greater, nat_cmp, bytes_eq, sym, ap, and_parts, and_from, or_parts, or_left, or_right, true≢false, Data, Members, member, no_members, object, put, get_member}
 use Rattle.std.proofs.lemmas.Bool.{false_from_ne_true, not-true}
 use Rattle.std.proofs.lemmas.Slice.Eq.{bytes_eq-Decides}
