@@ -1,7 +1,7 @@
 -- A movement authority and a position report have the form of one of two packets: the members that are
 -- written are the members of the form.
 use Rattle.std.proofs.Common.{◌≡◌, ◌∙◌, ℕ, List, Option, Some, None, Result, Ok, Err, inl, inr, refl, sym, ap}
-use Rattle.serde_json.specs.Data.{Data, Members, no_members, object as object_data}
+use Rattle.serde_json.specs.Data.{Data, object as object_data}
 use Rattle.etcs_bits.specs.declared.variables.identity.Identity.{Identity}
 use Rattle.etcs_bits.specs.layout.Rows.{alone}
 use Rattle.etcs_profile.specs.Authority.{AuthorityValue, WithMain, WithoutMain, parts_by_main as authority_by, authority_value, make_authority}
@@ -16,7 +16,6 @@ use Rattle.etcs_json.specs.Authority.{authority, either_authority, end_parts, te
 use Rattle.etcs_json.specs.AuthorityWriting.{written_members}
 use Rattle.etcs_schema.specs.Choices.{with_number}
 use Rattle.etcs_json.specs.Cover.{cover, cover_marker}
-use Rattle.etcs_schema.specs.Entries.{Entry, with_entries}
 use Rattle.etcs_schema.specs.Fault.{Fault}
 use Rattle.etcs_schema.specs.Reading.{◌>>=◌, as_kind, only_keys}
 use Rattle.etcs_json.specs.Report.{either_report, report, situation, with_one, with_two}
@@ -25,12 +24,6 @@ use Rattle.etcs_schema.specs.Codec.{object}
 use Rattle.etcs_json.specs.TrackPackets.{track_numbered, track_packet}
 use Rattle.etcs_json.specs.TrainPackets.{train_numbered, train_packet}
 use Rattle.etcs_schema.specs.lemmas.SortedLemmas.{made_members, members_of}
-
--- an empty object after inserting members in the byte order of their keys
-pub made_of : (es : List Entry) (old new : Members) (d e : Data) → with_entries no_members es ≡ members_of es → object_data (members_of es) ≡ e
-    → old ≡ no_members → new ≡ with_entries old es → d ≡ object_data new → d ≡ e
-made_of es old new d e in_order same none made is =
-    is ∙ ap object_data (made ∙ ap (λ ms. with_entries ms es) none ∙ in_order) ∙ same
 
 -- ---- a movement authority
 
@@ -43,10 +36,6 @@ pub authority_sent : (a : AuthorityValue) → object_data (members_of (written_m
 unfolding authority
 authority_sent a = authority_sent_by a.main a
 
-pub authority_in_order : (a : AuthorityValue) → with_entries no_members (written_members a) ≡ members_of (written_members a)
-unfolding written_members
-authority_in_order a = made_members (written_members a) refl
-
 -- ---- a position report
 
 report_sent_by : (previous : Option Identity) (r : Report) → object_data (members_of (sent_report (report_value previous r.scale r.lrbg (report_situation r)))) ≡ either_report.to (report_by previous r)
@@ -57,10 +46,6 @@ report_sent_by (Some previous) r = ap object_data (sym (made_members ((with_numb
 pub report_sent : (r : Report) → object_data (members_of (sent_report r)) ≡ report.to r
 unfolding report
 report_sent r = report_sent_by r.previous r
-
-pub report_in_order : (r : Report) → with_entries no_members (sent_report r) ≡ members_of (sent_report r)
-unfolding report_first report_last
-report_in_order r = made_members (sent_report r) refl
 
 -- ---- an authority and a report as one of all packets
 

@@ -8,8 +8,6 @@ use Rattle.etcs_radio.specs.declared.message.Message.TheVariants as messages
 use Rattle.etcs_schema.specs.Choices.{Choice, by_kind, chosen, either, last}
 use Rattle.etcs_json.specs.Messages.{movement, position}
 use Rattle.etcs_schema.specs.Codec.{Codec, renamed}
-use Rattle.etcs_json.specs.TrackPackets.{track_packet}
-use Rattle.etcs_json.specs.TrainPackets.{train_packet}
 
 abbrev pub either_message : Movement ⊎ Position → Message
 either_message m = by_kind messages.Movement messages.Position m
@@ -24,7 +22,7 @@ message_again (messages.Position m) = refl
 
 -- message 3 or 136
 abbrev pub numbered : Choice (codes "nid_message") nid_message (Movement ⊎ Position)
-numbered = either (movement track_packet) (last (position train_packet)) refl
+numbered = either movement (last position) refl
 
 -- NID_MESSAGE is read first: 3 or 136
 unfoldable pub message : Codec Message

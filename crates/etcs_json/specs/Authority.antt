@@ -23,6 +23,7 @@ section_timer =
 
 -- a section
 unfoldable pub section : ObjectMembers section_layout.rows
+unfolding section_timer
 section =
     closed (struct section_struct
     (key (codes "l_section") (number l_section.fields)
@@ -74,12 +75,12 @@ terms =
 
 -- packet 12: V_MAIN, and then the conditions
 unfoldable pub with_main : Packet 12 with_main_layout.rows
-unfolding terms end_parts
+unfolding terms end_parts section section_timer end_timer danger_point overlap
 with_main = numbered_members (headed (scaled (key (codes "v_main") (number v_main.fields) then terms))) refl
 
 -- packet 15
 unfoldable pub without_main : Packet 15 without_main_layout.rows
-unfolding terms end_parts
+unfolding terms end_parts section section_timer end_timer danger_point overlap
 without_main = numbered_members (headed (scaled terms)) refl
 
 -- packet 12 or 15

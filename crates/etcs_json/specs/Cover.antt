@@ -13,4 +13,4 @@ cover = numbered_members (key (codes "nid_vbcmk") (number nid_vbcmk.fields)) ref
 -- a cover marker, packet 0, as a struct
 unfoldable pub cover_marker : ObjectMembers cover_layout.rows
 cover_marker =
-    closed (struct cover_struct (numbered cover)) cover.apart
+    closed (struct cover_struct (numbered cover)) cover.readable

@@ -2,7 +2,7 @@
 -- small letters. NID_C and NID_BG are the identity of the balise's group. `user_bits` and `packets` are
 -- this project's. Keys are in the order in which they are read.
 use Rattle.std.specs.Prelude.{◌≡◌, ◌<◌, ◌++◌, ℕ, ◌==◌, ◌||◌, Bool, true, List, [], Ok, codes, if◌then◌else◌, refl}
-use Rattle.etcs_schema.specs.Prelude.{ap, arith, ◌∙◌, flat_map, Row}
+use Rattle.etcs_schema.specs.Prelude.{and_from, ap, arith, lt-ltb, ◌∙◌, flat_map, Row}
 use Rattle.etcs_bits.specs.declared.layout.fault.FaultKind.TheVariants.{Downlink, Loop}
 use Rattle.etcs_bits.specs.variables.Variables.{only as only_number}
 use Rattle.etcs_profile.specs.Track.{track_packet as track_layout}
@@ -16,7 +16,7 @@ use Rattle.etcs_schema.specs.Reading.{as_kind, allowed_number}
 use Rattle.etcs_schema.specs.ReadBack.{number_back}
 use Rattle.etcs_json.specs.Report.{identity}
 use Rattle.etcs_schema.specs.Codec.{ObjectMembers, MemberCodec, Codec, closed, key, named, number_again, number_data, struct, unstated, ◌then◌}
-use Rattle.etcs_json.specs.TrackPackets.{track_packet}
+use Rattle.etcs_json.specs.TrackPackets.{track_packet, track_shallow}
 use Rattle.etcs_schema.specs.Variables.{duplicate, flag, number, version}
 
 -- whether a telegram may have n user bits
@@ -72,4 +72,5 @@ telegram =
     (λ p. record { size = p.0; header = p.1.0; packets = p.1.1 })
     (λ t. (t.size, (t.header, t.packets)))
     (λ _. refl)
-    (key (codes "user_bits") size then header then key (codes "packets") (listed track_packet))) refl
+    (key (codes "user_bits") size then header then key (codes "packets") (listed track_packet)))
+    (and_from _ _ refl (lt-ltb _ _ (omega (arith, track_shallow))))

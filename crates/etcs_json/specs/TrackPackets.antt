@@ -3,7 +3,7 @@
 -- named as the standard names its variable, in small letters. `links`, `elements` and `differences` are
 -- this project's and name lists. `nc` is NC_CDDIFF or NC_DIFF. Keys are in the order in which they are
 -- read.
-use Rattle.std.specs.Prelude.{◌≡◌, ℕ, ◌+◌, Bool, true, List, Result, Ok, codes, nat_le, refl, length}
+use Rattle.std.specs.Prelude.{◌≡◌, ◌≤◌, ℕ, ◌+◌, Bool, true, List, Result, Ok, codes, nat_le, refl, length}
 use Rattle.etcs_schema.specs.Prelude.{arith, le-leb, Data, Format, AreAllowed, alone, width, nid_bg, nid_c, ranged}
 use Rattle.etcs_bits.specs.declared.variables.direction.Dir.{Dir}
 use Rattle.etcs_profile.specs.Elements.{elements, profile_struct}
@@ -20,10 +20,10 @@ use Rattle.etcs_schema.specs.Head.{Packet, headed, scaled, nid_range}
 use Rattle.etcs_schema.specs.Reading.{◌>>=◌, required_member}
 use Rattle.etcs_schema.specs.Codec.{ObjectMembers, MemberCodec, decoded_pair, closed, first_and_others, key, optional_key, list, non_empty_list, object, only, struct, tested, ◌then◌, Codec, renamed}
 use Rattle.etcs_schema.specs.Variables.{direction, flag, number, scale, is_allowed}
-use Rattle.etcs_json.specs.Authority.{with_main, without_main}
+use Rattle.etcs_json.specs.Authority.{danger_point, end_parts, end_timer, overlap, section, section_timer, terms, with_main, without_main}
 use Rattle.etcs_json.specs.Cover.{cover}
 use Rattle.etcs_json.specs.Raw.{raw_packet}
-use Rattle.etcs_json.specs.Transition.{transition}
+use Rattle.etcs_json.specs.Transition.{level_order, transition}
 
 -- a packet of elements that has no more bits than L_PACKET counts, with the 23 of NID_PACKET, Q_DIR, L_PACKET
 abbrev pub is_short : {X : Type 0} → Format X → Dir × Profile X → Bool
@@ -63,6 +63,7 @@ link =
 
 -- what packet 5 has after its number
 unfoldable pub linking : Packet 5 (rest (elements link_layout)).rows
+unfolding link
 linking = numbered_members (profile (codes "links") link_layout link) refl
 
 -- a gradient, and the place where it begins
@@ -74,6 +75,7 @@ gradient_element =
 
 -- what packet 21 has after its number
 unfoldable pub gradient : Packet 21 (rest (elements gradient_layout)).rows
+unfolding gradient_element
 gradient = numbered_members (profile (codes "elements") gradient_layout gradient_element) refl
 
 -- another speed for some trains
@@ -85,6 +87,7 @@ difference =
 
 -- a speed, and the place where it begins
 unfoldable pub speed_element : ObjectMembers speed_layout.rows
+unfolding difference
 speed_element =
     closed (struct speed_struct
     (key (codes "d_static") (number d_static.fields)
@@ -93,6 +96,7 @@ speed_element =
 
 -- what packet 27 has after its number
 unfoldable pub speed_profile : Packet 27 (rest (elements speed_layout)).rows
+unfolding speed_element difference
 speed_profile = numbered_members (profile (codes "elements") speed_layout speed_element) refl
 
 -- ---- the packet of a number
@@ -123,3 +127,7 @@ abbrev pub track_packet : Codec TrackPacket
 track_packet = renamed make_track_packet track_parts again
     (chosen (codes "nid_packet") (is_allowed (ranged 8 254 256)) track_numbered
     (λ v nid. nid_range (track_numbered.number v) nid.0 nid.1))
+
+pub track_shallow : track_packet.back.0 ≤ 100
+unfolding cover linking link with_main without_main terms end_parts section section_timer end_timer danger_point overlap gradient gradient_element speed_profile speed_element difference transition level_order raw_packet
+track_shallow = omega arith

@@ -1,6 +1,6 @@
 -- The form of a packet from train to track (SUBSET-026, 7.4.3). NID_PACKET decides it.
-use Rattle.std.specs.Prelude.{codes, length, refl}
-use Rattle.etcs_schema.specs.Prelude.{ranged}
+use Rattle.std.specs.Prelude.{◌≤◌, codes, length, refl}
+use Rattle.etcs_schema.specs.Prelude.{arith, ranged}
 use Rattle.etcs_profile.specs.PacketNumbers.{nid_track as nid_train}
 use Rattle.etcs_radio.specs.RawTrain.{other_of, others as other_bits}
 use Rattle.etcs_radio.specs.TrainNumbers.{nid_raw}
@@ -10,7 +10,7 @@ use Rattle.etcs_radio.specs.declared.train_packet.TrainPacket.{TrainPacket}
 use Rattle.etcs_schema.specs.Choices.{Choice, HasNumber, begins_with, chosen, either, others}
 use Rattle.etcs_schema.specs.Head.{nid_range}
 use Rattle.etcs_json.specs.RawTrain.{raw_train_packet}
-use Rattle.etcs_json.specs.Report.{with_one, with_two}
+use Rattle.etcs_json.specs.Report.{situation, with_one, with_two}
 use Rattle.etcs_schema.specs.Codec.{Codec, object, renamed}
 use Rattle.etcs_schema.specs.Variables.{is_allowed}
 
@@ -32,3 +32,7 @@ abbrev pub train_packet : Codec TrainPacket
 train_packet = renamed make_train_packet train_parts again
     (chosen (codes "nid_packet") (is_allowed (ranged 8 254 256)) train_numbered
     (λ v nid. nid_range (train_numbered.number v) nid.0 nid.1))
+
+pub train_shallow : train_packet.back.0 ≤ 100
+unfolding with_one with_two situation raw_train_packet
+train_shallow = omega arith

@@ -27,6 +27,7 @@ level_order =
 
 -- packet 41
 unfoldable pub transition : Packet 41 (rest level_orders).rows
+unfolding level_order
 transition =
     numbered_members (headed (struct orders_struct (scaled
     (key (codes "d_leveltr") (number d_leveltr.fields)

@@ -10,7 +10,6 @@ ghost use Rattle.etcs_schema.specs.Codec.{Codec};
 
 use etcs_bits::Memory;
 use etcs_schema::{FormError, JsonValue, TokenWriter};
-use json::Token;
 use serde_json::Value;
 use std::alloc::Global;
 
@@ -35,8 +34,8 @@ pub trait Form: Drop {
     /// memory runs out; then no form is returned.
     fn to_form(&self, alloc: Global) -> Result<Value, Memory>
         ensures form { IfOk result (λ v. view v ≡ codec.to self.now) }
-        ensures again { IfOk result
-            (λ v. in_range self.now → codec.of (view v) ≡ Ok self.now) }
+        ensures again { in_range self.now
+            → IfOk result (λ v. codec.of (view v) ≡ Ok self.now) }
 
         // A form without allocation never fails.
         ensures memory { OnErr result builds };
@@ -68,13 +67,7 @@ pub trait WriteJson: Form {
         ensures { OnOk result (M.adds (data_tokens (Self.codec.to self.now)) out.old out.new) };
 
     /// Writes a member: a key, and the form as its value.
-    #[inline(always)]
     fn write_json_member<M: TokenWriter>(&self, name: &str, out: &mut M) -> Result<(), Memory>
         ensures { OnOk result (M.adds
-            (entries_tokens ((name.now, Some (Self.codec.to self.now)) ∷ [])) out.old out.new) }
-    {
-        out.token(Token::Key(name))?;
-        self.write_json(out)?;
-        Ok(())
-    }
+            (entries_tokens ((name.now, Some (Self.codec.to self.now)) ∷ [])) out.old out.new) };
 }

@@ -19,7 +19,6 @@ mod packets;
 mod reading;
 mod record;
 mod record_line;
-mod writing;
 
 pub use etcs_schema::{
     FormError, JsonError, JsonTree, JsonValue, ParsedJson, Path, Step, check_keys,

@@ -7,14 +7,15 @@ ghost use Rattle.etcs_schema.specs.Entries.{Entry};
 ghost use Rattle.etcs_schema.specs.Fault.{Fault, Returns};
 ghost use Rattle.etcs_schema.specs.Lists.{unbounded_list};
 ghost use Rattle.etcs_schema.specs.Reading.{required_member, optional_member, bounded_list};
+ghost use Rattle.etcs_schema.specs.Writing.{AddsMembers, each_tokens};
 ghost use Rattle.etcs_schema.specs.Codec.{decoded_pair, first_and_others, encoded_items, number_data, optional as data_if};
 
 use crate::reading::{read_items, read_list, read_non_empty};
-use crate::writing::MemberWriter;
 use crate::{Form, WriteJson};
 use etcs_bits::{Items, Memory};
 use etcs_schema::reading::{member, under};
-use etcs_schema::{FormError, JsonValue, Step};
+use etcs_schema::{FormError, JsonValue, Step, TokenWriter};
+use json::Token;
 use std::alloc::Global;
 use std::marker::Model;
 
@@ -26,15 +27,15 @@ pub(crate) trait WriteMembers {
     ghost entries: { Self → List Entry };
 
     /// Writes them one after the other. Fails only if memory runs out.
-    fn write<S: MemberWriter>(&self, out: &mut S) -> Result<(), Memory>
-        ensures { OnOk result (S.writes (entries self.now) out.old out.new) };
+    fn write<M: TokenWriter>(&self, out: &mut M) -> Result<(), Memory>
+        ensures { OnOk result (AddsMembers M.adds (entries self.now) out.old out.new) };
 
     /// The same as `write`, stated for any entries that are equal to these, so that a caller proves only the
     /// equation.
     #[inline(always)]
-    final fn write_all<S: MemberWriter>(&self, out: &mut S) -> Result<(), Memory>
+    final fn write_all<M: TokenWriter>(&self, out: &mut M) -> Result<(), Memory>
         ensures { (es : List Entry) → es ≡ entries self.now
-            → OnOk result (S.writes es out.old out.new) }
+            → OnOk result (AddsMembers M.adds es out.old out.new) }
     {
         self.write(out)
     }
@@ -44,12 +45,13 @@ pub(crate) trait WriteMembers {
 #[derive(Drop)]
 pub(crate) struct Member<'a, T>(pub(crate) &'static str, pub(crate) &'a T);
 
+#[tactic(auto, unfolding(etcs_schema::specs::Writing::AddsMembers))]
 impl<T: WriteJson> WriteMembers for Member<'_, T> {
     ghost entries = { λ m. (m.0.now, Some (T.codec.to m.1.now)) ∷ [] };
 
     #[inline(always)]
-    fn write<S: MemberWriter>(&self, out: &mut S) -> Result<(), Memory> {
-        out.write_member(self.0, self.1)
+    fn write<M: TokenWriter>(&self, out: &mut M) -> Result<(), Memory> {
+        self.1.write_json_member(self.0, out)
     }
 }
 
@@ -57,12 +59,16 @@ impl<T: WriteJson> WriteMembers for Member<'_, T> {
 #[derive(Drop)]
 pub(crate) struct OptionalMember<'a, T>(pub(crate) &'static str, pub(crate) &'a Option<T>);
 
+#[tactic(auto, unfolding(etcs_schema::specs::Writing::AddsMembers))]
 impl<T: WriteJson> WriteMembers for OptionalMember<'_, T> {
     ghost entries = { λ m. (m.0.now, data_if T.codec.to m.1.now) ∷ [] };
 
     #[inline(always)]
-    fn write<S: MemberWriter>(&self, out: &mut S) -> Result<(), Memory> {
-        out.write_optional(self.0, self.1)
+    fn write<M: TokenWriter>(&self, out: &mut M) -> Result<(), Memory> {
+        match self.1 {
+            Some(value) => value.write_json_member(self.0, out),
+            None => Ok(()),
+        }
     }
 }
 
@@ -70,13 +76,24 @@ impl<T: WriteJson> WriteMembers for OptionalMember<'_, T> {
 #[derive(Drop)]
 pub(crate) struct NumberMember(pub(crate) &'static str, pub(crate) u64);
 
+#[tactic(auto, unfolding(etcs_schema::specs::Writing::AddsMembers))]
 impl WriteMembers for NumberMember {
     ghost entries = { λ m. (m.0.now, Some (number_data m.1)) ∷ [] };
 
     #[inline(always)]
-    fn write<S: MemberWriter>(&self, out: &mut S) -> Result<(), Memory> {
-        out.write_number(self.0, self.1)
+    fn write<M: TokenWriter>(&self, out: &mut M) -> Result<(), Memory> {
+        out.member(self.0, self.1)
     }
+}
+
+// Writes items one after the other, without the brackets of a list.
+fn write_items<M: TokenWriter, T: WriteJson>(out: &mut M, items: &[T]) -> Result<(), Memory>
+    ensures { OnOk result (M.adds (each_tokens T.codec.to items.now) out.old out.new) }
+{
+    'items: for item in items {
+        item.write_json(out)?;
+    }
+    Ok(())
 }
 
 /// A member that is a list.
@@ -87,8 +104,12 @@ impl<T: WriteJson> WriteMembers for ListMember<'_, T> {
     ghost entries = { λ m. (m.0.now, Some (array (encoded_items T.codec.to m.1.now))) ∷ [] };
 
     #[inline(always)]
-    fn write<S: MemberWriter>(&self, out: &mut S) -> Result<(), Memory> {
-        out.write_list(self.0, self.1)
+    fn write<M: TokenWriter>(&self, out: &mut M) -> Result<(), Memory> {
+        out.token(Token::Key(self.0))?;
+        out.token(Token::BeginArray)?;
+        write_items(out, self.1)?;
+        out.token(Token::EndArray)?;
+        Ok(())
     }
 }
 
@@ -104,8 +125,13 @@ impl<T: WriteJson> WriteMembers for NonEmptyMember<'_, T> {
     ghost entries = { λ m. (m.0.now, Some (array (encoded_items T.codec.to (m.1.now ∷ m.2.now)))) ∷ [] };
 
     #[inline(always)]
-    fn write<S: MemberWriter>(&self, out: &mut S) -> Result<(), Memory> {
-        out.write_non_empty(self.0, self.1, self.2)
+    fn write<M: TokenWriter>(&self, out: &mut M) -> Result<(), Memory> {
+        out.token(Token::Key(self.0))?;
+        out.token(Token::BeginArray)?;
+        self.1.write_json(out)?;
+        write_items(out, self.2)?;
+        out.token(Token::EndArray)?;
+        Ok(())
     }
 }
 
@@ -113,9 +139,10 @@ impl<A: WriteMembers, B: WriteMembers> WriteMembers for (A, B) {
     ghost entries = { λ p. A.entries p.0 ++ B.entries p.1 };
 
     #[inline(always)]
-    fn write<S: MemberWriter>(&self, out: &mut S) -> Result<(), Memory> {
+    fn write<M: TokenWriter>(&self, out: &mut M) -> Result<(), Memory> {
         self.0.write(out)?;
-        self.1.write(out)
+        self.1.write(out)?;
+        Ok(())
     }
 }
 

@@ -1,7 +1,6 @@
 //! A record as a line of JSON, and such a line as the record.
 
 ghost use Rattle.std.specs.Prelude.{◌≡◌, ◌++◌, codes, IfOk, IfSome, IsTrue};
-ghost use Rattle.etcs_bits.specs.layout.Rows.{AreAllowed};
 ghost use Rattle.etcs_json.specs.AnyMessage.{message};
 ghost use Rattle.etcs_json.specs.JsonLine.{IsReadAs, json_line_text};
 ghost use Rattle.etcs_json.specs.Telegrams.{telegram};
@@ -9,6 +8,7 @@ ghost use Rattle.etcs_schema.specs.Codec.{object};
 
 use crate::WriteJson;
 use crate::canonical::{FromCanonical, Scanner};
+use crate::messages::message_form::prove_message_allowed;
 use crate::record::InRange;
 use etcs_bits::Memory;
 use etcs_digits::JsonLineWriter;
@@ -64,22 +64,11 @@ pub fn telegram_of_line(alloc: Global, room: &mut Vec<u8>, line: &[u8]) -> Optio
     Some(record)
 }
 
-// Lemma without code: each number of a message is allowed.
-#[tactic(auto, using(crate::proofs::LawLemmas::movement_in, crate::proofs::LawLemmas::position_in))]
-fn prove_allowed(value: &Message)
-    ensures { AreAllowed (message.rows value.now) }
-{
-    match value {
-        Message::Movement(it) => it.prove_in_range(),
-        Message::Position(it) => it.prove_in_range(),
-    }
-}
-
 /// The radio message whose form the line is, as [`telegram_of_line`] finds a telegram.
 pub fn message_of_line(alloc: Global, room: &mut Vec<u8>, line: &[u8]) -> Option<Message>
     ensures { IfSome result (λ m. IsReadAs message line.now m) }
 {
     let record: Message = written_as(alloc, room, line)?;
-    prove_allowed(&record);
+    prove_message_allowed(&record);
     Some(record)
 }

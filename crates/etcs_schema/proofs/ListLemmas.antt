@@ -1,14 +1,12 @@
--- A list: what it is read as, for items of any kind, and how it is built.
-use Rattle.std.proofs.Common.{◌≡◌, ◌∙◌, ◌+◌, ◌<◌, ℕ, Bool, false, List, [], ◌∷◌, ◌++◌, length, take, get_or, Some, None, Result, Ok, Err, option_map, refl, ap, sym, subst, append_assoc, append-nil}
+-- A list: what it is read as, for items of any kind.
+use Rattle.std.proofs.Common.{◌≡◌, ◌∙◌, ◌+◌, ℕ, Bool, false, List, [], ◌∷◌, ◌++◌, length, Some, None, Result, Ok, Err, option_map, refl, ap, sym, subst, append_assoc, append-nil}
 use Rattle.std.specs.Prelude.{if◌then◌else◌}
-use Rattle.std.proofs.lemmas.List.{length-append, take_more}
-use Rattle.serde_json.specs.Data.{Data, Items, item, no_items}
+use Rattle.std.proofs.lemmas.List.{length-append}
+use Rattle.serde_json.specs.Data.{Data, Items}
 use Rattle.serde_json.specs.Find.{as_array}
-use Rattle.serde_json.specs.View.{view, items_view}
-use Rattle.serde_json.specs.declared.value.Value.{Value}
+use Rattle.serde_json.specs.View.{view}
 use Rattle.etcs_schema.specs.Fault.{ReturnsError, Fault, Returns, IsPrefixedError, Kind, Range, here, list_item, prefixed_result}
 use Rattle.etcs_schema.specs.Reading.{has_bounded_length, ◌>>=◌, bounded_list_or, data_list, indexed_items, bounded_list, with_first}
-use Rattle.etcs_schema.specs.Codec.{encoded_items}
 use Rattle.etcs_schema.specs.declared.error.FormError.{FormError}
 use Rattle.etcs_schema.proofs.Objects.{fails_same, fails_under, none_mapped, or_this, some_mapped}
 
@@ -38,26 +36,6 @@ list_misfits read low high d e =
 
 pub gives_equal : {X Y : Type 0} (view : X → Y) (result : Result X FormError) (r s : Result Y Fault) → Returns view result r → s ≡ r → Returns view result s
 gives_equal view result r s h e = subst (Returns view result) (sym e) h
-
-items_push : Items → Data → Items
-items_push no_items d = item d no_items
-items_push (item e is) d = item e (items_push is d)
-
-items_view-push : (vs : List Value) (v : Value) (is : Items) (d : Data) → items_view vs ≡ is → view v ≡ d → items_view (vs ++ v ∷ []) ≡ items_push is d
-unfolding items_push
-items_view-push [] v is d e f = rw (← e, f) refl
-items_view-push (w ∷ vs) v is d e f = rw (← e) (ap (item (view w)) (items_view-push vs v (items_view vs) d refl f))
-
-encoded_items-push : {X : Type 0} (to : X → Data) (xs : List X) (x : X) → encoded_items to (xs ++ x ∷ []) ≡ items_push (encoded_items to xs) (to x)
-unfolding items_push
-encoded_items-push to [] x = refl
-encoded_items-push to (y ∷ xs) x = ap (item (to y)) (encoded_items-push to xs x)
-
-pub built_more : {X : Type 0} (to : X → Data) (xs : List X) (i : ℕ) (x : X) (vs : List Value) (v : Value) (ws : List Value) → i < length xs → x ≡ get_or xs i x
-    → items_view vs ≡ encoded_items to (take i xs) → view v ≡ to x → ws ≡ vs ++ v ∷ [] → items_view ws ≡ encoded_items to (take (i + 1) xs)
-built_more to xs i x vs v ws lt is so_far one pushed =
-    ap items_view pushed ∙ items_view-push vs v _ (to x) so_far one ∙ sym (encoded_items-push to (take i xs) x)
-    ∙ ap (encoded_items to) (ap (λ y. take i xs ++ y ∷ []) is ∙ sym (take_more xs i x lt))
 
 -- ---- one item after the other
 

@@ -1,19 +1,15 @@
--- Faults as the code finds them, and objects as it makes them.
+-- Faults as the code finds them.
 use Rattle.std.proofs.Common.{◌≡◌, ◌∙◌, ℕ, Bool, List, Option, Some, None, Result, Ok, Err, IfOk, IfSome, IsErrAnd, option_map, ap, sym, refl, subst}
 use Rattle.std.specs.Prelude.{if◌then◌else◌}
-use Rattle.serde_json.specs.View.{view}
-use Rattle.serde_json.specs.declared.value.Value.{Value}
-use Rattle.serde_json.specs.Data.{Data, Members, no_members, object}
+use Rattle.serde_json.specs.Data.{Data}
 use Rattle.serde_json.specs.Find.{as_object, get}
 use Rattle.etcs_bits.specs.layout.Rows.{AreAllowed}
-use Rattle.etcs_schema.specs.Codec.{Object, Codec}
-use Rattle.etcs_schema.specs.Entries.{are_apart, are_known, with_entries, entries_object}
+use Rattle.etcs_schema.specs.Codec.{Codec}
+use Rattle.etcs_schema.specs.Entries.{are_known}
 use Rattle.etcs_schema.specs.Choices.{any_object, object_or}
 use Rattle.etcs_schema.specs.Fault.{Fault, ReturnsError, Returns, IsPrefixedFault, IsPrefixedError, IsFault, IsPrefixedResult, Kind, Step, Unknown, error_fault, here, key, prefixed_result}
 use Rattle.etcs_schema.specs.Reading.{◌>>=◌, required_member, key_or, known_or, any_member, only_keys}
-use Rattle.etcs_schema.specs.Writing.{sorted}
 use Rattle.etcs_schema.specs.declared.error.FormError.{FormError}
-use Rattle.etcs_schema.specs.lemmas.SortedLemmas.{onto_sorted}
 
 -- ---- an option that is mapped
 
@@ -69,13 +65,6 @@ pub some_object : (keys : List (List ℕ)) (d : Data) (known : Bool) → Some kn
 unfolding any_object
 some_object keys d known e = ap object_or (some_mapped (are_known keys) known (as_object d) (sym e)).1
 
--- an empty object with the members inserted is the object of the form
-pub made_object : {X : Type 0} (o : Object X) (x : X) (old new : Members) (d : Data) → old ≡ no_members → new ≡ with_entries old (sorted (o.members.to x)) → d ≡ object new
-    → d ≡ entries_object (o.members.to x)
-made_object o x old new d none made is =
-    let apart = ap are_apart (o.members.has_keys x) ∙ o.apart in
-    is ∙ ap object (made ∙ ap (λ ms. with_entries ms (sorted (o.members.to x))) none ∙ onto_sorted (o.members.to x) apart)
-
 same_at : {X Y : Type 0} (o : Option Fault) (r : Result X Fault) (s : Result Y Fault) → IfSome o (λ f. r ≡ Err f) → ((f : Fault) → r ≡ Err f → s ≡ Err f) → IfSome o (λ f. s ≡ Err f)
 same_at None r s fails same = tt
 same_at (Some f) r s fails same = same f fails
@@ -90,10 +79,6 @@ pub fails_up : {X Y A : Type 0} (view : X → Y) (result : Result X FormError) (
 fails_up view (Ok x) e r s passed fails same = absurd passed
 fails_up view (Err y) e r s passed fails same = rw passed (fails_same e r s fails same)
 
--- what was written is read again
-pub read_again : {X : Type 0} (s : Codec X) (x : X) (d : Data) → d ≡ s.to x → AreAllowed (s.rows x) → s.of d ≡ Ok x
-read_again s x d is allowed = ap s.of is ∙ s.again x allowed
-
 -- what is read again has a form of its own
 pub own_form : {X : Type 0} (s : Codec X) (x y : X) → AreAllowed (s.rows x) → AreAllowed (s.rows y) → s.to x ≡ s.to y → x ≡ y
 own_form s x y first second same =
@@ -101,11 +86,6 @@ own_form s x y first second same =
     let other = s.again y second in
     let read : s.of (s.to x) ≡ s.of (s.to y) = ap s.of same in
     cc
-
--- what a call wrote is read again, unless it failed
-pub written_again : {X E : Type 0} → (s : Codec X) (x : X) (result : Result Value E) → AreAllowed (s.rows x) → IfOk result (λ v. view v ≡ s.to x) → IfOk result (λ v. Unit {0} → s.of (view v) ≡ Ok x)
-written_again s x (Ok v) allowed is = λ _. read_again s x (view v) is allowed
-written_again s x (Err e) allowed is = tt
 
 -- ---- a member, and what is read of it
 

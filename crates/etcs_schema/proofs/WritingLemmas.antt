@@ -5,9 +5,9 @@ use Rattle.json.specs.Token.{Token, begin_array, begin_object, end_array, end_ob
 use Rattle.json.specs.Tree.{items_tokens, members_tokens}
 use Rattle.serde_json.specs.Data.{Data, array, object}
 use Rattle.serde_json.specs.Written.{items_outline, members_outline}
-use Rattle.etcs_schema.specs.Entries.{Entry, are_apart, entries_object}
-use Rattle.etcs_schema.specs.Writing.{each_tokens, entries_tokens, sorted, data_tokens}
-use Rattle.etcs_schema.specs.Codec.{Object, encoded_items}
+use Rattle.etcs_schema.specs.Entries.{Entry, entries_object}
+use Rattle.etcs_schema.specs.Writing.{AddsMembers, each_tokens, entries_tokens, sorted, data_tokens}
+use Rattle.etcs_schema.specs.Codec.{Object, encoded_items, entries_apart}
 use Rattle.etcs_schema.specs.lemmas.SortedLemmas.{made_members, members_of}
 
 -- ---- arrays
@@ -48,19 +48,21 @@ module _ {M : Type 0} (adds : List Token → M → M → Type 0) (then : (ts us 
   -- a key and then a list
   pub array_sent : {X : Type 0} (to : X → Data) (name : List ℕ) (xs : List X) (old named begun sent new : M)
       → adds (key name ∷ []) old named → adds (begin_array ∷ []) named begun → adds (each_tokens to xs) begun sent → adds (end_array ∷ []) sent new
-      → adds (entries_tokens ((name, Some (array (encoded_items to xs))) ∷ [])) old new
+      → AddsMembers adds ((name, Some (array (encoded_items to xs))) ∷ []) old new
+  unfolding AddsMembers
   array_sent to name xs old named begun sent new one two three four =
       member_sent name (array (encoded_items to xs)) old named new one
       (rw (array_tokens to xs) (then (begin_array ∷ []) _ named begun new two (then (each_tokens to xs) (end_array ∷ []) begun sent new three four)))
 
   -- a value that is the object of these members, in the order in which they are sent
   pub sent_as : (es : List Entry) (d : Data) (old begun sent new : M) → object (members_of es) ≡ d
-      → adds (begin_object ∷ []) old begun → adds (entries_tokens es) begun sent → adds (end_object ∷ []) sent new → adds (data_tokens d) old new
+      → adds (begin_object ∷ []) old begun → AddsMembers adds es begun sent → adds (end_object ∷ []) sent new → adds (data_tokens d) old new
+  unfolding AddsMembers
   sent_as es d old begun sent new is one two three =
       subst (λ e. adds (data_tokens e) old new) is
       (rw (object_tokens es) (then (begin_object ∷ []) _ old begun new one (then (entries_tokens es) (end_object ∷ []) begun sent new two three)))
 
   -- the members between the two braces of an object
   pub object_sent : {X : Type 0} (o : Object X) (x : X) (old begun sent new : M)
-      → adds (begin_object ∷ []) old begun → adds (entries_tokens (sorted (o.members.to x))) begun sent → adds (end_object ∷ []) sent new → adds (data_tokens (entries_object (o.members.to x))) old new
-  object_sent o x old begun sent new = sent_as (sorted (o.members.to x)) _ old begun sent new (ap object (sym (made_members (o.members.to x) (ap are_apart (o.members.has_keys x) ∙ o.apart))))
+      → adds (begin_object ∷ []) old begun → AddsMembers adds (sorted (o.members.to x)) begun sent → adds (end_object ∷ []) sent new → adds (data_tokens (entries_object (o.members.to x))) old new
+  object_sent o x old begun sent new = sent_as (sorted (o.members.to x)) _ old begun sent new (ap object (sym (made_members (o.members.to x) (entries_apart o.members o.readable x))))

@@ -3,12 +3,12 @@
 use Rattle.std.specs.Prelude.{◌≡◌, ℕ, ◌≤◌, ◌++◌, ◌==◌, ◌⊎◌, max, Bool, true, false, List, ◌∷◌, Option, Some, None, Result, Ok, Err, if◌then◌else◌, refl}
 use Rattle.etcs_schema.specs.Prelude.{is_itself, arith, ap, inl, inr, subst, sym, ◌∙◌, ne_eqb, true≢false, Data, Members, as_object, get, AreAllowed, IsAllowed, Row, Variable, alone, row}
 use Rattle.etcs_bits.specs.layout.Choice.{either_allows, either_number, either_rows}
-use Rattle.etcs_schema.specs.Entries.{Entry, HasEntries, are_apart, entries_object}
+use Rattle.etcs_schema.specs.Entries.{Entry, HasEntries, entries_object}
 use Rattle.etcs_schema.specs.lemmas.EntryLemmas.{object_has_entries}
 use Rattle.etcs_schema.specs.Fault.{Fault, Kind, Range, at_once, here, key as key_step}
 use Rattle.etcs_schema.specs.ReadBack.{IsReadBack, ReadsBack}
 use Rattle.etcs_schema.specs.Reading.{◌>>=◌, as_kind, allowed_number, required_member}
-use Rattle.etcs_schema.specs.Codec.{ObjectMembers, MemberCodec, Codec, rest_allowed, fixed, key_again, named, number_again, number_data, object, ◌then◌}
+use Rattle.etcs_schema.specs.Codec.{ObjectMembers, MemberCodec, Codec, are_readable, entries_apart, object_shallow, rest_allowed, fixed, key_again, named, number_again, number_data, object, ◌then◌}
 
 -- ---- what is read first
 
@@ -29,12 +29,12 @@ tag_member read name d = any_object d >>= λ u. required_member read name d
 -- the members of an object after its number k, which is at the key `name`
 pub record NumberedMembers (name : List ℕ) (k : ℕ) {X : Type 0} (rows : X → List Row) : Type 0 where
   pub members : MemberCodec rows
-  pub apart : are_apart (name ∷ members.keys) ≡ true
+  pub readable : are_readable (fixed name k then members) ≡ true
 
 abbrev pub numbered_members : {name : List ℕ} {k : ℕ}
     {X : Type 0} {rows : X → List Row} (members : MemberCodec rows)
-    → are_apart (name ∷ members.keys) ≡ true → NumberedMembers name k rows
-numbered_members members apart = record { members = members; apart = apart }
+    → are_readable (fixed name k then members) ≡ true → NumberedMembers name k rows
+numbered_members members readable = record { members = members; readable = readable }
 
 -- the number, which must be k, and the members after it
 abbrev pub with_number : {name : List ℕ} {k : ℕ} {X : Type 0} {rows : X → List Row}
@@ -42,7 +42,7 @@ abbrev pub with_number : {name : List ℕ} {k : ℕ} {X : Type 0} {rows : X → 
     → ObjectMembers rows
 with_number {name = name} {k = k} o = record {
   members = named (λ p. p.1) (λ x. (tt, x)) (λ _. refl) (fixed name k then o.members);
-  apart = o.apart;
+  readable = o.readable;
 }
 
 -- an object with this number at the key
@@ -55,7 +55,7 @@ pub begins_with : {X : Type 0} {rows : X → List Row} (name : List ℕ) (n : �
     → HasNumber name n ((object o).to x)
 unfolding any_object
 begins_with name n o x rest begins =
-    let all = object_has_entries (o.members.to x) (ap are_apart (o.members.has_keys x) ∙ o.apart) in
+    let all = object_has_entries (o.members.to x) (entries_apart o.members o.readable x) in
     let front = subst (λ es. HasEntries es (entries_object (o.members.to x))) begins all in
     (refl, front.0)
 
@@ -74,6 +74,7 @@ pub record Choice (name : List ℕ) (x : Variable) (X : Type 0) : Type 0 where
   pub has_number : (v : X) → HasNumber name (number v) (to v)
   pub again : (v : X) → AreAllowed (alone x (number v) ++ rows v) → of (number v) (to v) ≡ Ok v
   pub back : ReadsBack (λ v. alone x (number v) ++ rows v) (λ n v. IsReadBack n (to v))
+  pub shallow : back.0 ≤ 127
 
 -- only the number k
 abbrev pub last : {name : List ℕ} {x : Variable} {k : ℕ} {A : Type 0} {rows : A → List Row}
@@ -92,6 +93,7 @@ last {name = name} {x = x} {k = k} {rows = rows} o = record {
     (object (with_number o)).back.0,
     λ n deep v allowed. (object (with_number o)).back.1 n deep v (rest_allowed x k (rows v) allowed),
   );
+  shallow = object_shallow (with_number o);
 }
 
 -- one of two functions, by the kind of the value
@@ -154,6 +156,7 @@ either {k = k} {rows = rows} o c fresh = record {
   has_number = either_has_number o c;
   again = either_again o c fresh;
   back = (max (object (with_number o)).back.0 c.back.0, either_back o c);
+  shallow = omega (arith, object_shallow (with_number o), c.shallow);
 }
 
 pub as_other : (x y : Variable) (n : ℕ) (rows : List Row) → x.width ≡ y.width → y.allows n ≡ true
@@ -181,6 +184,7 @@ others {x = x} y number rows o same is_number has_number = record {
     λ n deep v allowed.
         (object o).back.1 n deep v (as_other x y (number v) (rows v) same (is_number v) allowed),
   );
+  shallow = object_shallow o;
 }
 
 -- ---- the number first, and then the form that it decides

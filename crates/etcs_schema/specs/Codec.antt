@@ -1,11 +1,11 @@
 -- The JSON form of a type: what a value is written as, what is read, and that reading what was written gives
 -- the same value, if the rows of its bits are allowed. The text of what was written is read back, too.
-use Rattle.std.specs.Prelude.{◌≡◌, ◌≤◌, ◌+◌, ◌-◌, ◌++◌, ◌==◌, ℕ, suc, max, Bool, true, List, [], ◌∷◌, length, Option, Some, None, IfSome, Result, Ok, Err, if◌then◌else◌, option_map, refl}
+use Rattle.std.specs.Prelude.{◌≡◌, ◌≤◌, ◌+◌, ◌-◌, ◌++◌, ◌==◌, ◌&&◌, ℕ, suc, max, Bool, true, List, [], ◌∷◌, length, ltb, Option, Some, None, IfSome, Result, Ok, Err, if◌then◌else◌, option_map, refl}
 use Rattle.std.specs.List.{AllByRecursion}
 use Rattle.json.specs.Tree.{ItemsHaveNumbers, items_depth}
 use Rattle.serde_json.specs.Read.{of_items}
 use Rattle.serde_json.specs.Written.{items_outline}
-use Rattle.etcs_schema.specs.Prelude.{is_itself, flat_map, ap, ◌∙◌, arith, and_from, le-leb, Data, Items, item, no_items, array, number, unsigned, body_rows, counted_rows, option_rows, pair_rows, l_packet, AreAllowed, IsAllowed, Row, Variable, alone, width}
+use Rattle.etcs_schema.specs.Prelude.{is_itself, flat_map, ap, ◌∙◌, arith, and_from, and_parts, le-leb, ltb-true, Data, Items, item, no_items, array, number, unsigned, body_rows, counted_rows, option_rows, pair_rows, l_packet, AreAllowed, IsAllowed, Row, Variable, alone, width}
 use Rattle.etcs_bits.specs.lemmas.RowLemmas.{allowed_first, allowed_second}
 use Rattle.etcs_bits.specs.layout.Struct.{Struct}
 use Rattle.etcs_schema.specs.Entries.{Entry, entry_keys, entries_object, are_apart, HasEntries}
@@ -311,16 +311,24 @@ tested fault test passes a = record a {
 
 -- ---- objects
 
--- the members of an object; no key occurs twice
+-- no key occurs twice, and the object is not too deep to be read
+abbrev pub are_readable : {X : Type 0} {rows : X → List Row} → MemberCodec rows → Bool
+are_readable members = are_apart members.keys && ltb members.back.0 127
+
+pub entries_apart : {X : Type 0} {rows : X → List Row} (members : MemberCodec rows)
+    → are_readable members ≡ true → (x : X) → are_apart (entry_keys (members.to x)) ≡ true
+entries_apart members readable x = ap are_apart (members.has_keys x) ∙ (and_parts _ _ readable).0
+
+-- the members of an object
 pub record ObjectMembers {X : Type 0} (rows : X → List Row) : Type 0 where
   pub members : MemberCodec rows
-  pub apart : are_apart members.keys ≡ true
+  pub readable : are_readable members ≡ true
 
 -- only these members
 abbrev pub closed : {X : Type 0} {rows : X → List Row} (members : MemberCodec rows)
-    → are_apart members.keys ≡ true
+    → are_readable members ≡ true
     → ObjectMembers rows
-closed members apart = record { members = members; apart = apart }
+closed members readable = record { members = members; readable = readable }
 
 pub object_again : {X : Type 0} {rows : X → List Row} (o : ObjectMembers rows) (x : X) → AreAllowed (rows x)
     → (only_keys o.members.keys (entries_object (o.members.to x))
@@ -328,14 +336,14 @@ pub object_again : {X : Type 0} {rows : X → List Row} (o : ObjectMembers rows)
 unfolding only_keys
 object_again o x allowed =
     let known = rw (o.members.has_keys x) at (object_known (o.members.to x)) in
-    let holds = object_has_entries (o.members.to x) (ap are_apart (o.members.has_keys x) ∙ o.apart) in
+    let holds = object_has_entries (o.members.to x) (entries_apart o.members o.readable x) in
     rw known (o.members.again x (entries_object (o.members.to x)) allowed holds)
 
 pub object_back_of : {X : Type 0} {rows : X → List Row} (o : ObjectMembers rows) (n : ℕ)
     → suc o.members.back.0 ≤ n → (x : X) → AreAllowed (rows x)
     → IsReadBack n (entries_object (o.members.to x))
 object_back_of o n deep x allowed =
-    object_back n (o.members.to x) (ap are_apart (o.members.has_keys x) ∙ o.apart) (omega arith)
+    object_back n (o.members.to x) (entries_apart o.members o.readable x) (omega arith)
     (o.members.back.1 (n - 1) (omega arith) x allowed)
 
 -- an object with only these members
@@ -352,10 +360,13 @@ object {rows = rows} o = record {
 pub record Object (X : Type 0) : Type 0 where
   pub rows : X → List Row
   pub members : MemberCodec rows
-  pub apart : are_apart members.keys ≡ true
+  pub readable : are_readable members ≡ true
 
 abbrev pub whole : {X : Type 0} {rows : X → List Row} → ObjectMembers rows → Object X
-whole {rows = rows} o = record { rows = rows; members = o.members; apart = o.apart }
+whole {rows = rows} o = record { rows = rows; members = o.members; readable = o.readable }
 
 abbrev pub object_codec : {X : Type 0} → Object X → Codec X
-object_codec o = object (closed o.members o.apart)
+object_codec o = object (closed o.members o.readable)
+
+pub object_shallow : {X : Type 0} {rows : X → List Row} (o : ObjectMembers rows) → (object o).back.0 ≤ 127
+object_shallow o = let few = ltb-true o.members.back.0 127 (and_parts _ _ o.readable).1 in omega (arith, few)

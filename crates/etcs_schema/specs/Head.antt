@@ -28,7 +28,7 @@ numbered {k = k} p = unstated (only 8 k Spare) k (with_number p).members
 
 -- a packet by itself
 abbrev pub packet : {k : ℕ} {X : Type 0} {rows : X → List Row} → Packet k rows → Object X
-packet p = whole (closed (numbered p) p.apart)
+packet p = whole (closed (numbered p) p.readable)
 
 -- NID_PACKET of a packet in a list: any number but 255, the end mark
 pub nid_range : (n : ℕ) → n < 256 → not (n == 255) ≡ true → is_allowed (ranged 8 254 256) n ≡ true

@@ -1,7 +1,7 @@
 -- The names of lower libraries that most files of this folder use.
 pub use Rattle.std.proofs.Common.{inl, inr, ◌∙◌, sym, ap, ap₂, subst, arith, Ordering, Less, Equal, Greater, nat_cmp, bytes_eq, append_assoc, append-nil}
 pub use Rattle.std.specs.List.{list_any, slice_get, flat_map}
-pub use Rattle.std.proofs.lemmas.Bool.{eq-eqb, ne_eqb, true≢false, and_parts, and_from, or_parts, or_left, or_right, le-leb, lt-ltb}
+pub use Rattle.std.proofs.lemmas.Bool.{eq-eqb, ne_eqb, true≢false, and_parts, and_from, or_parts, or_left, or_right, le-leb, lt-ltb, ltb-true}
 pub use Rattle.serde_json.specs.Data.{string, Data, Members, member, no_members, object, put, Items, array, item, no_items, number, unsigned, null}
 pub use Rattle.serde_json.specs.Find.{as_str, as_object, get, get_member, as_array, as_number, as_u64}
 pub use Rattle.etcs_bits.specs.layout.Rows.{AreAllowed, IsAllowed, Row, Variable, row, width}

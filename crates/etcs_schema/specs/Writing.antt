@@ -39,6 +39,11 @@ abbrev pub entries_tokens : List Entry → List Token
 entries_tokens [] = []
 entries_tokens (e ∷ es) = entry_tokens e.0 e.1 ++ entries_tokens es
 
+-- The tokens of these members were appended. It is unfolded only where members are written, so that a search
+-- compares members and not tokens.
+unfoldable pub AddsMembers : {M : Type 0} → (List Token → M → M → Type 0) → List Entry → M → M → Type 0
+AddsMembers adds es old new = adds (entries_tokens es) old new
+
 -- these tokens were appended
 pub record Adds (tokens : List Token) (old new : Written) : Type 0 where
   pub before : new.before ≡ old.before

@@ -22,7 +22,11 @@ impl FromCanonical for bool {
 impl FromCanonical for Size {
     #[inline(always)]
     fn parse(line: &mut Scanner<'_>) -> Option<Size> {
-        Some(if line.number()? == 210 { Size::Short } else { Size::Long })
+        Some(if line.number()? == 210 {
+            Size::Short
+        } else {
+            Size::Long
+        })
     }
 }
 

@@ -1,17 +1,15 @@
 //! The JSON form of `Message`, a radio message. Its number decides which kind it is.
 
-ghost use Rattle.std.specs.Prelude.{IsOk};
-ghost use Rattle.etcs_json.specs.AnyMessage.{numbered};
-ghost use Rattle.etcs_schema.specs.Choices.{any_object};
+ghost use Rattle.etcs_bits.specs.layout.Rows.{AreAllowed};
+ghost use Rattle.etcs_json.specs.AnyMessage.{message, numbered};
 
+use crate::Form;
 use crate::reading::{Numbers, read_number};
-use crate::record::InRange;
-use crate::{Form, WriteJson};
+use crate::record::{InRange, ObjectForm};
 use etcs_bits::Memory;
 use etcs_radio::Message;
 use etcs_schema::reading::check_object;
 use etcs_schema::{FormError, JsonValue, TokenWriter};
-use serde_json::Value;
 use std::alloc::Global;
 
 impl Numbers for Message {
@@ -22,47 +20,39 @@ impl Numbers for Message {
     }
 }
 
+/// Lemma without code: each number of a message is allowed.
+#[tactic(auto, using(crate::proofs::LawLemmas::movement_in, crate::proofs::LawLemmas::position_in))]
+pub(crate) fn prove_message_allowed(value: &Message)
+    ensures { AreAllowed (message.rows value.now) }
+{
+    match value {
+        Message::Movement(it) => it.prove_in_range(),
+        Message::Position(it) => it.prove_in_range(),
+    }
+}
+
 #[tactic(auto, unfolding(crate::specs::AnyMessage::message))]
-impl Form for Message {
-    ghost use Rattle.etcs_json.specs.AnyMessage.{message};
+impl ObjectForm for Message {
+    ghost form = { message };
 
-    ghost codec = { message };
+    #[tactic(auto, using(crate::proofs::LawLemmas::message_read))]
+    fn prove_read_back(&self) {
+        prove_message_allowed(self);
+    }
 
-    ghost builds = { Unit {0} };
-
-    ghost asks = { λ d. IsOk (any_object d) };
-
-    #[tactic(auto, using(crate::proofs::LawLemmas::movement_again, crate::proofs::LawLemmas::position_again), unfolding(crate::specs::AnyMessage::message))]
-    fn to_form(&self, alloc: Global) -> Result<Value, Memory> {
-        // Each kind is in range: only for the proof that the form is read again.
+    fn write_object<M: TokenWriter>(&self, out: &mut M) -> Result<(), Memory> {
         match self {
-            Message::Movement(message) => {
-                message.prove_in_range();
-                message.to_form(alloc)
-            }
-            Message::Position(message) => {
-                message.prove_in_range();
-                message.to_form(alloc)
-            }
+            Message::Movement(message) => message.write_object(out),
+            Message::Position(message) => message.write_object(out),
         }
     }
 
-    fn read_json<N: JsonValue>(alloc: Global, node: &N) -> Result<Self, FormError> {
+    fn read_form<N: JsonValue>(alloc: Global, node: &N) -> Result<Self, FormError> {
         check_object(alloc, node)?;
         match read_number::<Message, N>(alloc, node, "nid_message")? {
             3 => Ok(Message::Movement(Form::read_json(alloc, node)?)),
             136 => Ok(Message::Position(Form::read_json(alloc, node)?)),
             _ => Err(FormError::range_at(alloc, "nid_message")),
-        }
-    }
-}
-
-#[tactic(auto, unfolding(crate::specs::AnyMessage::message))]
-impl WriteJson for Message {
-    fn write_json<M: TokenWriter>(&self, out: &mut M) -> Result<(), Memory> {
-        match self {
-            Message::Movement(message) => message.write_json(out),
-            Message::Position(message) => message.write_json(out),
         }
     }
 }

@@ -4,21 +4,19 @@ use crate::Record;
 use crate::members::{
     ListMember, Listed, Member, NumberMember, ReadMembers, check_members, pairs, write_members,
 };
-use crate::record::{InRange, ObjectCodec, prove_all_allowed, prove_allowed};
-use crate::writing::MemberWriter;
+use crate::record::{InRange, ObjectCodec, prove_all_allowed, prove_allowed, prove_text};
 use etcs_bits::{Identity, Memory};
 use etcs_radio::MovementMessage;
 use etcs_schema::reading::read_fixed;
-use etcs_schema::{FormError, JsonValue};
+use etcs_schema::{FormError, JsonValue, TokenWriter};
 use std::alloc::Global;
 
 impl Record for MovementMessage {
     ghost use Rattle.etcs_schema.specs.Choices.{with_number};
     ghost use Rattle.etcs_json.specs.Messages.{movement};
     ghost use Rattle.etcs_schema.specs.Codec.{whole};
-    ghost use Rattle.etcs_json.specs.TrackPackets.{track_packet};
 
-    ghost object = { whole (with_number (movement track_packet)) };
+    ghost object = { whole (with_number movement) };
 }
 
 #[tactic(auto, unfolding(etcs_bits::specs::layout::Rows::alone))]
@@ -28,12 +26,13 @@ impl InRange for MovementMessage {
         prove_allowed(&self.ack());
         prove_allowed(&self.lrbg());
         prove_all_allowed(self.packets());
+        prove_text(self);
     }
 }
 
 #[tactic(auto, unfolding(crate::specs::Messages::movement))]
 impl ObjectCodec for MovementMessage {
-    fn write_members<S: MemberWriter>(&self, out: &mut S) -> Result<(), Memory> {
+    fn write_members<M: TokenWriter>(&self, out: &mut M) -> Result<(), Memory> {
         let lrbg = self.lrbg();
         write_members!(out;
             Member("m_ack", &self.ack()),

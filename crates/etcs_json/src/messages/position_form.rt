@@ -4,21 +4,19 @@ use crate::Record;
 use crate::members::{
     ListMember, Listed, Member, NumberMember, ReadMembers, check_members, pairs, write_members,
 };
-use crate::record::{InRange, ObjectCodec, prove_all_allowed, prove_allowed};
-use crate::writing::MemberWriter;
+use crate::record::{InRange, ObjectCodec, prove_all_allowed, prove_allowed, prove_text};
 use etcs_bits::Memory;
 use etcs_radio::PositionMessage;
 use etcs_schema::reading::read_fixed;
-use etcs_schema::{FormError, JsonValue};
+use etcs_schema::{FormError, JsonValue, TokenWriter};
 use std::alloc::Global;
 
 impl Record for PositionMessage {
     ghost use Rattle.etcs_schema.specs.Choices.{with_number};
     ghost use Rattle.etcs_json.specs.Messages.{position};
     ghost use Rattle.etcs_schema.specs.Codec.{whole};
-    ghost use Rattle.etcs_json.specs.TrainPackets.{train_packet};
 
-    ghost object = { whole (with_number (position train_packet)) };
+    ghost object = { whole (with_number position) };
 }
 
 #[tactic(auto, unfolding(etcs_bits::specs::layout::Rows::alone))]
@@ -27,12 +25,13 @@ impl InRange for PositionMessage {
         prove_allowed(&self.time());
         prove_allowed(&self.engine());
         prove_all_allowed(self.packets());
+        prove_text(self);
     }
 }
 
 #[tactic(auto, unfolding(crate::specs::Messages::position))]
 impl ObjectCodec for PositionMessage {
-    fn write_members<S: MemberWriter>(&self, out: &mut S) -> Result<(), Memory> {
+    fn write_members<M: TokenWriter>(&self, out: &mut M) -> Result<(), Memory> {
         write_members!(out;
             Member("nid_engine", &self.engine()),
             NumberMember("nid_message", 136),

@@ -7,8 +7,7 @@ ghost use Rattle.etcs_json.specs.Telegrams.{header};
 use crate::members::{
     ListMember, Listed, Member, ReadMembers, check_members, pairs, read_record, write_members,
 };
-use crate::record::{InRange, ObjectCodec, prove_all_allowed, prove_allowed};
-use crate::writing::MemberWriter;
+use crate::record::{InRange, ObjectCodec, prove_all_allowed, prove_allowed, prove_text};
 use crate::{Form, Record, WriteJson};
 use etcs_bits::Memory;
 use etcs_schema::{FormError, JsonValue, TokenWriter};
@@ -89,12 +88,13 @@ impl InRange for Telegram {
     fn prove_in_range(&self) {
         prove_allowed(&self.header);
         prove_all_allowed(self.packets.as_slice());
+        prove_text(self);
     }
 }
 
 #[tactic(auto, unfolding(crate::specs::Telegrams::telegram, crate::specs::Telegrams::header))]
 impl ObjectCodec for Telegram {
-    fn write_members<S: MemberWriter>(&self, out: &mut S) -> Result<(), Memory> {
+    fn write_members<M: TokenWriter>(&self, out: &mut M) -> Result<(), Memory> {
         let header = &self.header;
         write_members!(out;
             Member("m_dup", &header.dup),

@@ -5,25 +5,23 @@ ghost use Rattle.etcs_profile.specs.Authority.{authority_number, make_authority}
 ghost use Rattle.etcs_json.specs.Authority.{either_authority, with_main, without_main};
 ghost use Rattle.etcs_json.specs.AuthorityWriting.{written_members};
 ghost use Rattle.etcs_schema.specs.Choices.{with_number};
+ghost use Rattle.etcs_schema.specs.Writing.{AddsMembers};
 ghost use Rattle.etcs_schema.specs.Fault.{Returns};
 ghost use Rattle.etcs_schema.specs.Reading.{as_kind};
 ghost use Rattle.etcs_schema.specs.Codec.{whole};
 
+use crate::Record;
 use crate::members::{
     ListMember, Member, NumberMember, OptionalMember, ReadMembers, write_members,
 };
 use crate::packets::terms_form::{Terms, authority_of};
 use crate::reading::read_first;
-use crate::record::{check_record, prove_allowed};
-use crate::writing::MemberWriter;
-use crate::writing::object_builder::ObjectBuilder;
-use crate::{Form, Record, WriteJson};
+use crate::record::{ObjectForm, check_record, prove_allowed};
 use etcs_bits::{Dir, Memory, Ranged, Scale, Speed};
 use etcs_profile::Authority;
 use etcs_schema::reading::read_fixed;
 use etcs_schema::{FormError, JsonValue, TokenWriter};
 use json::Token;
-use serde_json::Value;
 use std::alloc::Global;
 
 // What follows the number in packet 12, and in packet 15.
@@ -59,8 +57,8 @@ fn packet_number(authority: &Authority) -> u64
 
 // Writes the members in the byte order of their keys.
 #[tactic(auto, unfolding(crate::specs::AuthorityWriting::written_members))]
-fn write_authority<S: MemberWriter>(out: &mut S, authority: &Authority) -> Result<(), Memory>
-    ensures { OnOk result (S.writes (written_members authority.now) out.old out.new) }
+fn write_authority<M: TokenWriter>(out: &mut M, authority: &Authority) -> Result<(), Memory>
+    ensures { OnOk result (AddsMembers M.adds (written_members authority.now) out.old out.new) }
 {
     write_members!(out;
         OptionalMember("danger_point", &authority.danger_point()),
@@ -137,41 +135,29 @@ pub(crate) fn read_without_main<N: JsonValue>(
 }
 
 #[tactic(auto, unfolding(crate::specs::Authority::authority))]
-impl Form for Authority {
-    ghost use Rattle.std.specs.Prelude.{IsOk};
-    ghost use Rattle.etcs_schema.specs.Choices.{any_object};
+impl ObjectForm for Authority {
     ghost use Rattle.etcs_json.specs.Authority.{authority};
 
-    ghost codec = { authority };
+    ghost form = { authority };
 
-    ghost builds = { Unit {0} };
-
-    ghost asks = { λ d. IsOk (any_object d) };
-
-    #[tactic(auto, using(crate::proofs::SumLemmas::made_of, crate::proofs::SumLemmas::authority_in_order, crate::proofs::SumLemmas::authority_sent, crate::proofs::LawLemmas::authority_again))]
-    fn to_form(&self, alloc: Global) -> Result<Value, Memory> {
-        // Only for the proof that the form is read again.
+    #[tactic(auto, using(crate::proofs::LawLemmas::authority_read), unfolding(crate::specs::Authority::authority))]
+    fn prove_read_back(&self) {
         prove_allowed(self);
-        let mut out = ObjectBuilder::new(alloc);
-        write_authority(&mut out, self)?;
-        Ok(out.into_value())
     }
 
-    fn read_json<N: JsonValue>(alloc: Global, node: &N) -> Result<Self, FormError> {
+    fn write_object<M: TokenWriter>(&self, out: &mut M) -> Result<(), Memory> {
+        out.token(Token::BeginObject)?;
+        write_authority(out, self)?;
+        out.token(Token::EndObject)?;
+        Ok(())
+    }
+
+    fn read_form<N: JsonValue>(alloc: Global, node: &N) -> Result<Self, FormError> {
         let number: Ranged<8, 254, 256> = read_first(alloc, node, "nid_packet")?;
         match number.number() {
             12 => read_with_main(alloc, node),
             15 => read_without_main(alloc, node),
             _ => Err(FormError::range_at(alloc, "nid_packet")),
         }
-    }
-}
-
-impl WriteJson for Authority {
-    fn write_json<M: TokenWriter>(&self, out: &mut M) -> Result<(), Memory> {
-        out.token(Token::BeginObject)?;
-        write_authority(out, self)?;
-        out.token(Token::EndObject)?;
-        Ok(())
     }
 }

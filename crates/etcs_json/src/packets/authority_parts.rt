@@ -7,10 +7,9 @@ ghost use Rattle.etcs_schema.specs.Codec.{whole};
 use crate::Record;
 use crate::members::{Member, OptionalMember, check_members, read_record, write_members};
 use crate::record::{LayoutRecord, ObjectCodec};
-use crate::writing::MemberWriter;
 use etcs_bits::Memory;
 use etcs_profile::{DangerPoint, EndTimer, Overlap, Section, SectionTimer};
-use etcs_schema::{FormError, JsonValue};
+use etcs_schema::{FormError, JsonValue, TokenWriter};
 use std::alloc::Global;
 
 impl Record for SectionTimer {
@@ -18,12 +17,12 @@ impl Record for SectionTimer {
 }
 
 impl LayoutRecord for SectionTimer {
-    ghost keeps = { λ x allowed _. allowed tt };
+    ghost keeps = { λ x allowed. allowed tt };
 }
 
 #[tactic(auto, unfolding(crate::specs::Authority::section_timer, etcs_schema::specs::Reading::only_keys, etcs_schema::specs::Reading::required_member))]
 impl ObjectCodec for SectionTimer {
-    fn write_members<S: MemberWriter>(&self, out: &mut S) -> Result<(), Memory> {
+    fn write_members<M: TokenWriter>(&self, out: &mut M) -> Result<(), Memory> {
         write_members!(out;
             Member("d_sectiontimerstoploc", &self.stop),
             Member("t_sectiontimer", &self.time),
@@ -44,12 +43,12 @@ impl Record for Section {
 }
 
 impl LayoutRecord for Section {
-    ghost keeps = { λ x allowed _. allowed tt };
+    ghost keeps = { λ x allowed. allowed tt };
 }
 
 #[tactic(auto, unfolding(crate::specs::Authority::section))]
 impl ObjectCodec for Section {
-    fn write_members<S: MemberWriter>(&self, out: &mut S) -> Result<(), Memory> {
+    fn write_members<M: TokenWriter>(&self, out: &mut M) -> Result<(), Memory> {
         write_members!(out;
             Member("l_section", &self.length),
             OptionalMember("section_timer", &self.timer),
@@ -70,12 +69,12 @@ impl Record for EndTimer {
 }
 
 impl LayoutRecord for EndTimer {
-    ghost keeps = { λ x allowed _. allowed tt };
+    ghost keeps = { λ x allowed. allowed tt };
 }
 
 #[tactic(auto, unfolding(crate::specs::Authority::end_timer, etcs_schema::specs::Reading::only_keys, etcs_schema::specs::Reading::required_member))]
 impl ObjectCodec for EndTimer {
-    fn write_members<S: MemberWriter>(&self, out: &mut S) -> Result<(), Memory> {
+    fn write_members<M: TokenWriter>(&self, out: &mut M) -> Result<(), Memory> {
         write_members!(out;
             Member("d_endtimerstartloc", &self.start),
             Member("t_endtimer", &self.time),
@@ -96,12 +95,12 @@ impl Record for DangerPoint {
 }
 
 impl LayoutRecord for DangerPoint {
-    ghost keeps = { λ x allowed _. allowed tt };
+    ghost keeps = { λ x allowed. allowed tt };
 }
 
 #[tactic(auto, unfolding(crate::specs::Authority::danger_point))]
 impl ObjectCodec for DangerPoint {
-    fn write_members<S: MemberWriter>(&self, out: &mut S) -> Result<(), Memory> {
+    fn write_members<M: TokenWriter>(&self, out: &mut M) -> Result<(), Memory> {
         write_members!(out;
             Member("d_dp", &self.distance),
             Member("v_releasedp", &self.release_speed),
@@ -122,12 +121,12 @@ impl Record for Overlap {
 }
 
 impl LayoutRecord for Overlap {
-    ghost keeps = { λ x allowed _. allowed tt };
+    ghost keeps = { λ x allowed. allowed tt };
 }
 
 #[tactic(auto, unfolding(crate::specs::Authority::overlap))]
 impl ObjectCodec for Overlap {
-    fn write_members<S: MemberWriter>(&self, out: &mut S) -> Result<(), Memory> {
+    fn write_members<M: TokenWriter>(&self, out: &mut M) -> Result<(), Memory> {
         write_members!(out;
             Member("d_ol", &self.length),
             Member("d_startol", &self.start),

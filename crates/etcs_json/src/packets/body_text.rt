@@ -7,12 +7,13 @@ ghost use Rattle.serde_json.specs.Data.{string};
 ghost use Rattle.etcs_bits.specs.bits.Number.{num_of_bits};
 ghost use Rattle.etcs_schema.specs.BodyText.{are_padded, body_bytes, body_text, byte_count, decoded_or, padded_bits, first_bits};
 ghost use Rattle.etcs_schema.specs.Fault.{Returns};
+ghost use Rattle.etcs_schema.specs.Writing.{AddsMembers};
 
 use crate::members::WriteMembers;
-use crate::writing::MemberWriter;
 use etcs_bits::{BitSlice, Bits, Memory};
-use etcs_schema::FormError;
+use etcs_schema::{FormError, TokenWriter};
 use hex::FromHexError;
+use json::Token;
 use std::alloc::Global;
 use std::marker::Model;
 
@@ -47,14 +48,24 @@ fn bytes_of<const BYTES: usize>(bits: &BitSlice<'_>) -> [u8; BYTES]
     bytes
 }
 
+// Writes the member with this text.
+fn write_text<M: TokenWriter>(out: &mut M, text: &str) -> Result<(), Memory>
+    ensures { OnOk result (AddsMembers M.adds
+        ((codes "body", Some (string text.now)) ∷ []) out.old out.new) }
+{
+    out.token(Token::Key("body"))?;
+    out.token(Token::String(text))?;
+    Ok(())
+}
+
 // Writes the body, with buffers for `BYTES` bytes and for their digits.
-fn write_in_room<const BYTES: usize, const DIGITS: usize, S: MemberWriter>(
-    out: &mut S,
+fn write_in_room<const BYTES: usize, const DIGITS: usize, M: TokenWriter>(
+    out: &mut M,
     bits: &Bits,
 ) -> Result<(), Memory>
     requires bytes { length bits.now ≤ 8 * BYTES }
     requires digits { (2 * BYTES ≤ DIGITS) × (DIGITS ≤ 2044) }
-    ensures { OnOk result (S.writes
+    ensures { OnOk result (AddsMembers M.adds
         ((codes "body", Some (string (body_text bits.now))) ∷ []) out.old out.new) }
 {
     let bytes: [u8; BYTES] = bytes_of(&bits.slice());
@@ -67,7 +78,7 @@ fn write_in_room<const BYTES: usize, const DIGITS: usize, S: MemberWriter>(
     let Ok(text) = str::from_utf8(room) else {
         unreachable!("digits are text")
     };
-    out.write_text("body", text)
+    write_text(out, text)
 }
 
 /// The member `body`. No packet's body has more than 8,170 bits, which are 1,022 bytes.
@@ -89,11 +100,11 @@ impl<'a> Model for BodyMember<'a> {
 impl WriteMembers for BodyMember<'_> {
     ghost entries = { λ body. (codes "body", Some (string (body_text body))) ∷ [] };
 
-    fn write<S: MemberWriter>(&self, out: &mut S) -> Result<(), Memory> {
+    fn write<M: TokenWriter>(&self, out: &mut M) -> Result<(), Memory> {
         if self.body.len() <= FEW_BITS {
-            write_in_room::<128, 256, S>(out, self.body)
+            write_in_room::<128, 256, M>(out, self.body)
         } else {
-            write_in_room::<1022, 2044, S>(out, self.body)
+            write_in_room::<1022, 2044, M>(out, self.body)
         }
     }
 }

@@ -6,11 +6,10 @@ ghost use Rattle.etcs_schema.specs.Codec.{whole};
 use crate::Record;
 use crate::members::{Member, NumberMember, ReadMembers, check_members, write_members};
 use crate::record::{LayoutRecord, ObjectCodec};
-use crate::writing::MemberWriter;
 use etcs_bits::Memory;
 use etcs_packet::CoverMarker;
 use etcs_schema::reading::read_fixed;
-use etcs_schema::{FormError, JsonValue};
+use etcs_schema::{FormError, JsonValue, TokenWriter};
 use std::alloc::Global;
 
 impl Record for CoverMarker {
@@ -18,12 +17,12 @@ impl Record for CoverMarker {
 }
 
 impl LayoutRecord for CoverMarker {
-    ghost keeps = { λ x allowed _. allowed tt };
+    ghost keeps = { λ x allowed. allowed tt };
 }
 
 #[tactic(auto, unfolding(crate::specs::Cover::cover_marker, crate::specs::Cover::cover))]
 impl ObjectCodec for CoverMarker {
-    fn write_members<S: MemberWriter>(&self, out: &mut S) -> Result<(), Memory> {
+    fn write_members<M: TokenWriter>(&self, out: &mut M) -> Result<(), Memory> {
         write_members!(out;
             NumberMember("nid_packet", 0),
             Member("nid_vbcmk", &self.marker),

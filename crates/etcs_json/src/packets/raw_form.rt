@@ -12,11 +12,10 @@ use crate::members::{Member, NumberMember, ReadMembers, check_members, write_mem
 use crate::packets::body_form::{packet_length, read_counted_body};
 use crate::packets::body_text::BodyMember;
 use crate::reading::{Numbers, read_number};
-use crate::record::{InRange, ObjectCodec, prove_allowed};
-use crate::writing::MemberWriter;
+use crate::record::{InRange, ObjectCodec, prove_allowed, prove_text};
 use etcs_bits::{Bits, Dir, Memory};
 use etcs_packet::RawPacket;
-use etcs_schema::{FormError, JsonValue};
+use etcs_schema::{FormError, JsonValue, TokenWriter};
 use std::alloc::Global;
 
 // The bits before the body: NID_PACKET, Q_DIR and L_PACKET.
@@ -37,6 +36,7 @@ impl Record for RawPacket {
 impl InRange for RawPacket {
     fn prove_in_range(&self) {
         prove_allowed(self);
+        prove_text(self);
     }
 }
 
@@ -53,7 +53,7 @@ fn packet_of(number: u8, dir: Dir, body: Bits) -> RawPacket
 
 #[tactic(auto, unfolding(crate::specs::Raw::raw_packet, etcs_schema::specs::Reading::only_keys, etcs_schema::specs::Reading::required_member))]
 impl ObjectCodec for RawPacket {
-    fn write_members<S: MemberWriter>(&self, out: &mut S) -> Result<(), Memory> {
+    fn write_members<M: TokenWriter>(&self, out: &mut M) -> Result<(), Memory> {
         let body = self.body();
         write_members!(out;
             BodyMember { body },

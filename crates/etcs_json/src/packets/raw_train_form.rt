@@ -12,11 +12,10 @@ use crate::members::{NumberMember, check_members, write_members};
 use crate::packets::body_form::{packet_length, read_counted_body};
 use crate::packets::body_text::BodyMember;
 use crate::reading::{Numbers, read_number};
-use crate::record::{InRange, ObjectCodec, prove_allowed};
-use crate::writing::MemberWriter;
+use crate::record::{InRange, ObjectCodec, prove_allowed, prove_text};
 use etcs_bits::{Bits, Memory};
 use etcs_radio::RawTrainPacket;
-use etcs_schema::{FormError, JsonValue};
+use etcs_schema::{FormError, JsonValue, TokenWriter};
 use std::alloc::Global;
 
 // The bits before the body: NID_PACKET and L_PACKET.
@@ -37,6 +36,7 @@ impl Record for RawTrainPacket {
 impl InRange for RawTrainPacket {
     fn prove_in_range(&self) {
         prove_allowed(self);
+        prove_text(self);
     }
 }
 
@@ -53,7 +53,7 @@ fn packet_of(number: u8, body: Bits) -> RawTrainPacket
 
 #[tactic(auto, unfolding(crate::specs::RawTrain::raw_train_packet, etcs_schema::specs::Reading::only_keys, etcs_schema::specs::Reading::required_member))]
 impl ObjectCodec for RawTrainPacket {
-    fn write_members<S: MemberWriter>(&self, out: &mut S) -> Result<(), Memory> {
+    fn write_members<M: TokenWriter>(&self, out: &mut M) -> Result<(), Memory> {
         let body = self.body();
         write_members!(out;
             BodyMember { body },

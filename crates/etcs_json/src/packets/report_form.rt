@@ -3,12 +3,14 @@
 ghost use Rattle.std.specs.Prelude.{◌≡◌, OnOk};
 ghost use Rattle.etcs_radio.specs.Report.{make_report, report_value as what_is_with};
 ghost use Rattle.etcs_schema.specs.Choices.{with_number};
+ghost use Rattle.etcs_schema.specs.Writing.{AddsMembers};
 ghost use Rattle.etcs_schema.specs.Fault.{Returns};
 ghost use Rattle.etcs_schema.specs.Reading.{as_kind};
 ghost use Rattle.etcs_schema.specs.Codec.{whole};
 ghost use Rattle.etcs_json.specs.Report.{either_report, identity, situation, with_one, with_two};
-ghost use Rattle.etcs_json.specs.ReportWriting.{first_members, last_members, written_members};
+ghost use Rattle.etcs_json.specs.ReportWriting.{first_members, last_members};
 
+use crate::Record;
 use crate::members::{
     Member, NumberMember, OptionalMember, ReadMembers, make_record, pairs, read_record,
     write_members,
@@ -16,16 +18,12 @@ use crate::members::{
 use crate::packets::integrity_form::{confirmed_length, length_number};
 use crate::packets::level_form::national_system_of;
 use crate::reading::read_first;
-use crate::record::{check_record, prove_allowed};
-use crate::writing::MemberWriter;
-use crate::writing::object_builder::ObjectBuilder;
-use crate::{Form, Record, WriteJson};
+use crate::record::{ObjectForm, check_record, prove_allowed};
 use etcs_bits::{Distance, Identity, Level, Memory, Plain, Scale};
 use etcs_radio::{Integrity, Report, Train3};
 use etcs_schema::reading::read_fixed;
 use etcs_schema::{FormError, JsonValue, TokenWriter};
 use json::Token;
-use serde_json::Value;
 use std::alloc::Global;
 
 // Whether a train is whole, how it runs, and in which mode and level.
@@ -79,12 +77,10 @@ impl Record for WithTwo {
 fn read_situation<N: JsonValue>(alloc: Global, node: &N) -> Result<Situation, FormError>
     ensures { Returns (λ s. s) result (situation.of (N.value node.now)) }
 {
+    let distance = ReadMembers::read(alloc, node, "d_lrbg")?;
     let state = pairs!((), "v_train", "q_dirtrain", "m_mode", "m_level");
-    let doubts = pairs!("l_doubtover", "l_doubtunder", state);
-    let keys = pairs!("d_lrbg", "q_dirlrbg", "q_dlrbg", doubts);
-    let (distance, (orientation, (side, (over, (under, state))))) = ReadMembers::read(
-        alloc, node, keys,
-    )?;
+    let keys = pairs!("q_dirlrbg", "q_dlrbg", "l_doubtover", "l_doubtunder", state);
+    let (orientation, (side, (over, (under, state)))) = ReadMembers::read(alloc, node, keys)?;
     Ok((distance, (orientation, (side, (over, (under, state))))))
 }
 
@@ -148,8 +144,8 @@ pub(crate) fn read_two<N: JsonValue>(alloc: Global, node: &N) -> Result<Report, 
 
 // Writes the members up to NID_PACKET, in the byte order of their keys.
 #[tactic(auto, unfolding(crate::specs::ReportWriting::first_members))]
-fn write_first<S: MemberWriter>(out: &mut S, report: &Report) -> Result<(), Memory>
-    ensures { OnOk result (S.writes (first_members report.now) out.old out.new) }
+fn write_first<M: TokenWriter>(out: &mut M, report: &Report) -> Result<(), Memory>
+    ensures { OnOk result (AddsMembers M.adds (first_members report.now) out.old out.new) }
 {
     write_members!(out;
         Member("d_lrbg", &report.distance),
@@ -167,8 +163,8 @@ fn write_first<S: MemberWriter>(out: &mut S, report: &Report) -> Result<(), Memo
 
 // Writes the members after NID_PACKET.
 #[tactic(auto, unfolding(crate::specs::ReportWriting::last_members))]
-fn write_last<S: MemberWriter>(out: &mut S, report: &Report) -> Result<(), Memory>
-    ensures { OnOk result (S.writes (last_members report.now) out.old out.new) }
+fn write_last<M: TokenWriter>(out: &mut M, report: &Report) -> Result<(), Memory>
+    ensures { OnOk result (AddsMembers M.adds (last_members report.now) out.old out.new) }
 {
     write_members!(out;
         OptionalMember("prv_nid_bg", &report.previous.map(|previous| previous.group)),
@@ -182,49 +178,30 @@ fn write_last<S: MemberWriter>(out: &mut S, report: &Report) -> Result<(), Memor
     )
 }
 
-// Writes all members.
-fn write_report<S: MemberWriter>(out: &mut S, report: &Report) -> Result<(), Memory>
-    ensures { OnOk result (S.writes (written_members report.now) out.old out.new) }
-{
-    write_first(out, report)?;
-    write_last(out, report)
-}
-
 #[tactic(auto, unfolding(crate::specs::Report::report))]
-impl Form for Report {
-    ghost use Rattle.std.specs.Prelude.{IsOk};
-    ghost use Rattle.etcs_schema.specs.Choices.{any_object};
+impl ObjectForm for Report {
     ghost use Rattle.etcs_json.specs.Report.{report};
 
-    ghost codec = { report };
+    ghost form = { report };
 
-    ghost builds = { Unit {0} };
-
-    ghost asks = { λ d. IsOk (any_object d) };
-
-    #[tactic(auto, using(crate::proofs::SumLemmas::made_of, crate::proofs::SumLemmas::report_in_order, crate::proofs::SumLemmas::report_sent, crate::proofs::LawLemmas::report_again))]
-    fn to_form(&self, alloc: Global) -> Result<Value, Memory> {
-        // Only for the proof that the form is read again.
+    #[tactic(auto, using(crate::proofs::LawLemmas::report_read), unfolding(crate::specs::Report::report))]
+    fn prove_read_back(&self) {
         prove_allowed(self);
-        let mut out = ObjectBuilder::new(alloc);
-        write_report(&mut out, self)?;
-        Ok(out.into_value())
     }
 
-    fn read_json<N: JsonValue>(alloc: Global, node: &N) -> Result<Self, FormError> {
+    fn write_object<M: TokenWriter>(&self, out: &mut M) -> Result<(), Memory> {
+        out.token(Token::BeginObject)?;
+        write_first(out, self)?;
+        write_last(out, self)?;
+        out.token(Token::EndObject)?;
+        Ok(())
+    }
+
+    fn read_form<N: JsonValue>(alloc: Global, node: &N) -> Result<Self, FormError> {
         let number: Plain<1> = read_first(alloc, node, "nid_packet")?;
         match number.number() {
             0 => read_one(alloc, node),
             _ => read_two(alloc, node),
         }
-    }
-}
-
-impl WriteJson for Report {
-    fn write_json<M: TokenWriter>(&self, out: &mut M) -> Result<(), Memory> {
-        out.token(Token::BeginObject)?;
-        write_report(out, self)?;
-        out.token(Token::EndObject)?;
-        Ok(())
     }
 }

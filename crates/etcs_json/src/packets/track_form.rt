@@ -2,16 +2,16 @@
 //! 21 and 27, with their elements.
 
 ghost use Rattle.std.proofs.Common.{lit<};
-ghost use Rattle.std.specs.Prelude.{◌≡◌, ◌<◌, ◌≤◌, ◌∷◌, [], codes, length, Some, Ok, OnOk, IfOk};
+ghost use Rattle.std.specs.Prelude.{◌≡◌, ◌<◌, ◌≤◌, ◌∷◌, [], codes, length, Some, Ok, OnOk};
 ghost use Rattle.std.specs.List.{AllByRecursion};
 ghost use Rattle.etcs_profile.specs.Elements.{profile as made_of};
 ghost use Rattle.serde_json.specs.Data.{Data, array};
 ghost use Rattle.etcs_schema.specs.Fault.{Returns, Range, here};
 ghost use Rattle.etcs_schema.specs.Head.{packet};
+ghost use Rattle.etcs_schema.specs.Writing.{AddsMembers};
 ghost use Rattle.etcs_json.specs.TrackPackets.{difference, gradient, gradient_element, is_short, link, linking, decoded_profile, speed_element, speed_profile, track_packet};
 ghost use Rattle.etcs_schema.specs.Codec.{encoded_items, only, number_data, whole};
 ghost use Rattle.etcs_schema.specs.Variables.{direction, scale};
-ghost use Rattle.serde_json.specs.View.{view};
 
 use crate::members::{
     ListMember, Member, NonEmpty, NonEmptyMember, NumberMember, OptionalMember, ReadMembers,
@@ -19,8 +19,9 @@ use crate::members::{
 };
 use crate::packets::authority_form::{read_with_main, read_without_main};
 use crate::reading::read_first;
-use crate::record::{InRange, LayoutRecord, ObjectCodec, prove_allowed};
-use crate::writing::MemberWriter;
+use crate::record::{
+    InRange, LayoutRecord, ObjectCodec, ObjectForm, prove_all_allowed, prove_allowed,
+};
 use crate::{Form, Record, WriteJson};
 use etcs_bits::{Dir, Layout, Memory, Ranged, Scale};
 use etcs_packet::TrackPacket;
@@ -30,16 +31,15 @@ use etcs_profile::{
 };
 use etcs_schema::reading::read_fixed;
 use etcs_schema::{FormError, JsonValue, TokenWriter};
-use serde_json::Value;
 use std::alloc::Global;
 
 // Writes the members of a packet of elements. `name` is the key of the list of its elements.
-fn write_profile<const N: u32, T: WriteJson + Layout, S: MemberWriter>(
-    out: &mut S,
+fn write_profile<const N: u32, T: WriteJson + Layout, M: TokenWriter>(
+    out: &mut M,
     name: &'static str,
     packet: &Packet<N, Elements<T>>,
 ) -> Result<(), Memory>
-    ensures { OnOk result (S.writes (
+    ensures { OnOk result (AddsMembers M.adds (
         (name.now, Some (array (encoded_items T.codec.to (packet.now.1.first ∷ packet.now.1.further))))
         ∷ (codes "nid_packet", Some (number_data N))
         ∷ (codes "q_dir", Some (direction.to packet.now.0))
@@ -95,12 +95,12 @@ impl Record for Link {
 }
 
 impl LayoutRecord for Link {
-    ghost keeps = { λ x allowed _. allowed tt };
+    ghost keeps = { λ x allowed. allowed tt };
 }
 
 #[tactic(auto, unfolding(crate::specs::TrackPackets::link))]
 impl ObjectCodec for Link {
-    fn write_members<S: MemberWriter>(&self, out: &mut S) -> Result<(), Memory> {
+    fn write_members<M: TokenWriter>(&self, out: &mut M) -> Result<(), Memory> {
         write_members!(out;
             Member("d_link", &self.distance),
             Member("nid_bg", &self.group),
@@ -129,12 +129,12 @@ impl Record for Linking {
 }
 
 impl LayoutRecord for Linking {
-    ghost keeps = { λ x allowed _. allowed (lit< tt) };
+    ghost keeps = { λ x allowed. allowed (lit< tt) };
 }
 
 #[tactic(auto, unfolding(crate::specs::TrackPackets::linking))]
 impl ObjectCodec for Linking {
-    fn write_members<S: MemberWriter>(&self, out: &mut S) -> Result<(), Memory> {
+    fn write_members<M: TokenWriter>(&self, out: &mut M) -> Result<(), Memory> {
         write_profile(out, "links", self)
     }
 
@@ -152,12 +152,12 @@ impl Record for GradientElement {
 }
 
 impl LayoutRecord for GradientElement {
-    ghost keeps = { λ x allowed _. allowed tt };
+    ghost keeps = { λ x allowed. allowed tt };
 }
 
 #[tactic(auto, unfolding(crate::specs::TrackPackets::gradient_element, etcs_schema::specs::Reading::only_keys, etcs_schema::specs::Reading::required_member))]
 impl ObjectCodec for GradientElement {
-    fn write_members<S: MemberWriter>(&self, out: &mut S) -> Result<(), Memory> {
+    fn write_members<M: TokenWriter>(&self, out: &mut M) -> Result<(), Memory> {
         write_members!(out;
             Member("d_gradient", &self.distance),
             Member("g_a", &self.gradient),
@@ -180,12 +180,12 @@ impl Record for Gradient {
 }
 
 impl LayoutRecord for Gradient {
-    ghost keeps = { λ x allowed _. allowed (lit< tt) };
+    ghost keeps = { λ x allowed. allowed (lit< tt) };
 }
 
 #[tactic(auto, unfolding(crate::specs::TrackPackets::gradient))]
 impl ObjectCodec for Gradient {
-    fn write_members<S: MemberWriter>(&self, out: &mut S) -> Result<(), Memory> {
+    fn write_members<M: TokenWriter>(&self, out: &mut M) -> Result<(), Memory> {
         write_profile(out, "elements", self)
     }
 
@@ -203,12 +203,12 @@ impl Record for Difference {
 }
 
 impl LayoutRecord for Difference {
-    ghost keeps = { λ x allowed _. allowed tt };
+    ghost keeps = { λ x allowed. allowed tt };
 }
 
 #[tactic(auto, unfolding(crate::specs::TrackPackets::difference))]
 impl ObjectCodec for Difference {
-    fn write_members<S: MemberWriter>(&self, out: &mut S) -> Result<(), Memory> {
+    fn write_members<M: TokenWriter>(&self, out: &mut M) -> Result<(), Memory> {
         write_members!(out;
             Member("nc", &self.category),
             Member("q_diff", &self.kind),
@@ -233,15 +233,20 @@ impl Record for SpeedElement {
     ghost bounded = { λ e. length e.differences ≤ 31 };
 }
 
+#[tactic(auto, using(crate::proofs::LawLemmas::speed_read))]
 impl InRange for SpeedElement {
     fn prove_in_range(&self) {
         prove_allowed(self);
+        prove_allowed(&self.distance);
+        prove_allowed(&self.speed);
+        prove_allowed(&self.front);
+        prove_all_allowed(self.differences.as_slice());
     }
 }
 
 #[tactic(auto, unfolding(crate::specs::TrackPackets::speed_element))]
 impl ObjectCodec for SpeedElement {
-    fn write_members<S: MemberWriter>(&self, out: &mut S) -> Result<(), Memory> {
+    fn write_members<M: TokenWriter>(&self, out: &mut M) -> Result<(), Memory> {
         write_members!(out;
             Member("d_static", &self.distance),
             ListMember("differences", self.differences.as_slice()),
@@ -266,12 +271,12 @@ impl Record for SpeedProfile {
 }
 
 impl LayoutRecord for SpeedProfile {
-    ghost keeps = { λ x allowed _. allowed (lit< tt) };
+    ghost keeps = { λ x allowed. allowed (lit< tt) };
 }
 
 #[tactic(auto, using(crate::proofs::ReadLemmas::few_at), unfolding(crate::specs::TrackPackets::speed_profile, crate::specs::TrackPackets::speed_element))]
 impl ObjectCodec for SpeedProfile {
-    fn write_members<S: MemberWriter>(&self, out: &mut S) -> Result<(), Memory> {
+    fn write_members<M: TokenWriter>(&self, out: &mut M) -> Result<(), Memory> {
         write_profile(out, "elements", self)
     }
 
@@ -284,47 +289,29 @@ impl ObjectCodec for SpeedProfile {
 
 // ---- the packet of a number
 
-// Evaluates `$value` for the record of the packet.
-macro_rules! match_packet {
-    ($this:expr, $packet:ident => $value:expr) => {
-        match $this {
-            TrackPacket::Cover($packet) => $value,
-            TrackPacket::Linking($packet) => $value,
-            TrackPacket::Authority($packet) => $value,
-            TrackPacket::Gradient($packet) => $value,
-            TrackPacket::Speed($packet) => $value,
-            TrackPacket::Transition($packet) => $value,
-            TrackPacket::Raw($packet) => $value,
-        }
-    };
-}
-
-// A packet has the form of its record.
-#[tactic(auto, using(crate::proofs::SumLemmas::authority_to), unfolding(crate::specs::Cover::cover_marker))]
-fn form_of(alloc: Global, packet: &TrackPacket) -> Result<Value, Memory>
-    ensures { IfOk result (λ v. view v ≡ track_packet.to packet.now) }
-{
-    match_packet!(packet, own => own.to_form(alloc))
-}
-
 #[tactic(auto, using(crate::proofs::SumLemmas::with_main_read, crate::proofs::SumLemmas::without_main_read, crate::proofs::SumLemmas::cover_read), unfolding(crate::specs::Cover::cover_marker))]
-impl Form for TrackPacket {
-    ghost use Rattle.std.specs.Prelude.{IsOk};
-    ghost use Rattle.etcs_schema.specs.Choices.{any_object};
+impl ObjectForm for TrackPacket {
+    ghost form = { track_packet };
 
-    ghost codec = { track_packet };
-
-    ghost builds = { Unit {0} };
-
-    ghost asks = { λ d. IsOk (any_object d) };
-
-    fn to_form(&self, alloc: Global) -> Result<Value, Memory> {
-        // Only for the proof that the form is read again.
+    #[tactic(auto, using(crate::proofs::LawLemmas::track_read))]
+    fn prove_read_back(&self) {
         prove_allowed(self);
-        form_of(alloc, self)
     }
 
-    fn read_json<N: JsonValue>(alloc: Global, node: &N) -> Result<Self, FormError> {
+    #[tactic(auto, using(crate::proofs::SumLemmas::authority_to), unfolding(crate::specs::Cover::cover_marker))]
+    fn write_object<M: TokenWriter>(&self, out: &mut M) -> Result<(), Memory> {
+        match self {
+            TrackPacket::Cover(packet) => packet.write_object(out),
+            TrackPacket::Linking(packet) => packet.write_object(out),
+            TrackPacket::Authority(packet) => packet.write_object(out),
+            TrackPacket::Gradient(packet) => packet.write_object(out),
+            TrackPacket::Speed(packet) => packet.write_object(out),
+            TrackPacket::Transition(packet) => packet.write_object(out),
+            TrackPacket::Raw(packet) => packet.write_object(out),
+        }
+    }
+
+    fn read_form<N: JsonValue>(alloc: Global, node: &N) -> Result<Self, FormError> {
         let number: Ranged<8, 254, 256> = read_first(alloc, node, "nid_packet")?;
         match number.number() {
             0 => Ok(TrackPacket::Cover(Form::read_json(alloc, node)?)),
@@ -336,12 +323,5 @@ impl Form for TrackPacket {
             41 => Ok(TrackPacket::Transition(Form::read_json(alloc, node)?)),
             _ => Ok(TrackPacket::Raw(Form::read_json(alloc, node)?)),
         }
-    }
-}
-
-#[tactic(auto, using(crate::proofs::SumLemmas::authority_to), unfolding(crate::specs::Cover::cover_marker))]
-impl WriteJson for TrackPacket {
-    fn write_json<M: TokenWriter>(&self, out: &mut M) -> Result<(), Memory> {
-        match_packet!(self, packet => packet.write_json(out))
     }
 }

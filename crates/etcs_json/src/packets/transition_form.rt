@@ -12,11 +12,10 @@ use crate::members::{
 };
 use crate::packets::level_form::national_system_of;
 use crate::record::{LayoutRecord, ObjectCodec};
-use crate::writing::MemberWriter;
 use etcs_bits::Memory;
 use etcs_profile::{LevelOrder, Transition};
 use etcs_schema::reading::read_fixed;
-use etcs_schema::{FormError, JsonValue};
+use etcs_schema::{FormError, JsonValue, TokenWriter};
 use std::alloc::Global;
 
 impl Record for LevelOrder {
@@ -24,13 +23,13 @@ impl Record for LevelOrder {
 }
 
 impl LayoutRecord for LevelOrder {
-    ghost keeps = { λ x allowed _. allowed tt };
+    ghost keeps = { λ x allowed. allowed tt };
 }
 
 #[tactic(auto, unfolding(crate::specs::Transition::level_order))]
 impl ObjectCodec for LevelOrder {
     #[tactic(auto, unfolding(crate::specs::Transition::level_order, etcs_bits::specs::layout::Rows::alone))]
-    fn write_members<S: MemberWriter>(&self, out: &mut S) -> Result<(), Memory> {
+    fn write_members<M: TokenWriter>(&self, out: &mut M) -> Result<(), Memory> {
         let ntc = national_system_of(self.level);
         let number = u64::from(self.level.number());
         write_members!(out;
@@ -54,12 +53,12 @@ impl Record for Transition {
 }
 
 impl LayoutRecord for Transition {
-    ghost keeps = { λ x allowed _. allowed (lit< tt) };
+    ghost keeps = { λ x allowed. allowed (lit< tt) };
 }
 
 #[tactic(auto, unfolding(crate::specs::Transition::transition))]
 impl ObjectCodec for Transition {
-    fn write_members<S: MemberWriter>(&self, out: &mut S) -> Result<(), Memory> {
+    fn write_members<M: TokenWriter>(&self, out: &mut M) -> Result<(), Memory> {
         write_members!(out;
             Member("d_leveltr", &self.d_leveltr()),
             NumberMember("nid_packet", 41),

@@ -1,12 +1,10 @@
--- Members that are appended one after the other, to a writer of JSON and to an object in memory.
+-- Tokens and members that are appended to a writer one after the other.
 use Rattle.std.specs.Prelude.{◌≡◌, ◌++◌, List, [], ◌∷◌, refl}
-use Rattle.etcs_schema.specs.Prelude.{◌∙◌, ap, sym, append_assoc, append-nil, Members}
+use Rattle.etcs_schema.specs.Prelude.{◌∙◌, ap, sym, append_assoc, append-nil}
 use Rattle.json.specs.Token.{Token}
 use Rattle.json.specs.Written.{Written}
-use Rattle.etcs_schema.specs.Entries.{Entry, with_entries, put_or}
-use Rattle.etcs_schema.specs.Writing.{Adds, entries_tokens, entry_tokens}
-
--- ---- receivers of tokens
+use Rattle.etcs_schema.specs.Entries.{Entry}
+use Rattle.etcs_schema.specs.Writing.{Adds, AddsMembers, entries_tokens, entry_tokens}
 
 pub adds_none : (out : Written) → Adds [] out out
 adds_none out = record { before = refl; added = sym (append-nil out.tokens) }
@@ -28,19 +26,8 @@ entries_append (e ∷ es) fs =
 pub written_then : {M : Type 0} (adds : List Token → M → M → Type 0)
     (then : (ts us : List Token) (old mid new : M)
     → adds ts old mid → adds us mid new → adds (ts ++ us) old new)
-    → (es fs : List Entry) (old mid new : M) → adds (entries_tokens es) old mid
-    → adds (entries_tokens fs) mid new → adds (entries_tokens (es ++ fs)) old new
+    → (es fs : List Entry) (old mid new : M) → AddsMembers adds es old mid
+    → AddsMembers adds fs mid new → AddsMembers adds (es ++ fs) old new
+unfolding AddsMembers
 written_then adds then es fs old mid new some others =
     rw (entries_append es fs) (then (entries_tokens es) (entries_tokens fs) old mid new some others)
-
--- ---- an object
-
-onto_append : (es fs : List Entry) (ms : Members)
-    → with_entries ms (es ++ fs) ≡ with_entries (with_entries ms es) fs
-onto_append [] fs ms = refl
-onto_append (e ∷ es) fs ms = onto_append es fs (put_or e.0 e.1 ms)
-
-pub onto_then : (es fs : List Entry) (old mid new : Members) → mid ≡ with_entries old es
-    → new ≡ with_entries mid fs → new ≡ with_entries old (es ++ fs)
-onto_then es fs old mid new some others =
-    others ∙ ap (λ ms. with_entries ms fs) some ∙ sym (onto_append es fs old)

@@ -1,5 +1,5 @@
 use Rattle.etcs_schema.proofs.WritingLemmas.{object_sent}
-use Rattle.etcs_json.proofs.record.AnyWriteJson.write_json.Goals as goal
+use Rattle.etcs_json.proofs.record.AnyObjectForm.write_object.Goals as goal
 
 -- the members between braces
 pub returns : goal.returns

@@ -1,7 +1,7 @@
 use Rattle.etcs_json.specs.AuthorityWriting.{written_members}
 use Rattle.etcs_schema.proofs.WritingLemmas.{sent_as}
 use Rattle.etcs_json.proofs.SumLemmas.{authority_sent}
-use Rattle.etcs_json.proofs.packets.authority_form.AuthorityWriteJson.write_json.Goals as goal
+use Rattle.etcs_json.proofs.packets.authority_form.AuthorityObjectForm.write_object.Goals as goal
 
 -- the members between braces
 pub returns : goal.returns

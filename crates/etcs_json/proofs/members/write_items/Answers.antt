@@ -1,6 +1,6 @@
 use Rattle.std.proofs.Common.{rules}
 use Rattle.etcs_schema.proofs.WritingLemmas.{each_more}
-use Rattle.etcs_json.proofs.writing.member_tokens.write_items.Goals as goal
+use Rattle.etcs_json.proofs.members.write_items.Goals as goal
 
 -- nothing is written yet
 pub items-init : goal.items-init

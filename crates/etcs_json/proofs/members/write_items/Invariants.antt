@@ -1,6 +1,6 @@
 use Rattle.std.proofs.Common.{take}
 use Rattle.etcs_schema.specs.Writing.{each_tokens}
-use Rattle.etcs_json.proofs.writing.member_tokens.write_items.Given as goal
+use Rattle.etcs_json.proofs.members.write_items.Given as goal
 
 -- the items so far are written
 abbrev pub invariant-items : goal.invariant-items

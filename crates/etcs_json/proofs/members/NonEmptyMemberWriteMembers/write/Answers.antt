@@ -1,9 +1,9 @@
 use Rattle.std.proofs.Common.{◌∷◌}
 use Rattle.etcs_schema.proofs.WritingLemmas.{array_sent}
-use Rattle.etcs_json.proofs.writing.member_tokens.AnyMemberWriter.write_non_empty.Goals as goal
+use Rattle.etcs_json.proofs.members.NonEmptyMemberWriteMembers.write.Goals as goal
 
 -- the key, and the first item and the others between brackets
 pub returns : goal.returns
 returns g c =
-    array_sent g.M.TokenWriter.adds g.met.M.TokenWriter.then g.T.Form.codec.to c.args.name.now (c.args.first.now ∷ c.args.further.now) _ _ _ _ _ c.in_ok-token.ensures c.in_ok-token-2.ensures
+    array_sent g.M.TokenWriter.adds g.met.M.TokenWriter.then g.T.Form.codec.to c.args.self.now.0.now (c.args.self.now.1.now ∷ c.args.self.now.2.now) _ _ _ _ _ c.in_ok-token.ensures c.in_ok-token-2.ensures
     (g.met.M.TokenWriter.then _ _ _ _ _ c.in_ok-write_json.ensures c.in_ok-write_items.ensures) c.in_ok-token-3.ensures
