@@ -1,6 +1,6 @@
 -- A movement authority and a position report have the form of one of two packets: the members that are
 -- written are the members of the form.
-use Rattle.std.proofs.Common.{◌≡◌, ◌∙◌, ℕ, List, Option, Some, None, Result, Ok, Err, inl, inr, refl, sym, ap}
+use Rattle.std.proofs.Common.{◌≡◌, ◌∙◌, ℕ, Option, Some, None, Result, Ok, Err, inl, inr, refl, sym, ap}
 use Rattle.serde_json.specs.Data.{Data, object as object_data}
 use Rattle.etcs_bits.specs.declared.variables.identity.Identity.{Identity}
 use Rattle.etcs_bits.specs.layout.Rows.{alone}
