@@ -25,7 +25,7 @@ BUDGETS = {
     "decode": 893774,  # members of a line after one check of capacity, numbers of three and of five digits
     "decode short": 336325,  # capacity for seven packets
     "decode --radio": 435572,  # digits of a stream, fields in the last bytes
-    "encode": 1745565, "encode --radio": 2247043,  # lines as `decode` writes them
+    "encode": 622189, "encode --radio": 730913,  # lines as `decode` writes them
 }
 
 
