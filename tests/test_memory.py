@@ -18,7 +18,7 @@ from runner import MEMORY, TOP, Answer, answered, run
 WORDS = pytest.mark.parametrize("words", [*COMMANDS, ()], ids=" ".join)
 NAMED = os.environ.get("BALISECHECK_TESTS")  # what `rt ci` builds of these two crates, with a colon between them
 CRATES = [str(TOP / "crates" / crate / "out" / f"{crate}_tests") for crate in ("trials_groups", "trials_lines")]
-KEPT = 9  # times the size of a document that is kept complete: it takes 8.1, and 10.6 if no list gives back memory
+KEPT = 4  # times the size of a document that is kept complete: it takes 3 to 3.5
 
 
 def in_turn(requests, step=1):
