@@ -84,7 +84,7 @@ raise() {
     local next=${version%.*}.$((${version##*.} + 1))
     sed -i "s/\<${version//./\\.}\>/$next/" "${numbered[@]}"
     sed -i "s/^## Unreleased\$/&\n\n## $next - $(date -u +%F)/" CHANGELOG.md
-    echo "raised: $next. Commit, scripts/build (which proves only the last crate), and scripts/release.sh store" >&2
+    echo "raised: $next. Commit, scripts/build, scripts/library, and scripts/release.sh store" >&2
 }
 
 # has_a_number: fails if another program has the number of the one in out/, and raises the number then.

@@ -19,7 +19,7 @@ DECODE_RADIO, ENCODE_RADIO = ("decode", "--radio"), ("encode", "--radio")
 COMMANDS = (DECODE, ENCODE, CHECK, DECODE_RADIO, ENCODE_RADIO)
 INVERSE = {DECODE: ENCODE, ENCODE: DECODE, DECODE_RADIO: ENCODE_RADIO, ENCODE_RADIO: DECODE_RADIO}
 STACK = 512  # KiB of stack that docs/contributing/architecture.md names
-GROUPS = 20000  # of the long document that docs/assurance/proofs.md names
+GROUPS = 20000  # of the long document that docs/contributing/architecture.md names
 JOB, ANSWER = struct.Struct("<14Q"), struct.Struct("<9Q")
 # From call `first` on, counted from 1, `count` calls fail by this error, or move no byte if it is 0. Any other call
 # moves at most `piece` bytes, if that is not 0.
