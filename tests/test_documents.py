@@ -7,6 +7,7 @@ import pytest
 from runner import EXAMPLES, TOP, answered, run
 
 FOLDER, PAGE = EXAMPLES / "check", (TOP / "docs/findings.md").read_text(encoding="utf-8")
+FAULTY = [it for it in sorted(FOLDER.glob("*.txt")) if it.read_text().startswith("no: ")]
 # A rule, its title, the first line of a report and the rest of the section.
 SECTIONS = re.findall(r"^## F(\d+): (.*)\n\n`(.*)`\n\n((?:.|\n)*?)(?=^## |\Z)", PAGE, re.MULTILINE)
 LINK = re.compile(r"\(\.\./examples/check/([a-z0-9.-]+)\)")
@@ -24,6 +25,25 @@ def test_example(path):
     assert run(["check"], path.read_text()) == answered(report)
     document["groups"] = [it if "aspects" in it else {"aspects": [it]} for it in document["groups"]]
     assert run(["check"], json.dumps(document)) == answered(report)
+
+
+def other(found):
+    """The telegram with the first bit of its NID_BG turned."""
+    digits = found[0]
+    return f"{int(digits, 16) ^ 1 << 4 * len(digits) - 36:0{len(digits)}x}"
+
+
+@pytest.mark.parametrize("path", FAULTY, ids=lambda path: path.stem)
+def test_again(path):
+    """With all groups once more, under other identities, and all messages, a document has all findings once more."""
+    document = json.loads(path.with_suffix(".json").read_text())
+    lines, wanted = path.read_text().splitlines()[1:], []
+    for kind in "group", "message":
+        some = [re.split(rf"(?<= {kind} )(\d+)", it) for it in lines if f" {kind} " in it]
+        wanted += [f"{rule}{int(at) + by}{rest}" for by in (0, len(document[f"{kind}s"])) for rule, at, rest in some]
+    document["groups"] += json.loads(re.sub("[0-9a-f]{54,}", other, json.dumps(document["groups"])))
+    document["messages"] *= 2
+    assert run(["check"], json.dumps(document)) == answered("\n".join([f"no: findings {len(wanted)}", *wanted, ""]))
 
 
 @pytest.mark.parametrize("rule, title, shown, section", SECTIONS)
