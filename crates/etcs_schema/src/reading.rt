@@ -1,6 +1,7 @@
 //! Functions that find and read members of an object: `member`, `check_object`, `read_fixed` and `check_absent`.
 
-ghost use Rattle.std.specs.Prelude.{◌≡◌, ◌==◌};
+ghost use Rattle.std.specs.Prelude.{◌≡◌, ◌==◌, None, IsErr, IsSome};
+ghost use Rattle.serde_json.specs.Find.{get};
 ghost use Rattle.etcs_schema.specs.Choices.{any_object};
 ghost use Rattle.etcs_schema.specs.Fault.{Returns, IfMemory, IsPrefixedResult, key};
 ghost use Rattle.etcs_schema.specs.Reading.{allowed_number, any_member, absent_member};
@@ -13,7 +14,8 @@ use std::alloc::Global;
 /// The member at a required key.
 #[tactic(auto, using(crate::proofs::Objects::fails_as), unfolding(crate::specs::Reading::required_member))]
 pub fn member<N: JsonValue>(alloc: Global, node: &N, name: &'static str) -> Result<N, FormError>
-    ensures { Returns N.value result (any_member name.now (N.value node.now)) }
+    ensures gives { Returns N.value result (any_member name.now (N.value node.now)) }
+    ensures memory { IfMemory result (get name.now (N.value node.now) ≡ None) }
 {
     match node.member(name) {
         None => Err(FormError::missing(alloc, name)),
@@ -46,7 +48,8 @@ pub fn check_object<N: JsonValue>(alloc: Global, node: &N) -> Result<(), FormErr
 // Refuses any value but this number.
 #[tactic(auto, unfolding(crate::specs::Reading::allowed_number))]
 fn check_number<N: JsonValue>(alloc: Global, node: &N, number: u64) -> Result<(), FormError>
-    ensures { Returns (λ _. number) result (allowed_number (λ n. n == number) (N.value node.now)) }
+    ensures gives { Returns (λ _. number) result (allowed_number (λ n. n == number) (N.value node.now)) }
+    ensures memory { IfMemory result ⊥ }
 {
     match node.number() {
         None => Err(FormError::kind(alloc)),
@@ -62,7 +65,8 @@ pub fn read_fixed<N: JsonValue>(
     name: &'static str,
     number: u64,
 ) -> Result<(), FormError>
-    ensures { Returns (λ u. u) result ((fixed name.now number).of (N.value node.now)) }
+    ensures gives { Returns (λ u. u) result ((fixed name.now number).of (N.value node.now)) }
+    ensures memory { IfMemory result (IsErr ((fixed name.now number).of (N.value node.now))) }
 {
     let found = member(alloc, node, name)?;
     under(name, check_number(alloc, &found, number))
@@ -75,7 +79,8 @@ pub fn check_absent<N: JsonValue>(
     node: &N,
     name: &'static str,
 ) -> Result<(), FormError>
-    ensures { Returns (λ u. u) result (absent_member name.now (N.value node.now)) }
+    ensures gives { Returns (λ u. u) result (absent_member name.now (N.value node.now)) }
+    ensures memory { IfMemory result (IsSome (get name.now (N.value node.now))) }
 {
     match node.member(name) {
         None => Ok(()),
