@@ -1,5 +1,5 @@
-//! Functions that read the parts of a form, such as `read_list`, and the trait `Numbers`, variables that are read as
-//! whole numbers.
+//! Functions that read the parts of a form, such as `read_list`, and the trait `AllowedNumbers`: which numbers a
+//! variable may have.
 
 ghost use Rattle.std.specs.Prelude.{◌≡◌, ℕ, Bool, true, IfOk, IsErr, IsOk};
 ghost use Rattle.etcs_schema.specs.Choices.{any_object, tag_member};
@@ -94,7 +94,7 @@ pub(crate) fn read_non_empty<T: Form, N: JsonValue>(
 }
 
 /// A type that allows some numbers of a variable.
-pub(crate) trait Numbers {
+pub(crate) trait AllowedNumbers {
     /// Whether a number is allowed.
     ghost test: { ℕ → Bool };
 
@@ -105,7 +105,7 @@ pub(crate) trait Numbers {
 
 // Reads an allowed number.
 #[tactic(auto, unfolding(etcs_schema::specs::Reading::allowed_number))]
-fn read_allowed<T: Numbers, N: JsonValue>(alloc: Global, node: &N) -> Result<u64, FormError>
+fn read_allowed<T: AllowedNumbers, N: JsonValue>(alloc: Global, node: &N) -> Result<u64, FormError>
     ensures gives { Returns (λ n. n) result (allowed_number T.test (N.value node.now)) }
     ensures memory { IfMemory result ⊥ }
     ensures has { IfOk result (λ n. T.test n ≡ true) }
@@ -119,7 +119,7 @@ fn read_allowed<T: Numbers, N: JsonValue>(alloc: Global, node: &N) -> Result<u64
 
 /// Reads a required member that must be an allowed number.
 #[tactic(auto, using(etcs_schema::proofs::Objects::member_read, etcs_schema::proofs::Objects::under_keeps))]
-pub(crate) fn read_number<T: Numbers, N: JsonValue>(
+pub(crate) fn read_number<T: AllowedNumbers, N: JsonValue>(
     alloc: Global,
     node: &N,
     name: &'static str,

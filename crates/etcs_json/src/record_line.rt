@@ -37,8 +37,8 @@ fn is_line(written: &[u8], line: &[u8]) -> bool
     }
 }
 
-// The record for which `json_line` writes this line. Nothing is known of what the parser returns: so it is
-// written again, and compared.
+// The record for which `json_line` writes this line. No contract says what the parser returns, so the record is
+// written again and compared with the line. `None` is inconclusive.
 fn written_as<T: WriteJson + FromCanonical>(
     alloc: Global,
     room: &mut Vec<u8>,
@@ -65,7 +65,7 @@ pub fn telegram_of_line(alloc: Global, room: &mut Vec<u8>, line: &[u8]) -> Optio
     Some(record)
 }
 
-/// The radio message whose form the line is, as [`telegram_of_line`] finds a telegram.
+/// The radio message whose form the line is, under the conditions of [`telegram_of_line`].
 pub fn message_of_line(alloc: Global, room: &mut Vec<u8>, line: &[u8]) -> Option<Message>
     ensures line { IfSome result (λ m. json_line_text message m ≡ line.now ++ codes "\n") }
     ensures read { IfSome result (λ m. IsReadAs message line.now m) }

@@ -11,7 +11,7 @@ use crate::error::{FormError, Step};
 use crate::json_value::JsonValue;
 use std::alloc::Global;
 
-/// The member at a required key.
+/// The member at a required key. The error is `Missing`, or `Memory` if its path does not fit in memory.
 #[tactic(auto, using(crate::proofs::Objects::fails_as), unfolding(crate::specs::Reading::required_member))]
 pub fn member<N: JsonValue>(alloc: Global, node: &N, name: &'static str) -> Result<N, FormError>
     ensures gives { Returns N.value result (any_member name.now (N.value node.now)) }
@@ -23,7 +23,8 @@ pub fn member<N: JsonValue>(alloc: Global, node: &N, name: &'static str) -> Resu
     }
 }
 
-/// The result of reading the member at a key. A fault gets the step to that member.
+/// The result of reading the member at a key. A fault gets the step to that member, or is `Memory` if its path does
+/// not fit in memory.
 pub fn under<X>(name: &'static str, read: Result<X, FormError>) -> Result<X, FormError>
     ensures { IsPrefixedResult (key name.now) read result }
 {
@@ -33,7 +34,7 @@ pub fn under<X>(name: &'static str, read: Result<X, FormError>) -> Result<X, For
     }
 }
 
-/// Refuses a value that is not an object.
+/// Refuses a value that is not an object (`Kind`). Refusing allocates nothing.
 #[tactic(auto, using(crate::proofs::Objects::fails_as, crate::proofs::Objects::some_object), unfolding(crate::specs::Choices::any_object))]
 pub fn check_object<N: JsonValue>(alloc: Global, node: &N) -> Result<(), FormError>
     ensures object { Returns (λ u. u) result (any_object (N.value node.now)) }
@@ -58,7 +59,8 @@ fn check_number<N: JsonValue>(alloc: Global, node: &N, number: u64) -> Result<()
     }
 }
 
-/// Reads a required member that must have this number.
+/// Reads a required member that must have this number. The error is `Missing`, `Kind` or `Range` at this key, or
+/// `Memory` if its path does not fit in memory.
 pub fn read_fixed<N: JsonValue>(
     alloc: Global,
     node: &N,
@@ -72,7 +74,8 @@ pub fn read_fixed<N: JsonValue>(
     under(name, check_number(alloc, &found, number))
 }
 
-/// Refuses an object that has this key.
+/// Refuses an object that has this key. The error is `Range` at the key, or `Memory` if its path does not fit in
+/// memory.
 #[tactic(auto, using(crate::proofs::Objects::fails_as), unfolding(crate::specs::Reading::absent_member))]
 pub fn check_absent<N: JsonValue>(
     alloc: Global,
