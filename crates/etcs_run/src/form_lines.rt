@@ -2,7 +2,8 @@
 //! hexadecimal text. A line that `decode` writes is parsed in one pass, and any other line as a JSON value. The trait
 //! `Encoded`: a record that is read from a line and has a text.
 
-ghost use Rattle.std.specs.Prelude.{◌≡◌, ◌++◌, ℕ, List, Result, codes, IfOk, IfSome};
+ghost use Rattle.std.specs.Prelude.{◌≡◌, ◌++◌, ℕ, false, List, Result, Err, codes, IfOk, IfSome};
+ghost use Rattle.std.specs.Str.{is_utf8};
 ghost use Rattle.etcs_json.specs.JsonLine.{IsReadAs};
 ghost use Rattle.etcs_schema.specs.Codec.{Codec};
 ghost use Rattle.etcs_schema.specs.Fault.{Returns};
@@ -40,7 +41,10 @@ fn record_in_line<T: Encoded>(
     written: &mut Vec<u8>,
     line: &[u8],
 ) -> Result<T, Unwritten>
-    ensures { Gives (λ x. x) result (parsed_record T.form line.now) }
+    ensures gives { Gives (λ x. x) result (parsed_record T.form line.now) }
+
+    // This is always reported: it needs no memory.
+    ensures unreadable { is_utf8 line.now ≡ false → result ≡ Err (Unwritten.Refused LineFault.Json) }
 {
     let Ok(text) = str::from_utf8(line) else {
         return Err(Unwritten::Refused(LineFault::Json));
@@ -167,7 +171,14 @@ impl<T: Encoded> TextLineMeaning for Encoding<T> {
 
     ghost meaning = { encoded T.form T.line };
 
-    fn text(&mut self, alloc: Global, room: Vec<u8>, line: &[u8]) -> Result<Vec<u8>, Unwritten> {
+    /// The text of the record whose form the line is. `room` is the buffer of an earlier line.
+    ///
+    /// `Memory`: an allocation failed. Otherwise the line is refused for the first reason. A line that is not
+    /// UTF-8 is always reported: it needs no memory.
+    fn text(&mut self, alloc: Global, room: Vec<u8>, line: &[u8]) -> Result<Vec<u8>, Unwritten>
+        ensures means { Gives (λ text. text.items) result (encoded T.form T.line line.now) }
+        ensures unreadable { is_utf8 line.now ≡ false → result ≡ Err (Unwritten.Refused LineFault.Json) }
+    {
         let record: T = record_in_line(alloc, &mut self.scratch, &mut self.written, line)?;
         record.text_line(alloc, room)
     }
