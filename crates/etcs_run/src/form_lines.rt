@@ -2,7 +2,7 @@
 //! hexadecimal text. A line that `decode` writes is parsed in one pass, and any other line as a JSON value. The trait
 //! `Encoded`: a record that is read from a line and has a text.
 
-ghost use Rattle.std.specs.Prelude.{◌≡◌, ◌++◌, ℕ, false, List, Result, Err, codes, IfOk, IfSome};
+ghost use Rattle.std.specs.Prelude.{◌≡◌, ◌++◌, ℕ, false, List, Result, Err, codes, IfOk, IfSome, IsErr};
 ghost use Rattle.std.specs.Str.{is_utf8};
 ghost use Rattle.etcs_json.specs.JsonLine.{IsReadAs};
 ghost use Rattle.etcs_schema.specs.Codec.{Codec};
@@ -86,8 +86,13 @@ pub trait Encoded: Drop {
         ensures { IfSome result (λ x. IsReadAs form text.now x) };
 
     /// The record's text as a line. `room` is the buffer of an earlier line.
+    ///
+    /// `Memory`: an allocation failed. Otherwise the record is too big to have a text.
     fn text_line(&self, alloc: Global, room: Vec<u8>) -> Result<Vec<u8>, Unwritten>
-        ensures { Gives (λ bytes. bytes.items) result (line self.now) };
+        ensures gives { Gives (λ bytes. bytes.items) result (line self.now) }
+
+        // A record without a text is always reported: it needs no memory.
+        ensures too_big { IsErr (line self.now) → result ≡ Err (Unwritten.Refused LineFault.TooBig) };
 }
 
 // A telegram has no text if it has more bits than its size.
