@@ -2,11 +2,12 @@
 //! hexadecimal text. A line that `decode` writes is parsed in one pass, and any other line as a JSON value. The trait
 //! `Encoded`: a record that is read from a line and has a text.
 
-ghost use Rattle.std.specs.Prelude.{◌≡◌, ◌++◌, ℕ, false, List, Result, Err, codes, IfOk, IfSome, IsErr};
+ghost use Rattle.std.specs.Prelude.{◌≡◌, ◌++◌, ℕ, false, List, Result, Err, codes, IfOk, IfSome, IsErr, IsOk};
 ghost use Rattle.std.specs.Str.{is_utf8};
+ghost use Rattle.serde_json.specs.Data.{Data};
 ghost use Rattle.etcs_json.specs.JsonLine.{IsReadAs};
 ghost use Rattle.etcs_schema.specs.Codec.{Codec};
-ghost use Rattle.etcs_schema.specs.Fault.{Returns};
+ghost use Rattle.etcs_schema.specs.Fault.{IfMemory, Returns};
 ghost use Rattle.etcs_run.specs.FormLines.{or_fault, parsed_record};
 ghost use Rattle.etcs_run.specs.TextLineMeaning.{Gives};
 
@@ -23,7 +24,10 @@ use std::marker::PhantomData;
 
 // The record whose form the JSON value is.
 fn record_of<T: Encoded, V: JsonTree>(alloc: Global, tree: &V) -> Result<T, Unwritten>
-    ensures { Gives (λ x. x) result (or_fault (T.form.of (V.value tree.now))) }
+    ensures gives { Gives (λ x. x) result (or_fault (T.form.of (V.value tree.now))) }
+
+    // Reading without allocation never runs out of memory.
+    ensures memory { result ≡ Err Unwritten.Memory → T.asks (V.value tree.now) }
 {
     match T::read_form(alloc, &tree) {
         Ok(record) => Ok(record),
@@ -74,12 +78,18 @@ pub trait Encoded: Drop {
     /// The form of the record.
     ghost form: { Codec Self };
 
+    /// Whether reading this value can allocate.
+    ghost asks: { Data → Type 0 };
+
     /// The line of the record's canonical text, or the reason why there is none, in words.
     ghost line: { Self → Result (List ℕ) (List ℕ) };
 
-    /// Reads the record's form from a JSON value.
+    /// Reads the record's form from a JSON value, as [`Form::read_json`] does.
     fn read_form<N: JsonValue>(alloc: Global, node: &N) -> Result<Self, FormError>
-        ensures { Returns (λ x. x) result (form.of (N.value node.now)) };
+        ensures gives { Returns (λ x. x) result (form.of (N.value node.now)) }
+
+        // Reading without allocation never runs out of memory.
+        ensures memory { IfMemory result (asks (N.value node.now)) };
 
     /// The record whose form the text is, if it is as `json_line` writes it. `None` is inconclusive.
     fn of_line(alloc: Global, room: &mut Vec<u8>, text: &[u8]) -> Option<Self>
@@ -99,9 +109,12 @@ pub trait Encoded: Drop {
 impl Encoded for Telegram {
     ghost use Rattle.etcs_json.specs.Telegrams.{telegram};
     ghost use Rattle.etcs_schema.specs.Codec.{object};
+    ghost use Rattle.etcs_schema.specs.Reading.{only_keys};
     ghost use Rattle.etcs_run.specs.FormLines.{telegram_line};
 
     ghost form = { object telegram };
+
+    ghost asks = { λ d. IsOk (only_keys telegram.members.keys d) };
 
     ghost line = { telegram_line };
 
@@ -125,9 +138,12 @@ impl Encoded for Telegram {
 // A message has no text if it has more than 1,023 bytes.
 impl Encoded for Message {
     ghost use Rattle.etcs_json.specs.AnyMessage.{message};
+    ghost use Rattle.etcs_schema.specs.Choices.{any_object};
     ghost use Rattle.etcs_run.specs.FormLines.{message_line};
 
     ghost form = { message };
+
+    ghost asks = { λ d. IsOk (any_object d) };
 
     ghost line = { message_line };
 

@@ -16,7 +16,7 @@ returns-in-Some-clause-gives g c = text_read g.T.Encoded.form c.args.line.now _ 
 -- the tree has the value of the line
 pub returns-in-Ok-read-clause-gives : goal.returns-in-Ok-read-clause-gives
 returns-in-Ok-read-clause-gives g c =
-    gives_same (λ x. x) _ _ _ c.record_of.ensures
+    gives_same (λ x. x) _ _ _ c.record_of.ensures.gives
     (text_read g.T.Encoded.form c.args.line.now _ _ _ c.in-Ok.ensures.cases.0 c.in-Ok.ensures.cases.1 c.in-Ok-read.ensures.ok c.root.ensures)
 
 -- the line is not JSON
