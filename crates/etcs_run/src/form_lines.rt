@@ -176,7 +176,7 @@ pub struct Encoding<T> {
 }
 
 impl<T> Encoding<T> {
-    /// The meaning of each line. It takes no memory yet.
+    /// The meaning of each line. Allocates nothing yet.
     pub fn new(alloc: Global) -> Encoding<T> {
         Encoding {
             scratch: Scratch::new(alloc),
