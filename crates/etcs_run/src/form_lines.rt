@@ -39,6 +39,7 @@ fn record_of<T: Encoded, V: JsonTree>(alloc: Global, tree: &V) -> Result<T, Unwr
 }
 
 // The record whose form the line is. `written` is the buffer of an earlier line.
+#[tactic(auto, using(etcs_document::proofs::DocumentLemmas::not_readable))]
 fn record_in_line<T: Encoded>(
     alloc: Global,
     scratch: &mut Scratch,
@@ -106,6 +107,7 @@ pub trait Encoded: Drop {
 }
 
 // A telegram has no text if it has more bits than its size.
+#[tactic(auto, using(crate::proofs::FormLemmas::telegram_without_text))]
 impl Encoded for Telegram {
     ghost use Rattle.etcs_json.specs.Telegrams.{telegram};
     ghost use Rattle.etcs_schema.specs.Codec.{object};
@@ -136,6 +138,7 @@ impl Encoded for Telegram {
 }
 
 // A message has no text if it has more than 1,023 bytes.
+#[tactic(auto, using(crate::proofs::FormLemmas::message_without_text))]
 impl Encoded for Message {
     ghost use Rattle.etcs_json.specs.AnyMessage.{message};
     ghost use Rattle.etcs_schema.specs.Choices.{any_object};

@@ -1,7 +1,6 @@
 use Rattle.std.proofs.Common.{Err, ◌∙◌, ap, refl, sym}
 use Rattle.serde_json.specs.Read.{read}
 use Rattle.etcs_run.specs.FormLines.{or_fault}
-use Rattle.etcs_document.proofs.DocumentLemmas.{not_readable}
 use Rattle.etcs_run.proofs.FormLemmas.{gives_same, no_record, text_read}
 use Rattle.etcs_run.proofs.form_lines.record_in_line.Goals as goal
 
@@ -24,13 +23,3 @@ pub returns-in-Err-NotJson-clause-gives : goal.returns-in-Err-NotJson-clause-giv
 returns-in-Err-NotJson-clause-gives g c =
     let none = c.in-Err-NotJson.ensures.not_json (ap Err c.in-Err-NotJson.field-0-is) in
     no_record g.T.Encoded.form c.args.line.now (λ _. ap read (sym c.in-Ok.ensures.cases.0) ∙ none)
-
--- a line that is read is UTF-8
-pub returns-in-Some-clause-unreadable : goal.returns-in-Some-clause-unreadable
-returns-in-Some-clause-unreadable g c = λ unreadable. absurd (not_readable _ unreadable c.in-Ok.ensures.cases.1)
-
-pub returns-in-Ok-read-clause-unreadable : goal.returns-in-Ok-read-clause-unreadable
-returns-in-Ok-read-clause-unreadable g c = λ unreadable. absurd (not_readable _ unreadable c.in-Ok.ensures.cases.1)
-
-pub returns-in-Err-Memory-clause-unreadable : goal.returns-in-Err-Memory-clause-unreadable
-returns-in-Err-Memory-clause-unreadable g c = λ unreadable. absurd (not_readable _ unreadable c.in-Ok.ensures.cases.1)
