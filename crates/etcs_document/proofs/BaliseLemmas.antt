@@ -44,9 +44,9 @@ only_ok : (path : List Step) (name : List ℕ) (e : Data) (es : List Data) → i
 unfolding only_values
 only_ok path name e es is = (part_ok (only_keys (name ∷ []) e) (λ _. required_member as_values name e) es (mapped_ok _ (only_values name e) es is)).2
 
-aspect_read : (g : ℕ) (first a : Option ℕ) (e : Data) (group : List Telegram) → group_aspect g first a e ≡ Ok group → IsReadOf g a e group
+aspect_read : (g : ℕ) (a first : Option ℕ) (e : Data) (group : List Telegram) → group_aspect g a first e ≡ Ok group → IsReadOf g a e group
 unfolding group_aspect
-aspect_read g first a e group is =
+aspect_read g a first e group is =
     let form = then_ok (in_form (group_path g a) (only_values (codes "balises") e)) (aspect_telegrams g a first) group is in
     (form.0, only_ok (group_path g a) (codes "balises") e form.0 form.1, (counted_read g a first form.0 group form.2).2)
 
@@ -58,17 +58,17 @@ aspect_among : (g a : ℕ) (ds : List Data) (aspects : List (List Telegram)) (gr
 unfolding listed_aspects
 aspect_among g a [] aspects group is h = absurd cc
 aspect_among g zero (d ∷ ds) aspects group is h =
-    let one = then_ok (group_aspect g None (Some 0) d) (λ first. with_first first (other_aspects g (length first) ds)) aspects is in
+    let one = then_ok (group_aspect g (Some 0) None d) (λ first. with_first first (other_aspects g (length first) ds)) aspects is in
     let rest = first_ok one.0 (other_aspects g (length one.0) ds) aspects one.2 in
     let here : At (one.0 ∷ rest.0) 0 group = subst (λ (l : List (List Telegram)). At l 0 group) (sym rest.2) h in
     let first : one.0 ≡ group = same_Some one.0 group here in
-    (Some 0, d, refl, aspect_read g None (Some 0) d group (one.1 ∙ ap Ok first))
+    (Some 0, d, refl, aspect_read g (Some 0) None d group (one.1 ∙ ap Ok first))
 aspect_among g (suc a) (d ∷ ds) aspects group is h =
-    let one = then_ok (group_aspect g None (Some 0) d) (λ first. with_first first (other_aspects g (length first) ds)) aspects is in
+    let one = then_ok (group_aspect g (Some 0) None d) (λ first. with_first first (other_aspects g (length first) ds)) aspects is in
     let rest = first_ok one.0 (other_aspects g (length one.0) ds) aspects one.2 in
     let later : At rest.0 a group = subst (λ (l : List (List Telegram)). At l (suc a) group) (sym rest.2) h in
-    let found = each_at (λ k. group_aspect g (Some (length one.0)) (Some k)) 1 ds rest.0 rest.1 a group later in
-    (Some (1 + a), found.0, found.1, aspect_read g (Some (length one.0)) (Some (1 + a)) found.0 group found.2)
+    let found = each_at (λ k. group_aspect g (Some k) (Some (length one.0))) 1 ds rest.0 rest.1 a group later in
+    (Some (1 + a), found.0, found.1, aspect_read g (Some (1 + a)) (Some (length one.0)) found.0 group found.2)
 
 -- ---- groups
 

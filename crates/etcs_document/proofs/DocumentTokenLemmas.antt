@@ -158,17 +158,17 @@ aspect_taken depth old begun mid after ts new deep begins named one ends = recor
   is = (one.is.0, balises_key one.found one.is.0 one.is.1, one.is.2);
 }
 
-aspect_reads : (d : Data) (ts : List Telegram) → IsAspect d ts → (g : ℕ) (first a : Option ℕ) → has_count first (length ts) ≡ true → group_aspect g first a d ≡ Ok ts
+aspect_reads : (d : Data) (ts : List Telegram) → IsAspect d ts → (g : ℕ) (a first : Option ℕ) → has_count first (length ts) ≡ true → group_aspect g a first d ≡ Ok ts
 unfolding group_aspect
-aspect_reads d ts is g first a has = ap (λ r. in_form (group_path g a) r then aspect_telegrams g a first) is.1 ∙ is.2 g a first has
+aspect_reads d ts is g a first has = ap (λ r. in_form (group_path g a) r then aspect_telegrams g a first) is.1 ∙ is.2 g a first has
 
-others_read : (g n i : ℕ) (ds : List Data) (xs : List (List Telegram)) → AreEach IsAspect ds xs → ((k : ℕ) (x : List Telegram) → At xs k x → length x ≡ n) → read_indexed (λ a. group_aspect g (Some n) (Some a)) i ds ≡ Ok xs
+others_read : (g n i : ℕ) (ds : List Data) (xs : List (List Telegram)) → AreEach IsAspect ds xs → ((k : ℕ) (x : List Telegram) → At xs k x → length x ≡ n) → read_indexed (λ a. group_aspect g (Some a) (Some n)) i ds ≡ Ok xs
 others_read g n i [] [] are counted = refl
 others_read g n i [] (x ∷ xs) are counted = absurd are
 others_read g n i (d ∷ ds) [] are counted = absurd are
 others_read g n i (d ∷ ds) (x ∷ xs) are counted =
     let has : has_count (Some n) (length x) ≡ true = eq-eqb (length x) n (counted 0 x refl) in
-    rw (aspect_reads d x are.0 g (Some n) (Some i) has, others_read g n (i + 1) ds xs are.1 (λ k y at. counted (suc k) y at)) refl
+    rw (aspect_reads d x are.0 g (Some i) (Some n) has, others_read g n (i + 1) ds xs are.1 (λ k y at. counted (suc k) y at)) refl
 
 aspects_read : (ds : List Data) (xs : List (List Telegram)) → AreEach IsAspect ds xs → IsControlled xs → (g : ℕ) → listed_aspects g ds ≡ Ok xs
 unfolding listed_aspects
@@ -176,7 +176,7 @@ aspects_read [] [] are is g = let some = is.some in absurd (omega arith)
 aspects_read [] (x ∷ xs) are is g = absurd are
 aspects_read (d ∷ ds) [] are is g = absurd are
 aspects_read (d ∷ ds) (x ∷ xs) are is g =
-    rw (aspect_reads d x are.0 g None (Some 0) refl, others_read g (length x) 1 ds xs are.1 (λ k y at. is.counts (suc k) y at)) refl
+    rw (aspect_reads d x are.0 g (Some 0) None refl, others_read g (length x) 1 ds xs are.1 (λ k y at. is.counts (suc k) y at)) refl
 
 -- ---- groups
 

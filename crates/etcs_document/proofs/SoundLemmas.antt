@@ -23,16 +23,16 @@ use Rattle.etcs_telegram.specs.Record.{Telegram}
 -- ---- groups
 
 -- an aspect after the first has as many balises as the first
-aspect_counted : (g n : ℕ) (a : Option ℕ) (d : Data) (group : List Telegram) → group_aspect g (Some n) a d ≡ Ok group → length group ≡ n
+aspect_counted : (g n : ℕ) (a : Option ℕ) (d : Data) (group : List Telegram) → group_aspect g a (Some n) d ≡ Ok group → length group ≡ n
 unfolding group_aspect
 aspect_counted g n a d group is =
     let form = then_ok (in_form (group_path g a) (only_values (codes "balises") d)) (aspect_telegrams g a (Some n)) group is in
     let read = counted_read g a (Some n) form.0 group form.2 in
     read_count (balise_telegram g a) 0 form.0 group read.2 ∙ eqb-true (length form.0) n read.1
 
-each_counted : (g n i : ℕ) (ds : List Data) (xs : List (List Telegram)) → read_indexed (λ a. group_aspect g (Some n) (Some a)) i ds ≡ Ok xs → (k : ℕ) (x : List Telegram) → At xs k x → length x ≡ n
+each_counted : (g n i : ℕ) (ds : List Data) (xs : List (List Telegram)) → read_indexed (λ a. group_aspect g (Some a) (Some n)) i ds ≡ Ok xs → (k : ℕ) (x : List Telegram) → At xs k x → length x ≡ n
 each_counted g n i ds xs is k x h =
-    let one = each_at (λ a. group_aspect g (Some n) (Some a)) i ds xs is k x h in aspect_counted g n (Some (i + k)) one.0 x one.2
+    let one = each_at (λ a. group_aspect g (Some a) (Some n)) i ds xs is k x h in aspect_counted g n (Some (i + k)) one.0 x one.2
 
 pub as_first : (first : List Telegram) (others : List (List Telegram)) → ((k : ℕ) (x : List Telegram) → At others k x → length x ≡ length first)
     → (k : ℕ) (x : List Telegram) → At (first ∷ others) k x → length x ≡ length first
@@ -57,7 +57,7 @@ few_balises g a first ds group is =
     let bounds = and_parts _ _ read.0 in
     rw (read_count (balise_telegram g a) 0 ds group read.2) (ltb-true 0 (length ds) bounds.0, leb-true (length ds) 8 bounds.1)
 
-first_balises : (g : ℕ) (a : Option ℕ) (d : Data) (group : List Telegram) → group_aspect g None a d ≡ Ok group → 0 < length group
+first_balises : (g : ℕ) (a : Option ℕ) (d : Data) (group : List Telegram) → group_aspect g a None d ≡ Ok group → 0 < length group
 unfolding group_aspect
 first_balises g a d group is =
     let form = then_ok (in_form (group_path g a) (only_values (codes "balises") d)) (aspect_telegrams g a None) group is in
@@ -81,7 +81,7 @@ pub list_controlled : (g : ℕ) (ds : List Data) (aspects : List (List Telegram)
 unfolding listed_aspects
 list_controlled g [] aspects is = absurd cc
 list_controlled g (d ∷ ds) aspects is =
-    let first = then_ok (group_aspect g None (Some 0) d) (λ f. with_first f (other_aspects g (length f) ds)) aspects is in
+    let first = then_ok (group_aspect g (Some 0) None d) (λ f. with_first f (other_aspects g (length f) ds)) aspects is in
     controlled_first g first.0 ds aspects (first_balises g (Some 0) d first.0 first.1) first.2
 
 or_controlled : (g : ℕ) (d : Data) (o : Option Data) (aspects : List (List Telegram)) → (if is_some o then controlled_group g d else only_aspect g d) ≡ Ok aspects → IsControlled aspects

@@ -75,8 +75,8 @@ abbrev pub has_count : Option ℕ → ℕ → Bool
 has_count None count = true
 has_count (Some first) count = count == first
 
--- The balises of group g, or of aspect a of that group: one to eight of them, and as many as the first
--- aspect has. Their number is checked before the balises.
+-- The balises of group g, or of aspect a of that group: one to eight of them, and in a later aspect as many as
+-- the first one has. Their number is checked before the balises.
 unfoldable pub aspect_telegrams : ℕ → Option ℕ → Option ℕ → List Data → Result Telegrams DocumentFault
 aspect_telegrams g a first ds =
     if nat_lt 0 (length ds) && nat_le (length ds) 8
@@ -86,18 +86,18 @@ aspect_telegrams g a first ds =
 
 -- group g, or aspect a of that group: first its form, then the number of its balises, and then each balise
 unfoldable pub group_aspect : ℕ → Option ℕ → Option ℕ → Data → Result Telegrams DocumentFault
-group_aspect g first a d =
+group_aspect g a first d =
     in_form (group_path g a) (only_values (codes "balises") d) then aspect_telegrams g a first
 
 -- the aspects after the first, which has `count` balises
 abbrev pub other_aspects : ℕ → ℕ → List Data → Result Aspects DocumentFault
-other_aspects g count ds = read_indexed (λ a. group_aspect g (Some count) (Some a)) 1 ds
+other_aspects g count ds = read_indexed (λ a. group_aspect g (Some a) (Some count)) 1 ds
 
 -- the aspects of group g, one or more
 unfoldable pub listed_aspects : ℕ → List Data → Result Aspects DocumentFault
 listed_aspects g [] = Err (bad_aspects g)
 listed_aspects g (d ∷ ds) =
-    group_aspect g None (Some 0) d then λ first. with_first first (other_aspects g (length first) ds)
+    group_aspect g (Some 0) None d then λ first. with_first first (other_aspects g (length first) ds)
 
 -- ---- groups
 
@@ -122,7 +122,7 @@ document_message m d =
 
 -- ---- the document
 
--- the JSON value of the bytes: UTF-8, one value, and at most 127 levels
+-- the JSON value of the bytes: UTF-8, one value, numbers in range, and at most 127 levels
 unfoldable pub json_value : List ℕ → Result Data DocumentFault
 json_value bytes = if is_utf8 bytes then ok_or (read bytes) no_json else Err no_json
 

@@ -54,11 +54,12 @@ fn read_document<T: JsonTree>(alloc: Global, tree: &T) -> Result<Line, LineError
 /// lineside unit switches is `{"aspects":[{"balises":["TEXT"]}]}`, with one item for each aspect.
 /// (The form is this project's.)
 ///
-/// The error is the first fault, depth first: `NotJson`; then the form of the document; then group by group
-/// its form, the number of its balises and each balise, or its list of aspects, aspect by aspect; and only
-/// then the messages. The number of balises of an aspect is compared with aspect 0 before its balises are
-/// read. The only other error is that memory ran out. A fault might then be unreported, except that the input is
-/// empty or not UTF-8. After an error nothing is returned of what was read.
+/// The error is the first fault, depth first: `NotJson`; then a value that is not an object, or has another key;
+/// then the list of groups, and group by group its form, the number of its balises and each balise, or its list
+/// of aspects, aspect by aspect; and only then the list of messages, even if it is missing, and each message. The
+/// number of balises of an aspect is compared with aspect 0 before its balises are read. The only other error is
+/// that memory ran out. A fault might then be unreported, except that the input is empty or not UTF-8. After an
+/// error nothing is returned of what was read.
 #[tactic(auto, unfolding(crate::specs::Document::line_of_text))]
 pub fn read_line(alloc: Global, bytes: &[u8]) -> Result<Line, LineError>
     ensures exact { Gives (λ l. (l.groups.items, l.messages.items)) result (line_of_text bytes.now) }

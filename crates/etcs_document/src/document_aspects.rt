@@ -35,8 +35,9 @@ fn read_telegram<N: JsonValue>(
     }
 }
 
-// Reads the balises of the group, or of an aspect of the group. Their number is checked first: it is
-// one to eight, and the number in the first aspect. The lists of packets are shrunk to fit, because all are kept.
+// Reads the balises of the group, or of an aspect of the group. Their number is checked first: it is one to
+// eight, and in a later aspect it is `first`, the number in the first aspect. The lists of packets are shrunk to
+// fit, because all are kept.
 #[tactic(auto, unfolding(crate::specs::Document::aspect_telegrams))]
 fn read_counted<N: JsonValue>(
     alloc: Global,
@@ -67,11 +68,11 @@ fn read_counted<N: JsonValue>(
 pub(crate) fn read_aspect<N: JsonValue>(
     alloc: Global,
     group: usize,
-    first: Option<usize>,
     aspect: Option<usize>,
+    first: Option<usize>,
     value: &N,
 ) -> Result<Group, LineError>
-    ensures { Gives (λ g. g) result (group_aspect group first aspect (N.value value.now)) }
+    ensures { Gives (λ g. g) result (group_aspect group aspect first (N.value value.now)) }
 {
     match only_values(alloc, value, "balises") {
         Ok(balises) => read_counted(alloc, group, aspect, first, &balises),

@@ -24,11 +24,11 @@ fn read_aspects<N: JsonValue>(
     let [first, others @ ..] = values else {
         return Err(LineError::Aspects(group));
     };
-    let first = read_aspect(alloc, group, None, Some(0), first)?;
+    let first = read_aspect(alloc, group, Some(0), None, first)?;
     let count = first.telegrams().len();
     let mut aspects = vec![in alloc; first]?;
     'aspects: for (index, value) in others.iter().enumerate() {
-        aspects.push(read_aspect(alloc, group, Some(count), Some(index + 1), value)?)?;
+        aspects.push(read_aspect(alloc, group, Some(index + 1), Some(count), value)?)?;
     }
     Ok(Controlled::new(aspects).unwrap())
 }

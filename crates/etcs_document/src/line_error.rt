@@ -20,7 +20,8 @@ pub enum LineError {
     /// Memory ran out. A fault might then be unreported. No other error contains this one.
     #[error("out of memory")]
     Memory,
-    /// The bytes are not UTF-8 or not JSON, have more than one value, or nest more than 127 levels.
+    /// The bytes are not UTF-8 or not JSON, have more than one value or a number out of range, or nest more than
+    /// 127 levels.
     #[error("not JSON")]
     NotJson,
     /// The value does not have the form of a line.

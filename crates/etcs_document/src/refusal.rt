@@ -15,9 +15,9 @@ use std::alloc::{AllocError, Global};
 /// Why a line of the input is refused.
 #[derive(Debug, Drop)]
 pub enum LineFault {
-    /// The line is not the text of a telegram. For a line of radio data, only: it is not hexadecimal.
+    /// The line is not the text of a telegram or, in a stream of radio messages, not hexadecimal.
     Text(TextError),
-    /// The line is not a JSON value.
+    /// The line is not one JSON value in UTF-8, has a number out of range, or nests more than 127 levels.
     Json,
     /// The JSON value is not the form of a telegram, or of a radio message if messages are encoded.
     Form(FormError),

@@ -204,7 +204,8 @@ impl<'a> TokenReader<'a> {
         true
     }
 
-    /// Reads a text of a list: the next string, if it has no escape.
+    /// Reads a text of a list: the next string, if none of its bytes needs an escape. Nothing is promised of any
+    /// other text.
     pub(crate) fn text(&mut self, kind: TextKind) -> Option<&'a [u8]>
         ensures { IfSome result (λ s. ArePlain s.now → self.old ≡ string_token s.now ∷ self.new) }
     {

@@ -1,6 +1,6 @@
 -- The words of a refusal are the words for what was read.
 use Rattle.std.proofs.Common.{◌≡◌, ◌≢◌, ◌↔◌, ◌++◌, ◌∙◌, ◌<◌, ◌≤◌, ℕ, Bool, true, false, List, codes, Some, None, Result, Ok, Err, refl, sym, ap, subst, if◌then◌else◌, nat_lt}
-use Rattle.std.specs.Prelude.{IsErrOf, IsUtf8}
+use Rattle.std.specs.Prelude.{IsErr, IsErrOf, IsUtf8}
 use Rattle.std.specs.Str.{is_utf8}
 use Rattle.std.proofs.lemmas.Bool.{le-ltb, lt-ltb, ltb-false, ltb-true}
 use Rattle.std.proofs.lemmas.Str.{IsUtf8-from_is_utf8, is_utf8-from_IsUtf8}
@@ -105,6 +105,15 @@ telegram_written t text line x is =
     ap (λ (b : Bool). text_unless b (telegram_text t)) fits
     ∙ ap (λ (s : List ℕ). Ok (s ++ codes "\n")) (sym (canonical_telegram t text x)) ∙ ap Ok (sym is)
 
+-- a result that has no text has the error
+only_too_big : (too_big : Bool) (text : List ℕ) → IsErr (text_unless too_big text) → too_big ≡ true
+only_too_big true text none = refl
+only_too_big false text none = none
+
+pub telegram_without_text : (t : Telegram) → IsErr (telegram_line t) → IsTooBig t
+unfolding telegram_line
+telegram_without_text t none = ltb-true (user_bits t.size) (used_bits t) (only_too_big (nat_lt (user_bits t.size) (used_bits t)) (telegram_text t) none)
+
 pub telegram_too_big : (t : Telegram) → IsTooBig t → telegram_line t ≡ Err (line_words TooBig)
 unfolding telegram_line
 telegram_too_big t big = ap (λ (b : Bool). text_unless b (telegram_text t)) (lt-ltb (user_bits t.size) (used_bits t) big)
@@ -127,6 +136,10 @@ message_written m text line x is =
     let fits : nat_lt 8184 (message_bits m) ≡ false = le-ltb 8184 (message_bits m) few in
     ap (λ (b : Bool). text_unless b (message_text m)) fits
     ∙ ap (λ (s : List ℕ). Ok (s ++ codes "\n")) (sym (canonical_message m text x)) ∙ ap Ok (sym is)
+
+pub message_without_text : (m : Message) → IsErr (message_line m) → IsMessageTooBig m
+unfolding message_line
+message_without_text m none = ltb-true 8184 (message_bits m) (only_too_big (nat_lt 8184 (message_bits m)) (message_text m) none)
 
 pub message_too_big : (m : Message) → IsMessageTooBig m → message_line m ≡ Err (line_words TooBig)
 unfolding message_line

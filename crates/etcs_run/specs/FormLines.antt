@@ -27,7 +27,7 @@ abbrev pub or_no_json : Option Data → Result Data (List ℕ)
 or_no_json (Some d) = Ok d
 or_no_json None = Err (line_words Json)
 
--- the JSON value of the bytes: exactly one, in UTF-8
+-- the JSON value of the bytes: exactly one, in UTF-8, with numbers in range and at most 127 levels
 unfoldable pub parsed_value : List ℕ → Result Data (List ℕ)
 parsed_value bytes = if is_utf8 bytes then or_no_json (read bytes) else Err (line_words Json)
 

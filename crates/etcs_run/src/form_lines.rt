@@ -2,10 +2,12 @@
 //! hexadecimal text. A line that `decode` writes is parsed in one pass, and any other line as a JSON value. The trait
 //! `Encoded`: a record that is read from a line and has a text.
 
-ghost use Rattle.std.specs.Prelude.{◌≡◌, ◌++◌, ℕ, List, Result, codes, IfOk, IfSome};
+ghost use Rattle.std.specs.Prelude.{◌≡◌, ◌++◌, ℕ, false, List, Result, Err, codes, IfOk, IfSome, IsErr, IsOk};
+ghost use Rattle.std.specs.Str.{is_utf8};
+ghost use Rattle.serde_json.specs.Data.{Data};
 ghost use Rattle.etcs_json.specs.JsonLine.{IsReadAs};
 ghost use Rattle.etcs_schema.specs.Codec.{Codec};
-ghost use Rattle.etcs_schema.specs.Fault.{Returns};
+ghost use Rattle.etcs_schema.specs.Fault.{IfMemory, Returns};
 ghost use Rattle.etcs_run.specs.FormLines.{or_fault, parsed_record};
 ghost use Rattle.etcs_run.specs.TextLineMeaning.{Gives};
 
@@ -22,7 +24,10 @@ use std::marker::PhantomData;
 
 // The record whose form the JSON value is.
 fn record_of<T: Encoded, V: JsonTree>(alloc: Global, tree: &V) -> Result<T, Unwritten>
-    ensures { Gives (λ x. x) result (or_fault (T.form.of (V.value tree.now))) }
+    ensures gives { Gives (λ x. x) result (or_fault (T.form.of (V.value tree.now))) }
+
+    // Reading without allocation never runs out of memory.
+    ensures memory { result ≡ Err Unwritten.Memory → T.asks (V.value tree.now) }
 {
     match T::read_form(alloc, &tree) {
         Ok(record) => Ok(record),
@@ -34,13 +39,17 @@ fn record_of<T: Encoded, V: JsonTree>(alloc: Global, tree: &V) -> Result<T, Unwr
 }
 
 // The record whose form the line is. `written` is the buffer of an earlier line.
+#[tactic(auto, using(etcs_document::proofs::DocumentLemmas::not_readable))]
 fn record_in_line<T: Encoded>(
     alloc: Global,
     scratch: &mut Scratch,
     written: &mut Vec<u8>,
     line: &[u8],
 ) -> Result<T, Unwritten>
-    ensures { Gives (λ x. x) result (parsed_record T.form line.now) }
+    ensures gives { Gives (λ x. x) result (parsed_record T.form line.now) }
+
+    // This is always reported: it needs no memory.
+    ensures unreadable { is_utf8 line.now ≡ false → result ≡ Err (Unwritten.Refused LineFault.Json) }
 {
     let Ok(text) = str::from_utf8(line) else {
         return Err(Unwritten::Refused(LineFault::Json));
@@ -70,29 +79,44 @@ pub trait Encoded: Drop {
     /// The form of the record.
     ghost form: { Codec Self };
 
+    /// Whether reading this value can allocate.
+    ghost asks: { Data → Type 0 };
+
     /// The line of the record's canonical text, or the reason why there is none, in words.
     ghost line: { Self → Result (List ℕ) (List ℕ) };
 
-    /// Reads the record's form from a JSON value.
+    /// Reads the record's form from a JSON value, as [`Form::read_json`] does.
     fn read_form<N: JsonValue>(alloc: Global, node: &N) -> Result<Self, FormError>
-        ensures { Returns (λ x. x) result (form.of (N.value node.now)) };
+        ensures gives { Returns (λ x. x) result (form.of (N.value node.now)) }
+
+        // Reading without allocation never runs out of memory.
+        ensures memory { IfMemory result (asks (N.value node.now)) };
 
     /// The record whose form the text is, if it is as `json_line` writes it. `None` is inconclusive.
     fn of_line(alloc: Global, room: &mut Vec<u8>, text: &[u8]) -> Option<Self>
         ensures { IfSome result (λ x. IsReadAs form text.now x) };
 
     /// The record's text as a line. `room` is the buffer of an earlier line.
+    ///
+    /// `Memory`: an allocation failed. Otherwise the record is too big to have a text.
     fn text_line(&self, alloc: Global, room: Vec<u8>) -> Result<Vec<u8>, Unwritten>
-        ensures { Gives (λ bytes. bytes.items) result (line self.now) };
+        ensures gives { Gives (λ bytes. bytes.items) result (line self.now) }
+
+        // A record without a text is always reported: it needs no memory.
+        ensures too_big { IsErr (line self.now) → result ≡ Err (Unwritten.Refused LineFault.TooBig) };
 }
 
 // A telegram has no text if it has more bits than its size.
+#[tactic(auto, using(crate::proofs::FormLemmas::telegram_without_text))]
 impl Encoded for Telegram {
     ghost use Rattle.etcs_json.specs.Telegrams.{telegram};
     ghost use Rattle.etcs_schema.specs.Codec.{object};
+    ghost use Rattle.etcs_schema.specs.Reading.{only_keys};
     ghost use Rattle.etcs_run.specs.FormLines.{telegram_line};
 
     ghost form = { object telegram };
+
+    ghost asks = { λ d. IsOk (only_keys telegram.members.keys d) };
 
     ghost line = { telegram_line };
 
@@ -114,11 +138,15 @@ impl Encoded for Telegram {
 }
 
 // A message has no text if it has more than 1,023 bytes.
+#[tactic(auto, using(crate::proofs::FormLemmas::message_without_text))]
 impl Encoded for Message {
     ghost use Rattle.etcs_json.specs.AnyMessage.{message};
+    ghost use Rattle.etcs_schema.specs.Choices.{any_object};
     ghost use Rattle.etcs_run.specs.FormLines.{message_line};
 
     ghost form = { message };
+
+    ghost asks = { λ d. IsOk (any_object d) };
 
     ghost line = { message_line };
 
@@ -151,7 +179,7 @@ pub struct Encoding<T> {
 }
 
 impl<T> Encoding<T> {
-    /// The meaning of each line. It takes no memory yet.
+    /// The meaning of each line. Allocates nothing yet.
     pub fn new(alloc: Global) -> Encoding<T> {
         Encoding {
             scratch: Scratch::new(alloc),
@@ -167,7 +195,14 @@ impl<T: Encoded> TextLineMeaning for Encoding<T> {
 
     ghost meaning = { encoded T.form T.line };
 
-    fn text(&mut self, alloc: Global, room: Vec<u8>, line: &[u8]) -> Result<Vec<u8>, Unwritten> {
+    /// The text of the record whose form the line is. `room` is the buffer of an earlier line.
+    ///
+    /// `Memory`: an allocation failed. Otherwise the line is refused for the first reason. A line that is not
+    /// UTF-8 is always reported: it needs no memory.
+    fn text(&mut self, alloc: Global, room: Vec<u8>, line: &[u8]) -> Result<Vec<u8>, Unwritten>
+        ensures means { Gives (λ text. text.items) result (encoded T.form T.line line.now) }
+        ensures unreadable { is_utf8 line.now ≡ false → result ≡ Err (Unwritten.Refused LineFault.Json) }
+    {
         let record: T = record_in_line(alloc, &mut self.scratch, &mut self.written, line)?;
         record.text_line(alloc, room)
     }
