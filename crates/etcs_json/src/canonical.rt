@@ -1,6 +1,6 @@
 //! `Scanner` and `FromCanonical`: a parser of the lines that `json_line` writes, without blanks and escapes, with the
-//! keys in byte order. Its caller writes the record again and compares the bytes. So it needs no contract, and skips
-//! each bracket, comma, colon and quotation mark unseen.
+//! keys in byte order. Its caller writes the record again and compares the bytes. So it needs no contract, and passes
+//! most brackets, commas, colons and quotation marks without looking at them.
 
 mod authority;
 mod messages;
@@ -18,7 +18,8 @@ pub(crate) struct Scanner<'a> {
     pub(crate) rest: &'a [u8],
 }
 
-/// A value that is parsed at the beginning of the rest of a line. `None` if there is none, or memory ran out.
+/// A value that is parsed at the beginning of the rest of a line. `None`: it is not there, or memory ran out. `Some`
+/// can be wrong if the line is not as `json_line` writes it.
 pub(crate) trait FromCanonical: Drop {
     /// Parses the value.
     fn parse(line: &mut Scanner<'_>) -> Option<Self>;
@@ -56,7 +57,7 @@ impl<'a> Scanner<'a> {
         Some(())
     }
 
-    /// Passes a key, with the two marks in front of it and the two behind it.
+    /// Passes a key, with the two marks in front of it and the two behind it. `None` changes nothing.
     #[inline(always)]
     fn key(&mut self, name: &str) -> Option<()> {
         match self.rest.get(2..)?.strip_prefix(name.as_bytes())? {
@@ -74,7 +75,7 @@ impl<'a> Scanner<'a> {
         T::parse_member(self, name)
     }
 
-    /// Parses a number. One that is too long is parsed as another one.
+    /// Parses a number. One above 2^64 - 1 wraps round, and one without digits is 0: the comparison refuses both.
     #[inline(always)]
     fn number(&mut self) -> Option<u32> {
         let mut number: u64 = 0;

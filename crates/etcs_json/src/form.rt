@@ -26,8 +26,8 @@ pub trait Form: Drop {
     /// Whether making the form can allocate. By default it never does, as for a number.
     ghost builds: { Type 0 } = { ⊥ };
 
-    /// Whether reading this value can allocate. A fault of the value itself has an empty path and needs no
-    /// memory: any fault of a number, a value that is not an object, an object with an unknown key.
+    /// Whether reading this value can allocate. These faults need no memory: any fault of a number, a value that
+    /// is not an object, and in a record an object with an unknown key.
     ghost asks: { Data → Type 0 } = { λ _. ⊥ };
 
     /// The form as a JSON value, which is read as this value again if the value is in range. Fails only if
@@ -66,7 +66,7 @@ pub trait WriteJson: Form {
     fn write_json<M: TokenWriter>(&self, out: &mut M) -> Result<(), Memory>
         ensures { OnOk result (M.adds (data_tokens (Self.codec.to self.now)) out.old out.new) };
 
-    /// Writes a member: a key, and the form as its value.
+    /// Writes a member: a key, and the form as its value. Fails only if memory runs out; part might then be written.
     fn write_json_member<M: TokenWriter>(&self, name: &str, out: &mut M) -> Result<(), Memory>
         ensures { OnOk result (M.adds
             (entries_tokens ((name.now, Some (Self.codec.to self.now)) ∷ [])) out.old out.new) };

@@ -1,5 +1,5 @@
-//! Members of an object as one value: nested pairs. One call writes or reads a chain of members, and its
-//! proof is the proof for a pair.
+//! Members of an object as one value: nested pairs. A chain of members is written or read by one call, and only a
+//! pair needs a proof.
 
 ghost use Rattle.std.specs.Prelude.{◌≡◌, ◌∷◌, ◌++◌, [], List, Some, Result, OnOk};
 ghost use Rattle.serde_json.specs.Data.{Data, array};
@@ -26,7 +26,7 @@ pub(crate) trait WriteMembers {
     /// The members.
     ghost entries: { Self → List Entry };
 
-    /// Writes them one after the other. Fails only if memory runs out.
+    /// Writes them one after the other. Fails only if memory runs out; part might then be written.
     fn write<M: TokenWriter>(&self, out: &mut M) -> Result<(), Memory>
         ensures { OnOk result (AddsMembers M.adds (entries self.now) out.old out.new) };
 

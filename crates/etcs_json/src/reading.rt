@@ -1,11 +1,12 @@
-//! Functions that read the parts of a form, such as `read_list`, and the trait `Numbers`, variables that are read as
-//! whole numbers.
+//! Functions that read the parts of a form, such as `read_list`, and the trait `AllowedNumbers`: which numbers a
+//! variable may have.
 
-ghost use Rattle.std.specs.Prelude.{◌≡◌, ◌==◌, ℕ, Bool, true, IfOk, IsOk};
+ghost use Rattle.std.specs.Prelude.{◌≡◌, ℕ, Bool, true, IfOk, IsErr, IsOk};
 ghost use Rattle.etcs_schema.specs.Choices.{any_object, tag_member};
-ghost use Rattle.etcs_schema.specs.Fault.{Returns, IfMemory, IsPrefixedResult, key};
-ghost use Rattle.etcs_schema.specs.Reading.{required_member, optional_member, indexed_items, bounded_list, any_member, absent_member, allowed_number};
-ghost use Rattle.etcs_schema.specs.Codec.{first_and_others, fixed};
+ghost use Rattle.etcs_schema.specs.Fault.{Returns, IfMemory};
+ghost use Rattle.etcs_schema.specs.Lists.{IsBoundedList};
+ghost use Rattle.etcs_schema.specs.Reading.{required_member, indexed_items, bounded_list, allowed_number};
+ghost use Rattle.etcs_schema.specs.Codec.{first_and_others};
 
 use crate::Form;
 use crate::members::ReadMembers;
@@ -49,14 +50,15 @@ pub(crate) fn read_items<T: Form, N: JsonValue>(
     Ok(found)
 }
 
-/// Reads a list of `low` to `high` items. The count is checked before the items.
+/// Reads a list of `low` to `high` items. The count is checked before the items, and refusing it allocates nothing.
 pub(crate) fn read_list<T: Form, N: JsonValue>(
     alloc: Global,
     node: &N,
     low: usize,
     high: usize,
 ) -> Result<Vec<T>, FormError>
-    ensures { Returns (λ v. v.items) result (bounded_list T.codec.of low high (N.value node.now)) }
+    ensures gives { Returns (λ v. v.items) result (bounded_list T.codec.of low high (N.value node.now)) }
+    ensures memory { IfMemory result (IsBoundedList low high (N.value node.now)) }
 {
     match node.has_between(low, high) {
         None => Err(FormError::kind(alloc)),
@@ -79,8 +81,9 @@ pub(crate) fn read_non_empty<T: Form, N: JsonValue>(
     node: &N,
     high: usize,
 ) -> Result<(T, Vec<T>), FormError>
-    ensures { Returns (λ p. (p.0, p.1.items)) result
+    ensures gives { Returns (λ p. (p.0, p.1.items)) result
         (first_and_others T.codec.of high (N.value node.now)) }
+    ensures memory { IfMemory result (IsBoundedList 1 high (N.value node.now)) }
 {
     let mut items = read_list(alloc, node, 1, high)?;
     if items.is_empty() {
@@ -91,7 +94,7 @@ pub(crate) fn read_non_empty<T: Form, N: JsonValue>(
 }
 
 /// A type that allows some numbers of a variable.
-pub(crate) trait Numbers {
+pub(crate) trait AllowedNumbers {
     /// Whether a number is allowed.
     ghost test: { ℕ → Bool };
 
@@ -102,8 +105,9 @@ pub(crate) trait Numbers {
 
 // Reads an allowed number.
 #[tactic(auto, unfolding(etcs_schema::specs::Reading::allowed_number))]
-fn read_allowed<T: Numbers, N: JsonValue>(alloc: Global, node: &N) -> Result<u64, FormError>
+fn read_allowed<T: AllowedNumbers, N: JsonValue>(alloc: Global, node: &N) -> Result<u64, FormError>
     ensures gives { Returns (λ n. n) result (allowed_number T.test (N.value node.now)) }
+    ensures memory { IfMemory result ⊥ }
     ensures has { IfOk result (λ n. T.test n ≡ true) }
 {
     match node.number() {
@@ -115,12 +119,13 @@ fn read_allowed<T: Numbers, N: JsonValue>(alloc: Global, node: &N) -> Result<u64
 
 /// Reads a required member that must be an allowed number.
 #[tactic(auto, using(etcs_schema::proofs::Objects::member_read, etcs_schema::proofs::Objects::under_keeps))]
-pub(crate) fn read_number<T: Numbers, N: JsonValue>(
+pub(crate) fn read_number<T: AllowedNumbers, N: JsonValue>(
     alloc: Global,
     node: &N,
     name: &'static str,
 ) -> Result<u64, FormError>
     ensures gives { Returns (λ n. n) result (required_member (allowed_number T.test) name.now (N.value node.now)) }
+    ensures memory { IfMemory result (IsErr (required_member (allowed_number T.test) name.now (N.value node.now))) }
     ensures has { IfOk result (λ n. T.test n ≡ true) }
 {
     let found = member(alloc, node, name)?;

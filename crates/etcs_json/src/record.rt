@@ -31,7 +31,8 @@ pub trait Record: Drop {
 
 /// A record whose rows can be proved to be allowed, if it is bounded.
 pub(crate) trait InRange: Record {
-    /// Lemma without code: the rows are allowed, and the text of the form is read as the form.
+    /// Only for the proof: the rows are allowed if the record is bounded, and the text of the form is read as the
+    /// form.
     fn prove_in_range(&self)
         ensures rows { Self.bounded self.now → AreAllowed (Self.object.rows self.now) }
         ensures text { IsReadBack max_depth ((object_codec Self.object).to self.now) };
@@ -53,7 +54,7 @@ impl<T: LayoutRecord> InRange for T {
 
 /// A record whose members can be written and read.
 pub(crate) trait ObjectCodec: InRange {
-    /// Writes the members in the byte order of their keys.
+    /// Writes the members in the byte order of their keys. Fails only if memory runs out; part might then be written.
     fn write_members<M: TokenWriter>(&self, out: &mut M) -> Result<(), Memory>
         ensures { OnOk result (AddsMembers M.adds
             (sorted (Self.object.members.to self.now)) out.old out.new) };
@@ -65,7 +66,7 @@ pub(crate) trait ObjectCodec: InRange {
             (IsOk (only_keys Self.object.members.keys (N.value node.now))) };
 }
 
-/// Lemma without code: each number of a record is allowed, if the record's type ensures it.
+/// Only for the proof: each number of a record is allowed, if the record's type ensures it.
 pub(crate) fn prove_allowed<T: Layout>(value: &T)
     ensures { T.fit value.now → AreAllowed (T.format.rows value.now) }
 {
@@ -79,7 +80,7 @@ pub(crate) fn prove_text<T: Record>(value: &T)
     ensures { IsReadBack max_depth ((object_codec T.object).to value.now) }
 {}
 
-/// Lemma without code: each number of these records is allowed, if their type ensures it.
+/// Only for the proof: each number of these records is allowed, if their type ensures it.
 #[tactic(auto, using(crate::proofs::FitLemmas::each_fits))]
 pub(crate) fn prove_all_allowed<T: Layout>(items: &[T])
     requires { (x : T) → T.fit x }
@@ -89,7 +90,7 @@ pub(crate) fn prove_all_allowed<T: Layout>(items: &[T])
 }
 
 /// Refuses a value that is not an object, and an object with a key that the record does not have. Refusing
-/// allocates nothing. The keys are in byte order, as in most objects.
+/// allocates nothing. The keys are given in byte order.
 #[tactic(auto, using(etcs_schema::proofs::Keys::sorted_gives))]
 pub(crate) fn check_record<T: Record, N: JsonValue>(
     alloc: Global,
@@ -114,12 +115,13 @@ pub(crate) trait ObjectForm: Drop {
     /// Whether reading can allocate.
     ghost asks: { Data → Type 0 } = { λ d. IsOk (any_object d) };
 
-    /// Lemma without code: the rows are allowed, and the text of the form is read as the form.
+    /// Only for the proof: the rows are allowed if the value is in range, and the text of the form is read as the
+    /// form.
     fn prove_read_back(&self)
         ensures rows { in_range self.now → AreAllowed (form.rows self.now) }
         ensures text { IsReadBack max_depth (form.to self.now) };
 
-    /// Writes the form. Fails only if memory runs out.
+    /// Writes the form. Fails only if memory runs out; part might then be written.
     fn write_object<M: TokenWriter>(&self, out: &mut M) -> Result<(), Memory>
         ensures { OnOk result (M.adds (data_tokens (form.to self.now)) out.old out.new) };
 

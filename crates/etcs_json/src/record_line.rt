@@ -1,6 +1,6 @@
 //! A record as a line of JSON, and such a line as the record.
 
-ghost use Rattle.std.specs.Prelude.{◌≡◌, ◌++◌, codes, IfOk, IfSome, IsTrue};
+ghost use Rattle.std.specs.Prelude.{◌≡◌, ◌++◌, ◌↔◌, codes, IfOk, IfSome, IsTrue};
 ghost use Rattle.etcs_json.specs.AnyMessage.{message};
 ghost use Rattle.etcs_json.specs.JsonLine.{IsReadAs, json_line_text};
 ghost use Rattle.etcs_json.specs.Telegrams.{telegram};
@@ -29,7 +29,7 @@ pub fn json_line<T: WriteJson>(room: Vec<u8>, value: &T) -> Result<Vec<u8>, Memo
 
 // Whether these bytes are the line with its `\n`.
 fn is_line(written: &[u8], line: &[u8]) -> bool
-    ensures { IsTrue result → written.now ≡ line.now ++ codes "\n" }
+    ensures { IsTrue result ↔ (written.now ≡ line.now ++ codes "\n") }
 {
     match written.strip_suffix(b"\n") {
         Some(text) => text == line,
@@ -37,8 +37,8 @@ fn is_line(written: &[u8], line: &[u8]) -> bool
     }
 }
 
-// The record for which `json_line` writes this line. Nothing is known of what the parser returns: so it is
-// written again, and compared.
+// The record for which `json_line` writes this line. No contract says what the parser returns, so the record is
+// written again and compared with the line. `None` is inconclusive.
 fn written_as<T: WriteJson + FromCanonical>(
     alloc: Global,
     room: &mut Vec<u8>,
@@ -57,16 +57,18 @@ fn written_as<T: WriteJson + FromCanonical>(
 /// `\n`. `None` is inconclusive: the line may be another spelling of a form, or no form, or memory ran out. The
 /// content of `room` is lost.
 pub fn telegram_of_line(alloc: Global, room: &mut Vec<u8>, line: &[u8]) -> Option<Telegram>
-    ensures { IfSome result (λ t. IsReadAs (object telegram) line.now t) }
+    ensures line { IfSome result (λ t. json_line_text (object telegram) t ≡ line.now ++ codes "\n") }
+    ensures read { IfSome result (λ t. IsReadAs (object telegram) line.now t) }
 {
     let record: Telegram = written_as(alloc, room, line)?;
     record.prove_in_range();
     Some(record)
 }
 
-/// The radio message whose form the line is, as [`telegram_of_line`] finds a telegram.
+/// The radio message whose form the line is, under the conditions of [`telegram_of_line`].
 pub fn message_of_line(alloc: Global, room: &mut Vec<u8>, line: &[u8]) -> Option<Message>
-    ensures { IfSome result (λ m. IsReadAs message line.now m) }
+    ensures line { IfSome result (λ m. json_line_text message m ≡ line.now ++ codes "\n") }
+    ensures read { IfSome result (λ m. IsReadAs message line.now m) }
 {
     let record: Message = written_as(alloc, room, line)?;
     prove_message_allowed(&record);

@@ -1,13 +1,13 @@
 -- Faults as the code finds them.
-use Rattle.std.proofs.Common.{◌≡◌, ◌∙◌, ℕ, Bool, List, Option, Some, None, Result, Ok, Err, IfOk, IfSome, IsErrAnd, option_map, ap, sym, refl, subst}
-use Rattle.std.specs.Prelude.{if◌then◌else◌}
+use Rattle.std.proofs.Common.{◌≡◌, ◌∙◌, ℕ, Bool, List, Option, Some, None, Result, Ok, Err, IfOk, IfSome, IsErrAnd, option_map, ap, sym, refl, subst, arith}
+use Rattle.std.specs.Prelude.{IsErr, if◌then◌else◌}
 use Rattle.serde_json.specs.Data.{Data}
 use Rattle.serde_json.specs.Find.{as_object, get}
 use Rattle.etcs_bits.specs.layout.Rows.{AreAllowed}
 use Rattle.etcs_schema.specs.Codec.{Codec}
 use Rattle.etcs_schema.specs.Entries.{are_known}
 use Rattle.etcs_schema.specs.Choices.{any_object, object_or}
-use Rattle.etcs_schema.specs.Fault.{Fault, ReturnsError, Returns, IsPrefixedFault, IsPrefixedError, IsFault, IsPrefixedResult, Kind, Step, Unknown, error_fault, here, key, prefixed_result}
+use Rattle.etcs_schema.specs.Fault.{Fault, IfMemory, OfMemory, ReturnsError, Returns, IsPrefixedFault, IsPrefixedError, IsFault, IsPrefixedResult, Kind, Step, Unknown, error_fault, here, key, prefixed_result}
 use Rattle.etcs_schema.specs.Reading.{◌>>=◌, required_member, key_or, known_or, any_member, only_keys}
 use Rattle.etcs_schema.specs.declared.error.FormError.{FormError}
 
@@ -132,3 +132,34 @@ pub under_keeps : {X : Type 0} (P : X → Type 0) (step : Step) (inner outer : R
 under_keeps P step (Ok x) outer holds is = subst (λ o. IfOk o P) (sym is) holds
 under_keeps P step (Err inner) (Ok x) holds is = absurd is
 under_keeps P step (Err inner) (Err outer) holds is = tt
+
+-- ---- when memory is needed
+
+memory_as : (e : FormError) (P Q : Type 0) → (P → Q) → OfMemory e P → OfMemory e Q
+memory_as e P Q to holds = grind arith
+
+pub memory_holds : {X : Type 0} (result : Result X FormError) (P : Type 0) → P → IfMemory result P
+memory_holds result P holds = grind arith
+
+-- only to report a missing member with its key
+pub memory_missing : {X Y : Type 0} (result : Result X FormError) (e : FormError) (read : Data → Result Y Fault) (name : List ℕ) (d : Data)
+    → IsErrAnd result (λ y. y ≡ e) → OfMemory e (get name d ≡ None) → IfMemory result (IsErr (required_member read name d))
+unfolding required_member
+memory_missing (Ok x) e read name d passed none = absurd passed
+memory_missing (Err y) e read name d passed none = rw passed (memory_as e _ _ (λ is. rw is refl) none)
+
+refused : {X Y : Type 0} (view : X → Y) (step : Step) (inner outer : Result X FormError) (r : Result Y Fault) → Returns view inner r → IfMemory inner ⊥ → IsPrefixedResult step inner outer → IfMemory outer (IsErr (prefixed_result step r))
+refused view step (Ok x) outer r gives none is = rw is tt
+refused view step (Err inner) outer (Ok y) gives none is = grind arith
+refused view step (Err inner) outer (Err f) gives none is = memory_holds outer _ refl
+
+-- or one that is refused
+pub memory_under : {X Y : Type 0} (view : X → Y) (inner outer : Result X FormError) (read : Data → Result Y Fault) (name : List ℕ) (d found : Data)
+    → any_member name d ≡ Ok found → Returns view inner (read found) → IfMemory inner ⊥ → IsPrefixedResult (key name) inner outer → IfMemory outer (IsErr (required_member read name d))
+unfolding required_member
+memory_under view inner outer read name d found is gives none around = rw (found_at read name (get name d) found is) (refused view (key name) inner outer (read found) gives none around)
+
+-- a member that is only checked
+pub memory_checked : {Y : Type 0} (result : Result (Unit {0}) FormError) (r : Result Y Fault) → IfMemory result (IsErr r) → IfMemory result (IsErr (r >>= λ _. Ok (tt {0})))
+memory_checked result (Ok y) holds = holds
+memory_checked result (Err f) holds = holds

@@ -1,9 +1,9 @@
 -- Lists of any length, and records with a condition that is checked after they are read.
-use Rattle.std.specs.Prelude.{◌≡◌, ◌++◌, suc, Bool, true, false, List, Option, Some, None, Result, Ok, Err}
+use Rattle.std.specs.Prelude.{◌≡◌, ◌++◌, ℕ, suc, Bool, true, false, List, Option, Some, None, Result, Ok, Err, option_map}
 use Rattle.etcs_schema.specs.Prelude.{flat_map, Data, Items, array, as_array, AreAllowed, Row, alone}
 use Rattle.etcs_bits.specs.declared.layout.fault.FaultKind.TheVariants.{Spare}
 use Rattle.etcs_schema.specs.Fault.{Fault, Kind, here}
-use Rattle.etcs_schema.specs.Reading.{data_list, indexed_items}
+use Rattle.etcs_schema.specs.Reading.{data_list, has_bounded_length, indexed_items}
 use Rattle.etcs_schema.specs.Codec.{MemberCodec, Codec, items_again, list_back, encoded_items, with_bits, tested}
 
 -- ---- lists
@@ -11,6 +11,10 @@ use Rattle.etcs_schema.specs.Codec.{MemberCodec, Codec, items_again, list_back, 
 abbrev pub items_or : {A : Type 0} → (Data → Result A Fault) → Option Items → Result (List A) Fault
 items_or read None = Err (here Kind)
 items_or read (Some ds) = indexed_items read 0 (data_list ds)
+
+-- a list of `low` to `high` items
+abbrev pub IsBoundedList : ℕ → ℕ → Data → Type 0
+IsBoundedList low high d = option_map (λ ds. has_bounded_length low high (data_list ds)) (as_array d) ≡ Some true
 
 -- the items of a list, in their order
 unfoldable pub unbounded_list : {A : Type 0} → (Data → Result A Fault) → Data → Result (List A) Fault

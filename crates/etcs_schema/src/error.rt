@@ -27,15 +27,17 @@ pub enum FormError {
     /// The object lacks a key.
     #[error("form missing key at {path}", path = Path(.0.as_slice()))]
     Missing(Vec<Step>),
-    /// The object has a key that its form does not have.
+    /// The object has a key that its form does not have. The path leads to the object.
     #[error("form unknown key at {path}", path = Path(.0.as_slice()))]
     Unknown(Vec<Step>),
     /// The value is of the wrong kind, such as a text for a number. A number with a sign, a point or an
-    /// exponent, and a number above 2^64 - 1, are of the wrong kind for a variable.
+    /// exponent, and a number above 2^64 - 1, are of the wrong kind for a variable. A body that is not hexadecimal
+    /// is of the wrong kind too.
     #[error("form kind at {path}", path = Path(.0.as_slice()))]
     Kind(Vec<Step>),
-    /// The value is of the right kind, but not allowed: a number that its variable does not have, or a list
-    /// with too many items.
+    /// The value is of the right kind, but not allowed: a number that its variable does not have, a list with too
+    /// few or too many items, a body of another length or with pad bits set, a packet that is too long, a message
+    /// without the packet that it must contain, or a key that must be absent.
     #[error("form range at {path}", path = Path(.0.as_slice()))]
     Range(Vec<Step>),
 }
@@ -117,14 +119,14 @@ impl FormError {
         FormError::Unknown(Vec::new(alloc))
     }
 
-    /// The value is an object that lacks this key.
+    /// The value is an object that lacks this key. `Memory` if the path does not fit in memory.
     pub fn missing(alloc: Global, name: &'static str) -> FormError
         ensures { IsFault result (at_once Missing (key name.now)) }
     {
         FormError::Missing(Vec::new(alloc)).under(Step::Key(name))
     }
 
-    /// The value at this key is not allowed.
+    /// The value at this key is not allowed. `Memory` if the path does not fit in memory.
     pub fn range_at(alloc: Global, name: &'static str) -> FormError
         ensures { IsFault result (at_once Range (key name.now)) }
     {
@@ -145,7 +147,8 @@ impl FormError {
         }
     }
 
-    /// The same fault with this step in front of its path, as the enclosing value reports it.
+    /// The same fault with this step in front of its path, as the enclosing value reports it. `Memory` if the path
+    /// does not fit in memory.
     pub fn under(self, step: Step) -> FormError
         ensures { IsPrefixedError (step_view step) self result }
     {

@@ -1,9 +1,9 @@
 //! What all JSON forms of records have in common, independent of the records.
 //!
 //! A form is described once, as a `Codec`: what is written, what is read, and that reading what was written
-//! gives the same value (`specs/Codec.antt`). A form is read from a [`JsonValue`]: a value of `serde_json`, or the
-//! tree that [`ParsedJson::read`] makes of a text, which takes less memory. It is written to a [`TokenWriter`]. A
-//! value that is not a form has a [`FormError`], the first fault with its path.
+//! gives the same value (`specs/Codec.antt`). A form is read from a [`JsonValue`]: a reference to a [`JsonTree`], which
+//! is a value of `serde_json`, or the tree that [`ParsedJson::read`] makes of a text, which takes less memory. It is
+//! written to a [`TokenWriter`]. A value that is not a form has a [`FormError`], the first fault with its path.
 #![tactic(auto)]
 
 mod error;

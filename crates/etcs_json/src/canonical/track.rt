@@ -100,6 +100,7 @@ impl FromCanonical for TrackPacket {
             [_, _, b'b', ..] => Some(TrackPacket::Raw(FromCanonical::parse(line)?)),
             [_, _, b'd', b'_', ..] => Some(TrackPacket::Transition(FromCanonical::parse(line)?)),
             [_, _, b'e', b'l', ..] => {
+                // Byte 17 follows `{"elements":[{"d_`.
                 if line.rest.get(17) == Some(&b'g') {
                     Some(TrackPacket::Gradient(profile(line, "elements")?))
                 } else {

@@ -4,7 +4,7 @@ ghost use Rattle.etcs_bits.specs.layout.Rows.{AreAllowed};
 ghost use Rattle.etcs_json.specs.AnyMessage.{message, numbered};
 
 use crate::Form;
-use crate::reading::{Numbers, read_number};
+use crate::reading::{AllowedNumbers, read_number};
 use crate::record::{InRange, ObjectForm};
 use etcs_bits::Memory;
 use etcs_radio::Message;
@@ -12,7 +12,7 @@ use etcs_schema::reading::check_object;
 use etcs_schema::{FormError, JsonValue, TokenWriter};
 use std::alloc::Global;
 
-impl Numbers for Message {
+impl AllowedNumbers for Message {
     ghost test = { numbered.allows };
 
     fn has(number: u64) -> bool {
@@ -20,7 +20,7 @@ impl Numbers for Message {
     }
 }
 
-/// Lemma without code: each number of a message is allowed.
+/// Only for the proof: each number of a message is allowed.
 #[tactic(auto, using(crate::proofs::LawLemmas::movement_in, crate::proofs::LawLemmas::position_in))]
 pub(crate) fn prove_message_allowed(value: &Message)
     ensures { AreAllowed (message.rows value.now) }

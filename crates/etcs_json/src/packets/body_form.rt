@@ -7,7 +7,7 @@ ghost use Rattle.etcs_schema.specs.CountedBody.{is_length, decoded_counted_body}
 ghost use Rattle.etcs_schema.specs.Reading.{required_member};
 
 use crate::packets::body_text::body_in;
-use crate::reading::{Numbers, read_number};
+use crate::reading::{AllowedNumbers, read_number};
 use etcs_bits::Bits;
 use etcs_schema::reading::{member, under};
 use etcs_schema::{FormError, JsonValue};
@@ -24,7 +24,7 @@ pub(crate) fn packet_length(head: u32, body: &Bits) -> u64
 // L_PACKET of a packet with `HEAD` bits before its body. It counts both.
 struct PacketLength<const HEAD: u32>;
 
-impl<const HEAD: u32> Numbers for PacketLength<HEAD> {
+impl<const HEAD: u32> AllowedNumbers for PacketLength<HEAD> {
     ghost test = { is_length HEAD };
 
     fn has(number: u64) -> bool {

@@ -11,7 +11,7 @@ use crate::Record;
 use crate::members::{NumberMember, check_members, write_members};
 use crate::packets::body_form::{packet_length, read_counted_body};
 use crate::packets::body_text::BodyMember;
-use crate::reading::{Numbers, read_number};
+use crate::reading::{AllowedNumbers, read_number};
 use crate::record::{InRange, ObjectCodec, prove_allowed, prove_text};
 use etcs_bits::{Bits, Memory};
 use etcs_radio::RawTrainPacket;
@@ -21,7 +21,7 @@ use std::alloc::Global;
 // The bits before the body: NID_PACKET and L_PACKET.
 const HEAD_BITS: u32 = 21;
 
-impl Numbers for RawTrainPacket {
+impl AllowedNumbers for RawTrainPacket {
     ghost test = { is_allowed nid_raw };
 
     fn has(number: u64) -> bool {

@@ -6,7 +6,7 @@ ghost use Rattle.std.specs.Prelude.{◌≡◌, ◌<◌, ◌≤◌, ◌∷◌, []
 ghost use Rattle.std.specs.List.{AllByRecursion};
 ghost use Rattle.etcs_profile.specs.Elements.{profile as made_of};
 ghost use Rattle.serde_json.specs.Data.{Data, array};
-ghost use Rattle.etcs_schema.specs.Fault.{Returns, Range, here};
+ghost use Rattle.etcs_schema.specs.Fault.{Returns, IfMemory, Range, here};
 ghost use Rattle.etcs_schema.specs.Head.{packet};
 ghost use Rattle.etcs_schema.specs.Writing.{AddsMembers};
 ghost use Rattle.etcs_json.specs.TrackPackets.{difference, gradient, gradient_element, is_short, link, linking, decoded_profile, speed_element, speed_profile, track_packet};
@@ -62,8 +62,10 @@ fn packet_of<const N: u32, T: Form + Layout>(
     first: T,
     further: Vec<T>,
 ) -> Result<Packet<N, Elements<T>>, FormError>
-    ensures { length further.items < 32 → T.fit first × AllByRecursion T.fit further.items
-        → Returns (λ p. p) result (only (here Range) (is_short T.format) (dir, made_of scale first further.items)) }
+    requires { (T.fit first × AllByRecursion T.fit further.items) × (length further.items < 32) }
+    ensures gives { Returns (λ p. p) result
+        (only (here Range) (is_short T.format) (dir, made_of scale first further.items)) }
+    ensures memory { IfMemory result ⊥ }
 {
     match Elements::new(scale, first, further) {
         Ok(body) => match Packet::of(dir, body) {

@@ -45,8 +45,8 @@ pub(crate) fn are_among(members: &[(&str, json::Value<'_>)], keys: &[&str]) -> b
     members.iter().all(|member| is_key(member.0, keys))
 }
 
-/// Refuses a value that is not an object, and an object with a key that is none of these. Refusing allocates
-/// nothing.
+/// Refuses a value that is not an object (`Kind`), and an object with a key that is none of these (`Unknown`).
+/// Refusing allocates nothing.
 pub fn check_keys<N: JsonValue>(alloc: Global, node: &N, keys: &[&str]) -> Result<(), FormError>
     ensures keys { Returns (λ u. u) result (only_keys (map (λ l. l.now) keys.now) (N.value node.now)) }
     ensures memory { IfMemory result ⊥ }

@@ -53,7 +53,9 @@ impl<'a> ParsedJson<'a> {
             Ok(value) => value,
             Err(json::Error::OutOfMemory) => return Err(JsonError::Memory),
             Err(json::Error::Invalid) => return Err(JsonError::NotJson),
-            Err(json::Error::TooLong | json::Error::DuplicateKey) => unreachable!(),
+            Err(json::Error::TooLong | json::Error::DuplicateKey) => {
+                unreachable!("only tapes and strict reading give these")
+            }
         };
         if reader.next().is_none() && is_in_range(&value) {
             Ok(ParsedJson { value })

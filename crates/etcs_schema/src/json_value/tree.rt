@@ -1,6 +1,6 @@
-//! The trait `JsonTree`: JSON values that own their items and members. A reference to one is a `JsonValue`. Functions
-//! that are generic over the tree serve trees that borrow texts too: a reference to one of those names two lifetimes,
-//! which the borrow checker does not cover in place of a `JsonValue`.
+//! The trait `JsonTree`: JSON values that own their items and members. A reference to one is a `JsonValue`. A function
+//! that reads a tree with borrowed texts takes `&T` with `T: JsonTree`: Rattle's borrow checker does not accept a
+//! reference to such a tree, which has two lifetimes, in place of a `JsonValue`.
 
 ghost use Rattle.std.specs.Prelude.{◌≡◌, map, option_map, option_and_then};
 ghost use Rattle.serde_json.specs.Data.{Data};
@@ -15,24 +15,24 @@ pub trait JsonTree {
     /// The value, as `serde_json` has it.
     ghost value: { Self → Data };
 
-    /// The number, under the conditions of `JsonValue`.
+    /// The number. `None` as in [`JsonValue`].
     fn number(&self) -> Option<u64>
         ensures { result ≡ option_and_then as_u64 (as_number (value self.now)) };
 
-    /// The text of a string.
+    /// The text of a string. `None` as in [`JsonValue`].
     fn text(&self) -> Option<&str>
         ensures { option_map (λ s. s.now) result ≡ as_str (value self.now) };
 
-    /// The member of an object at a key, the last one if the key comes twice.
+    /// The member of an object at a key, the last one if the key comes twice. `None` as in [`JsonValue`].
     fn member(&self, name: &str) -> Option<&Self>
         ensures { option_map (λ v. value v.now) result ≡ get name.now (value self.now) };
 
-    /// Whether each key of an object is one of these.
+    /// Whether each key of an object is one of these. `None` as in [`JsonValue`].
     fn has_only(&self, keys: &[&str]) -> Option<bool>
         ensures { result ≡ option_map (are_known (map (λ l. l.now) keys.now))
             (as_object (value self.now)) };
 
-    /// The items of a list.
+    /// The items of a list. `None` as in [`JsonValue`].
     fn items(&self) -> Option<&[Self]>
         ensures { option_map (λ vs. map value vs.now) result
             ≡ option_map data_list (as_array (value self.now)) };

@@ -1,4 +1,4 @@
-//! `JsonTree` for the values of `json`. A number out of range is read as null.
+//! `JsonTree` for the values of `json`. A number out of range counts as null; no `ParsedJson` has one.
 
 use crate::json_value::keys::are_among;
 use crate::json_value::numbers;
