@@ -1,8 +1,8 @@
 -- The words of a refusal are the words for what was read.
-use Rattle.std.proofs.Common.{◌≡◌, ◌≢◌, ◌↔◌, ◌++◌, ◌∙◌, ◌<◌, ◌≤◌, ℕ, Bool, true, false, List, codes, Some, None, Result, Ok, Err, refl, sym, ap, subst, if◌then◌else◌, nat_lt}
+use Rattle.std.proofs.Common.{◌≡◌, ◌≢◌, ◌↔◌, ◌++◌, ◌∙◌, ◌<◌, ◌≤◌, ℕ, Bool, true, false, List, codes, Some, None, Result, Ok, Err, refl, sym, ap, subst, arith, if◌then◌else◌, nat_lt}
 use Rattle.std.specs.Prelude.{IsErr, IsErrOf, IsUtf8}
 use Rattle.std.specs.Str.{is_utf8}
-use Rattle.std.proofs.lemmas.Bool.{le-ltb, lt-ltb, ltb-false, ltb-true}
+use Rattle.std.proofs.lemmas.Bool.{le-ltb, lt-ltb, ltb-true}
 use Rattle.std.proofs.lemmas.Str.{IsUtf8-from_is_utf8, is_utf8-from_IsUtf8}
 use Rattle.serde_json.specs.Data.{Data}
 use Rattle.serde_json.specs.Read.{read}
@@ -118,21 +118,13 @@ pub telegram_too_big : (t : Telegram) → IsTooBig t → telegram_line t ≡ Err
 unfolding telegram_line
 telegram_too_big t big = ap (λ (b : Bool). text_unless b (telegram_text t)) (lt-ltb (user_bits t.size) (used_bits t) big)
 
--- what is not above 1,023 bytes is at most that
-not_above_by : (bits : ℕ) (b : Bool) → nat_lt 8184 bits ≡ b → (8184 < bits → ⊥) → bits ≤ 8184
-not_above_by bits true above none = absurd (none (ltb-true 8184 bits above))
-not_above_by bits false above none = ltb-false 8184 bits above
-
-not_above : (bits : ℕ) → (8184 < bits → ⊥) → bits ≤ 8184
-not_above bits none = not_above_by bits (nat_lt 8184 bits) refl none
-
 -- a message that fits in 1,023 bytes has its canonical text
 pub message_written : (m : Message) (text line : List ℕ) → IsMessageText m text → line ≡ text ++ codes "\n"
     → message_line m ≡ Ok line
 unfolding message_line
 message_written m text line x is =
-    let few : message_bits m ≤ 8184 =
-    not_above (message_bits m) (λ big. never_too_big m x.bytes (encoding_message m x.bytes x.encoding) big) in
+    let fit = never_too_big m x.bytes (encoding_message m x.bytes x.encoding) in
+    let few : message_bits m ≤ 8184 = omega (arith, fit) in
     let fits : nat_lt 8184 (message_bits m) ≡ false = le-ltb 8184 (message_bits m) few in
     ap (λ (b : Bool). text_unless b (message_text m)) fits
     ∙ ap (λ (s : List ℕ). Ok (s ++ codes "\n")) (sym (canonical_message m text x)) ∙ ap Ok (sym is)

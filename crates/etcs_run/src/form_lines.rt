@@ -107,7 +107,7 @@ pub trait Encoded: Drop {
 }
 
 // A telegram has no text if it has more bits than its size.
-#[tactic(auto, using(crate::proofs::FormLemmas::telegram_without_text))]
+#[tactic(auto, using(crate::proofs::FormLemmas::telegram_too_big, crate::proofs::FormLemmas::telegram_without_text))]
 impl Encoded for Telegram {
     ghost use Rattle.etcs_json.specs.Telegrams.{telegram};
     ghost use Rattle.etcs_schema.specs.Codec.{object};
@@ -138,7 +138,7 @@ impl Encoded for Telegram {
 }
 
 // A message has no text if it has more than 1,023 bytes.
-#[tactic(auto, using(crate::proofs::FormLemmas::message_without_text))]
+#[tactic(auto, using(crate::proofs::FormLemmas::message_too_big, crate::proofs::FormLemmas::message_without_text))]
 impl Encoded for Message {
     ghost use Rattle.etcs_json.specs.AnyMessage.{message};
     ghost use Rattle.etcs_schema.specs.Choices.{any_object};

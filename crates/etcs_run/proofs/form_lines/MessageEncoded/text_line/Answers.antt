@@ -1,11 +1,7 @@
 use Rattle.std.proofs.Common.{rules}
-use Rattle.etcs_run.proofs.FormLemmas.{message_too_big, message_written}
+use Rattle.etcs_run.proofs.FormLemmas.{message_written}
 use Rattle.etcs_run.proofs.form_lines.MessageEncoded.text_line.Goals as goal
 
 -- the canonical text and the end of the line
 pub returns-in-Ok-clause-gives : goal.returns-in-Ok-clause-gives
 returns-in-Ok-clause-gives c = message_written c.args.self.now _ _ c.in-Ok.ensures.ok (search rules)
-
--- the message has more bits than 1,023 bytes have
-pub returns-clause-gives : goal.returns-clause-gives
-returns-clause-gives c = message_too_big c.args.self.now (c.to_hex.ensures.too_big.0 (search rules))
