@@ -31,8 +31,7 @@ pub trait Record: Drop {
 
 /// A record whose rows can be proved to be allowed, if it is bounded.
 pub(crate) trait InRange: Record {
-    /// Only for the proof: the rows are allowed if the record is bounded, and the text of the form is read as the
-    /// form.
+    /// Only for the proof: the rows are allowed if the record is bounded, and the form's text is read as the form.
     fn prove_in_range(&self)
         ensures rows { Self.bounded self.now → AreAllowed (Self.object.rows self.now) }
         ensures text { IsReadBack max_depth ((object_codec Self.object).to self.now) };
@@ -115,8 +114,7 @@ pub(crate) trait ObjectForm: Drop {
     /// Whether reading can allocate.
     ghost asks: { Data → Type 0 } = { λ d. IsOk (any_object d) };
 
-    /// Only for the proof: the rows are allowed if the value is in range, and the text of the form is read as the
-    /// form.
+    /// Only for the proof: the rows are allowed if the value is in range, and the form's text is read as the form.
     fn prove_read_back(&self)
         ensures rows { in_range self.now → AreAllowed (form.rows self.now) }
         ensures text { IsReadBack max_depth (form.to self.now) };

@@ -135,9 +135,6 @@ under_keeps P step (Err inner) (Err outer) holds is = tt
 
 -- ---- when memory is needed
 
-memory_as : (e : FormError) (P Q : Type 0) → (P → Q) → OfMemory e P → OfMemory e Q
-memory_as e P Q to holds = grind arith
-
 pub memory_holds : {X : Type 0} (result : Result X FormError) (P : Type 0) → P → IfMemory result P
 memory_holds result P holds = grind arith
 
@@ -145,13 +142,10 @@ memory_holds result P holds = grind arith
 pub memory_missing : {X Y : Type 0} (result : Result X FormError) (e : FormError) (read : Data → Result Y Fault) (name : List ℕ) (d : Data)
     → IsErrAnd result (λ y. y ≡ e) → OfMemory e (get name d ≡ None) → IfMemory result (IsErr (required_member read name d))
 unfolding required_member
-memory_missing (Ok x) e read name d passed none = absurd passed
-memory_missing (Err y) e read name d passed none = rw passed (memory_as e _ _ (λ is. rw is refl) none)
+memory_missing result e read name d passed none = grind arith
 
 refused : {X Y : Type 0} (view : X → Y) (step : Step) (inner outer : Result X FormError) (r : Result Y Fault) → Returns view inner r → IfMemory inner ⊥ → IsPrefixedResult step inner outer → IfMemory outer (IsErr (prefixed_result step r))
-refused view step (Ok x) outer r gives none is = rw is tt
-refused view step (Err inner) outer (Ok y) gives none is = grind arith
-refused view step (Err inner) outer (Err f) gives none is = memory_holds outer _ refl
+refused view step inner outer r gives none is = grind arith
 
 -- or one that is refused
 pub memory_under : {X Y : Type 0} (view : X → Y) (inner outer : Result X FormError) (read : Data → Result Y Fault) (name : List ℕ) (d found : Data)
@@ -161,5 +155,4 @@ memory_under view inner outer read name d found is gives none around = rw (found
 
 -- a member that is only checked
 pub memory_checked : {Y : Type 0} (result : Result (Unit {0}) FormError) (r : Result Y Fault) → IfMemory result (IsErr r) → IfMemory result (IsErr (r >>= λ _. Ok (tt {0})))
-memory_checked result (Ok y) holds = holds
-memory_checked result (Err f) holds = holds
+memory_checked result r holds = grind arith

@@ -147,8 +147,7 @@ impl FormError {
         }
     }
 
-    /// The same fault with this step in front of its path, as the enclosing value reports it. `Memory` if the path
-    /// does not fit in memory.
+    /// The same fault with this step in front of its path, for the enclosing value. `Memory` if it does not fit.
     pub fn under(self, step: Step) -> FormError
         ensures { IsPrefixedError (step_view step) self result }
     {

@@ -23,8 +23,7 @@ pub fn member<N: JsonValue>(alloc: Global, node: &N, name: &'static str) -> Resu
     }
 }
 
-/// The result of reading the member at a key. A fault gets the step to that member, or is `Memory` if its path does
-/// not fit in memory.
+/// The result of reading the member at a key. A fault gets the step to it, or is `Memory` if its path does not fit.
 pub fn under<X>(name: &'static str, read: Result<X, FormError>) -> Result<X, FormError>
     ensures { IsPrefixedResult (key name.now) read result }
 {
@@ -59,8 +58,7 @@ fn check_number<N: JsonValue>(alloc: Global, node: &N, number: u64) -> Result<()
     }
 }
 
-/// Reads a required member that must have this number. The error is `Missing`, `Kind` or `Range` at this key, or
-/// `Memory` if its path does not fit in memory.
+/// Reads a required member that must have this number. The error is `Missing`, `Kind` or `Range` at it, or `Memory`.
 pub fn read_fixed<N: JsonValue>(
     alloc: Global,
     node: &N,
@@ -74,8 +72,7 @@ pub fn read_fixed<N: JsonValue>(
     under(name, check_number(alloc, &found, number))
 }
 
-/// Refuses an object that has this key. The error is `Range` at the key, or `Memory` if its path does not fit in
-/// memory.
+/// Refuses an object that has this key. The error is `Range` at it, or `Memory` if its path does not fit in memory.
 #[tactic(auto, using(crate::proofs::Objects::fails_as), unfolding(crate::specs::Reading::absent_member))]
 pub fn check_absent<N: JsonValue>(
     alloc: Global,
