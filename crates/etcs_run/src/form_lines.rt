@@ -5,7 +5,7 @@
 ghost use Rattle.std.specs.Prelude.{◌≡◌, ◌++◌, ℕ, false, List, Result, Err, codes, IfOk, IfSome, IsErr, IsOk};
 ghost use Rattle.std.specs.Str.{is_utf8};
 ghost use Rattle.serde_json.specs.Data.{Data};
-ghost use Rattle.etcs_json.specs.JsonLine.{IsReadAs};
+ghost use Rattle.etcs_json.specs.JsonLine.{IsReadAs, json_line_text};
 ghost use Rattle.etcs_schema.specs.Codec.{Codec};
 ghost use Rattle.etcs_schema.specs.Fault.{IfMemory, Returns};
 ghost use Rattle.etcs_run.specs.FormLines.{or_fault, parsed_record};
@@ -92,9 +92,11 @@ pub trait Encoded: Drop {
         // Reading without allocation never runs out of memory.
         ensures memory { IfMemory result (asks (N.value node.now)) };
 
-    /// The record whose form the text is, if it is as `json_line` writes it. `None` is inconclusive.
+    /// The record whose form the text is, if the text is what `json_line` writes for it, without the `\n`. `None`
+    /// is inconclusive.
     fn of_line(alloc: Global, room: &mut Vec<u8>, text: &[u8]) -> Option<Self>
-        ensures { IfSome result (λ x. IsReadAs form text.now x) };
+        ensures line { IfSome result (λ x. json_line_text form x ≡ text.now ++ codes "\n") }
+        ensures read { IfSome result (λ x. IsReadAs form text.now x) };
 
     /// The record's text as a line. `room` is the buffer of an earlier line.
     ///

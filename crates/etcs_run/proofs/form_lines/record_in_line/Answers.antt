@@ -10,7 +10,7 @@ returns-in_default-clause-gives g c = no_record g.T.Encoded.form c.args.line.now
 
 -- the line is the form of a record
 pub returns-in-Some-clause-gives : goal.returns-in-Some-clause-gives
-returns-in-Some-clause-gives g c = text_read g.T.Encoded.form c.args.line.now _ _ _ refl c.in-Ok.ensures.cases.1 c.in-Some.ensures.0 refl ∙ ap or_fault c.in-Some.ensures.1
+returns-in-Some-clause-gives g c = text_read g.T.Encoded.form c.args.line.now _ _ _ refl c.in-Ok.ensures.cases.1 c.in-Some.ensures.read.0 refl ∙ ap or_fault c.in-Some.ensures.read.1
 
 -- the tree has the value of the line
 pub returns-in-Ok-read-clause-gives : goal.returns-in-Ok-read-clause-gives
