@@ -19,7 +19,7 @@ if TYPE_CHECKING:
     from balisekit.rules.links import Links
     from balisekit.tables.model import Messages, Table
 
-__version__ = "0.5.15"
+__version__ = "0.5.16"
 __all__ = ["KitError", "Program", "check", "diff", "links", "read_messages", "read_table"]
 
 

@@ -1,7 +1,7 @@
 //! Help and the version of the program, for standard error.
 
 /// The program's name and version, the number in the file VERSION. `scripts/release.sh raise` changes both.
-pub const VERSION: &str = "balisecheck 0.5.15";
+pub const VERSION: &str = "balisecheck 0.5.16";
 
 /// How the program is called, with examples.
 pub const HELP: &str = "\
