@@ -1,0 +1,124 @@
+-- Messages by the short definition are those by the working one.
+use Rattle.std.proofs.Common.{◌≡◌, ℕ, ◌<◌, ◌⊎◌, ◌==◌, Bool, true, false, List, [], ◌∷◌, ◌++◌, length, Option, Some, None, refl, sym, ap, ap₂, ◌∙◌, inl, inr}
+use Rattle.std.specs.Prelude.{◌||◌}
+use Rattle.std.specs.List.{list_any}
+use Rattle.std.proofs.lemmas.Bool.{false≢true, ne_eqb}
+use Rattle.etcs_bits.specs.bits.Number.{num as bits_of}
+use Rattle.etcs_bits.specs.layout.Rows.{alone}
+use Rattle.etcs_bits.specs.lemmas.ChoiceLemmas.{is_itself}
+use Rattle.etcs_bits.specs.variables.Variables.{plain, only}
+use Rattle.etcs_bits.specs.declared.layout.fault.FaultKind.TheVariants.{Length}
+use Rattle.etcs_profile.specs.declared.track.TrackPacket.{TrackPacket}
+use Rattle.etcs_profile.specs.declared.track.TrackPacket.TheVariants as track_packets
+use Rattle.etcs_profile.specs.Authority.{AuthorityValue, parts_by_main}
+use Rattle.etcs_profile.specs.PacketNumbers.{is_kept_number}
+use Rattle.etcs_profile.specs.Raw.{other_of}
+use Rattle.etcs_profile.specs.Track.{track_numbered, numbered_authority}
+use Rattle.etcs_radio.specs.declared.train_packet.TrainPacket.{TrainPacket}
+use Rattle.etcs_radio.specs.declared.train_packet.TrainPacket.TheVariants as train_packets
+use Rattle.etcs_radio.specs.declared.message.Message.{Message}
+use Rattle.etcs_radio.specs.declared.message.Message.TheVariants as messages
+use Rattle.etcs_radio.specs.Head.{nid_message}
+use Rattle.etcs_radio.specs.Message.{IsMessage, message_rows, is_complete as is_whole}
+use Rattle.etcs_radio.specs.Required.{is_authority}
+use Rattle.etcs_radio.specs.Text.{IsMessageText}
+use Rattle.etcs_radio.specs.TrainPacket.{is_report as is_working_report}
+use Rattle.etcs_radio.proofs.EncodeLemmas.{message_spelled, spelled_message}
+use Rattle.etcs_edition.specs.Wire.{num, join}
+use Rattle.etcs_edition.specs.Message.{message, is_packet_15, is_report, has_no_main, is_complete, IsMessage as IsReadMessage, IsMessageText as IsReadMessageText}
+use Rattle.etcs_edition.proofs.AgreeLemmas.{Agree, same_num, agree_both, agree_any, agree_flag, agree_flat}
+use Rattle.etcs_edition.proofs.TrackLemmas.{agree_track_packet}
+use Rattle.etcs_edition.proofs.TrainLemmas.{agree_lrbg, agree_train_packet}
+use Rattle.etcs_edition.proofs.TextLemmas.{same_bytes}
+
+pub agree_message : (n : ℕ) (m : Message) → Agree (message_rows n m) (message n m)
+unfolding alone
+agree_message n (messages.Movement m) =
+    agree_any nid_message 3 refl (
+    agree_any (only 10 n Length) n (is_itself n) (
+    agree_any (plain 32) m.time refl (
+    agree_both (agree_flag m.ack) (
+    agree_both (agree_lrbg m.lrbg) (agree_flat agree_track_packet m.packets)))))
+agree_message n (messages.Position m) =
+    agree_any nid_message 136 refl (
+    agree_any (only 10 n Length) n (is_itself n) (
+    agree_any (plain 32) m.time refl (
+    agree_any (plain 24) m.engine refl (agree_flat agree_train_packet m.packets))))
+
+-- ---- the required packet
+
+any_same : {X : Type 0} (f g : X → Bool) → ((x : X) → f x ≡ g x) → (xs : List X) → list_any f xs ≡ list_any g xs
+any_same f g same [] = refl
+any_same f g same (x ∷ xs) = ap₂ (λ (a b : Bool). a || b) (same x) (any_same f g same xs)
+
+authority_same : (main : Option ℕ) (a : AuthorityValue)
+    → (track_numbered.number (numbered_authority (parts_by_main main a)) == 15) ≡ has_no_main main
+authority_same None a = refl
+authority_same (Some v) a = refl
+
+no_15 : (n : ℕ) → is_kept_number n ≡ true → (n == 15) ≡ false
+no_15 n kept = ne_eqb n 15 (λ is. false≢true (sym (ap is_kept_number is) ∙ kept))
+
+packet_same : (p : TrackPacket) → is_authority p ≡ is_packet_15 p
+packet_same (track_packets.Authority a) = authority_same a.main a
+packet_same (track_packets.Raw p) = no_15 p.number (other_of p.number (length p.body) p.kept)
+packet_same p = refl
+
+report_same : (p : TrainPacket) → is_working_report p ≡ is_report p
+report_same (train_packets.Report r) = refl
+report_same (train_packets.Raw p) = refl
+
+complete_same : (m : Message) → is_whole m ≡ is_complete m
+complete_same (messages.Movement m) = any_same is_authority is_packet_15 packet_same m.packets
+complete_same (messages.Position m) = any_same is_working_report is_report report_same m.packets
+
+-- ---- the rest
+
+abbrev Over : (ℕ → ℕ → List Bool) → List Bool → Type 0
+Over bits rest = (length rest < 8) ⊎ ((fill : List Bool) × (rest ≡ bits 8 255 ++ fill))
+
+over_read : (rest : List Bool) → Over bits_of rest → Over num rest
+over_read rest (inl few) = inl few
+over_read rest (inr mark) = inr (mark.0, mark.1 ∙ ap (λ (bits : List Bool). bits ++ mark.0) (same_num 8 255))
+
+read_over : (rest : List Bool) → Over num rest → Over bits_of rest
+read_over rest (inl few) = inl few
+read_over rest (inr mark) = inr (mark.0, mark.1 ∙ ap (λ (bits : List Bool). bits ++ mark.0) (sym (same_num 8 255)))
+
+-- ---- messages
+
+pub read_message : (m : Message) (bytes : List ℕ) → IsMessage m bytes → IsReadMessage m bytes
+read_message m bytes is =
+    let x = message_spelled m bytes is in
+    let a = agree_message (length bytes) m in
+    record {
+      rest = x.rest;
+      spelling = join (message (length bytes) m);
+      spelled = (a.fit x.allowed, refl);
+      are =
+          sym (same_bytes bytes) ∙ x.are ∙ ap (λ (bits : List Bool). bits ++ x.rest) (a.bits x.allowed);
+      over = over_read x.rest x.over;
+      complete = sym (complete_same m) ∙ x.complete;
+    }
+
+pub message_read : (m : Message) (bytes : List ℕ) → IsReadMessage m bytes → IsMessage m bytes
+message_read m bytes y =
+    let a = agree_message (length bytes) m in
+    let allowed = a.allowed y.spelled.0 in
+    spelled_message m bytes (record {
+      rest = y.rest;
+      allowed = allowed;
+      over = read_over y.rest y.over;
+      are =
+          same_bytes bytes ∙ y.are
+          ∙ ap (λ (bits : List Bool). bits ++ y.rest) (y.spelled.1 ∙ sym (a.bits allowed));
+      complete = complete_same m ∙ y.complete;
+    })
+
+pub read_message_text : (m : Message) (text : List ℕ) → IsMessageText m text → IsReadMessageText m text
+read_message_text m text x =
+    record { bytes = x.bytes; decoded = x.decoded; message = read_message m x.bytes x.message }
+
+pub message_text_read : (m : Message) (text : List ℕ) → IsReadMessageText m text → IsMessageText m text
+message_text_read m text y =
+    record { bytes = y.bytes; decoded = y.decoded; message = message_read m y.bytes y.message }
