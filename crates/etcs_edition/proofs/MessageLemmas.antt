@@ -10,10 +10,9 @@ use Rattle.etcs_bits.specs.variables.Variables.{plain, only}
 use Rattle.etcs_bits.specs.declared.layout.fault.FaultKind.TheVariants.{Length}
 use Rattle.etcs_profile.specs.declared.track.TrackPacket.{TrackPacket}
 use Rattle.etcs_profile.specs.declared.track.TrackPacket.TheVariants as track_packets
-use Rattle.etcs_profile.specs.Authority.{AuthorityValue, parts_by_main}
 use Rattle.etcs_profile.specs.PacketNumbers.{is_kept_number}
 use Rattle.etcs_profile.specs.Raw.{other_of}
-use Rattle.etcs_profile.specs.Track.{track_numbered, numbered_authority}
+use Rattle.etcs_profile.specs.Track.{authority_number}
 use Rattle.etcs_radio.specs.declared.train_packet.TrainPacket.{TrainPacket}
 use Rattle.etcs_radio.specs.declared.train_packet.TrainPacket.TheVariants as train_packets
 use Rattle.etcs_radio.specs.declared.message.Message.{Message}
@@ -51,16 +50,15 @@ any_same : {X : Type 0} (f g : X → Bool) → ((x : X) → f x ≡ g x) → (xs
 any_same f g same [] = refl
 any_same f g same (x ∷ xs) = ap₂ (λ (a b : Bool). a || b) (same x) (any_same f g same xs)
 
-authority_same : (main : Option ℕ) (a : AuthorityValue)
-    → (track_numbered.number (numbered_authority (parts_by_main main a)) == 15) ≡ has_no_main main
-authority_same None a = refl
-authority_same (Some v) a = refl
+authority_same : (main : Option ℕ) → (authority_number main == 15) ≡ has_no_main main
+authority_same None = refl
+authority_same (Some v) = refl
 
 no_15 : (n : ℕ) → is_kept_number n ≡ true → (n == 15) ≡ false
 no_15 n kept = ne_eqb n 15 (λ is. false≢true (sym (ap is_kept_number is) ∙ kept))
 
 packet_same : (p : TrackPacket) → is_authority p ≡ is_packet_15 p
-packet_same (track_packets.Authority a) = authority_same a.main a
+packet_same (track_packets.Authority a) = authority_same a.main
 packet_same (track_packets.Raw p) = no_15 p.number (other_of p.number (length p.body) p.kept)
 packet_same p = refl
 
