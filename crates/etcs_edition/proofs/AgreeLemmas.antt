@@ -9,13 +9,13 @@ use Rattle.etcs_bits.specs.lemmas.RowLemmas.{allowed_first, allowed_second}
 use Rattle.etcs_bits.specs.layout.Rows.{Variable, Row, alone, AreAllowed, join as row_bits, width}
 use Rattle.etcs_bits.specs.layout.Combined.{option_rows, counted_rows}
 use Rattle.etcs_bits.specs.variables.Variables.{plain}
-use Rattle.etcs_edition.specs.Wire.{Field, num, any, if_allowed, flag, IsFit, size, join, optional, counted}
+use Rattle.etcs_edition.specs.Wire.{Field, num, bits_of_bytes, any_number, allowed_if, bit, IsWritable, bit_count, bits_of_fields, qualified, iterated}
 
 pub record Agree (rows : List Row) (fields : List Field) : Type 0 where
-  pub fit : AreAllowed rows → AllByRecursion IsFit fields
-  pub allowed : AllByRecursion IsFit fields → AreAllowed rows
-  pub bits : AreAllowed rows → row_bits rows ≡ join fields
-  pub size : width rows ≡ size fields
+  pub fit : AreAllowed rows → AllByRecursion IsWritable fields
+  pub allowed : AllByRecursion IsWritable fields → AreAllowed rows
+  pub bits : AreAllowed rows → row_bits rows ≡ bits_of_fields fields
+  pub size : width rows ≡ bit_count fields
 
 pub same_num : (w n : ℕ) → bits_of w n ≡ num w n
 unfolding num bits_of
@@ -24,27 +24,27 @@ same_num (suc w) n = ap (λ (bits : List Bool). (n / 2 ^ w % 2 == 1) ∷ bits) (
 
 -- ---- lists of fields
 
-pub fit_first : (xs ys : List Field) → AllByRecursion IsFit (xs ++ ys) → AllByRecursion IsFit xs
+pub fit_first : (xs ys : List Field) → AllByRecursion IsWritable (xs ++ ys) → AllByRecursion IsWritable xs
 fit_first [] ys a = tt
 fit_first (f ∷ xs) ys a = (a.0, fit_first xs ys a.1)
 
-pub fit_second : (xs ys : List Field) → AllByRecursion IsFit (xs ++ ys) → AllByRecursion IsFit ys
+pub fit_second : (xs ys : List Field) → AllByRecursion IsWritable (xs ++ ys) → AllByRecursion IsWritable ys
 fit_second [] ys a = a
 fit_second (f ∷ xs) ys a = fit_second xs ys a.1
 
-pub fit_append : (xs ys : List Field) → AllByRecursion IsFit xs → AllByRecursion IsFit ys → AllByRecursion IsFit (xs ++ ys)
+pub fit_append : (xs ys : List Field) → AllByRecursion IsWritable xs → AllByRecursion IsWritable ys → AllByRecursion IsWritable (xs ++ ys)
 fit_append [] ys a b = b
 fit_append (f ∷ xs) ys a b = (a.0, fit_append xs ys a.1 b)
 
-pub join_append : (xs ys : List Field) → join (xs ++ ys) ≡ join xs ++ join ys
-join_append [] ys = refl
-join_append (f ∷ xs) ys =
-    ap (λ (bits : List Bool). num f.width f.number ++ bits) (join_append xs ys)
-    ∙ sym (append_assoc (num f.width f.number) (join xs) (join ys))
+pub bits_append : (xs ys : List Field) → bits_of_fields (xs ++ ys) ≡ bits_of_fields xs ++ bits_of_fields ys
+bits_append [] ys = refl
+bits_append (f ∷ xs) ys =
+    ap (λ (bits : List Bool). num f.width f.number ++ bits) (bits_append xs ys)
+    ∙ sym (append_assoc (num f.width f.number) (bits_of_fields xs) (bits_of_fields ys))
 
-pub size_append : (xs ys : List Field) → size (xs ++ ys) ≡ size xs + size ys
-size_append [] ys = omega arith
-size_append (f ∷ xs) ys = omega (arith, size_append xs ys)
+pub count_append : (xs ys : List Field) → bit_count (xs ++ ys) ≡ bit_count xs + bit_count ys
+count_append [] ys = omega arith
+count_append (f ∷ xs) ys = omega (arith, count_append xs ys)
 
 -- ---- how agreement is put together
 
@@ -58,14 +58,14 @@ agree_both {xs = xs} {ys = ys} {fs = fs} {gs = gs} a b = record {
   bits = λ h.
       let front = a.bits (allowed_first xs ys h) in
       let back = b.bits (allowed_second xs ys h) in
-      join-append xs ys ∙ rw (front, back) (sym (join_append fs gs));
-  size = omega (arith, width_both xs ys, size_append fs gs, a.size, b.size);
+      join-append xs ys ∙ rw (front, back) (sym (bits_append fs gs));
+  size = omega (arith, width_both xs ys, count_append fs gs, a.size, b.size);
 }
 
 -- one row and one field agree where they have the same width and number, and that number is allowed
 -- in both
 pub agree_one : (x : Variable) (n : ℕ) (ok : Bool)
-    → (n < 2 ^ x.width → x.allows n ≡ ok) → Agree (alone x n) (if_allowed x.width n ok ∷ [])
+    → (n < 2 ^ x.width → x.allows n ≡ ok) → Agree (alone x n) (allowed_if x.width n ok ∷ [])
 unfolding alone
 agree_one x n ok same = record {
   fit = λ h. ((h.0.0, sym (same h.0.0) ∙ h.0.1), tt);
@@ -80,15 +80,15 @@ pub agree_ahead : (x : Variable) (n : ℕ) {ys : List Row} {f : Field} {gs : Lis
 agree_ahead x n a b = agree_both a b
 
 pub agree_then : (x : Variable) (n : ℕ) (ok : Bool) {ys : List Row} {gs : List Field}
-    → (n < 2 ^ x.width → x.allows n ≡ ok) → Agree ys gs → Agree (alone x n ++ ys) (if_allowed x.width n ok ∷ gs)
+    → (n < 2 ^ x.width → x.allows n ≡ ok) → Agree ys gs → Agree (alone x n ++ ys) (allowed_if x.width n ok ∷ gs)
 agree_then x n ok same b = agree_both (agree_one x n ok same) b
 
 -- a number that is always allowed, as one of w bits or one with a name
 pub agree_any : (x : Variable) (n : ℕ) {ys : List Row} {gs : List Field}
-    → x.allows n ≡ true → Agree ys gs → Agree (alone x n ++ ys) (any x.width n ∷ gs)
+    → x.allows n ≡ true → Agree ys gs → Agree (alone x n ++ ys) (any_number x.width n ∷ gs)
 agree_any x n is b = agree_then x n true (λ _. is) b
 
-pub agree_last : (x : Variable) (n : ℕ) → x.allows n ≡ true → Agree (alone x n) (any x.width n ∷ [])
+pub agree_last : (x : Variable) (n : ℕ) → x.allows n ≡ true → Agree (alone x n) (any_number x.width n ∷ [])
 agree_last x n is = agree_one x n true (λ _. is)
 
 pub agree_flat : {X : Type 0} {rows : X → List Row} {part : X → List Field}
@@ -96,15 +96,15 @@ pub agree_flat : {X : Type 0} {rows : X → List Row} {part : X → List Field}
 agree_flat each [] = agree_nothing
 agree_flat each (x ∷ xs) = agree_both (each x) (agree_flat each xs)
 
-pub agree_optional : {X : Type 0} {rows : X → List Row} {part : X → List Field}
-    → ((x : X) → Agree (rows x) (part x)) → (o : Option X) → Agree (option_rows rows o) (optional part o)
-agree_optional each None = agree_last (plain 1) 0 refl
-agree_optional each (Some x) = agree_any (plain 1) 1 refl (each x)
+pub agree_qualified : {X : Type 0} {rows : X → List Row} {part : X → List Field}
+    → ((x : X) → Agree (rows x) (part x)) → (o : Option X) → Agree (option_rows rows o) (qualified part o)
+agree_qualified each None = agree_last (plain 1) 0 refl
+agree_qualified each (Some x) = agree_any (plain 1) 1 refl (each x)
 
-pub agree_counted : {X : Type 0} {rows : X → List Row} {part : X → List Field}
-    → ((x : X) → Agree (rows x) (part x)) → (xs : List X) → Agree (counted_rows rows xs) (counted part xs)
-agree_counted each xs = agree_any (plain 5) (length xs) refl (agree_flat each xs)
+pub agree_iterated : {X : Type 0} {rows : X → List Row} {part : X → List Field}
+    → ((x : X) → Agree (rows x) (part x)) → (xs : List X) → Agree (counted_rows rows xs) (iterated part xs)
+agree_iterated each xs = agree_any (plain 5) (length xs) refl (agree_flat each xs)
 
-pub agree_flag : (b : Bool) → Agree (alone (plain 1) (worth b)) (flag b ∷ [])
-agree_flag true = agree_last (plain 1) 1 refl
-agree_flag false = agree_last (plain 1) 0 refl
+pub agree_bit : (b : Bool) → Agree (alone (plain 1) (worth b)) (bit b ∷ [])
+agree_bit true = agree_last (plain 1) 1 refl
+agree_bit false = agree_last (plain 1) 0 refl

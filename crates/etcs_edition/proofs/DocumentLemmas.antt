@@ -29,7 +29,7 @@ use Rattle.etcs_telegram.specs.TextMeaning.{telegram_of_text}
 use Rattle.etcs_telegram.proofs.LawLemmas as telegrams
 use Rattle.etcs_edition.specs.Telegram.{IsTelegramText}
 use Rattle.etcs_edition.specs.Message.{IsMessageText}
-use Rattle.etcs_edition.specs.Document.{Each, OnlyKeys, ListAt, IsAspect, IsGroup, IsLine, IsLineText}
+use Rattle.etcs_edition.specs.Document.{Each, OnlyKeys, ListAt, IsAspectObject, IsGroupObject, IsLineObject, IsLineText}
 use Rattle.etcs_edition.proofs.TextLemmas.{text_read, read_text}
 use Rattle.etcs_edition.proofs.MessageLemmas.{message_text_read, read_message_text}
 
@@ -145,7 +145,7 @@ is_only path name d ds keys list = rw (is_keys (name ∷ []) d keys, is_list nam
 
 -- ---- aspects
 
-aspect_is : (g : ℕ) (a first : Option ℕ) (d : Data) (group : Telegrams) → group_aspect g a first d ≡ Ok group → IsAspect d group
+aspect_is : (g : ℕ) (a first : Option ℕ) (d : Data) (group : Telegrams) → group_aspect g a first d ≡ Ok group → IsAspectObject d group
 unfolding group_aspect
 aspect_is g a first d group is =
     let x = then_ok (in_form (group_path g a) (only_values (codes "balises") d)) (aspect_telegrams g a first) group is in
@@ -161,7 +161,7 @@ aspect_is g a first d group is =
       are = each_is (λ v t. IsSomeAnd (as_str v) (IsTelegramText t)) (balise_telegram g a) (balise_is g a) 0 x.0 group read.2;
     }
 
-is_aspect : (g : ℕ) (a first : Option ℕ) (d : Data) (group : Telegrams) → IsAspect d group → has_count first (length group) ≡ true
+is_aspect : (g : ℕ) (a first : Option ℕ) (d : Data) (group : Telegrams) → IsAspectObject d group → has_count first (length group) ≡ true
     → group_aspect g a first d ≡ Ok group
 unfolding group_aspect aspect_telegrams
 is_aspect g a first d group x has =
@@ -173,7 +173,7 @@ is_aspect g a first d group x has =
     let read = is_each (λ v t. IsSomeAnd (as_str v) (IsTelegramText t)) (balise_telegram g a) (is_balise g a) 0 x.texts group x.are in
     rw (form, count, fits, has, read) refl
 
-others_are : (g n i : ℕ) (ds : List Data) (xs : Aspects) → Each IsAspect ds xs → ((k : ℕ) (x : Telegrams) → At xs k x → length x ≡ n)
+others_are : (g n i : ℕ) (ds : List Data) (xs : Aspects) → Each IsAspectObject ds xs → ((k : ℕ) (x : Telegrams) → At xs k x → length x ≡ n)
     → read_indexed (λ a. group_aspect g (Some a) (Some n)) i ds ≡ Ok xs
 others_are g n i [] [] are counted = refl
 others_are g n i [] (x ∷ xs) are counted = absurd are
@@ -182,18 +182,18 @@ others_are g n i (d ∷ ds) (x ∷ xs) are counted =
     let has : has_count (Some n) (length x) ≡ true = eq-eqb (length x) n (counted 0 x refl) in
     rw (is_aspect g (Some i) (Some n) d x are.0 has, others_are g n (i + 1) ds xs are.1 (λ k y at. counted (suc k) y at)) refl
 
-aspects_are : (g : ℕ) (ds : List Data) (xs : Aspects) → listed_aspects g ds ≡ Ok xs → Each IsAspect ds xs
+aspects_are : (g : ℕ) (ds : List Data) (xs : Aspects) → listed_aspects g ds ≡ Ok xs → Each IsAspectObject ds xs
 unfolding listed_aspects
 aspects_are g [] xs is = absurd cc
 aspects_are g (d ∷ ds) xs is =
     let one = then_ok (group_aspect g (Some 0) None d) (λ first. with_first first (other_aspects g (length first) ds)) xs is in
     let rest = first_ok one.0 (other_aspects g (length one.0) ds) xs one.2 in
-    subst (λ ys. Each IsAspect (d ∷ ds) ys) rest.2 (
+    subst (λ ys. Each IsAspectObject (d ∷ ds) ys) rest.2 (
       aspect_is g (Some 0) None d one.0 one.1,
-      each_is IsAspect (λ a. group_aspect g (Some a) (Some (length one.0))) (λ n e x. aspect_is g (Some n) (Some (length one.0)) e x) 1 ds rest.0 rest.1,
+      each_is IsAspectObject (λ a. group_aspect g (Some a) (Some (length one.0))) (λ n e x. aspect_is g (Some n) (Some (length one.0)) e x) 1 ds rest.0 rest.1,
     )
 
-are_aspects : (g : ℕ) (ds : List Data) (xs : Aspects) → Each IsAspect ds xs → IsControlled xs → listed_aspects g ds ≡ Ok xs
+are_aspects : (g : ℕ) (ds : List Data) (xs : Aspects) → Each IsAspectObject ds xs → IsControlled xs → listed_aspects g ds ≡ Ok xs
 unfolding listed_aspects
 are_aspects g [] [] are is = let some = is.some in absurd (omega arith)
 are_aspects g [] (x ∷ xs) are is = absurd are
@@ -204,7 +204,7 @@ are_aspects g (d ∷ ds) (x ∷ xs) are is =
 -- ---- groups
 
 group_by : (g : ℕ) (d : Data) (o : Option Data) (aspects : Aspects)
-    → (if is_some o then controlled_group g d else only_aspect g d) ≡ Ok aspects → IsGroup d aspects
+    → (if is_some o then controlled_group g d else only_aspect g d) ≡ Ok aspects → IsGroupObject d aspects
 unfolding controlled_group only_aspect
 group_by g d None aspects is =
     let x = then_ok (group_aspect g None None d) (λ only. Ok (only ∷ [])) aspects is in
@@ -220,7 +220,7 @@ group_by g d (Some list) aspects is =
       controlled = list_controlled g x.0 aspects x.2;
     })
 
-group_is : (g : ℕ) (d : Data) (aspects : Aspects) → document_group g d ≡ Ok aspects → IsGroup d aspects
+group_is : (g : ℕ) (d : Data) (aspects : Aspects) → document_group g d ≡ Ok aspects → IsGroupObject d aspects
 unfolding document_group
 group_is g d aspects is = group_by g d (get (codes "aspects") d) aspects is
 
@@ -240,7 +240,7 @@ no_aspects : (d : Data) → OnlyKeys (codes "balises" ∷ []) d → get (codes "
 no_aspects (object ms) keys = no_member ms keys
 no_aspects d keys = refl
 
-is_group : (g : ℕ) (d : Data) (aspects : Aspects) → IsGroup d aspects → document_group g d ≡ Ok aspects
+is_group : (g : ℕ) (d : Data) (aspects : Aspects) → IsGroupObject d aspects → document_group g d ≡ Ok aspects
 unfolding document_group controlled_group only_aspect
 is_group g d aspects (inl x) =
     let there = some_of (λ v. option_map data_list (as_array v) ≡ Some x.objects) (get (codes "aspects") d) x.list in
@@ -251,10 +251,10 @@ is_group g d aspects (inr x) =
 
 -- ---- the line
 
-same_line : (d : Data) (p q : List Aspects × List Message) → p ≡ q → IsLine d p.0 p.1 → IsLine d q.0 q.1
-same_line d p q same line = subst (λ (r : List Aspects × List Message). IsLine d r.0 r.1) same line
+same_line : (d : Data) (p q : List Aspects × List Message) → p ≡ q → IsLineObject d p.0 p.1 → IsLineObject d q.0 q.1
+same_line d p q same line = subst (λ (r : List Aspects × List Message). IsLineObject d r.0 r.1) same line
 
-line_is : (d : Data) (groups : List Aspects) (ms : List Message) → document_line d ≡ Ok (groups, ms) → IsLine d groups ms
+line_is : (d : Data) (groups : List Aspects) (ms : List Message) → document_line d ≡ Ok (groups, ms) → IsLineObject d groups ms
 unfolding document_line line_groups line_messages
 line_is d groups ms is =
     let keys = codes "groups" ∷ codes "messages" ∷ [] in
@@ -264,24 +264,24 @@ line_is d groups ms is =
     let last = then_ok (line_messages d) (λ xs. Ok (both.0, xs)) (groups, ms) both.2 in
     let gs = then_ok (document_list (codes "groups") d) (read_indexed document_group 0) both.0 head.2 in
     let xs = then_ok (document_list (codes "messages") d) (read_indexed document_message 0) last.0 last.1 in
-    let whole : IsLine d both.0 last.0 = record {
+    let whole : IsLineObject d both.0 last.0 = record {
       keys = keys_is keys d head.0 (mapped_ok _ (only_keys keys d) head.0 head.1);
       group_objects = gs.0;
       message_texts = xs.0;
       first = list_is (codes "groups") d gs.0 (mapped_ok _ (required_member as_values (codes "groups") d) gs.0 gs.1);
       second = list_is (codes "messages") d xs.0 (mapped_ok _ (required_member as_values (codes "messages") d) xs.0 xs.1);
-      are_groups = each_is IsGroup document_group group_is 0 gs.0 both.0 gs.2;
+      are_groups = each_is IsGroupObject document_group group_is 0 gs.0 both.0 gs.2;
       are_messages = each_is (λ v m. IsSomeAnd (as_str v) (IsMessageText m)) document_message message_is 0 xs.0 last.0 xs.2;
     } in
     let same : (both.0, last.0) ≡ (groups, ms) = same_ok (both.0, last.0) (groups, ms) (Ok (both.0, last.0)) (refl {a = Ok (both.0, last.0)}) last.2 in
     same_line d (both.0, last.0) (groups, ms) same whole
 
-is_line : (d : Data) (groups : List Aspects) (ms : List Message) → IsLine d groups ms → document_line d ≡ Ok (groups, ms)
+is_line : (d : Data) (groups : List Aspects) (ms : List Message) → IsLineObject d groups ms → document_line d ≡ Ok (groups, ms)
 is_line d groups ms x =
     let first = is_list (codes "groups") d x.group_objects x.first in
     let second = is_list (codes "messages") d x.message_texts x.second in
     line_read d groups ms (is_keys (codes "groups" ∷ codes "messages" ∷ []) d x.keys)
-    (rw (first, is_each IsGroup document_group is_group 0 x.group_objects groups x.are_groups) refl)
+    (rw (first, is_each IsGroupObject document_group is_group 0 x.group_objects groups x.are_groups) refl)
     (rw (second, is_each (λ v m. IsSomeAnd (as_str v) (IsMessageText m)) document_message is_message 0 x.message_texts ms x.are_messages) refl)
 
 some_is : {A E : Type 0} (o : Option A) (e : E) (x : A) → ok_or o e ≡ Ok x → o ≡ Some x

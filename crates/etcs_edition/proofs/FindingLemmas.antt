@@ -12,7 +12,7 @@ use Rattle.etcs_check.specs.declared.finding.Site.TheVariants as sites
 use Rattle.etcs_check.proofs.CellLemmas.{each_fact_is_listed, findings_are_the_facts_in_order}
 use Rattle.etcs_check.proofs.ViolationLemmas.{findings_are_facts, parts_hold_unless_found}
 use Rattle.etcs_radio.specs.declared.message.Message.{Message}
-use Rattle.etcs_edition.specs.Findings.{IsAgainst, IsFindings}
+use Rattle.etcs_edition.specs.Findings.{IsViolated, AreFindings}
 
 violation_parts : (groups : List Aspects) (messages : List Message) (f : Finding) (s : Site) → HasSiteParts groups messages f s
     → ViolatesSite groups messages f s → ⊥
@@ -25,7 +25,7 @@ violation_parts groups messages f (sites.Group g) parts h =
 violation_parts groups messages f (sites.Message i) parts h = h.3 (parts h.0 h.1 h.2)
 
 pub fact_against : (groups : List Aspects) (messages : List Message) (f : Finding) → AreControlled groups
-    → StatesFact groups messages f → IsAgainst groups messages f
+    → StatesFact groups messages f → IsViolated groups messages f
 fact_against groups messages f controlled states parts =
     let listed = each_fact_is_listed groups messages f states in
     violation_parts groups messages f f.site parts
@@ -36,13 +36,13 @@ decided true h = refl
 decided false h = absurd (h refl)
 
 pub against_fact : (groups : List Aspects) (messages : List Message) (f : Finding) → AreControlled groups
-    → IsAgainst groups messages f → StatesFact groups messages f
+    → IsViolated groups messages f → StatesFact groups messages f
 against_fact groups messages f controlled against =
     decided (is_fact groups messages f) (λ none. against (parts_hold_unless_found groups messages f controlled (λ i here.
     true≢false (sym (findings_are_facts groups messages i f here).0 ∙ none))))
 
 pub read_findings : (groups : List Aspects) (messages : List Message) (found : List Finding) → AreControlled groups
-    → found ≡ findings groups messages → IsFindings groups messages found
+    → found ≡ findings groups messages → AreFindings groups messages found
 read_findings groups messages found controlled is =
     let x = (findings_are_the_facts_in_order groups messages found).0 is in
     record {
@@ -52,7 +52,7 @@ read_findings groups messages found controlled is =
     }
 
 pub findings_read : (groups : List Aspects) (messages : List Message) (found : List Finding) → AreControlled groups
-    → IsFindings groups messages found → found ≡ findings groups messages
+    → AreFindings groups messages found → found ≡ findings groups messages
 findings_read groups messages found controlled y =
     (findings_are_the_facts_in_order groups messages found).1 (record {
       facts = λ i f here. against_fact groups messages f controlled (y.facts i f here);

@@ -18,57 +18,29 @@ use Rattle.etcs_radio.specs.declared.train_packet.TrainPacket.TheVariants as tra
 use Rattle.etcs_radio.specs.declared.message.Message.{Message}
 use Rattle.etcs_radio.specs.declared.message.Message.TheVariants as messages
 use Rattle.etcs_radio.specs.Head.{nid_message}
-use Rattle.etcs_radio.specs.Message.{IsMessage, message_rows, is_complete as is_whole}
-use Rattle.etcs_radio.specs.Required.{is_authority}
-use Rattle.etcs_radio.specs.Text.{IsMessageText}
-use Rattle.etcs_radio.specs.TrainPacket.{is_report as is_working_report}
+use Rattle.etcs_radio.specs.Message.{IsMessage as IsDecodedMessage, message_rows}
+use Rattle.etcs_radio.specs.Text.{IsMessageText as IsDecodedMessageText}
 use Rattle.etcs_radio.proofs.EncodeLemmas.{message_spelled, spelled_message}
-use Rattle.etcs_edition.specs.Wire.{num, join}
-use Rattle.etcs_edition.specs.Message.{message, is_packet_15, is_report, has_no_main, is_complete, IsMessage as IsReadMessage, IsMessageText as IsReadMessageText}
-use Rattle.etcs_edition.proofs.AgreeLemmas.{Agree, same_num, agree_both, agree_any, agree_flag, agree_flat}
+use Rattle.etcs_edition.specs.Wire.{num, bits_of_fields}
+use Rattle.etcs_edition.specs.Message.{message_fields, IsMessage, IsMessageText}
+use Rattle.etcs_edition.proofs.AgreeLemmas.{Agree, same_num, agree_both, agree_any, agree_bit, agree_flat}
 use Rattle.etcs_edition.proofs.TrackLemmas.{agree_track_packet}
 use Rattle.etcs_edition.proofs.TrainLemmas.{agree_lrbg, agree_train_packet}
 use Rattle.etcs_edition.proofs.TextLemmas.{same_bytes}
 
-pub agree_message : (n : ℕ) (m : Message) → Agree (message_rows n m) (message n m)
+pub agree_message : (n : ℕ) (m : Message) → Agree (message_rows n m) (message_fields n m)
 unfolding alone
 agree_message n (messages.Movement m) =
     agree_any nid_message 3 refl (
     agree_any (only 10 n Length) n (is_itself n) (
     agree_any (plain 32) m.time refl (
-    agree_both (agree_flag m.ack) (
+    agree_both (agree_bit m.ack) (
     agree_both (agree_lrbg m.lrbg) (agree_flat agree_track_packet m.packets)))))
 agree_message n (messages.Position m) =
     agree_any nid_message 136 refl (
     agree_any (only 10 n Length) n (is_itself n) (
     agree_any (plain 32) m.time refl (
     agree_any (plain 24) m.engine refl (agree_flat agree_train_packet m.packets))))
-
--- ---- the required packet
-
-any_same : {X : Type 0} (f g : X → Bool) → ((x : X) → f x ≡ g x) → (xs : List X) → list_any f xs ≡ list_any g xs
-any_same f g same [] = refl
-any_same f g same (x ∷ xs) = ap₂ (λ (a b : Bool). a || b) (same x) (any_same f g same xs)
-
-authority_same : (main : Option ℕ) → (authority_number main == 15) ≡ has_no_main main
-authority_same None = refl
-authority_same (Some v) = refl
-
-no_15 : (n : ℕ) → is_kept_number n ≡ true → (n == 15) ≡ false
-no_15 n kept = ne_eqb n 15 (λ is. false≢true (sym (ap is_kept_number is) ∙ kept))
-
-packet_same : (p : TrackPacket) → is_authority p ≡ is_packet_15 p
-packet_same (track_packets.Authority a) = authority_same a.main
-packet_same (track_packets.Raw p) = no_15 p.number (other_of p.number (length p.body) p.kept)
-packet_same p = refl
-
-report_same : (p : TrainPacket) → is_working_report p ≡ is_report p
-report_same (train_packets.Report r) = refl
-report_same (train_packets.Raw p) = refl
-
-complete_same : (m : Message) → is_whole m ≡ is_complete m
-complete_same (messages.Movement m) = any_same is_authority is_packet_15 packet_same m.packets
-complete_same (messages.Position m) = any_same is_working_report is_report report_same m.packets
 
 -- ---- the rest
 
@@ -85,21 +57,21 @@ read_over rest (inr mark) = inr (mark.0, mark.1 ∙ ap (λ (bits : List Bool). b
 
 -- ---- messages
 
-pub read_message : (m : Message) (bytes : List ℕ) → IsMessage m bytes → IsReadMessage m bytes
+pub read_message : (m : Message) (bytes : List ℕ) → IsDecodedMessage m bytes → IsMessage m bytes
 read_message m bytes is =
     let x = message_spelled m bytes is in
     let a = agree_message (length bytes) m in
     record {
       rest = x.rest;
-      spelling = join (message (length bytes) m);
+      spelling = bits_of_fields (message_fields (length bytes) m);
       spelled = (a.fit x.allowed, refl);
       are =
           sym (same_bytes bytes) ∙ x.are ∙ ap (λ (bits : List Bool). bits ++ x.rest) (a.bits x.allowed);
       over = over_read x.rest x.over;
-      complete = sym (complete_same m) ∙ x.complete;
+      complete = x.complete;
     }
 
-pub message_read : (m : Message) (bytes : List ℕ) → IsReadMessage m bytes → IsMessage m bytes
+pub message_read : (m : Message) (bytes : List ℕ) → IsMessage m bytes → IsDecodedMessage m bytes
 message_read m bytes y =
     let a = agree_message (length bytes) m in
     let allowed = a.allowed y.spelled.0 in
@@ -110,13 +82,13 @@ message_read m bytes y =
       are =
           same_bytes bytes ∙ y.are
           ∙ ap (λ (bits : List Bool). bits ++ y.rest) (y.spelled.1 ∙ sym (a.bits allowed));
-      complete = complete_same m ∙ y.complete;
+      complete = y.complete;
     })
 
-pub read_message_text : (m : Message) (text : List ℕ) → IsMessageText m text → IsReadMessageText m text
+pub read_message_text : (m : Message) (text : List ℕ) → IsDecodedMessageText m text → IsMessageText m text
 read_message_text m text x =
     record { bytes = x.bytes; decoded = x.decoded; message = read_message m x.bytes x.message }
 
-pub message_text_read : (m : Message) (text : List ℕ) → IsReadMessageText m text → IsMessageText m text
+pub message_text_read : (m : Message) (text : List ℕ) → IsMessageText m text → IsDecodedMessageText m text
 message_text_read m text y =
     record { bytes = y.bytes; decoded = y.decoded; message = message_read m y.bytes y.message }

@@ -8,9 +8,10 @@ use Rattle.etcs_telegram.specs.declared.size.Size.{Size}
 use Rattle.etcs_telegram.specs.declared.size.Size.TheVariants.{Short, Long}
 use Rattle.etcs_telegram.specs.Record.{Telegram}
 use Rattle.etcs_telegram.specs.Sizes.{user_bits as counted_bits, byte_count, pad_count}
-use Rattle.etcs_telegram.specs.Telegram.{IsTelegram}
-use Rattle.etcs_telegram.specs.Text.{IsTelegramText}
-use Rattle.etcs_edition.specs.Telegram.{user_bits, bits_of_bytes, IsTelegramText as IsReadTelegramText}
+use Rattle.etcs_telegram.specs.Telegram.{IsTelegram as IsDecodedTelegram}
+use Rattle.etcs_telegram.specs.Text.{IsTelegramText as IsDecodedTelegramText}
+use Rattle.etcs_edition.specs.Wire.{bits_of_bytes}
+use Rattle.etcs_edition.specs.Telegram.{user_bits, IsTelegram, IsTelegramText}
 use Rattle.etcs_edition.proofs.AgreeLemmas.{same_num}
 use Rattle.etcs_edition.proofs.TelegramLemmas.{same_size, read_telegram, telegram_read}
 
@@ -43,7 +44,7 @@ first_of n xs ys count = subst (λ k. take k (xs ++ ys) ≡ xs) count (take-appe
 others_of : (n : ℕ) (xs ys : List Bool) → length xs ≡ n → drop n (xs ++ ys) ≡ ys
 others_of n xs ys count = subst (λ k. drop k (xs ++ ys) ≡ ys) count (drop-append_seam xs ys)
 
-pub text_read : (t : Telegram) (text : List ℕ) → IsReadTelegramText t text → IsTelegramText t text
+pub text_read : (t : Telegram) (text : List ℕ) → IsTelegramText t text → IsDecodedTelegramText t text
 text_read t text y =
     let pads = replicate (length y.bytes * 8 - user_bits t.size) false in
     let whole : working_bits y.bytes ≡ y.bits ++ pads = same_bytes y.bytes ∙ y.padded in
@@ -65,10 +66,10 @@ text_read t text y =
             ∙ ap (λ n. replicate (n * 8 - user_bits t.size) false) count
             ∙ ap (λ n. replicate n false) (pad_number t.size);
       };
-      telegram = subst (λ (bits : List Bool). IsTelegram t bits) first (telegram_read t y.bits y.telegram);
+      telegram = subst (λ (bits : List Bool). IsDecodedTelegram t bits) first (telegram_read t y.bits y.telegram);
     }
 
-pub read_text : (t : Telegram) (text : List ℕ) → IsTelegramText t text → IsReadTelegramText t text
+pub read_text : (t : Telegram) (text : List ℕ) → IsDecodedTelegramText t text → IsTelegramText t text
 read_text t text x =
     let n = counted_bits t.size in
     let count = x.padded.count in

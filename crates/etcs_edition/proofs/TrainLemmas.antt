@@ -3,7 +3,7 @@ use Rattle.std.proofs.Common.{◌≡◌, ℕ, ◌+◌, ◌*◌, ◌/◌, ◌<◌
 use Rattle.std.proofs.lemmas.List.{append-nil, length-append}
 use Rattle.etcs_bits.specs.declared.variables.identity.Identity.{Identity}
 use Rattle.etcs_bits.specs.declared.variables.train3.Train3.{Train3}
-use Rattle.etcs_bits.specs.declared.variables.train3.Train3.TheVariants as sides
+use Rattle.etcs_bits.specs.declared.variables.train3.Train3.TheVariants as relations
 use Rattle.etcs_bits.specs.bits.Number.{num as bits_of, num_of_bits}
 use Rattle.etcs_bits.proofs.NumberLemmas.{length-num, num_of_bits-small, num_of_bits-append, same_from_num}
 use Rattle.etcs_bits.specs.layout.Rows.{Row, alone, width}
@@ -24,18 +24,18 @@ use Rattle.etcs_radio.specs.RawTrain.{other_of}
 use Rattle.etcs_radio.specs.Report.{situation as situation_format, report_situation, report_numbered, parts_by_previous}
 use Rattle.etcs_radio.specs.TrainPacket.{train_packet as train_format, train_numbered, numbered_report, all_but_the_end}
 use Rattle.etcs_edition.specs.Wire.{Field, num}
-use Rattle.etcs_edition.specs.Variables.{side, group}
-use Rattle.etcs_edition.specs.TrainPackets.{train, integrity, situation, report, train_packet}
+use Rattle.etcs_edition.specs.Variables.{train3_field, identity_fields}
+use Rattle.etcs_edition.specs.TrainPackets.{packet_to_track, integrity_fields, situation_fields, report_fields, train_packet_fields}
 use Rattle.etcs_edition.proofs.AgreeLemmas.{Agree, same_num, agree_nothing, agree_both, agree_any, agree_last}
 use Rattle.etcs_edition.proofs.VariableLemmas.{agree_scale, agree_level}
-use Rattle.etcs_edition.proofs.TrackLemmas.{agree_body, agree_kept, no_end}
+use Rattle.etcs_edition.proofs.TrackLemmas.{agree_body, agree_raw, no_end}
 
-agree_side : (v : Train3) → Agree (alone train3_variable (train3_number v)) (side v ∷ [])
-agree_side sides.Reverse = agree_last train3_variable 0 refl
-agree_side sides.Nominal = agree_last train3_variable 1 refl
-agree_side sides.Unknown = agree_last train3_variable 2 refl
+agree_train3 : (v : Train3) → Agree (alone train3_variable (train3_number v)) (train3_field v ∷ [])
+agree_train3 relations.Reverse = agree_last train3_variable 0 refl
+agree_train3 relations.Nominal = agree_last train3_variable 1 refl
+agree_train3 relations.Unknown = agree_last train3_variable 2 refl
 
-agree_integrity : (v : Integrity) → Agree (q_length.rows v) (integrity v)
+agree_integrity : (v : Integrity) → Agree (q_length.rows v) (integrity_fields v)
 agree_integrity lengths.Q0 = agree_any length_variable 0 refl agree_nothing
 agree_integrity (lengths.Q1 n) = agree_any length_variable 1 refl (agree_last (plain 15) n refl)
 agree_integrity (lengths.Q2 n) = agree_any length_variable 2 refl (agree_last (plain 15) n refl)
@@ -58,7 +58,7 @@ no_bits : (n : ℕ) → bits_of 0 n ≡ []
 unfolding bits_of
 no_bits n = refl
 
-pub agree_lrbg : (i : Identity) → Agree (nid_lrbg.rows i) (group i)
+pub agree_lrbg : (i : Identity) → Agree (nid_lrbg.rows i) (identity_fields i)
 agree_lrbg i = record {
   fit = λ h.
       ((omega (arith, h.0.0, h.1.0.0), refl), ((omega (arith, h.1.0.0), refl), tt));
@@ -73,38 +73,38 @@ agree_lrbg i = record {
 
 -- ---- packets
 
-agree_situation : (r : Report) → Agree (situation_format.rows (report_situation r)) (situation r)
+agree_situation : (r : Report) → Agree (situation_format.rows (report_situation r)) (situation_fields r)
 agree_situation r =
     agree_any (plain 15) r.distance refl (
-    agree_both (agree_side r.orientation) (
-    agree_both (agree_side r.side) (
+    agree_both (agree_train3 r.orientation) (
+    agree_both (agree_train3 r.side) (
     agree_any (plain 15) r.doubt_over refl (
     agree_any (plain 15) r.doubt_under refl (
     agree_both (agree_integrity r.length) (
     agree_any (plain 7) r.speed refl (
-    agree_both (agree_side r.running) (
+    agree_both (agree_train3 r.running) (
     agree_any (plain 4) r.mode refl (
     agree_level r.level)))))))))
 
-agree_train : (n : ℕ) {rows : List Row} {body : List Field} → nid_train.allows n ≡ true → Agree rows body
-    → Agree (alone nid_train n ++ (alone l_packet (8 + (13 + width rows)) ++ rows)) (train n body)
-agree_train n is a = agree_any nid_train n is (agree_body 8 21 refl a)
+agree_to_track : (n : ℕ) {rows : List Row} {body : List Field} → nid_train.allows n ≡ true → Agree rows body
+    → Agree (alone nid_train n ++ (alone l_packet (8 + (13 + width rows)) ++ rows)) (packet_to_track n body)
+agree_to_track n is a = agree_any nid_train n is (agree_body 8 21 refl a)
 
 agree_report : (previous : Option Identity) (r : Report)
-    → Agree ((chosen nid_train train_numbered all_but_the_end).rows (numbered_report (parts_by_previous previous r))) (report r previous)
+    → Agree ((chosen nid_train train_numbered all_but_the_end).rows (numbered_report (parts_by_previous previous r))) (report_fields r previous)
 agree_report None r =
-    agree_train 0 refl (agree_both (agree_scale r.scale) (agree_both (agree_lrbg r.lrbg) (agree_situation r)))
+    agree_to_track 0 refl (agree_both (agree_scale r.scale) (agree_both (agree_lrbg r.lrbg) (agree_situation r)))
 agree_report (Some previous) r =
-    agree_train 1 refl (
+    agree_to_track 1 refl (
     agree_both (agree_scale r.scale) (
     agree_both (agree_lrbg r.lrbg) (agree_both (agree_lrbg previous) (agree_situation r))))
 
-agree_raw_train : (p : RawTrainPacket) → Agree (train_format.rows (packets.Raw p)) (train_packet (packets.Raw p))
+agree_raw_train : (p : RawTrainPacket) → Agree (train_format.rows (packets.Raw p)) (train_packet_fields (packets.Raw p))
 agree_raw_train p =
     let other = other_of p.number (length p.body) p.kept in
     agree_any nid_train p.number (no_end (report_numbered.allows p.number) (p.number == 255) other) (
-    agree_kept 8 21 p.body refl)
+    agree_raw 8 21 p.body refl)
 
-pub agree_train_packet : (p : TrainPacket) → Agree (train_format.rows p) (train_packet p)
+pub agree_train_packet : (p : TrainPacket) → Agree (train_format.rows p) (train_packet_fields p)
 agree_train_packet (packets.Report r) = agree_report r.previous r
 agree_train_packet (packets.Raw p) = agree_raw_train p

@@ -1,4 +1,5 @@
--- A telegram of a balise and its text (SUBSET-026, 8.4.2; SUBSET-036, 4.3).
+-- The telegram of a balise, and the text that gives it (SUBSET-026, 7.4 and 8.4.2; SUBSET-036, 4.3). A telegram is
+-- a header, packets and the end mark, filled up to the user bits of a short or a long telegram.
 use Rattle.std.specs.Prelude.{◌≡◌, ℕ, ◌+◌, ◌-◌, ◌*◌, ◌<◌, Bool, false, Ok, List, [], ◌∷◌, ◌++◌, length, replicate}
 use Rattle.std.specs.List.{flat_map}
 use Rattle.hex.specs.Hex.{decode_of}
@@ -6,33 +7,42 @@ use Rattle.etcs_telegram.specs.declared.header.Header.{Header}
 use Rattle.etcs_telegram.specs.declared.size.Size.{Size}
 use Rattle.etcs_telegram.specs.declared.size.Size.TheVariants.{Short, Long}
 use Rattle.etcs_telegram.specs.Record.{Telegram}
-use Rattle.etcs_edition.specs.Wire.{Field, num, any, flag, Spells}
-use Rattle.etcs_edition.specs.Variables.{version, mark, group}
-use Rattle.etcs_edition.specs.TrackPackets.{track_packet}
+use Rattle.etcs_edition.specs.Wire.{Field, bits_of_bytes, any_number, bit, Spells}
+use Rattle.etcs_edition.specs.Variables.{version_field, dup_field, identity_fields}
+use Rattle.etcs_edition.specs.TrackPackets.{track_packet_fields}
 
--- Q_UPDOWN, M_VERSION, Q_MEDIA, N_PIG, N_TOTAL, M_DUP, M_MCOUNT, NID_C, NID_BG, Q_LINK
-abbrev pub header : Header → List Field
-header h =
-    any 1 1 ∷ version h.version ∷ any 1 0 ∷ any 3 h.position ∷ any 3 h.total ∷ mark h.dup
-    ∷ any 8 h.counter ∷ group h.identity ++ flag h.linked ∷ []
+-- the header (8.4.2)
+abbrev pub header_fields : Header → List Field
+header_fields h =
+    any_number 1 1  -- Q_UPDOWN: track to train
+    ∷ version_field h.version  -- M_VERSION
+    ∷ any_number 1 0  -- Q_MEDIA: a balise
+    ∷ any_number 3 h.position  -- N_PIG
+    ∷ any_number 3 h.total  -- N_TOTAL
+    ∷ dup_field h.dup  -- M_DUP
+    ∷ any_number 8 h.counter  -- M_MCOUNT
+    ∷ identity_fields h.identity  -- NID_C, NID_BG
+    ++ bit h.linked  -- Q_LINK
+    ∷ []
 
+-- the header, the packets, and packet 255, the end mark (7.4.2)
+abbrev pub telegram_fields : Telegram → List Field
+telegram_fields t = header_fields t.header ++ flat_map track_packet_fields t.packets ++ any_number 8 255 ∷ []
+
+-- how many bits a short and a long telegram have (SUBSET-036, 4.3)
 abbrev pub user_bits : Size → ℕ
 user_bits Short = 210
 user_bits Long = 830
 
--- The bits are the header, the packets, the end mark 255, and a fill that carries no information.
+-- The bits are those of the telegram, and a fill that carries no information.
 pub record IsTelegram (t : Telegram) (bits : List Bool) : Type 0 where
   pub fill : List Bool
   pub spelling : List Bool
-  pub spelled : Spells (header t.header ++ flat_map track_packet t.packets ++ any 8 255 ∷ []) spelling
+  pub spelled : Spells (telegram_fields t) spelling
   pub are : bits ≡ spelling ++ fill
   pub count : length bits ≡ user_bits t.size
 
--- the bits of bytes, eight for each
-abbrev pub bits_of_bytes : List ℕ → List Bool
-bits_of_bytes bytes = flat_map (num 8) bytes
-
--- The text is hexadecimal digits of bytes: the bits of the telegram, and zeros up to a whole byte.
+-- The text is the hexadecimal digits of bytes: the bits of the telegram, and zeros up to a whole byte.
 pub record IsTelegramText (t : Telegram) (text : List ℕ) : Type 0 where
   pub bytes : List ℕ
   pub bits : List Bool

@@ -1,4 +1,5 @@
--- The packets from track to train (SUBSET-026, 7.4.2).
+-- The packets from track to train, each as its table of variables (SUBSET-026, 7.4.1 and 7.4.2). A line has one
+-- variable, in the order of the table, with its bits; a part that the standard repeats has a table of its own.
 use Rattle.std.specs.Prelude.{ℕ, ◌+◌, List, [], ◌∷◌, ◌++◌, Option, Some, None}
 use Rattle.etcs_bits.specs.declared.variables.direction.Dir.{Dir}
 use Rattle.etcs_profile.specs.declared.track.linking.Link.{Link}
@@ -17,80 +18,155 @@ use Rattle.etcs_profile.specs.Profile.{Profile}
 use Rattle.etcs_profile.specs.Terms.{TermsValue}
 use Rattle.etcs_profile.specs.Authority.{AuthorityValue}
 use Rattle.etcs_profile.specs.Transition.{Orders}
-use Rattle.etcs_edition.specs.Wire.{Field, any, flag, size, optional, counted, as_bits}
-use Rattle.etcs_edition.specs.Variables.{scale, direction, level, speed, release_speed, static_speed, to_two}
+use Rattle.etcs_edition.specs.Wire.{Field, any_number, up_to, bit, bit_count, qualified, iterated, raw_fields}
+use Rattle.etcs_edition.specs.Variables.{scale_field, dir_field, level_fields, release_speed_field, static_speed_field}
 
--- NID_PACKET, Q_DIR, L_PACKET and the body; L_PACKET counts all of these bits
-abbrev pub track : ℕ → Dir → List Field → List Field
-track n dir body = any 8 n ∷ direction dir ∷ any 13 (23 + size body) ∷ body
+-- The head of a packet and its body (7.4.1). L_PACKET counts all bits of the packet.
+abbrev pub packet_to_train : ℕ → Dir → List Field → List Field
+packet_to_train n dir body =
+    any_number 8 n  -- NID_PACKET
+    ∷ dir_field dir  -- Q_DIR
+    ∷ any_number 13 (23 + bit_count body)  -- L_PACKET
+    ∷ body
 
--- packet 5: D_LINK, Q_NEWCOUNTRY and NID_C, NID_BG, Q_LINKORIENTATION, Q_LINKREACTION, Q_LOCACC
-abbrev pub link : Link → List Field
-link l =
-    any 15 l.distance ∷ optional (λ c. any 10 c ∷ []) l.country
-    ++ any 14 l.group ∷ flag l.nominal ∷ to_two l.reaction ∷ any 6 l.accuracy ∷ []
+-- The body of a packet with one or more elements.
+abbrev pub profile_fields : {X : Type 0} → (X → List Field) → Profile X → List Field
+profile_fields element p =
+    scale_field p.scale  -- Q_SCALE
+    ∷ element p.first
+    ++ iterated element p.further  -- N_ITER
 
--- packets 12 and 15: T_SECTIONTIMER, D_SECTIONTIMERSTOPLOC
-abbrev pub section_timer : SectionTimer → List Field
-section_timer t = any 10 t.time ∷ any 15 t.stop ∷ []
+-- ---- packet 5, linking (3.4.4 and 7.4.2)
 
--- L_SECTION, Q_SECTIONTIMER and the timer
-abbrev pub section : Section → List Field
-section s = any 15 s.length ∷ optional section_timer s.timer
+-- an element: the next balise group
+abbrev pub link_fields : Link → List Field
+link_fields l =
+    any_number 15 l.distance  -- D_LINK
+    ∷ qualified (λ c. any_number 10 c ∷ []) l.country  -- Q_NEWCOUNTRY, NID_C
+    ++ any_number 14 l.group  -- NID_BG
+    ∷ bit l.nominal  -- Q_LINKORIENTATION
+    ∷ up_to 2 2 l.reaction  -- Q_LINKREACTION
+    ∷ any_number 6 l.accuracy  -- Q_LOCACC
+    ∷ []
 
--- T_ENDTIMER, D_ENDTIMERSTARTLOC
-abbrev pub end_timer : EndTimer → List Field
-end_timer t = any 10 t.time ∷ any 15 t.start ∷ []
+-- ---- packets 12 and 15, movement authority (3.8 and 7.4.2)
 
--- D_DP, V_RELEASEDP
-abbrev pub danger_point : DangerPoint → List Field
-danger_point d = any 15 d.distance ∷ release_speed d.release_speed ∷ []
+-- the timer of a section
+abbrev pub section_timer_fields : SectionTimer → List Field
+section_timer_fields t =
+    any_number 10 t.time  -- T_SECTIONTIMER
+    ∷ any_number 15 t.stop  -- D_SECTIONTIMERSTOPLOC
+    ∷ []
 
--- D_STARTOL, T_OL, D_OL, V_RELEASEOL
-abbrev pub overlap : Overlap → List Field
-overlap o = any 15 o.start ∷ any 10 o.time ∷ any 15 o.length ∷ release_speed o.release_speed ∷ []
+-- a section before the end section
+abbrev pub section_fields : Section → List Field
+section_fields s =
+    any_number 15 s.length  -- L_SECTION
+    ∷ qualified section_timer_fields s.timer  -- Q_SECTIONTIMER
 
--- V_LOA, T_LOA, N_ITER and sections, L_ENDSECTION, and what the four qualifiers say
-abbrev pub terms : TermsValue → List Field
-terms t =
-    speed t.end_speed ∷ any 10 t.end_timeout ∷ counted section t.sections
-    ++ any 15 t.l_endsection ∷ optional section_timer t.section_timer ++ optional end_timer t.end_timer
-    ++ optional danger_point t.danger_point ++ optional overlap t.overlap
+-- the timer of the end section
+abbrev pub end_timer_fields : EndTimer → List Field
+end_timer_fields t =
+    any_number 10 t.time  -- T_ENDTIMER
+    ∷ any_number 15 t.start  -- D_ENDTIMERSTARTLOC
+    ∷ []
 
--- packet 12 with V_MAIN, packet 15 without
-abbrev pub authority : AuthorityValue → Option ℕ → List Field
-authority a (Some main) = track 12 a.dir (scale a.scale ∷ speed main ∷ terms a.terms)
-authority a None = track 15 a.dir (scale a.scale ∷ terms a.terms)
+-- the danger point
+abbrev pub danger_point_fields : DangerPoint → List Field
+danger_point_fields d =
+    any_number 15 d.distance  -- D_DP
+    ∷ release_speed_field d.release_speed  -- V_RELEASEDP
+    ∷ []
 
--- packet 21: D_GRADIENT, Q_GDIR, G_A
-abbrev pub gradient : GradientElement → List Field
-gradient e = any 15 e.distance ∷ flag e.uphill ∷ any 8 e.gradient ∷ []
+-- the overlap
+abbrev pub overlap_fields : Overlap → List Field
+overlap_fields o =
+    any_number 15 o.start  -- D_STARTOL
+    ∷ any_number 10 o.time  -- T_OL
+    ∷ any_number 15 o.length  -- D_OL
+    ∷ release_speed_field o.release_speed  -- V_RELEASEOL
+    ∷ []
 
--- packet 27: Q_DIFF, NC_CDDIFF or NC_DIFF, V_DIFF
-abbrev pub difference : Difference → List Field
-difference d = to_two d.kind ∷ any 4 d.category ∷ speed d.speed ∷ []
+-- what packets 12 and 15 share
+abbrev pub terms_fields : TermsValue → List Field
+terms_fields t =
+    up_to 7 120 t.end_speed  -- V_LOA
+    ∷ any_number 10 t.end_timeout  -- T_LOA
+    ∷ iterated section_fields t.sections  -- N_ITER
+    ++ any_number 15 t.l_endsection  -- L_ENDSECTION
+    ∷ qualified section_timer_fields t.section_timer  -- Q_SECTIONTIMER
+    ++ qualified end_timer_fields t.end_timer  -- Q_ENDTIMER
+    ++ qualified danger_point_fields t.danger_point  -- Q_DANGERPOINT
+    ++ qualified overlap_fields t.overlap  -- Q_OVERLAP
 
--- D_STATIC, V_STATIC, Q_FRONT, N_ITER and differences
-abbrev pub static : SpeedElement → List Field
-static e = any 15 e.distance ∷ static_speed e.speed ∷ flag e.front ∷ counted difference e.differences
+-- the packet: 12 with V_MAIN, 15 without
+abbrev pub authority_fields : AuthorityValue → Option ℕ → List Field
+authority_fields a (Some main) =
+    packet_to_train 12 a.dir (
+    scale_field a.scale  -- Q_SCALE
+    ∷ up_to 7 120 main  -- V_MAIN
+    ∷ terms_fields a.terms)
+authority_fields a None =
+    packet_to_train 15 a.dir (
+    scale_field a.scale  -- Q_SCALE
+    ∷ terms_fields a.terms)
 
--- packet 41: M_LEVELTR and NID_NTC, L_ACKLEVELTR
-abbrev pub order : LevelOrder → List Field
-order o = level o.level ++ any 15 o.acknowledge ∷ []
+-- ---- packet 21, gradient profile (3.11 and 7.4.2)
 
--- Q_SCALE, an element, N_ITER and further elements
-abbrev pub profile : {X : Type 0} → (X → List Field) → Profile X → List Field
-profile part p = scale p.scale ∷ part p.first ++ counted part p.further
+-- an element: a gradient up to the next element
+abbrev pub gradient_element_fields : GradientElement → List Field
+gradient_element_fields e =
+    any_number 15 e.distance  -- D_GRADIENT
+    ∷ bit e.uphill  -- Q_GDIR
+    ∷ any_number 8 e.gradient  -- G_A
+    ∷ []
 
--- Q_SCALE, D_LEVELTR, an order, N_ITER and further orders
-abbrev pub orders : Orders → List Field
-orders o = scale o.scale ∷ any 15 o.d_leveltr ∷ order o.first ++ counted order o.further
+-- ---- packet 27, static speed profile (3.11 and 7.4.2)
 
-abbrev pub track_packet : TrackPacket → List Field
-track_packet (packets.Cover p) = any 8 0 ∷ any 6 p.marker ∷ []
-track_packet (packets.Linking p) = track 5 p.0 (profile link p.1)
-track_packet (packets.Authority a) = authority a a.main
-track_packet (packets.Gradient p) = track 21 p.0 (profile gradient p.1)
-track_packet (packets.Speed p) = track 27 p.0 (profile static p.1)
-track_packet (packets.Transition p) = track 41 p.0 (orders p.1)
-track_packet (packets.Raw p) = track p.number p.dir (as_bits p.body)
+-- another speed for a category of trains
+abbrev pub difference_fields : Difference → List Field
+difference_fields d =
+    up_to 2 2 d.kind  -- Q_DIFF
+    ∷ any_number 4 d.category  -- NC_CDDIFF or NC_DIFF
+    ∷ up_to 7 120 d.speed  -- V_DIFF
+    ∷ []
+
+-- an element: a speed up to the next element
+abbrev pub speed_element_fields : SpeedElement → List Field
+speed_element_fields e =
+    any_number 15 e.distance  -- D_STATIC
+    ∷ static_speed_field e.speed  -- V_STATIC
+    ∷ bit e.front  -- Q_FRONT
+    ∷ iterated difference_fields e.differences  -- N_ITER
+
+-- ---- packet 41, level transition order (5.10 and 7.4.2)
+
+-- an order: a level, and where the driver acknowledges it
+abbrev pub level_order_fields : LevelOrder → List Field
+level_order_fields o =
+    level_fields o.level  -- M_LEVELTR, NID_NTC
+    ++ any_number 15 o.acknowledge  -- L_ACKLEVELTR
+    ∷ []
+
+-- the body of the packet
+abbrev pub orders_fields : Orders → List Field
+orders_fields o =
+    scale_field o.scale  -- Q_SCALE
+    ∷ any_number 15 o.d_leveltr  -- D_LEVELTR
+    ∷ level_order_fields o.first
+    ++ iterated level_order_fields o.further  -- N_ITER
+
+-- ---- each packet
+
+-- Packet 0 has neither Q_DIR nor L_PACKET (3.15.9). A packet with another number is kept as bits.
+abbrev pub track_packet_fields : TrackPacket → List Field
+track_packet_fields (packets.Cover p) =
+    any_number 8 0  -- NID_PACKET
+    ∷ any_number 6 p.marker  -- NID_VBCMK
+    ∷ []
+track_packet_fields (packets.Linking p) = packet_to_train 5 p.0 (profile_fields link_fields p.1)
+track_packet_fields (packets.Authority a) = authority_fields a a.main
+track_packet_fields (packets.Gradient p) = packet_to_train 21 p.0 (profile_fields gradient_element_fields p.1)
+track_packet_fields (packets.Speed p) = packet_to_train 27 p.0 (profile_fields speed_element_fields p.1)
+track_packet_fields (packets.Transition p) = packet_to_train 41 p.0 (orders_fields p.1)
+track_packet_fields (packets.Raw p) = packet_to_train p.number p.dir (raw_fields p.body)

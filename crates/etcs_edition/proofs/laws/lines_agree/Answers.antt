@@ -1,5 +1,5 @@
 use Rattle.etcs_edition.proofs.DocumentLemmas.{text_is_line, line_is_text}
-use Rattle.etcs_edition.proofs.laws.short_lines_are_lines.Goals as goal
+use Rattle.etcs_edition.proofs.laws.lines_agree.Goals as goal
 
 pub returns : goal.returns
 returns c = λ bytes groups messages. (line_is_text bytes groups messages, text_is_line bytes groups messages)

@@ -1,5 +1,5 @@
 use Rattle.etcs_edition.proofs.FindingLemmas.{findings_read, read_findings}
-use Rattle.etcs_edition.proofs.laws.short_findings_are_findings.Goals as goal
+use Rattle.etcs_edition.proofs.laws.findings_agree.Goals as goal
 
 pub returns : goal.returns
 returns c = λ groups messages found controlled.
