@@ -3,6 +3,7 @@ import ast
 import importlib.util
 import json
 import os
+import platform
 import re
 import runpy
 import shutil
@@ -165,6 +166,23 @@ def test_tarball(made):
     serves(made, prefix)
     uninstall = re.search("To uninstall it from there: `([^`]*)`", readme)[1]
     assert sh(tree, uninstall.replace("PREFIX", f"'{prefix}'")) == sh(prefix, "find . ! -type d") == ""
+
+
+def test_older_system(made):
+    """Where the C library is too old nothing is installed, and both commands report what the program needs."""
+    tree, prefix = made.with_name("an old tree"), made.with_name("no prefix")
+    sh(made, f"cp -r ../tree '{tree}'")
+    program, about = tree / "balisecheck", tree / STORED / "ABOUT"
+    before = sum_of(program)
+    program.write_bytes(program.read_bytes().replace(b"GLIBC_2.34", b"GLIBC_9.34"))
+    about.write_text(text_of(about).replace(before, sum_of(program)).replace("\nglibc 2.34\n", "\nglibc 9.34\n"), "utf-8")
+    needs = f"does not start here: it needs x86-64-v2 and glibc 9.34 or later, and this is {platform.machine()} with " \
+        f"{' '.join(platform.libc_ver())}: "
+    for command, first in ((f"./install.sh '{prefix}'", "install: not installed, because balisecheck "),
+                           ("./balisekit check examples/table/line.csv", f"balisekit: {program} ")):
+        status, said = attempt(tree, command)
+        assert status == 3 and said.startswith(first + needs) and "`GLIBC_9.34' not found" in said
+        assert said.count("\n") == 1 and not prefix.exists()
 
 
 def test_wheel(made):
