@@ -614,15 +614,23 @@ def test_the_report_beside_the_example(tmp_path: Path, monkeypatch: pytest.Monke
 
 @pytest.mark.uncovered
 def test_any_name_makes_a_picture() -> None:
-    """A picture with any characters as its names is well formed, and has no tag of theirs."""
+    """A picture with any characters as its names is well formed, and has no tag of theirs. Where a name is shortened
+    it is the title of that text."""
     hypothesis = pytest.importorskip("hypothesis")
     strategies = hypothesis.strategies
     plain = [one.tag for one in ElementTree.fromstring(_svg("A")).iter()]
+    svg = plain[0][: -len("svg")]
 
     def tried(name: str) -> None:
-        assert [one.tag for one in ElementTree.fromstring(_svg(name)).iter()] == plain
+        root = ElementTree.fromstring(_svg(name))
+        for text in root.iter(f"{svg}text"):
+            for title in text.findall(f"{svg}title"):
+                assert str(text.text).endswith("\u2026") and title.text == root.findtext(f"{svg}title")
+                text.remove(title)
+        assert [one.tag for one in root.iter()] == plain
 
-    hypothesis.given(strategies.text(strategies.characters(blacklist_categories=())))(tried)()
+    any_name = hypothesis.given(strategies.text(strategies.characters(blacklist_categories=())))(tried)
+    hypothesis.example("<title>" * 100)(any_name)()
 
 
 def _svg(name: str) -> str:
