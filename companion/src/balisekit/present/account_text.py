@@ -1,7 +1,7 @@
 """The account of an input in words and as JSON."""
 from __future__ import annotations
 
-from typing import Any, Dict, Iterable, Iterator, Sequence
+from typing import Any, Callable, Dict, Iterable, Iterator, Sequence
 
 from balisekit.rules.families import Outcome
 from balisekit.tables.account import Account, NotJudged
@@ -52,30 +52,31 @@ def _names(names: Sequence[str]) -> str:
     return listed(list(map(clean, names)), NAMED)
 
 
-def account_json(outcome: Outcome) -> Dict[str, Any]:
-    """The account for other tools."""
+def account_json(outcome: Outcome, shown: Callable[[str], str] = str) -> Dict[str, Any]:
+    """The account for other tools, with names of the table as `shown` gives them."""
     messages = outcome.account_of_messages
-    return {**_json(outcome.account), **({"messages": _json(messages)} if messages else {})}
+    return {**_json(outcome.account, shown), **({"messages": _json(messages, shown)} if messages else {})}
 
 
-def _json(account: Account) -> Dict[str, Any]:
+def _json(account: Account, shown: Callable[[str], str]) -> Dict[str, Any]:
+    names = [list(map(shown, some)) for some in (account.sheets, account.sheets_not_read, account.columns_not_read)]
     return {
         "telegrams": account.telegrams,
         "judged": account.judged,
         "refused": account.refused,
-        "not_judged": [_not_judged_json(each) for each in account.not_judged],
-        "sheets": {"read": list(account.sheets), "not_read": list(account.sheets_not_read)},
+        "not_judged": [_not_judged_json(each, shown) for each in account.not_judged],
+        "sheets": {"read": names[0], "not_read": names[1]},
         "rows": list(account.rows),
-        "columns_not_read": list(account.columns_not_read),
+        "columns_not_read": names[2],
     }
 
 
-def _not_judged_json(each: NotJudged) -> Dict[str, Any]:
+def _not_judged_json(each: NotJudged, shown: Callable[[str], str]) -> Dict[str, Any]:
     return {
-        "why": each.why,
-        "sheet": each.sheet,
+        "why": shown(each.why),
+        "sheet": None if each.sheet is None else shown(each.sheet),
         "rows": list(each.rows),
-        "column": each.column,
+        "column": None if each.column is None else shown(each.column),
         "telegrams": each.telegrams,
         "asked": each.asked,
     }

@@ -69,7 +69,7 @@ def document(outcome: Outcome) -> Object:
         "originalUriBaseIds": {"%SRCROOT%": {"description": {"text": "the folder in which the command ran"}}},
         "invocations": [_invocation(outcome)],
         "results": results,
-        "properties": {"account": account_json(outcome)},
+        "properties": {"account": account_json(outcome, clean)},
     }
     return {"$schema": SCHEMA, "version": "2.1.0", "runs": [run]}
 
