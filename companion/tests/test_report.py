@@ -100,7 +100,7 @@ def test_the_page_has_all_that_was_said(
             "^(findings that|(findings of|links, by|remarks on).*proved).*:.*", lambda found: _title(found[0]), told
         )
         assert told in text, line
-    assert said[-1:] == closing and f'<p class="verdict">{escape(closing[0])}</p>' in page
+    assert said[-len(closing) :] == closing and f'<p class="verdict">{escape(closing[-1])}</p>' in page
     assert hashlib.sha256(table.read_bytes()).hexdigest() in text
     assert text.count("balisekit is not proved; the program's own lines are quoted in full") == 1
     ids = [attributes["id"] for _, attributes in seen.tags if "id" in attributes]
@@ -134,7 +134,7 @@ def test_links_are_accepted_beside_findings(tmp_path: Path, capsys: pytest.Captu
     status, page = _report(table, tmp_path / "r.html", "--accepted", str(signed))
     told = capsys.readouterr().out.splitlines()[1:]
     assert row["rule"] == "L2" and status == 0
-    assert told[-1].startswith("no open findings, links or remarks") and escape("\n".join(told)) in page
+    assert told[-1].startswith("no open findings, links or remarks") and all(escape(line) in page for line in told)
     accepted = _between(page, ACCEPTED, PAPERS)
     assert accepted.count(f"<td><bdi>surveyed</bdi></td>{SIGNED}</td>") == 1 and "L2: packet 5" in accepted
     block = page[page.index('<section class="group" id="g0">') :]
