@@ -13,7 +13,7 @@ from pathlib import Path
 
 import pytest
 
-from runner import TOP, crate_uses, program
+from runner import TOP, program
 from test_recipes import shown
 from tiny import attempt, sh, write
 
@@ -21,7 +21,7 @@ from tiny import attempt, sh, write
 pytestmark = [pytest.mark.slow, pytest.mark.xdist_group("release")]
 VERSION, STORED = (TOP / "VERSION").read_text("utf-8").strip(), "dist/x86_64-linux"
 # The commands and modules that are needed, and their packages.
-NEEDS = {"git": "git", "advzip": "advancecomp", "help2man": "help2man", "dpkg-deb": "dpkg", "nm": "binutils",
+NEEDS = {"git": "git", "advzip": "advancecomp", "help2man": "help2man", "dpkg-deb": "dpkg",
          "hatchling": "python3-hatchling", "pip": "python3-pip", "jinja2": "python3-jinja2"}
 # They stand in for the 20 s in which advzip makes a wheel of at most 700,000 bytes: 0.3 s for 1,300 bytes more; and for
 # the 1 s of gzip. A clone's manual page of balisekit has no help of single commands.
@@ -214,14 +214,12 @@ def test_deb(made):
     assert {*re.findall(r"[\w-]+", sh(made, "dpkg-deb -f *.deb Recommends"))} <= {*re.findall(r"[\w-]+", recipe)}
 
 
-def test_libraries(made):
-    """The SPDX document, THIRD-PARTY.md, the program and crates.txt name the same libraries."""
-    document = json.loads(text_of(next(made.glob("*.json"))))
-    names = {one["SPDXID"] for one in document["packages"]}
-    assert document["spdxVersion"] == "SPDX-2.3" and len(names) >= 10
-    assert names == {one["relatedSpdxElement"] for one in document["relationships"]}
-    assert f"{document['packages'][0]['checksums'][0]['checksumValue']} " in sh(TOP, f"sha256sum '{program()}'")
-    crates, listed = crate_uses(), re.findall(r"(?m)^\| (\w+) \|.*\| (.*) \|$", text_of(TOP / "THIRD-PARTY.md"))
-    assert {name for names in crates.values() for name in names} - {*crates} <= {name for name, _ in listed}
-    called = re.findall(r"(?m)^[0-9a-f]* [tTwW] ([a-z]\w*)::", sh(TOP, f"nm '{program()}'"))
-    assert {*called} - {*crates} == {name for name, use in listed if use == "in the program"}
+def test_components(made):
+    """The SPDX document has the checksums of the program of the release, and of its library for C, if it has one."""
+    packages = {it["name"]: it for it in json.loads(text_of(next(made.glob("*.json"))))["packages"]}
+    assert packages["balisekit"]["versionInfo"] == VERSION
+    files = {"balisecheck": "balisecheck", **{it: f"{STORED}/{it}" for it in ("libbalisecheck.a", "libbalisecheck.so")}}
+    for name, path in files.items():
+        file = made.with_name("tree") / path
+        assert file.exists() == (name in packages)
+        assert not file.exists() or packages[name]["checksums"][0]["checksumValue"] == sum_of(file)

@@ -251,5 +251,6 @@ def test_job_files_name_this_release() -> None:
 
 def test_job_files_are_short() -> None:
     assert [path.name for path in JOBS] == ["github.yml", "gitlab-ci.yml"]
-    assert all(len(path.read_text("utf-8").splitlines()) <= 13 for path in JOBS)
+    lines = [[it for it in path.read_text("utf-8").splitlines() if not it.startswith("#")] for path in JOBS]
+    assert all(len(it) <= 12 for it in lines)
     assert [len("\n".join(steps(path)).splitlines()) for path in JOBS] == [2, 2]
