@@ -200,7 +200,7 @@ def test_tools(room):
         assert (status, said) == (2, f"verify-release: not checked: the command {name} is missing\n")
 
 
-@pytest.mark.parametrize("shell", ["dash", "bash --posix", "busybox sh"])
+@pytest.mark.parametrize("shell", ["dash", "bash --posix"])
 def test_shells(room, shell):
     """The script is for any POSIX shell, and works from any folder, through a link and with a relative path."""
     if not shutil.which(shell.split()[0]):
