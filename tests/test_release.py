@@ -11,7 +11,7 @@ from pathlib import Path
 import pytest
 
 from runner import TOP, program
-from test_recipes import shown
+from test_recipes import FILES, shown
 from tiny import attempt, sh, write
 
 # A release is made once, for all tests: their mark keeps them in one process of xdist.
@@ -234,11 +234,16 @@ def test_judged(judge, package, made):
     assert re.fullmatch(r"(Checking \S+: PASSED\n|running with root privileges .*\n)?", said)
 
 
-def test_deb(made):
-    """The .deb is unpacked and used. The recipe of the container fits what it has and recommends."""
-    root = made.with_name("a root")
+@pytest.fixture(scope="module", name="root")
+def a_root(made):
+    """A folder in which the .deb is unpacked."""
+    sh(made, f"dpkg-deb -R *.deb '{made.with_name('a root')}'")
+    return made.with_name("a root")
+
+
+def test_deb(made, root):
+    """The .deb is used. The recipe of the container fits what it has and recommends."""
     docs, recipe = root / "usr/share/doc/balisecheck", text_of(TOP / "examples/container/Containerfile")
-    sh(made, f"dpkg-deb -R *.deb '{root}'")
     assert sh(root, "md5sum --quiet -c DEBIAN/md5sums && sh -n DEBIAN/postinst && sh -n DEBIAN/prerm") == ""
     assert all((docs / name).stat().st_size for name in ("copyright", "THIRD-PARTY.md"))
     shows(docs / "README.md", docs, root / "usr/bin")
@@ -247,6 +252,48 @@ def test_deb(made):
     assert all((root / name).exists() for name in re.findall(r"COPY --from=kit /(usr/\S*)", recipe))
     assert f"\nCOPY balisecheck_{VERSION}_amd64.deb " in recipe.replace("*", VERSION)
     assert {*re.findall(r"[\w-]+", sh(made, "dpkg-deb -f *.deb Recommends"))} <= {*re.findall(r"[\w-]+", recipe)}
+
+
+@pytest.mark.parametrize("tool", ["jq", "parallel"])
+def test_recipes_of_the_deb(tool, root, tmp_path):
+    """Commands that its documents show need no clone, only a copy of the examples."""
+    if not shutil.which(tool):
+        pytest.skip(f"recipes of the .deb by {tool}")
+    docs, installed = root / "usr/share/doc/balisecheck", f"set +e\nexport PATH='{root}/usr/bin':$PATH\nunset BALISECHECK\n"
+    sources = ". examples/find-field.sh\n. examples/parallel.sh\n"
+    sh(tmp_path, f"cp -r '{docs}/examples' .")
+    for name, content in FILES.items():
+        (tmp_path / name).write_bytes(content)
+    tried = 0
+    for page in [*docs.rglob("*.md"), *docs.rglob("*.sh")]:
+        for commands, wanted in shown(page):
+            if commands and (tool == "parallel") == bool(re.search(r"check_\w+ |shared_|run_in_", commands)):
+                assert attempt(tmp_path, f"{installed}{sources}{{ {commands}\n}} 2>/dev/null")[1] == wanted, page
+                tried += 1
+    assert tried > (20 if tool == "jq" else 1)
+
+
+def test_library_of_the_deb(root, tmp_path):
+    """A program in C is compiled with the library of the .deb, as the page says."""
+    if not shutil.which("cc") or not (root / "usr/lib/balisecheck").exists():
+        pytest.skip("the library of the .deb (gcc)")
+    docs, there = root / "usr/share/doc/balisecheck", tmp_path / "root"
+    there.symlink_to(root)
+    recipe = re.search(r"(?ms)^```sh\n(cp -r .*?)^```$", text_of(docs / "docs/library.md"))[1]
+    assert sh(tmp_path, recipe.replace("/usr/", f"{there}/usr/")) == text_of(docs / "examples/duplicated-pair.json")
+
+
+def test_python_of_the_deb(root, tmp_path):
+    """The example of the Python module runs with the path that its page names, and after the hook of the examples."""
+    docs = root / "usr/share/doc/balisecheck"
+    page = text_of(docs / "docs/commands.md")
+    path, code = re.search(r"after the \.deb `PYTHONPATH=(.*?)`", page)[1], re.search(r"(?ms)^```python\n(.*?)^```", page)[1]
+    sh(tmp_path, f"cp -r '{docs}/examples' .")
+    (tmp_path / "script.py").write_text(code)
+    said = sh(tmp_path, f"PATH='{root}/usr/bin':$PATH PYTHONPATH='{root}{path}' python3 script.py")
+    assert said.split("\n")[:-1] == [it.strip() for it in re.findall(r"(?m)print\(.*\) *# (.*)$", code)]
+    hook = f"PATH='{root}/usr/bin':$PATH examples/hooks/check-tables examples/links/line.csv"
+    assert attempt(tmp_path, hook) == (0, sh(tmp_path, f"'{root}/usr/bin/balisekit' check examples/links/line.csv"))
 
 
 def test_components(made):
