@@ -13,7 +13,7 @@ from tiny import write
 PAGES = ("README.md", "examples/README.md", "examples/parallel.sh", "man/balisecheck.1", *(
     f"docs/{name}.md" for name in ("refusals", "formats", "findings", "guide", "commands", "performance")))
 # A tool, the words of commands that need it, and what is skipped without it.
-TOOLS = ("jq", "jq|shared_identities", "recipes by jq"), ("parallel", "check_doc|run_in_", "recipes by GNU parallel")
+TOOLS = ("jq", "jq|shared_identities", "recipes by jq"), ("parallel", "check_doc|run_in_|check_tab", "recipes by GNU parallel")
 RECIPES = {name: marked(lines) for name, *lines in blocks("recipes.txt")}
 FILES = {name: in_bytes(texts["<"]) for name, texts in RECIPES.items() if "$" not in texts}
 GOOD = FILES["good.txt"]
