@@ -67,12 +67,12 @@ def test_a_page_that_has_changed_is_noticed(page: str, heading: str, word: str, 
 AT_WORST = {
     Urgency.WRONG_INFORMATION: r"Wrong information\b|An old profile is used\.|Braking too late\b|Too fast\b",
     Urgency.WRONG_PLACE: r"A wrong position of the train\.",
+    Urgency.NOT_JUDGED: r"Not judged\.",
     Urgency.BRAKING: r"Braking[.,;]",
-    Urgency.RULE_ONLY: r"Only a rule\.",
 }
 
 
 def test_the_order_of_findings_is_by_what_the_page_says_of_the_worst() -> None:
     assert set(URGENCIES) == set(explanations())
     for rule, page in explanations().items():
-        assert re.match(AT_WORST[URGENCIES[rule]], page["urgent"]), rule
+        assert re.match(AT_WORST[URGENCIES[rule]], page["matters"]), rule
