@@ -5,7 +5,7 @@
 
 It prints for each page, and for each rule, the number of sentences, the share of those with fewer than five words, the
 share of those with more than 28, and the median number of words. Without a page it looks at all pages of the
-repository. Tables, code, quotes and headings are no sentences, nor is what ends without a full stop.
+repository. Tables, code, quotes and headings are no sentences, nor is what ends without a full stop. A code span or quote is one word.
 """
 from __future__ import annotations
 
@@ -23,8 +23,8 @@ MOST_SHORT, MOST_LONG = 0.10, 0.03
 """The greatest shares of short and of long sentences."""
 FENCED = re.compile(r"(?ms)^ *```.*?^ *```$")
 END = re.compile(r"(?<=[.!?])(?<!e\.g\.)(?<!i\.e\.)[*)\"]*\s+(?=[A-Z`\"*(\d\[])")
-RUN_IN = re.compile(r"^(?:[-*] |\d+\. )?(?:\*\*[^*]{1,40}[.:,]?\*\*:?\s+)?")
-"""The mark of an item, and a heading in bold letters before its text."""
+RUN_IN = re.compile(r"^(?:[-*] |\d+\. )?(?:\*\*[^*]{1,40}[.:,]?\*\*:?(?:\s+|$))?")
+"""The mark of an item, and a heading in bold letters before its text or instead of it."""
 
 
 class Shares(NamedTuple):
@@ -64,8 +64,8 @@ def words(sentence: str) -> int:
 def plain(text: str) -> str:
     """A text without comments, quoted blocks, code and targets of links."""
     text = re.sub(r"(?ms)<!--.*?-->|^>.*?$", "", FENCED.sub("", text))
-    text = re.sub(r"!?\[([^]]*)\]\([^)]*\)", r"\1", re.sub(r"`[^`]*`", "code", text))
-    return re.sub(r'"[^"\n]*"|“[^”\n]*”', "quote", text)
+    text = re.sub(r"!?\[([^]]*)\]\([^)]*\)", r"\1", re.sub(r"`[^`]*`", "`code`", text))
+    return re.sub(r'"[^"\n]*"|“[^”\n]*”', '"quote"', text)
 
 
 def of_page(text: str) -> Shares:

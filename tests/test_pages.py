@@ -13,10 +13,7 @@ from variables.table import read_rows
 
 LONGEST = 30
 # Pages with too many short or long sentences. Rewrite one and remove it here: no page is added.
-TO_REWRITE = {"CHANGELOG.md", "CONTRIBUTING.md", "dist/pack/release.md", "docs/assurance/proofs.md",
-              "docs/assurance/safety.md", "docs/contributing/architecture.md", "docs/contributing/testing.md",
-              "docs/guide.md", "docs/library.md", "docs/links.md", "docs/performance.md", "docs/remarks.md",
-              "docs/track-plan.md"}
+TO_REWRITE = {"CHANGELOG.md", "docs/contributing/architecture.md", "docs/performance.md"}
 # A list of licences, and a table that scripts/from_trace.py makes.
 NOT_COUNTED = ("THIRD-PARTY.md", "docs/variables.md")
 PAGES = {name: path.read_text("utf-8") for pattern in ("*.md", "dist/**/*.md", "docs/**/*.md", "examples/**/*.md")
