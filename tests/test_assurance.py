@@ -91,11 +91,12 @@ def test_pins():
 
 
 def test_yes():
-    """README and the page on a yes quote the comment of the law, and the page has each field of the definition."""
+    """The page on a yes quotes the comment of the law, and has each field of the definition. README has its bullets."""
     law = re.search(r"(?m)^((?:///.*\n)+)pub fn no_finding_says_yes\(", source("etcs_document/src/laws.rt"))
     sentence = " ".join(law[1].replace("///", "").split()).partition("all is true that a yes says: ")[2]
-    for page in ((TOP / "README.md").read_text("utf-8"), YES):
-        assert re.findall(r"(?m)^> Where the answer is yes, (.*)$", page) == [sentence]
+    assert re.findall(r"(?m)^> Where the answer is yes, (.*)$", YES) == [sentence]
+    begin = YES.partition("\n## ")[0].partition("If the answer is yes")[2].strip()
+    assert begin and begin in (TOP / "README.md").read_text("utf-8")
     record = re.search(r"(?ms)^pub record SaysYes .*?(?=\n\n)", source("etcs_document/specs/Verdict.antt"))
     listed = re.findall(r"(?m)^- ((?:`\w+`(?:, )?)+): ", YES.partition("## The sentence")[2].partition("\n## ")[0])
     assert re.findall(r"`(\w+)`", " ".join(listed)) == re.findall(r"(?m)^  pub (\w+) :", record[0])

@@ -67,6 +67,13 @@ def test_commands(name):
         assert not (lead or words) or "/" not in path or not (TOP / path).is_file() or os.access(TOP / path, os.X_OK)
 
 
+def test_readme_says_that_no_row_was_compared():
+    """README has how many rows of the table can be compared with a print, as long as none was."""
+    printed = [row for row in read_rows() if row.kind not in ("rule", "word")]
+    assert f"Nobody has yet compared its {len(printed)} table rows with a printed SUBSET-026." in PAGES["README.md"]
+    assert not [row for row in printed if row.compared]
+
+
 def numbers():
     """Pages, a text with a number in each, and the number."""
     edits = [len([*TOP.glob(f"crates/{name}/must-fail/*.edit")]) for name in crate_uses()]
