@@ -3,10 +3,10 @@
 What it says. A packet 5 names a group that is not in the table, although its D_LINK leads to a place inside the table's
 track. D_LINK counts along the track, from the sender or from the last group of this packet that the table has. A link
 without NID_C takes the NID_C of the link before it, and the first link that of the telegram. If a link leads beyond an
-end of the track by more than Q_LOCACC and `--tolerance`, the table may be a section of a longer line. The rule then
-only counts the link, in one note for each end. It also only counts a link that may lead to a group of which no telegram
-could be read. If the table has the NID_BG under another NID_C, the line names that group. A link to NID_BG 16,383 names
-no group, so it is not reported (SUBSET-026, 3.4.4 and 7.4.2).
+end of the track by more than Q_LOCACC and `--tolerance`, the table might be a section of a longer line. The rule then
+only counts the link, in one note for each end. It also only counts a link that might lead to a group of which no
+telegram could be read. If the table has the NID_BG under another NID_C, the line names that group. A link to NID_BG
+16,383 names no group, so it is not reported (SUBSET-026, 3.4.4 and 7.4.2).
 
 Why it matters. At worst the train brakes or is tripped at each passage. It waits for a group that does not come, and
 then applies the linking reaction (Q_LINKREACTION). If a group with another identity and Q_LINK 1 is at that place, the
@@ -25,7 +25,7 @@ table. {one way}
 
 Usual cause. The number of the group was mistyped. Or the group got a new number and the link kept the old one. Or
 Q_NEWCOUNTRY and NID_C were forgotten at a border. If the table has another group at that place, the line names it with
-its identity. If F14 is found for that identity, this group may be the one with the wrong number.
+its identity. If F14 is found for that identity, this group might be the one with the wrong number.
 
 How to correct it. Correct the link, or add the group to the table.
 

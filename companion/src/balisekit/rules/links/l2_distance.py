@@ -9,7 +9,7 @@ a single remark asks whether the kilometres jump. See SUBSET-026, 3.4.4, 3.16.2.
 
 Why it matters. At worst the train takes a wrong position for its own. It expects the group at another place. If the
 group is inside the expectation window, the train corrects its position by a wrong distance. If the group is outside the
-window, the train applies the linking reaction, so it may brake or be tripped.
+window, the train applies the linking reaction, so it might brake or be tripped.
 
 Example. Before (`examples/links/distance-differs.csv`): by the kilometres B (km 11.000) is 1,000 m from A (km 10.000),
 and the link of A has D_LINK 1,010 m with Q_LOCACC 5 m. After (`examples/links/line.csv`): D_LINK is 1,000 m.

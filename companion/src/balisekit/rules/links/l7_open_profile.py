@@ -2,10 +2,10 @@
 
 What it says. A group or message 3 gives an authority, and with it in its direction a gradient or speed profile without
 an end mark. The program takes an open profile to reach any place. Its yes then rests on a rule of this project, which
-the standard may not share.
+the standard might not share.
 
 Why it matters. To be looked at: the yes says less than it seems to. The last gradient or speed holds without end, also
-on track that has another one. A train may refuse an authority whose profiles do not end.
+on track that has another one. A train might refuse an authority whose profiles do not end.
 
 Example. Before (`examples/links/open-profile.csv`): packet 21 of balise A2 (km 10.003) has no end mark, and the
 authority of its group rests on it. After (`examples/links/line.csv`): an element with G_A 255 ends the profile 1,000 m

@@ -2,7 +2,7 @@
 
 What it says. A gradient or speed profile under an authority begins beyond 0 m, and no other profile of its kind in this
 message begins at 0 m. The track before it then has no profile of this message. The rule looks at groups and at the
-first message 3. A later message 3 may rely on the one before it, so its late profiles are only counted in a note. The
+first message 3. A later message 3 might rely on the one before it, so its late profiles are only counted in a note. The
 program does not check where a profile begins (SUBSET-026, 3.7, 3.8 and 3.11).
 
 Why it matters. At worst an old profile is used on the track before the first element, or the train has none there.

@@ -6,8 +6,8 @@ last decimal of the kilometres is allowed in either direction. The rule passes o
 same kilometre (SUBSET-036 and SUBSET-040, installation of balise groups).
 
 Why it matters. At worst the train has a wrong position, because distances of the group count from its first balise.
-Balises that are too close disturb each other, so a train may miss one. A balise that is too far away is not taken for a
-part of the group.
+Balises that are too close disturb each other, so a train might miss one. A balise that is too far away is not taken for
+a part of the group.
 
 Example. Before (`examples/meaning/mistakes/E11.csv`): the second balise of Signal 3 is at km 13.033, 33 m from the
 first one. After: it is at km 13.003, 3 m from the first one.

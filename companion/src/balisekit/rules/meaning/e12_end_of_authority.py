@@ -9,17 +9,17 @@ is only for packets 12. It takes the first balise of each group for its place, a
 last signal of the way. It says nothing if packets 5 name a group there that has no kilometre or is on another track.
 Places may differ by `--tolerance` (else 1 m) and rounding (SUBSET-026, 3.8 and 7.4.2).
 
-Why it matters. At worst the train gets wrong information, and may pass the signal at which it has to stop. Or it stops
-some metres in rear of the signal.
+Why it matters. At worst the train gets wrong information, and might pass the signal at which it has to stop. Or it
+stops some metres in rear of the signal.
 
 Example. Before (`examples/meaning/mistakes/E12.csv`): at "green" the authority of Signal 3 ends at km 16.050, and 1
 other that leads to Signal 5 ends at km 16.000. After: L_ENDSECTION of "green" is 50 m shorter.
 
 When it is a false alarm. The rule assumes that all authorities to one group end at one place. A calling-on route, a
 limit of authority (V_LOA above 0), or an end at a marker board by radio can be elsewhere. So can an authority that ends
-at a signal up to 200 m beyond its links. The rule also assumes that each authority ends at a group. It may not do so in
-limited supervision. Nor may it at a buffer stop, a board or a border, if no group of the table or of a packet 5 is
-within 50 m. {leaving} {points} {kilometres} {one way}
+at a signal up to 200 m beyond its links. The rule also assumes that each authority ends at a group. In limited
+supervision an authority might end elsewhere. The same holds for a buffer stop, a board or a border, if no group of the
+table or of a packet 5 is within 50 m. {leaving} {points} {kilometres} {one way}
 
 Usual cause. A length was mistyped, or has a wrong Q_SCALE. Or a signal was moved, and not all groups in rear of it were
 changed.

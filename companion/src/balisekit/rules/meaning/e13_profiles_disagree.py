@@ -7,20 +7,20 @@ not count. If packets 5 of the group in rear name the group ahead, only the aspe
 `--tolerance` is 1 m if it is not given. If a group differs from its neighbours on both sides, the remark is on this
 group (SUBSET-026, 3.11.3 and 3.11.12).
 
-Why it matters. At worst the train gets wrong information: it may go too fast, or brake too late on a slope. It goes by
-the profile that it got last, which may be the wrong one.
+Why it matters. At worst the train gets wrong information: it might go too fast, or brake too late on a slope. It goes
+by the profile that it got last, which might be the wrong one.
 
 Example. Before (`examples/meaning/mistakes/E13.csv`): from km 13.000 to km 14.700 Signal 3 has a gradient of +18 per
 mille, and Signal 2 has -18 per mille. After: Q_GDIR of Signal 3 is the other one, and both have -18 per mille.
 
-When it is a false alarm. {exact} A project may also begin a speed 20 m early. {track speed} {leaving} {points}
+When it is a false alarm. {exact} A project might also begin a speed 20 m early. {track speed} {leaving} {points}
 {kilometres} {missing} {one way}
 
 Usual cause. V_STATIC is in km/h, or Q_SCALE or Q_GDIR is wrong. Or a speed or a gradient was changed in one group only.
 
 How to correct it. Correct the wrong profile by the track plan.
 
-How to accept it. State which of the two profiles is exact, and why the other one may differ.
+How to accept it. State which of the two profiles is exact, and why the other one might differ.
 
 How sure. 87 %, by practice and memory of the standard.
 """

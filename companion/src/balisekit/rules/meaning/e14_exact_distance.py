@@ -3,7 +3,7 @@
 What it says. A distance by D_LINK differs from the kilometres by more than `--tolerance` (else 1 m) and rounding, but
 not enough for L2. L2 allows Q_LOCACC, which describes how exactly a group is installed, not how exactly D_LINK is
 written. The distance counts from the sender, or from the linked group before. If all links of two groups or more over a
-stretch differ by one amount, a single remark asks whether the kilometres jump there. The kilometres may also follow
+stretch differ by one amount, a single remark asks whether the kilometres jump there. The kilometres might also follow
 another axis than the track (SUBSET-026, 3.4.4 and 7.5.1). The rule assumes this if at least five links of a track
 differ elsewhere, and more than a fifth of all. One note then counts them.
 

@@ -2,11 +2,11 @@
 
 What it says. A packet 12, 21, 27 or 80 after a packet 136 differs from that of the signal's aspect of the same name, or
 the signal is in rear. The signal is the group that the packet 136 names. A signal that is not in the table is reported
-too. It gets only a note if a group of which no telegram could be read may be it. The same holds if no group ahead of
-the infill gives an authority in its direction, because the signal may be beyond the table. The packets are compared for
-the direction in which the train passes the signal. Not compared are Q_DIR, Q_SCALE, the Q_GDIR of a G_A 0 or 255, and
-the Q_FRONT and V_DIFF of a V_STATIC 127. Distances are compared in metres, and if Q_SCALE differs, they may differ by
-the greater unit. Sections without timers count by their sum. Packets that only one of the two groups has are passed
+too. It gets only a note if a group of which no telegram could be read might be it. The same holds if no group ahead of
+the infill gives an authority in its direction, because the signal might be beyond the table. The packets are compared
+for the direction in which the train passes the signal. Not compared are Q_DIR, Q_SCALE, the Q_GDIR of a G_A 0 or 255,
+and the Q_FRONT and V_DIFF of a V_STATIC 127. Distances are compared in metres, and if Q_SCALE differs, they may differ
+by the greater unit. Sections without timers count by their sum. Packets that only one of the two groups has are passed
 over. The layouts of packets 80 and 136 are balisekit's own (SUBSET-026, 3.6.2 and 7.4.2).
 
 Why it matters. At worst the train gets wrong information: it releases its brake for an aspect that the signal does not
@@ -17,11 +17,11 @@ Signal 4 (km 14.500) has 1,500 m. After: both have 1,500 m.
 
 When it is a false alarm. The rule assumes that an aspect name means the same at the infill and at its signal. That is
 not so if the names are numbers, or if the infill has the names of a distant signal. It assumes that infill repeats its
-signal. A project may say less on purpose, with a lower V_MAIN, shorter or merged profiles, or other timers. Infill for
-a signal at danger may also have a V_MAIN above 0 and no length. It assumes that the table has the signal, which is not
-so on a branch line. Sometimes no packet 5 links the signal, and the kilometres show no direction or the tracks differ.
-The rule then assumes that both groups face the same way. A loop between the two groups can mislead it. {kilometres}
-{one way}
+signal. A project might say less on purpose, with a lower V_MAIN, shorter or merged profiles, or other timers. Infill
+for a signal at danger might also have a V_MAIN above 0 and no length. It assumes that the table has the signal, which
+is not so on a branch line. Sometimes no packet 5 links the signal, and the kilometres show no direction or the tracks
+differ. The rule then assumes that both groups face the same way. A loop between the two groups can mislead it.
+{kilometres} {one way}
 
 Usual cause. The infill was not changed with its signal. Or it was copied from the wrong aspect.
 

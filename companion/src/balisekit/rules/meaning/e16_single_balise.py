@@ -16,9 +16,9 @@ direction, and packets 5 of other groups lead past it without its name. After: t
 balise.
 
 When it is a false alarm. The rule assumes that the table has all links. In level 2, also as an overlay of level 1,
-radio may send them, and groups beyond the table may name the balise. It assumes that packets 5 which lead past a balise
-are for trains that pass it. That is not so if the balise is on another route. It assumes that trains of one way come to
-the balise from one side, which is not so on a balloon loop or triangle. {kilometres} {missing} {one way}
+radio might send them, and groups beyond the table might name the balise. It assumes that packets 5 which lead past a
+balise are for trains that pass it. That is not so if the balise is on another route. It assumes that trains of one way
+come to the balise from one side, which is not so on a balloon loop or triangle. {kilometres} {missing} {one way}
 
 Usual cause. The link to an infill balise was forgotten. Or Q_LINKORIENTATION was copied from another link. Or the
 column `nominal` was filled in for the other direction.

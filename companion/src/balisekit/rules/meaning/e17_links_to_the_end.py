@@ -16,11 +16,11 @@ correct its position there.
 Example. Before (`examples/meaning/mistakes/E17.csv`): the authority of Signal 3 at "green" ends at km 16.000, and the
 packets 5 lead to km 14.500 only. After: the packet 5 of Signal 3 also names the group at km 16.000.
 
-When it is a false alarm. The rule assumes that the line uses linking. A line may use none, or none on this part, such
-as in rear of a level 2 area. It assumes that packets 5 lead to the end of the authority. They may lead only to the next
-signal, which has its own packet 5. Or groups that the table lacks, or of another track, may have the other links. It
-assumes that the groups ahead are for these trains. Groups for level 2 or a national system (packet 44) are not.
-{leaving} {points} {kilometres} A missing kilometre matters only if no packet 5 leads to its group. {one way}
+When it is a false alarm. The rule assumes that the line uses linking. A line might use none, or none on this part, such
+as in rear of a level 2 area. It assumes that packets 5 lead to the end of the authority. They might lead only to the
+next signal, which has its own packet 5. Or groups that the table lacks, or of another track, might have the other
+links. It assumes that the groups ahead are for these trains. Groups for level 2 or a national system (packet 44) are
+not. {leaving} {points} {kilometres} A missing kilometre matters only if no packet 5 leads to its group. {one way}
 
 Usual cause. A link was forgotten. Or the packet 5 was made for another aspect.
 

@@ -7,8 +7,8 @@ is that of D_LEVELTR, or of the group if D_LEVELTR is 0 or 32,767 (now). Of seve
 others announce counts as right, or else the first along the way. If there is none for now, the most frequent place
 counts. A packet that repeats the order beyond the border agrees with it. A place needs an order only between the first
 and the last group of the track. The rule is silent if a group whose direction or place is unknown, or with a refused
-telegram, may have the order. The same holds if a group on another track, to which the packets 5 of the announcement
-lead, may have it. A packet for both directions with a distance is E5 (SUBSET-026, 5.10 and 7.4.2).
+telegram, might have the order. The same holds if a group on another track, to which the packets 5 of the announcement
+lead, might have it. A packet for both directions with a distance is E5 (SUBSET-026, 5.10 and 7.4.2).
 
 Why it matters. At worst the train gets wrong information. A driver acknowledges at one place, and the train changes its
 level at another. Or it goes on in a level whose trackside equipment has ended.
@@ -16,12 +16,12 @@ level at another. Or it goes on in a level whose trackside equipment has ended.
 Example. Before (`examples/meaning/mistakes/E18.csv`): Signal 4 announces the level transition at km 16.750 (2250 m),
 and the group Border orders it at km 16.700. After: D_LEVELTR is 2,200 m.
 
-When it is a false alarm. The rule assumes that all packets 41 within 500 m are for one border. There may be two
+When it is a false alarm. The rule assumes that all packets 41 within 500 m are for one border. There might be two
 borders, one of them on another route, or orders for trains that start there. It assumes that they have one place. A
-packet with D_LEVELTR 32,767 may be some metres from the border. It assumes one list of levels, but announcement and
-border may differ on purpose. It assumes that a group of the table orders the change, but the last announcement may be
-the only order. Trains may also leave the track: they can run through a loop, or take a route to another track that no
-packet 5 shows. {kilometres} {missing}
+packet with D_LEVELTR 32,767 might be some metres from the border. It assumes one list of levels, but announcement and
+border might differ on purpose. It assumes that a group of the table orders the change, but the last announcement might
+be the only order. Trains might also leave the track: they can run through a loop, or take a route to another track that
+no packet 5 shows. {kilometres} {missing}
 
 Usual cause. D_LEVELTR is mistyped, or did not follow a moved border. Or the border has no packet 41.
 

@@ -12,11 +12,11 @@ The braking curve is wrong by twice the gradient. If both directions go down, th
 Example. Before (`examples/meaning/mistakes/E19.csv`): from km 10.000 to km 10.260 Signal 1 has +3 per mille, and Signal
 R1 of the other direction has +3 per mille too. They add up to 6 per mille. After: Signal R1 has -3 per mille.
 
-When it is a false alarm. The rule assumes that each gradient is that of its place. It may be the steepest or the mean
-value of a longer stretch. Safe gradients near a summit or a valley are of this kind, and may go down in both
+When it is a false alarm. The rule assumes that each gradient is that of its place. It might be the steepest or the mean
+value of a longer stretch. Safe gradients near a summit or a valley are of this kind, and might go down in both
 directions. {leaving} {kilometres} {missing} {one way}
 
-Usual cause. Q_GDIR of one direction is wrong. It may be copied from the other direction.
+Usual cause. Q_GDIR of one direction is wrong. It might be copied from the other direction.
 
 How to correct it. Compare both directions with the track plan, and correct the wrong one.
 

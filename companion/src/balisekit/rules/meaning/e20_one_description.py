@@ -11,8 +11,8 @@ Example. Before (`examples/meaning/mistakes/E20.csv` with `--rules E20`): Signal
 Q_LOCACC 12 m, and 2 of 3 links to it have 5 m. After: all links to Signal 5 have Q_LOCACC 5 m.
 
 When it is a false alarm. The rule assumes that a train passes each group of a packet 5 once. On a balloon loop it
-passes a group twice. With `--rules E20` it also assumes that Q_LOCACC and Q_LINKREACTION belong to the group. They may
-depend on the route, the aspect or the sender.
+passes a group twice. With `--rules E20` it also assumes that Q_LOCACC and Q_LINKREACTION belong to the group. They
+might depend on the route, the aspect or the sender.
 
 Usual cause. A NID_BG was copied from the link before it. Or Q_LOCACC was changed in one packet only.
 

@@ -12,9 +12,9 @@ another speed.
 Example. Before (`examples/meaning/mistakes/E22.csv`): Signal 4 has restriction 7 at km 14.600, and Signal 2 has it at
 km 14.000, both for 500 m with 40 km/h. After: Signal 4 has no packet 65, because the restriction ends there.
 
-When it is a false alarm. The rule assumes that a number is that of one restriction. Two restrictions may have it, one
-of them on another route. It assumes that all packets state the complete restriction exactly. D_TSR or L_TSR may be on
-the safe side, or may depend on the aspect or the route. {kilometres} {missing} {one way}
+When it is a false alarm. The rule assumes that a number is that of one restriction. Two restrictions might have it, one
+of them on another route. It assumes that all packets state the complete restriction exactly. D_TSR or L_TSR might be on
+the safe side, or might depend on the aspect or the route. {kilometres} {missing} {one way}
 
 Usual cause. D_TSR was not made anew for the second group. Or a restriction was changed in one group only.
 

@@ -8,16 +8,16 @@ with a T_LOA other than 1,023 (no time limit). It also reports a danger point or
 T_LOA 1,023 (SUBSET-026, 3.8 and 7.4.2).
 
 Why it matters. At worst the train gets wrong information. A timer starts or stops at a place that the train never
-passes. The train supervises an overlap that ends before its danger point. Or it may run at V_MAIN without any length.
+passes. The train supervises an overlap that ends before its danger point. Or it might run at V_MAIN without any length.
 
 Example. Before (`examples/meaning/mistakes/E3.csv`): at "green" of Signal 3 (km 13.003) the overlap has D_OL 200 m, and
 the danger point has D_DP 250 m. After: the overlap ends at the danger point or beyond it, so D_OL is at least 250 m.
 
-When it is a false alarm. The rule assumes that trains use each value. A template may fill in a section of 0 m, a T_LOA,
-a danger point or an overlap that no train uses. The rule assumes that timers start and stop within their lengths. A
-timer may stop later on purpose, or start in rear of the group. It assumes that V_LOA restricts. A project may send a
-V_LOA above V_MAIN to say that it does not. Finally, a V_MAIN above 0 without any length can be right at a signal at
-danger, often after a packet 136.
+When it is a false alarm. The rule assumes that trains use each value. A template might fill in a section of 0 m, a
+T_LOA, a danger point or an overlap that no train uses. The rule assumes that timers start and stop within their
+lengths. A timer might stop later on purpose, or start in rear of the group. It assumes that V_LOA restricts. A project
+might send a V_LOA above V_MAIN to say that it does not. Finally, a V_MAIN above 0 without any length can be right at a
+signal at danger, often after a packet 136.
 
 Usual cause. A length was changed, and the timers or the overlap were not. Or Q_SCALE was changed for some of the
 values. Or a value of another signal was copied.

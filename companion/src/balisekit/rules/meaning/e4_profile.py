@@ -18,7 +18,7 @@ When it is a false alarm. The rule assumes that trains run over the complete pro
 authority, and at a stop aspect, a profile may have 0 km/h or no length. The rule assumes that trains use V_STATIC. If
 each train category has its own V_DIFF, V_STATIC may be 0, or may be for a greater cant deficiency. It assumes that more
 cant deficiency never means less speed, which is not so if tilting trains have a restriction of their own. Finally, it
-assumes that each element and category is needed. A tool may begin an element at each boundary of its data, or fill up
+assumes that each element and category is needed. A tool might begin an element at each boundary of its data, or fill up
 with end marks.
 
 Usual cause. The elements were sorted wrongly, or one was entered twice. Or a distance was forgotten. Or an end mark is

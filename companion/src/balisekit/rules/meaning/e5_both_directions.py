@@ -1,6 +1,6 @@
 """E5: both directions with a distance.
 
-What it says. One of 21 packets with distances holds in both directions (Q_DIR 2); nine kinds may give only their
+What it says. One of 21 packets with distances holds in both directions (Q_DIR 2); nine kinds might give only their
 group's place. The 21 are 5, 12, 15, 16, 21, 27, 39, 40, 41, 51, 52, 65, 67 to 71, 80, 88, 131 and 138. A packet 41 with
 D_LEVELTR 0 or 32,767 (now) is not reported. Nor is a packet 39, 40, 51, 52, 68 to 70 or 131 whose only distance gives
 the place of its group. That is a D_TRACTION, D_CURRENT, D_TRACKINIT, D_SUITABILITY or D_RBCTR 0, or a D_RBCTR 32,767
@@ -16,7 +16,7 @@ Q_DIR 2. After: Q_DIR is 1, so only trains in nominal direction count the distan
 When it is a false alarm. The rule assumes that trains of both directions get the packet. That is not so on a track for
 one direction, or for a radio message. It assumes that the track differs on both sides. Level track, one speed, big
 metal masses or a restriction around the group are the same on both sides. It also assumes that nobody wants to stop
-both directions, which a group for the signals of both directions may do.
+both directions, which a group for the signals of both directions might do.
 
 Usual cause. The template had Q_DIR 2. Or the packet was meant for one direction, and a single balise with Q_LINK 0 has
 no direction.

@@ -7,15 +7,15 @@ packets of one kind in one direction. The kinds are 2, 3, 12, 15, 16, 21, 27, 41
 and 254. It then also reports a packet 0, 6, 12, 16, 46, 90, 132 to 137, 145 or 254 in a message 3 (SUBSET-026, 7.4 and
 8.4.4).
 
-Why it matters. At worst the train gets wrong information. It may use either of two packets, or reject the message. It
+Why it matters. At worst the train gets wrong information. It might use either of two packets, or reject the message. It
 does not use a packet that only radio sends.
 
 Example. Before (`examples/meaning/mistakes/E6.csv`): at "yellow" of Signal 3 (km 13.003) a train gets 2 packets 5 in
 nominal direction, in rows 10 and 12. After: only row 10 has a packet 5.
 
-When it is a false alarm. Never, unless a project sends two packets 5 for one direction on purpose. It may do so with a
-fixed and a switched one, or with the same packet in two balises. With `--rules E6`, packets of one kind may differ on
-purpose.
+When it is a false alarm. Never, unless a project sends two packets 5 for one direction on purpose. It might do so with
+a fixed and a switched one, or with the same packet in two balises. With `--rules E6`, packets of one kind might differ
+on purpose.
 
 Usual cause. Telegrams were put together from parts that both have the packet. Or a packet was copied from a message of
 the other kind.

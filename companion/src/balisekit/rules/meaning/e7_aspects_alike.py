@@ -13,10 +13,11 @@ Example. Before (`examples/meaning/mistakes/E7.csv`): the aspects "yellow" and "
 same packets, with V_MAIN 140 km/h. After: the authority of "yellow" ends at the next signal, and that of "green" at the
 one after it.
 
-When it is a false alarm. The rule assumes that two names are two aspects. One aspect may have two names, or a default
-telegram may repeat it. The rule also assumes that a train gets different data at two aspects. That is not so if only
-the driver sees the difference, or if two routes have the same data. Two aspects may also differ only beyond the end of
-authority, such as yellow and green in rear of a buffer stop or level border. Such aspects can have the lowest urgency.
+When it is a false alarm. The rule assumes that two names are two aspects. One aspect might have two names, or a default
+telegram might repeat it. The rule also assumes that a train gets different data at two aspects. That is not so if only
+the driver sees the difference, or if two routes have the same data. Two aspects might also differ only beyond the end
+of authority, such as yellow and green in rear of a buffer stop or level border. Such aspects can have the lowest
+urgency.
 
 Usual cause. The telegram of one aspect was copied and not changed.
 

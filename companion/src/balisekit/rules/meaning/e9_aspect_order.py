@@ -7,16 +7,16 @@ has both aspects in one direction. The rule also reports an aspect with V_MAIN 0
 most cases, and the reverse. Aspects with a refused telegram do not count. Authorities are equal if they differ by no
 more than `--tolerance` and the rounding of lengths (SUBSET-026, 3.8).
 
-Why it matters. At worst the train gets wrong information. At yellow it gets the authority of green, and may run beyond
-a signal at danger. A red aspect with V_MAIN above 0 does not stop it. Authorities that are only equal have the lowest
-urgency.
+Why it matters. At worst the train gets wrong information. At yellow it gets the authority of green, and might run
+beyond a signal at danger. A red aspect with V_MAIN above 0 does not stop it. Authorities that are only equal have the
+lowest urgency.
 
 Example. Before (`examples/meaning/mistakes/E9.csv`): at Signal 3 "yellow" ends 3000 m from the group and "green" 1500
 m, and in 5 of 6 cases "yellow" ends before "green". After: "yellow" ends 1,500 m from the group, and "green" 3,000 m.
 
 When it is a false alarm. The rule assumes that an aspect name means the same at each signal. That is not so if a signal
-uses a name in another way, or if the names are numbers of routes. In a group for both directions, an aspect may also
-stop only the trains of one of them. The rule assumes that the more restrictive aspect ends first. Both may end at the
+uses a name in another way, or if the names are numbers of routes. In a group for both directions, an aspect might also
+stop only the trains of one of them. The rule assumes that the more restrictive aspect ends first. Both might end at the
 same buffer stop or level border. Or one of them is for another track whose next signal is farther away, such as at a
 junction or at staggered exit signals.
 

@@ -2,9 +2,9 @@
 
 What it says. A gradient profile has another gradient than the plan, on a stretch longer than `--tolerance` (else 1 m)
 and rounding. Uphill is positive: by Q_GDIR as the train meets it, and in the plan by the way of the row. What follows a
-packet 136 is not compared. Beyond a `point` of the plan a train may have left the track, so nothing is compared there,
-unless a packet 5 shows that it stays. This packet must be of the same message. It must name a group of the track at or
-beyond the point, and none on another track before it (SUBSET-026, 7.4.2 and 7.5.1).
+packet 136 is not compared. Beyond a `point` of the plan a train might have left the track, so nothing is compared
+there, unless a packet 5 shows that it stays. This packet must be of the same message. It must name a group of the track
+at or beyond the point, and none on another track before it (SUBSET-026, 7.4.2 and 7.5.1).
 
 Why it matters. At worst the train gets wrong information: it brakes too late if the gradient is less downhill than the
 track. A gradient that is more downhill makes it brake early.
@@ -12,9 +12,9 @@ track. A gradient that is more downhill makes it brake early.
 Example. Before (`examples/meaning/level-border.csv` with `examples/meaning/plan.csv`): the gradient of Signal 4 is +1 ‰
 from km 16.620 to km 17.700, and the plan has -1 ‰ there. After: both have the sign of the track.
 
-When it is a false alarm. The rule assumes that plan and profile have the gradient of each place. One of them may have a
-mean of several gradients, or a safe one. A safe gradient is the most downhill one, one that was rounded down, or one of
-a stop aspect or overlap. Write safe gradients into the plan, a row for each way. {leaving} {points} {kilometres}
+When it is a false alarm. The rule assumes that plan and profile have the gradient of each place. One of them might have
+a mean of several gradients, or a safe one. A safe gradient is the most downhill one, one that was rounded down, or one
+of a stop aspect or overlap. Write safe gradients into the plan, a row for each way. {leaving} {points} {kilometres}
 {missing} {one way}
 
 Usual cause. The sign of the other direction was taken. Or the gradient of the neighbouring stretch was copied. Or

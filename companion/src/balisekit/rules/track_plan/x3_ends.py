@@ -5,9 +5,9 @@ The line names the plan's nearest signal and its distance. Authorities are packe
 15, if they have a length. Each ends at the end of its end section. The end may differ by `--tolerance` (0 without it)
 and by one unit of the last decimal of the kilometres. It may also differ by one unit of Q_SCALE, and half a unit for
 each further section. As soon as the plan has one signal of a track and way, it must have all signals at which
-authorities of that way end. Beyond a `point` of the plan a train may have left the track, so nothing is compared there,
-unless a packet 5 shows that it stays. This packet must be of the same message. It must name a group of the track at or
-beyond the point, and none on another track before it (SUBSET-026, 7.4.2 and 7.5.1).
+authorities of that way end. Beyond a `point` of the plan a train might have left the track, so nothing is compared
+there, unless a packet 5 shows that it stays. This packet must be of the same message. It must name a group of the track
+at or beyond the point, and none on another track before it (SUBSET-026, 7.4.2 and 7.5.1).
 
 Why it matters. At worst the train gets wrong information, and stops beyond the signal. Or it stops too far in rear of
 the signal.
@@ -17,9 +17,9 @@ Example. Before (`examples/meaning/level-border.csv` with `examples/meaning/plan
 signal.
 
 When it is a false alarm. The rule assumes that the plan has all ends of authority. A marker board, buffer stop, level
-border or limit of authority (V_LOA above 0), or the end of a calling-on route may be missing. Write such places into
-the plan as signals. In limited supervision an authority may end at no signal. {leaving} {points} {kilometres} {missing}
-{one way}
+border or limit of authority (V_LOA above 0), or the end of a calling-on route might be missing. Write such places into
+the plan as signals. In limited supervision an authority might end at no signal. {leaving} {points} {kilometres}
+{missing} {one way}
 
 Usual cause. A section is missing or was counted twice. Or the length was taken to another signal, or from another
 group.

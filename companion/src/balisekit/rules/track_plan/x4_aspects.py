@@ -11,9 +11,9 @@ allows.
 Example. Before (`examples/meaning/level-border.csv` with `examples/meaning/plan.csv`): at "yellow" Signal 9 (km 22.003)
 has V_MAIN 140 km/h, and the plan has 100 km/h. After: both have the speed of the route.
 
-When it is a false alarm. The rule assumes that the plan has the values of the packet. It may have those of the route,
-and the packet may reduce one, state one that does not restrict, or be for limited supervision. The rule assumes that
-each aspect of the plan has a packet 12. An aspect may lack it on purpose, such as one that stops trains by other
+When it is a false alarm. The rule assumes that the plan has the values of the packet. It might have those of the route,
+and the packet might reduce one, state one that does not restrict, or be for limited supervision. The rule assumes that
+each aspect of the plan has a packet 12. An aspect might lack it on purpose, such as one that stops trains by other
 packets. It assumes that a row has the way of its packet. That is not so if rows for a group with both directions state
 no `way`. Finally, it assumes that lengths are rounded as Q_SCALE states.
 

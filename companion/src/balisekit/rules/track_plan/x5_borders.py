@@ -17,13 +17,13 @@ asks the wrong RBC for its authority.
 Example. Before (`examples/meaning/level-border.csv` with `examples/meaning/plan.csv`): Signal 4 (km 14.500) announces
 level 0 at km 16.700, and the plan has the border at km 16.750, 50 m away. After: both have the place of the border.
 
-When it is a false alarm. The rule assumes that the plan has the borders of all trains and routes. It may lack those of
-trains that have no radio or start near a border, or an RBC of another route. The rule assumes that orders are exactly
-at the border. A packet with D_LEVELTR 32,767 or D_RBCTR 0 may be some metres from it, and an order may be repeated
-beyond it. Write such places into the plan. It assumes that packets have the levels of the plan, but announcement and
-border may differ on purpose. It assumes that groups of the own track name each border. Only radio, another track or a
-group beyond the table may do so, or the table may have one way only. {leaving} {points} {kilometres} {missing} {one
-way}
+When it is a false alarm. The rule assumes that the plan has the borders of all trains and routes. It might lack those
+of trains that have no radio or start near a border, or an RBC of another route. The rule assumes that orders are
+exactly at the border. A packet with D_LEVELTR 32,767 or D_RBCTR 0 might be some metres from it, and an order might be
+repeated beyond it. Write such places into the plan. It assumes that packets have the levels of the plan, but
+announcement and border might differ on purpose. It assumes that groups of the own track name each border. Only radio,
+another track or a group beyond the table might do so, or the table might have one way only. {leaving} {points}
+{kilometres} {missing} {one way}
 
 Usual cause. The distance was counted from another group, or not all announcements followed a border that was moved.
 
