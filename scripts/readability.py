@@ -62,8 +62,8 @@ def words(sentence: str) -> int:
 
 
 def plain(text: str) -> str:
-    """A text without comments, quoted blocks, code and targets of links."""
-    text = re.sub(r"(?ms)<!--.*?-->|^>.*?$", "", FENCED.sub("", text))
+    """A text without comments, quoted blocks, code, targets of links, and marks such as `@SIGNED@` of templates."""
+    text = re.sub(r"(?ms)<!--.*?-->|^>.*?$|^@[A-Z]+@", "", FENCED.sub("", text))
     text = re.sub(r"!?\[([^]]*)\]\([^)]*\)", r"\1", re.sub(r"`[^`]*`", "`code`", text))
     return re.sub(r'"[^"\n]*"|“[^”\n]*”', '"quote"', text)
 

@@ -8,6 +8,7 @@ import shutil
 import pytest
 
 from runner import TOP, blocks, in_bytes, marked, program, run
+from tiny import write
 
 PAGES = ("README.md", "examples/README.md", "examples/parallel.sh", "man/balisecheck.1", *(
     f"docs/{name}.md" for name in ("refusals", "formats", "findings", "guide", "commands", "performance", "library")))
@@ -51,7 +52,7 @@ def reader(tmp_path):
             if re.search(words, commands) and not shutil.which(tool):
                 pytest.skip(f"{skipped} ({tool})")
         env = {**os.environ, "BALISECHECK": program(), **known}
-        return run(("-c", f"PATH=$PATH:.\n{commands}"), path="bash", cwd=tmp_path, env=env)
+        return run(("-c", f"PATH=.:$PATH\n{commands}"), path="bash", cwd=tmp_path, env=env)
     return ran
 
 
@@ -62,6 +63,14 @@ def shell(reader, tmp_path):
         (tmp_path / name).write_bytes(content)
     known = {"T": GOOD[:54].decode(), "S": GOOD[-55:-1].decode(), "E": " \t\r"}
     return lambda commands: reader(f". examples/find-field.sh\n. examples/parallel.sh\n{commands}", **known)
+
+
+def test_program(shell, tmp_path, monkeypatch):
+    """Commands run the program under test and the balisekit of these sources, also where others are installed."""
+    for name in ("balisecheck", "balisekit"):
+        write(tmp_path / "bin" / name, "#!/bin/sh\n")
+    monkeypatch.setenv("PATH", f"{tmp_path}/bin", prepend=":")
+    assert shell("command -v balisecheck balisekit").stdout == "./balisecheck\n./balisekit\n"
 
 
 @pytest.mark.parametrize("commands, wanted", [pytest.param(*it, id=page) for page, *it in BLOCKS])
