@@ -109,7 +109,9 @@ def test_site(tmp_path):
     (site / "404.html").unlink()
     texts = {path: path.read_text("utf-8") for path in site.rglob("*.html")}
     places = {path: {"", *re.findall(r'\bid="([^"]+)"', text)} for path, text in texts.items()}
-    for path, text in texts.items():
+    # (the script of a report of balisekit unpacks what its links lead to)
+    pages = {path: text for path, text in texts.items() if not (TOP / path.relative_to(site)).is_file()}
+    for path, text in pages.items():
         for link in re.findall(r'<a\b[^>]*? href="(?![a-z]+:|#")([^"]+)"', html.unescape(text)):
             name, _, place = link.partition("#")
             target = (path.parent / name).resolve() if name else path
@@ -118,4 +120,4 @@ def test_site(tmp_path):
     for path in (*texts, *site.rglob("*.css")):
         assert not re.search(rf"(?:{tag}|@import|url\()\s*[\"']?(?:https?:)?//", path.read_text("utf-8")), path
     found = (site / "search/search_index.json").read_text("utf-8")
-    assert "supervised location" in found and all(f'"{path.relative_to(site)}"' in found for path in texts)
+    assert "supervised location" in found and all(f'"{path.relative_to(site)}"' in found for path in pages)

@@ -17,10 +17,10 @@ from balisekit.rules.meaning import RULES as REMARKS
 from balisekit.rules.rule import Rule, Urgency
 
 sys.path.insert(0, str(TOP / "scripts"))
-import readability  # type: ignore[import-not-found]  # noqa: E402  (the path comes first)
+import readability  # type: ignore[import]  # noqa: E402  (the path comes first)
 
 pytestmark = pytest.mark.uncovered
-OWN = list(RULES.values())
+OWN, NAMES = list(RULES.values()), list(RULES)
 LONGEST = 130
 """The lines of a rule's module after its page."""
 NUMBER = re.compile(r"\d+(?:[.,]\d+)*")
@@ -41,18 +41,18 @@ def stored_answers() -> Dict[str, str]:
 
 @pytest.mark.parametrize("name", readability.of_rules())
 def test_sentences(name: str) -> None:
-    """Few sentences of a page are very short or long. This also holds for the findings of the program."""
+    """Few sentences of a page are very short or long, in the pages of the program's findings too."""
     shares = readability.of_rules()[name]
     assert shares.is_readable, [each for each in shares.sentences if not 5 <= readability.words(each) <= 28]
 
 
-@pytest.mark.parametrize("rule", OWN, ids=lambda rule: rule.name)
+@pytest.mark.parametrize("rule", OWN, ids=NAMES)
 def test_modules(rule: Rule) -> None:
     """The code of a rule after its page is short."""
     assert len(module(rule).split('"""\n', 1)[1].splitlines()) < LONGEST
 
 
-@pytest.mark.parametrize("rule", OWN, ids=lambda rule: rule.name)
+@pytest.mark.parametrize("rule", OWN, ids=NAMES)
 def test_example(rule: Rule) -> None:
     """Its files exist, and each number before the correction is in what balisekit writes about them."""
     example = rule.parts["Example"]
