@@ -67,19 +67,21 @@ check_documents() (
     log=$(mktemp) && trap 'rm -f "$log"' EXIT || exit 3
     # Without the test a document that is not there would end with 1, as one with findings does.
     # shellcheck disable=SC2016
-    parallel -k --tag --joblog "$log" '[ -r {} ] || exit 3; "${BALISECHECK:-./balisecheck}" check <{}' ::: "$@" | cat
-    status_of_parts "$log" 0 $# "${PIPESTATUS[@]}"
+    printf '%s\0' "$@" |
+        parallel -0 -k --tag --joblog "$log" '[ -r {} ] || exit 3; "${BALISECHECK:-./balisecheck}" check <{}' | cat
+    status_of_parts "$log" 0 $# "${PIPESTATUS[@]:1}"
 )
 
 # run_in_blocks SIZE FILE COMMAND WORD..: what the command writes for each block of whole lines of the file, in the order
-# of the file. SIZE is about the size of a block in bytes, such as 10M.
+# of the file. SIZE is about the size of a block in bytes, such as 10M. A command without further words is a line of a shell.
 run_in_blocks() (
     [ $# -gt 2 ] || { echo 'run_in_blocks SIZE FILE COMMAND WORD..' >&2; exit 3; }
     size=$1 file=$2
     shift 2
+    [ $# -eq 1 ] || set -- "${*@Q}"
     bytes=$(wc -c <"$file") && log=$(mktemp) && trap 'rm -f "$log"' EXIT || exit 3
     # What a refused block leaves is read too. Else parallel cannot hand it over, and logs a signal instead of status 2.
-    parallel --pipe --block "$size" -k --joblog "$log" "$*; ended=\$?; cat >/dev/null; exit \$ended" <"$file" | cat
+    parallel --pipe --block "$size" -k --joblog "$log" "$1; ended=\$?; cat >/dev/null; exit \$ended" <"$file" | cat
     status_of_parts "$log" 5 "$bytes" "${PIPESTATUS[@]}"
 )
 
@@ -91,7 +93,7 @@ shared_identities() (
     set -o pipefail
     room=$(mktemp -d) && trap 'rm -rf "$room"' EXIT || exit 3
     jq -r 'input_filename as $name | .groups | to_entries[]
-        | "\(.value | (.aspects[0] // .).balises[0])\t\($name) group \(.key)"' "$@" >"$room/first" || exit 3
+        | "\(.value | (.aspects[0] // .).balises[0])\t\($name) group \(.key)"' "${@/#-/./-}" >"$room/first" || exit 3
     cut -f 1 "$room/first" | "${BALISECHECK:-./balisecheck}" decode | cut -d , -f 6,7 >"$room/numbers" ||
         exit $(($? == 2 ? 2 : 3))
     [ "$(wc -l <"$room/numbers")" -eq "$(wc -l <"$room/first")" ] || exit 3
