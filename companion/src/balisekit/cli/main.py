@@ -11,7 +11,7 @@ import threading
 from contextlib import contextmanager, nullcontext, suppress
 from importlib import import_module
 from itertools import product
-from typing import Any, ContextManager, Iterator, List, Optional, Sequence, TextIO
+from typing import Any, ContextManager, Iterator, List, NoReturn, Optional, Sequence, TextIO
 
 from balisekit import __version__
 from balisekit.errors import KitError, NoAnswer, TableError, Terminated
@@ -79,6 +79,12 @@ class _Parser(argparse.ArgumentParser):
     def __init__(self, **settings: Any) -> None:
         super().__init__(allow_abbrev=False, **settings)
         self.register("action", None, _Once)
+
+    def error(self, message: str) -> NoReturn:
+        """Ends with status 2. The message repeats words of the command line: control characters are escaped."""
+        from balisekit.tables.names import clean
+
+        super().error(clean(message))
 
 
 def parser(arguments: Sequence[str]) -> argparse.ArgumentParser:
