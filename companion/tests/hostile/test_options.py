@@ -147,7 +147,14 @@ def test_version_imports_no_command() -> None:
     ours = {name for name in done.stderr.decode().split() if name.startswith("balisekit")}
     assert done.returncode == 0 and done.stdout.startswith(b"balisekit ")
     metadata = {"balisekit.engine", "balisekit.engine.find_program", "balisekit.engine.library"}
-    assert ours == {"balisekit", "balisekit.cli", "balisekit.cli.main", "balisekit.errors", *metadata}
+    assert ours == {
+        "balisekit",
+        "balisekit.cli",
+        "balisekit.cli.main",
+        "balisekit.cli.signals",
+        "balisekit.errors",
+        *metadata,
+    }
     assert "subprocess" not in done.stderr.decode().split()
 
 
