@@ -158,7 +158,7 @@ def test_threads_that_share_inputs(kind, tmp_path):
     words = "-O1", "-g", "-fsanitize=thread", "-pthread", *STRICT, TOP / "tests" / "threads.c", *LINKED[kind]
     built = run(("-o", tmp_path / "threads", *words), path="cc")
     if "tsan" in built.stderr:
-        pytest.skip("threads of the library by ThreadSanitizer (libtsan)")
+        pytest.skip("threads of the library by ThreadSanitizer (gcc)")
     files = [EXAMPLES / name for name in ("check/sound-line.json", "gradients.txt", "gradients.json", "spare-mark.txt")]
     ran = run(("-R", tmp_path / "threads", *files), path="setarch")
     assert built.status == 0 and ran == (0, "4 inputs, 8960 calls in 8 threads: 0 wrong\n", ""), (built, ran)
