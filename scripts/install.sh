@@ -20,6 +20,14 @@ if [ ! -e "$program" ]; then
     pages=$top/man
 fi
 
+# (the start script of a clone has tried its program)
+if ! met=$("$program" decode </dev/null 2>&1); then
+    needs=$(sed -n 's/^glibc \(.*\)/it needs x86-64-v2 and glibc \1 or later, and /p' "$about")
+    here="$(uname -m) with $(getconf GNU_LIBC_VERSION 2>/dev/null || echo 'another C library')"
+    echo "install: not installed, because balisecheck does not start here: ${needs}this is $here: $(echo "$met" | head -n 1)" >&2
+    exit 3
+fi
+
 for folder in "$prefix/bin" "$kit" "$manual"; do
     lack=$(mkdir -p "$folder" 2>&1) && [ -w "$folder" ] && continue
     echo "install: not installed, because $folder cannot be written${lack:+ ($lack)}." >&2

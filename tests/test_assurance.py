@@ -129,10 +129,10 @@ def test_failures_and_conditions():
 
 
 @pytest.mark.parametrize("text, script", [
-    ("1 by the loader", "sed s/GLIBC_2.34/GLIBC_9.34/g <$0 >other; chmod +x other; ./other check; [ $? = 1 ]"),
-    ("126 not executable", "cp $0 other; chmod -x other; ./other check; [ $? = 126 ]"),
-    ("127 not found or no address space", "./none check; [ $? = 127 ] && ulimit -v 2000; $0 check; [ $? = 127 ]"),
-    ("above 128", "(ulimit -s 8; $0 check; exit $?); [ $? -gt 128 ]")])
+    ("1 by the loader", 'sed s/GLIBC_2.34/GLIBC_9.34/g <"$0" >other; chmod +x other; ./other check; [ $? = 1 ]'),
+    ("126 not executable", 'cp "$0" other; chmod -x other; ./other check; [ $? = 126 ]'),
+    ("127 not found or no address space", './none check; [ $? = 127 ] && ulimit -v 2000; "$0" check; [ $? = 127 ]'),
+    ("above 128", '(ulimit -s 8; "$0" check; exit $?); [ $? -gt 128 ]')])
 def test_statuses(text, script, tmp_path):
     """What safety.md states about statuses that come from the system. They have no output."""
     ran = run(("-c", script, program()), path="bash", cwd=tmp_path)

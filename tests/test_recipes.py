@@ -8,6 +8,7 @@ import shutil
 import pytest
 
 from runner import TOP, blocks, in_bytes, marked, program, run
+from tiny import write
 
 PAGES = ("README.md", "examples/README.md", "examples/parallel.sh", "man/balisecheck.1", *(
     f"docs/{name}.md" for name in ("refusals", "formats", "findings", "guide", "commands", "performance")))
@@ -47,9 +48,17 @@ def shell(tmp_path):
         for tool, words, skipped in TOOLS:
             if re.search(words, commands) and not shutil.which(tool):
                 pytest.skip(f"{skipped} ({tool})")
-        script = f"PATH=$PATH:.\n. examples/find-field.sh\n. examples/parallel.sh\n{commands}"
+        script = f"PATH=.:$PATH\n. examples/find-field.sh\n. examples/parallel.sh\n{commands}"
         return run(("-c", script), path="bash", cwd=tmp_path, env={**os.environ, **known})
     return ran
+
+
+def test_program(shell, tmp_path, monkeypatch):
+    """Commands run the program under test and the balisekit of these sources, also where others are installed."""
+    for name in ("balisecheck", "balisekit"):
+        write(tmp_path / "bin" / name, "#!/bin/sh\n")
+    monkeypatch.setenv("PATH", f"{tmp_path}/bin", prepend=":")
+    assert shell("command -v balisecheck balisekit").stdout == "./balisecheck\n./balisekit\n"
 
 
 @pytest.mark.parametrize("commands, wanted", [pytest.param(*it, id=page) for page, *it in BLOCKS])

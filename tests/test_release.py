@@ -3,6 +3,7 @@ import ast
 import importlib.util
 import json
 import os
+import platform
 import re
 import runpy
 import shutil
@@ -12,7 +13,7 @@ from pathlib import Path
 
 import pytest
 
-from runner import TOP, crate_uses, program
+from runner import TOP, program
 from test_recipes import shown
 from tiny import attempt, sh, write
 
@@ -20,7 +21,7 @@ from tiny import attempt, sh, write
 pytestmark = [pytest.mark.slow, pytest.mark.xdist_group("release")]
 VERSION, STORED = (TOP / "VERSION").read_text("utf-8").strip(), "dist/x86_64-linux"
 # The commands and modules that are needed, and their packages.
-NEEDS = {"git": "git", "advzip": "advancecomp", "help2man": "help2man", "dpkg-deb": "dpkg", "nm": "binutils",
+NEEDS = {"git": "git", "advzip": "advancecomp", "help2man": "help2man", "dpkg-deb": "dpkg",
          "hatchling": "python3-hatchling", "pip": "python3-pip", "jinja2": "python3-jinja2"}
 # They stand in for the 20 s in which advzip makes a wheel of at most 700,000 bytes: 0.3 s for 1,300 bytes more; and for
 # the 1 s of gzip. A clone's manual page of balisekit has no help of single commands.
@@ -167,6 +168,23 @@ def test_tarball(made):
     assert sh(tree, uninstall.replace("PREFIX", f"'{prefix}'")) == sh(prefix, "find . ! -type d") == ""
 
 
+def test_older_system(made):
+    """Where the C library is too old nothing is installed, and both commands report what the program needs."""
+    tree, prefix = made.with_name("an old tree"), made.with_name("no prefix")
+    sh(made, f"cp -r ../tree '{tree}'")
+    program, about = tree / "balisecheck", tree / STORED / "ABOUT"
+    before = sum_of(program)
+    program.write_bytes(program.read_bytes().replace(b"GLIBC_2.34", b"GLIBC_9.34"))
+    about.write_text(text_of(about).replace(before, sum_of(program)).replace("\nglibc 2.34\n", "\nglibc 9.34\n"), "utf-8")
+    needs = f"does not start here: it needs x86-64-v2 and glibc 9.34 or later, and this is {platform.machine()} with " \
+        f"{' '.join(platform.libc_ver())}: "
+    for command, first in ((f"./install.sh '{prefix}'", "install: not installed, because balisecheck "),
+                           ("./balisekit check examples/table/line.csv", f"balisekit: {program} ")):
+        status, said = attempt(tree, command)
+        assert status == 3 and said.startswith(first + needs) and "`GLIBC_9.34' not found" in said
+        assert said.count("\n") == 1 and not prefix.exists()
+
+
 def test_wheel(made):
     """The wheel is installed in a venv without network. It has the code of the tarball, and all names that it uses."""
     venv = made.with_name("a venv")
@@ -196,14 +214,12 @@ def test_deb(made):
     assert {*re.findall(r"[\w-]+", sh(made, "dpkg-deb -f *.deb Recommends"))} <= {*re.findall(r"[\w-]+", recipe)}
 
 
-def test_libraries(made):
-    """The SPDX document, THIRD-PARTY.md, the program and crates.txt name the same libraries."""
-    document = json.loads(text_of(next(made.glob("*.json"))))
-    names = {one["SPDXID"] for one in document["packages"]}
-    assert document["spdxVersion"] == "SPDX-2.3" and len(names) >= 10
-    assert names == {one["relatedSpdxElement"] for one in document["relationships"]}
-    assert f"{document['packages'][0]['checksums'][0]['checksumValue']} " in sh(TOP, f"sha256sum '{program()}'")
-    crates, listed = crate_uses(), re.findall(r"(?m)^\| (\w+) \|.*\| (.*) \|$", text_of(TOP / "THIRD-PARTY.md"))
-    assert {name for names in crates.values() for name in names} - {*crates} <= {name for name, _ in listed}
-    called = re.findall(r"(?m)^[0-9a-f]* [tTwW] ([a-z]\w*)::", sh(TOP, f"nm '{program()}'"))
-    assert {*called} - {*crates} == {name for name, use in listed if use == "in the program"}
+def test_components(made):
+    """The SPDX document has the checksums of the program of the release, and of its library for C, if it has one."""
+    packages = {it["name"]: it for it in json.loads(text_of(next(made.glob("*.json"))))["packages"]}
+    assert packages["balisekit"]["versionInfo"] == VERSION
+    files = {"balisecheck": "balisecheck", **{it: f"{STORED}/{it}" for it in ("libbalisecheck.a", "libbalisecheck.so")}}
+    for name, path in files.items():
+        file = made.with_name("tree") / path
+        assert file.exists() == (name in packages)
+        assert not file.exists() or packages[name]["checksums"][0]["checksumValue"] == sum_of(file)

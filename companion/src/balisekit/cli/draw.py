@@ -16,6 +16,7 @@ from balisekit.engine.program import Program
 from balisekit.errors import TableError
 from balisekit.io.output_folder import OutputFolder
 from balisekit.io.outputs import Output
+from balisekit.present.account_text import overlooked_lines
 from balisekit.present.pictures import message_picture, picture_page, track_page, written
 from balisekit.present.refusals import not_looked_at, refused
 from balisekit.rules import checking
@@ -64,7 +65,8 @@ def run(options: argparse.Namespace) -> int:
         checked = checking.check(program, table, messages, options.by_position)
         return draw_all.run(options, checked, of_line) if options.all else _track(options, checked, of_line)
     options.svg.write(picture_page(picture))
-    shared.say([*(f"note: {note}" for note in notes), f"written: {clean(str(options.svg))}"], options.svg)
+    of_picture = [*(f"note: {note}" for note in notes), f"written: {clean(str(options.svg))}"]
+    shared.say([*overlooked_lines(table), *of_picture], options.svg)
     return 0
 
 
@@ -102,7 +104,7 @@ def _track(options: argparse.Namespace, checked: Checked, of_line: Options) -> i
     options.svg.write(track_page(outcome, links, track, options.aspect))
     for item in [*refused(checked), *not_looked_at(checked)]:
         print(f"balisekit: {item}", file=sys.stderr)
-    lines = [*notes_on(table), *written(line, track, options.aspect, clean(str(options.svg)))]
+    lines = [*notes_on(table), *overlooked_lines(table), *written(line, track, options.aspect, clean(str(options.svg)))]
     count = len(checked.accepted_messages)
     lines += [f"left out: {count} message{'s' * (count > 1)}, which --message draws"] if count else []
     shared.say(lines, options.svg)

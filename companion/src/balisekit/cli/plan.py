@@ -8,8 +8,9 @@ from typing import List
 from balisekit.cli import options as shared, settings
 from balisekit.io import csv_writing
 from balisekit.io.outputs import Output
+from balisekit.present.account_text import overlooked_lines
 from balisekit.present.check_text import head_line
-from balisekit.present.refusals import not_looked_at, refused_counts, refused_lines
+from balisekit.present.refusals import lacking, refused_lines
 from balisekit.rules import checking
 from balisekit.rules.checking import Checked
 from balisekit.rules.line import Line
@@ -42,12 +43,12 @@ def _lines(options: argparse.Namespace, checked: Checked, made: Made) -> List[st
     """What was read and written. The last line counts the rows, or says that telegrams were refused."""
     counts = Counter(row.kind for row in made.rows)
     written = ", ".join(f"{kind} {count}" for kind, count in counts.items()) or "no row"
-    lacking = [*refused_counts(checked), *not_looked_at(checked)]
     last = f"written: {clean(str(options.csv))}: {written}"
     return [
         head_line(checked.table),
         *notes_on(checked.table),
         *(f"note: {clean(note)}" for note in made.notes),
         *refused_lines(checked),
-        last if checked.whole else f"INCOMPLETE: {', '.join(lacking)}; {last}",
+        *overlooked_lines(checked.table),
+        last if checked.whole else f"INCOMPLETE: {', '.join(lacking(checked))}; {last}",
     ]

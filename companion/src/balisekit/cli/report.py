@@ -46,7 +46,7 @@ def _command(options: argparse.Namespace) -> Iterator[str]:
     """The words of a command that hands the same document to the program."""
     yield from ("balisekit", "check", str(options.table))
     for name in OF_THE_DOCUMENT:
-        value = getattr(options, name)
-        if value:
+        given = getattr(options, name)
+        for value in given if isinstance(given, list) else [given] if given else []:
             yield f"--{name.replace('_', '-')}"
             yield from () if value is True else (str(value),)

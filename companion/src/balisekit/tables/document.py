@@ -7,6 +7,7 @@ from typing import Any, Dict, List, Tuple
 
 from balisekit.errors import TableError, faults_of
 from balisekit.io.inputs import Input
+from balisekit.tables.account import of_rows
 from balisekit.tables.encoding import text_of
 from balisekit.tables.grouping import GREATEST_COUNT
 from balisekit.tables.model import Aspect, Group, Message, Messages, Row, Table
@@ -35,8 +36,9 @@ def read(file: Input) -> Tuple[Table, Messages]:
                 raise TableError(f"it has the keys {', '.join(form)[:100]}, and a document has groups and messages")
         except (ValueError, RecursionError) as error:
             raise TableError(f"it is no document that can be read: {str(error)[:100]}") from error
-    table = Table(file.path, file.sha256, encoding, "", (), tuple(rows), tuple(groups))
-    return table, Messages(file.path, file.sha256, encoding, tuple(messages))
+    accounts = [of_rows([each.number for each in some]) for some in (rows, messages)]
+    table = Table(file.path, file.sha256, encoding, "", (), tuple(rows), tuple(groups), accounts[0])
+    return table, Messages(file.path, file.sha256, encoding, tuple(messages), accounts[1])
 
 
 def _object(members: List[Tuple[str, Any]]) -> Dict[str, Any]:
