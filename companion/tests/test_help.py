@@ -77,7 +77,7 @@ def test_columns_and_statuses() -> None:
     for text in (rows.split("\n| 2 |")[1].split("|")[1], cli.STATUSES.split("\n  2  ")[1]):
         why = "INCOMPLETE: a telegram or message was refused, or a rule L or X compared none of what it had to"
         assert " ".join(text.split()).startswith(why)
-    assert all(number in rows for number in re.findall(r"with (?:status )?(\d+)", cli.STATUSES.split("\n  SIGTERM")[1]))
+    assert all(number in rows for number in re.findall(r"with (?:status )?(\d+)", cli.STATUSES.split("\n  an interrupt")[1]))
 
 
 @pytest.mark.parametrize("words", [["--help"], *[[command, "--help"] for command in COMMANDS]])
