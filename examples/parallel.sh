@@ -164,7 +164,7 @@ summary_of_tables() {
         [ -n "$last" ] && [ -n "$status" ] || status=3
         counts[status]=$((counts[status] + 1))
         [ "$status" -le "$greatest" ] || greatest=$status
-        printf '%s\t%s\t%s\n' "$status" "$table" "$last" || return 3
+        printf '%s\t%s\t%s\n' "$status" "$table" "${last:-no answer}" || return 3
     done
     echo "tables $number: status 0: ${counts[0]}, status 1: ${counts[1]}, status 2: ${counts[2]}, status 3: ${counts[3]}" ||
         return 3
