@@ -10,7 +10,7 @@ from hostile import GROUPS, STACK
 from runner import TOP, Answer, crate_uses, run
 from variables.table import read_rows
 
-MOST_WORDS, MOST_IN_README, LONGEST, MOST_WHERE = 28_500, 950, 30, 60
+MOST_WORDS, MOST_IN_README, LONGEST, MOST_WHERE = 29_000, 950, 30, 60
 # A list of licences, and a table that scripts/from_trace.py makes.
 NOT_COUNTED = ("THIRD-PARTY.md", "docs/variables.md")
 PAGES = {name: path.read_text("utf-8") for pattern in ("*.md", "dist/**/*.md", "docs/**/*.md", "examples/**/*.md")
