@@ -23,8 +23,8 @@
 # `store` takes what the gate, or scripts/build and then scripts/library, have built from these sources in out/, and runs
 # tests/dist. A program that differs from the stored one needs a new version number. A release needs the output of
 # `.ci/run` in out/gate.log, of `tests/edits --all` in out/edits.log and of `tests/plants` in out/plants.log. Two runs on
-# one commit with the same tools, and the same key, give the same bytes. They need git, python3-hatchling, advancecomp,
-# help2man, dpkg-deb, and ssh-keygen to sign.
+# one commit with the same tools, and the same key, give the same bytes. They need git, python3-hatchling, help2man,
+# dpkg-deb, and ssh-keygen to sign.
 set -euo pipefail
 
 cd "$(dirname "${BASH_SOURCE[0]}")/.."

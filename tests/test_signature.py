@@ -264,7 +264,7 @@ def test_published():
 @pytest.mark.xdist_group("release")
 def test_this_tree(kept, tmp_path):
     """Two signed releases of this tree are equal, and are verified by this tree and by the script in their tarball."""
-    lacking = [NEEDS[it] for it in ("advzip", "help2man", "dpkg-deb") if it in NEEDS and not shutil.which(it)]
+    lacking = [NEEDS[it] for it in ("help2man", "dpkg-deb") if it in NEEDS and not shutil.which(it)]
     if lacking or not (TOP / ".git").exists():
         pytest.skip(f"a signed release ({', '.join(lacking) or 'git'})")
     for name, text in TOOLS.items():

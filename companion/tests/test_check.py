@@ -373,7 +373,7 @@ def test_explain_of_a_rule(run: Run, tmp_path: Path, monkeypatch: pytest.MonkeyP
         status, out, _ = run("check", "--explain", name)
         assert status == 0 and out[0].startswith(f"{name}: ") and sum(each.startswith(name) for each in out) == 1
     status, out, _ = run("check", "--explain", "E9")
-    heads = [*explain.HEADS[:-1], "Example", "How sure"]
+    heads = [*explain.WHOLE]
     assert [head for line in out for head in heads if line.startswith(f"    {head}. ")] == heads
     assert run("check", "--explain", "E24")[0] == run("check", "E9")[0] == 2
     unused = ["balisekit: --json is not used with the page of a rule"]
@@ -385,7 +385,7 @@ def test_explain_of_a_rule(run: Run, tmp_path: Path, monkeypatch: pytest.MonkeyP
 
 def test_explain_is_what_the_document_says(run: Run, table: Write) -> None:
     known = explain.explanations()
-    parts = {"name", "says", "urgent", "cause", "remedy"}
+    parts = {"name", *explain.KEYS}
     assert sorted(known) == list(range(1, 17))
     assert all(set(page) == parts and all(page.values()) for page in known.values())
     _, out, _ = run("check", table(*SOUND, f"C,,,,{OTHER}"), "--explain")

@@ -323,7 +323,7 @@ def test_every_rule_has_an_urgency() -> None:
         Urgency.RULE_ONLY: ("To be looked at",),
     }
     for rule in RULES:
-        assert any(word in rule.parts["How urgent"] for word in words[rule.urgency]), rule.name
+        assert any(word in rule.parts["Why it matters"] for word in words[rule.urgency]), rule.name
 
 
 def test_a_family_can_be_added(run: Run, program: Program, tmp_path: Path, monkeypatch: pytest.MonkeyPatch) -> None:

@@ -64,7 +64,7 @@ class _Version(argparse.Action):
         from balisekit.engine.find_program import released
 
         library = ""
-        with suppress(ImportError):  # (a wheel has no library)
+        with suppress(ImportError):  # (some builds of Python have no ctypes)
             from balisekit.engine.library import stored
 
             library = stored() and f"library {stored()}"

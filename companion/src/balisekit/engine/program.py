@@ -177,7 +177,7 @@ class Program:
         """The library for C that was stored with the program, if it can be used here."""
         try:
             from balisekit.engine.library import opened, stored  # (slow, and only needed after a refusal)
-        except ImportError:  # (a wheel has no library, and some builds of Python no ctypes)
+        except ImportError:  # (some builds of Python have no ctypes)
             return None
         return opened(stored(self.sha256))
 

@@ -33,6 +33,7 @@ SCHEMA = "https://docs.oasis-open.org/sarif/sarif/v2.1.0/errata01/os/schemas/sar
 LEVELS = {
     Urgency.WRONG_INFORMATION: "error",
     Urgency.WRONG_PLACE: "error",
+    Urgency.NOT_JUDGED: "warning",
     Urgency.BRAKING: "warning",
     Urgency.RULE_ONLY: "note",
 }
