@@ -39,8 +39,8 @@
 #
 # check_tables has balisekit check many tables, as at night, each with its file of accepted findings: `line.csv` with
 # `line.accepted.csv`. What is written for a table goes into a file of FOLDER, which must be new or empty. Options such as
-# --timeout=600 go to balisekit. It prints the summary: status, table and last line, then how many tables had each status.
-# `nice` in front of bash leaves the processors to others.
+# --timeout=600 go to balisekit; end them with `--`. It prints the summary: status, table and last line, then how many
+# tables had each status. `nice` in front of bash leaves the processors to others.
 #
 #     $ check_tables /tmp/night.$$ examples/links/line.csv examples/links/distance-differs.csv; echo "status $?"
 #     0	examples/links/line.csv	program: "yes: groups 4, messages 0"
@@ -92,19 +92,21 @@ check_documents() (
     export BALISECHECK
     # Without the test a document that is not there would end with 1, as one with findings does.
     # shellcheck disable=SC2016
-    parallel -k --tag --joblog "$log" '[ -r {} ] || exit 3; "$BALISECHECK" check <{}' ::: "$@" | cat
-    status_of_parts "$log" 0 $# "${PIPESTATUS[@]}"
+    printf '%s\0' "$@" |
+        parallel -0 -k --tag --joblog "$log" '[ -r {} ] || exit 3; "$BALISECHECK" check <{}' | cat
+    status_of_parts "$log" 0 $# "${PIPESTATUS[@]:1}"
 )
 
 # run_in_blocks SIZE FILE COMMAND WORD..: what the command writes for each block of whole lines of the file, in the order
-# of the file. SIZE is about the size of a block in bytes, such as 10M.
+# of the file. SIZE is about the size of a block in bytes, such as 10M. A command without further words is a line of a shell.
 run_in_blocks() (
     [ $# -gt 2 ] || { echo 'run_in_blocks SIZE FILE COMMAND WORD..' >&2; exit 3; }
     size=$1 file=$2
     shift 2
+    [ $# -eq 1 ] || set -- "${*@Q}"
     bytes=$(wc -c <"$file") && log=$(mktemp) && trap 'rm -f "$log"' EXIT || exit 3
     # What a refused block leaves is read too. Else parallel cannot hand it over, and logs a signal instead of status 2.
-    parallel --pipe --block "$size" -k --joblog "$log" "$*; ended=\$?; cat >/dev/null; exit \$ended" <"$file" | cat
+    parallel --pipe --block "$size" -k --joblog "$log" "$1; ended=\$?; cat >/dev/null; exit \$ended" <"$file" | cat
     status_of_parts "$log" 5 "$bytes" "${PIPESTATUS[@]}"
 )
 
@@ -116,7 +118,7 @@ shared_identities() (
     set -o pipefail
     room=$(mktemp -d) && trap 'rm -rf "$room"' EXIT || exit 3
     jq -r 'input_filename as $name | .groups | to_entries[]
-        | "\(.value | (.aspects[0] // .).balises[0])\t\($name) group \(.key)"' "$@" >"$room/first" || exit 3
+        | "\(.value | (.aspects[0] // .).balises[0])\t\($name) group \(.key)"' "${@/#-/./-}" >"$room/first" || exit 3
     cut -f 1 "$room/first" | "$(the_program)" decode | cut -d , -f 6,7 >"$room/numbers" ||
         exit $(($? == 2 ? 2 : 3))
     [ "$(wc -l <"$room/numbers")" -eq "$(wc -l <"$room/first")" ] || exit 3
@@ -128,27 +130,27 @@ shared_identities() (
         END { exit shared + 0 }' "$room/sorted" || exit $(($? == 1 ? 1 : 3))
 )
 
-# check_tables FOLDER [OPTION..] TABLE..: a file of the FOLDER for each table, and the summary.
+# check_tables FOLDER [OPTION.. --] TABLE..: a file of the FOLDER for each table, and the summary.
 check_tables() (
-    options='' tables=()
+    options=() tables=() place=0
     [ $# -gt 0 ] && folder=$1 && shift
     for word; do
-        case $word in
-        --*) options="$options $word" ;;
-        *.accepted.csv) ;;
-        *) tables+=("$word") ;;
-        esac
+        [ "$word" != -- ] || { options=("${@:1:place}") && shift $((place + 1)) && break; }
+        place=$((place + 1))
     done
-    [ ${#tables[@]} -gt 0 ] || { echo 'check_tables FOLDER [OPTION..] TABLE..' >&2; exit 3; }
+    for word; do [[ $word == *.accepted.csv ]] || tables+=("$word"); done
+    [ ${#tables[@]} -gt 0 ] || { echo 'check_tables FOLDER [OPTION.. --] TABLE..' >&2; exit 3; }
     if ! mkdir -p "$folder" || ! folder=$(cd "$folder" && pwd) || [ -n "$(ls -A "$folder")" ]; then
         echo "check_tables: $folder is not empty, or cannot be written" >&2
         exit 3
     fi
+    options="${options[*]}"
     export folder options check_tables_hook
     # Without the test a file that cannot be written would end with 1, as a table with findings does.
     # shellcheck disable=SC2016
-    parallel --joblog "$folder/jobs" 'file=$folder/{#}-{/.}.txt; true >"$file" || exit 3
-        "$check_tables_hook" $options {} >"$file" 2>&1' ::: "${tables[@]}" </dev/null
+    printf '%s\0' "${tables[@]}" |
+        parallel -0 --joblog "$folder/jobs" 'file=$folder/{#}-{/.}.txt; true >"$file" || exit 3
+            "$check_tables_hook" $options -- {} >"$file" 2>&1 </dev/null'
     [ $? -le 101 ] && summary_of_tables "$folder" "${tables[@]}"
 )
 
@@ -164,7 +166,7 @@ summary_of_tables() {
         [ -n "$last" ] && [ -n "$status" ] || status=3
         counts[status]=$((counts[status] + 1))
         [ "$status" -le "$greatest" ] || greatest=$status
-        printf '%s\t%s\t%s\n' "$status" "$table" "$last" || return 3
+        printf '%s\t%s\t%s\n' "$status" "$table" "${last:-no answer}" || return 3
     done
     echo "tables $number: status 0: ${counts[0]}, status 1: ${counts[1]}, status 2: ${counts[2]}, status 3: ${counts[3]}" ||
         return 3

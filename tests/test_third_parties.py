@@ -110,7 +110,8 @@ def test_spdx(document):
 
 def test_licences(document):
     """Each licence is an expression of SPDX, or not known."""
-    spdx = pytest.importorskip("license_expression").get_spdx_licensing()
+    reason = "expressions of licences (python3-license-expression)"
+    spdx = pytest.importorskip("license_expression", reason=reason).get_spdx_licensing()
     declared = {it["licenseDeclared"] for it in document["packages"]} - {"NOASSERTION"}
     assert len(declared) > 4 and [error for it in declared for error in spdx.validate(it).errors] == []
     assert spdx.validate("MIT OR none").errors
