@@ -374,7 +374,7 @@ def test_explain_of_a_rule(run: Run, tmp_path: Path, monkeypatch: pytest.MonkeyP
         assert status == 0 and out[0].startswith(f"{name}: ") and sum(each.startswith(name) for each in out) == 1
     status, out, _ = run("check", "--explain", "E9")
     heads = [*explain.WHOLE]
-    assert [head for line in out for head in heads if line.startswith(f"    {head}. ")] == heads
+    assert [head for line in out for head in heads if line.startswith(f"    {head}.")] == heads
     assert run("check", "--explain", "E24")[0] == run("check", "E9")[0] == 2
     unused = ["balisekit: --json is not used with the page of a rule"]
     assert run("check", "--explain", "E9", "--json", "j.json") == (2, [], unused)
