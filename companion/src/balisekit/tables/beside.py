@@ -3,7 +3,7 @@ from __future__ import annotations
 
 import shlex
 from itertools import islice
-from typing import Dict, Iterator, List, Mapping, Sequence, Tuple
+from typing import Dict, Iterable, Iterator, List, Mapping, Sequence, Tuple
 
 from balisekit.errors import TableError, TableErrors
 from balisekit.tables.account import Account, NotJudged, elsewhere
@@ -61,15 +61,10 @@ def telegrams(sheet: Sheet, begin: int, column: int) -> Dict[int, List[int]]:
 
 
 def account(
-    sheet: Sheet,
-    place: int,
-    numbers: Sequence[int],
-    passed_over: Tuple[str, ...],
-    in_columns: Mapping[int, Sequence[int]],
-    skipped: Sequence[str],
+    sheet: Sheet, numbers: Sequence[int], passed_over: Tuple[str, ...], of_columns: Iterable[NotJudged]
 ) -> Account:
-    """The account of a sheet with headings in row `place`, counted from 0, of which the rows `numbers` were read."""
-    left_out = (*_of_columns(sheet, place, in_columns, skipped), *_of_sheets(sheet))
+    """The account of a sheet of which these rows were read."""
+    left_out = (*of_columns, *_of_sheets(sheet))
     return Account(
         len(numbers) + sum(each.telegrams for each in left_out),
         (numbers[0], numbers[-1]),
@@ -80,14 +75,14 @@ def account(
     )
 
 
-def _of_columns(
-    sheet: Sheet, place: int, in_columns: Mapping[int, Sequence[int]], skipped: Sequence[str]
+def of_columns(
+    sheet: Sheet, place: int, places: Mapping[str, int], in_columns: Mapping[int, Sequence[int]], skipped: Sequence[str]
 ) -> Iterator[NotJudged]:
-    """The telegrams in other columns than the one that is read."""
+    """The telegrams in other columns than the one that is read. `place` is the row of the headings, counted from 0."""
     names, asked_for = _names(sheet.rows[place]), compared(skipped)
     for at, numbers in sorted(in_columns.items()):
         option, asked = f"--skip-column {shlex.quote(names[at])}", names[at].lower() in asked_for
-        remedy = "" if names[at].lower() in NEEDED else f": give {option} if they are not to be judged"
+        remedy = "" if at == places["group"] else f": give {option} if they are not to be judged"
         why = f"{option} leaves them out" if asked else f"{NOT_READ}{remedy}"
         yield elsewhere(why, numbers, asked, names[at], sheet.name or None)
 
