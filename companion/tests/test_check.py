@@ -36,7 +36,11 @@ STARTED = [str(TOP / "balisekit")]
 
 def test_yes(run: Run, table: Write) -> None:
     path = table(*SOUND)
-    assert run("check", "--only", "F", path) == (0, [f"{path}: 3 telegrams of 2 groups", ASPECTS.format(2), account(3), YES], [])
+    assert run("check", "--only", "F", path) == (
+        0,
+        [f"{path}: 3 telegrams of 2 groups", ASPECTS.format(2), account(3), YES],
+        [],
+    )
 
 
 def test_findings(run: Run, table: Write) -> None:

@@ -107,7 +107,8 @@ def test_no_command_hides_a_column(run: Run, table: Write, tmp_path: Path, name:
         pytest.skip("jinja2")
     path, sheet = table(*OLD), tmp_path / "sheet.csv"
     assert run("table", path, "--skip-column", "old", "--csv", sheet)[0] == 0
-    for options, status in (([], 2), (["--skip-column", "old"], 0)):
+    asked: List[str] = ["--skip-column", "old"]
+    for options, status in ((asked[:0], 2), (asked, 0)):
         files = {"TABLE": path, "SHEET": sheet, "OUT": tmp_path / f"out{status}"}
         words = [files.get(word, word) for word in COMMANDS[name].split()]
         got, said, err = run(*words, *options)
@@ -180,7 +181,8 @@ def test_a_message_as_a_name(run: Run, table: Write) -> None:
 def test_the_report_names_what_is_not_judged(run: Run, table: Write, tmp_path: Path) -> None:
     """The account is on the cover, and no sentence says that all was checked. The command repeats --skip-column."""
     path, page = table(*OLD), tmp_path / "r.html"
-    for options in ([], ["--skip-column", "old"]):
+    asked: List[str] = ["--skip-column", "old"]
+    for options in (asked[:0], asked):
         run("report", path, "--html", page, "--force", *options)
         text = page.read_text("utf-8")
         assert "account: 3 telegrams in the file; 2 judged, 0 refused, 1 not judged" in text

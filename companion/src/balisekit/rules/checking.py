@@ -232,7 +232,8 @@ class Checked:
         """What became of the messages, if there is a file of them."""
         if self.messages is None:
             return None
-        tried = {each.message.number for each in (*self.accepted_messages, *self.refused_messages)}
+        tried = {each.message.number for each in self.accepted_messages}
+        tried |= {each.message.number for each in self.refused_messages}
         lines = {message.number for message in self.messages.messages}
         return self.messages.account.refusing(len(self.refused_messages)).without(NOT_TRIED, lines - tried)
 
