@@ -1,8 +1,9 @@
 """The answer of `check` as JUnit writes the results of tests: a suite for each family of rules.
 
 A suite has a case for each group and message, and for each rule that compared nothing. The first suite also has a case
-for each refused message, each entry at fault, and each column or sheet whose telegrams are not judged. Cases have no time, because the program and the rules look at all
-groups in one run. Python's own XML library writes the file, so its form does not depend on installed packages.
+for each refused message, each entry at fault, and each column or sheet whose telegrams are not judged. Cases have no
+time, because the program and the rules look at all groups in one run. Python's own XML library writes the file, so its
+form does not depend on installed packages.
 """
 from __future__ import annotations
 

