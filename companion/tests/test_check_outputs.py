@@ -90,7 +90,7 @@ def test_each_example_is_as_the_schemas_say(run: Run, tmp_path: Path, path: Path
     assert all(rules[result["ruleIndex"]]["id"] == result["ruleId"] for result in log["results"])
     names = [*(f"F{number}" for number in range(1, 17)), *(f"L{number}" for number in range(1, 10))]
     names += [rule.name for rule in meaning.RULES if rule.is_default]
-    assert [rule["id"] for rule in rules] == ["refused", *names]
+    assert [rule["id"] for rule in rules] == ["refused", "not-judged", *names]
 
 
 @pytest.mark.uncovered
