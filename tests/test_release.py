@@ -21,7 +21,7 @@ VERSION, STORED = (TOP / "VERSION").read_text("utf-8").strip(), "dist/x86_64-lin
 NEEDS = {"git": "git", "help2man": "help2man", "dpkg-deb": "dpkg",
          "hatchling": "python3-hatchling", "pip": "python3-pip", "jinja2": "python3-jinja2"}
 # A clone's manual page of balisekit has no help of single commands here, which would take long.
-TOOLS = {"help": '[ $# != 2 ] || exec /usr/bin/python3 "$@"\n'}
+TOOLS = {"help": 'case $* in *.py" --"*) exec /usr/bin/python3 "$@" ;; esac\n'}
 INSTALL = "-m pip install -q --no-index --no-deps --no-compile --disable-pip-version-check *.whl"
 # It counts how many processes a check starts.
 COUNT = """import contextlib, io, sys
@@ -267,7 +267,8 @@ def test_recipes_of_the_deb(tool, root, tmp_path):
     tried = 0
     for page in [*docs.rglob("*.md"), *docs.rglob("*.sh")]:
         for commands, wanted in shown(page):
-            if commands and (tool == "parallel") == bool(re.search(r"check_\w+ |shared_|run_in_", commands)):
+            # (the page of the library has other commands for the .deb)
+            if commands and "crates/" not in commands and (tool == "parallel") == bool(re.search(r"check_\w+ |shared_|run_in_", commands)):
                 assert attempt(tmp_path, f"{installed}{sources}{{ {commands}\n}} 2>/dev/null")[1] == wanted, page
                 tried += 1
     assert tried > (20 if tool == "jq" else 1)
@@ -293,7 +294,7 @@ def test_python_of_the_deb(root, tmp_path):
     said = sh(tmp_path, f"PATH='{root}/usr/bin':$PATH PYTHONPATH='{root}{path}' python3 script.py")
     assert said.split("\n")[:-1] == [it.strip() for it in re.findall(r"(?m)print\(.*\) *# (.*)$", code)]
     hook = f"PATH='{root}/usr/bin':$PATH examples/hooks/check-tables examples/links/line.csv"
-    assert attempt(tmp_path, hook) == (0, sh(tmp_path, f"'{root}/usr/bin/balisekit' check examples/links/line.csv"))
+    assert attempt(tmp_path, hook) == (0, sh(tmp_path, f"'{root}/usr/bin/balisekit' check ./examples/links/line.csv"))
 
 
 def test_components(made):
