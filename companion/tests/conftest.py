@@ -7,7 +7,7 @@ import sys
 import tempfile
 from importlib.util import find_spec
 from pathlib import Path
-from typing import Callable, Iterator, List, Tuple
+from typing import Callable, Iterator, List, Sequence, Tuple
 
 import pytest
 from covered import COVERAGE
@@ -15,6 +15,8 @@ from covered import COVERAGE
 from balisekit.cli import main as cli
 from balisekit.engine import find_program
 from balisekit.engine.program import Program
+from balisekit.present.opening import program_words, settings_words
+from balisekit.tables.settings import Settings
 
 try:
     from hypothesis import settings
@@ -67,12 +69,16 @@ def pytest_sessionfinish(session: pytest.Session) -> None:
 
 @pytest.fixture(scope="session", autouse=True)
 def known() -> Iterator[None]:
-    """The program under test stays the same: within this process its checksum and its handshake are made once."""
+    """The program under test stays the same: within this process its checksum and its handshake are made once.
+
+    It need not be stored, as in the gate: it is taken for one that was built from the sources of this clone.
+    """
     path, checksum, greet = find_program.find(None), find_program.checksum, Program._shake_hands
     sha256 = checksum(path)
     Program(path, sha256)._shake_hands()
     with pytest.MonkeyPatch.context() as patch:
         patch.setattr(find_program, "checksum", lambda other: sha256 if other == path else checksum(other))
+        patch.setattr(find_program, "built_here", lambda other: other == sha256)
         patch.setattr(Program, "_shake_hands", lambda self: None if self.path == path else greet(self))
         yield
 
@@ -89,9 +95,15 @@ def program() -> Program:
     return Program.find()
 
 
+def without_usual_opening(lines: Sequence[str]) -> List[str]:
+    """The lines of an answer without those that name the program under test, and settings that have their defaults."""
+    usual = (program_words(Program.find()), f"settings: {settings_words(Settings())}")
+    return [line for line in lines if line not in usual]
+
+
 @pytest.fixture
 def run(capsys: pytest.CaptureFixture[str]) -> Run:
-    """Runs words of the command line."""
+    """Runs words of the command line. How an answer usually begins is left out: test_opening.py has that."""
 
     def one(*words: object) -> Answer:
         try:
@@ -99,7 +111,8 @@ def run(capsys: pytest.CaptureFixture[str]) -> Run:
         except SystemExit as ended:
             status = int(ended.code or 0)
         said = capsys.readouterr()
-        return status, said.out.splitlines(), said.err.splitlines()
+        out, err = map(without_usual_opening, (said.out.splitlines(), said.err.splitlines()))
+        return status, out, err
 
     return one
 

@@ -9,6 +9,7 @@ from balisekit.cli import options as shared, settings
 from balisekit.cli.outcome import add_only, links_of, outcome as outcome_of, stated
 from balisekit.cli.selection import check_aspect
 from balisekit.io import clock
+from balisekit.present.opening import opening
 from balisekit.present.outcome_text import closing_lines
 from balisekit.present.report_page import report_page
 from balisekit.tables.names import clean
@@ -31,14 +32,15 @@ def add_options(parser: argparse.ArgumentParser) -> None:
 def run(options: argparse.Namespace) -> int:
     """Does it. The answer is the exit status."""
     now, of_line, heading = clock.now(), stated(options), settings.heading(options)
-    outcome = outcome_of(options, of_line, now, keep=True)
+    outcome = outcome_of(options, of_line, keep=True)
     check_aspect(outcome.checked.table, options.aspect)
     command = clean(shlex.join(_command(options)))
     links = links_of(outcome, of_line)
     links.line.for_pictures()
     page = report_page(outcome, links, heading, command, now, options.aspect, options.full)
     options.html.write(page)
-    shared.say([f"written: {clean(str(options.html))}", *closing_lines(outcome)], options.html)
+    written = f"written: {clean(str(options.html))}"
+    shared.say([*opening(outcome.checked, outcome.judged), written, *closing_lines(outcome)], options.html)
     return outcome.status
 
 

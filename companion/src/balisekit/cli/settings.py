@@ -99,7 +99,7 @@ def refuse_unused(options: argparse.Namespace, letters: Sequence[str]) -> None:
 
 def of_line(options: argparse.Namespace) -> Options:
     """What the options and balisekit.toml state. TableError is raised for a value of the file that is none."""
-    stated = {**_of_file(options), **_given(options)}
+    stated = {**_of_file(options), **given(options)}
     more: Dict[str, Any] = {}
     if "tolerance" in stated:
         more["tolerance"] = more["tolerance_of_places"] = stated["tolerance"]
@@ -116,7 +116,7 @@ def of_line(options: argparse.Namespace) -> Options:
 
 def jumps(options: argparse.Namespace) -> Tuple[Jump, ...]:
     """Where the kilometres jump, by the option, by balisekit.toml and by its plan, which need not be written yet."""
-    stated = {**_of_file(options), **_given(options)}
+    stated = {**_of_file(options), **given(options)}
     is_written = os.path.exists(stated.get("plan", ""))
     return _jumps(stated, plan_file.read(stated["plan"]) if is_written else None)
 
@@ -127,7 +127,7 @@ def _jumps(stated: Mapping[str, Any], plan: Optional[plan_file.Plan]) -> Tuple[J
     return tuple(dict.fromkeys([*own, *(Jump(*each) for each in (plan.jumps if plan else ()))]))
 
 
-def _given(options: argparse.Namespace) -> Dict[str, Any]:
+def given(options: argparse.Namespace) -> Dict[str, Any]:
     """The options that were given, of those that the command has."""
     values = {name: getattr(options, name, None) for name in KINDS}
     return {name: value for name, value in values.items() if value is not None and value is not shared.EXACT}

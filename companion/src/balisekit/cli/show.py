@@ -7,6 +7,7 @@ from collections import Counter, deque
 from typing import Callable, Deque, Dict, Generator, Iterable, Iterator, List, Mapping, Optional, Sequence, Tuple, Union
 
 from balisekit.cli import options as shared
+from balisekit.cli.in_force import in_force
 from balisekit.cli.selection import groups_named, with_directions_of
 from balisekit.engine.grammar import Refusal
 from balisekit.engine.program import Program, Record
@@ -14,6 +15,7 @@ from balisekit.errors import TableError
 from balisekit.etcs.places import Here, Identities, here_alone, places_of_rows
 from balisekit.etcs.variables import Form
 from balisekit.present.bit_table import bit_lines
+from balisekit.present.opening import opening_of
 from balisekit.present.refusals import message_refused, telegram_refused
 from balisekit.present.telegram_text import LEGEND, WIDTH, text
 from balisekit.rules.checking import greatest_refused, until_too_many
@@ -79,11 +81,13 @@ class _Shown:
         options = self.options
         if options.table is not None:
             program, table, messages = shared.inputs(options)
+            yield opening_of(program, in_force(options, [options.table]))
             chosen = groups_named(table, options.group) if options.group else table
             groups = Identities(chosen.groups, (yield from self._table(program, table, chosen)))
         else:
             messages = messages_file.read(options.messages) if options.messages else None
             program, groups = Program.find(options.program, options.timeout), Identities((), {})
+            yield opening_of(program, in_force(options, []))
             yield from self._standard_input(program) if messages is None else ()
         yield from self._messages(program, messages, groups)
 

@@ -10,6 +10,15 @@ from balisekit.io import clock
 from balisekit.present import NOT_PROVED
 from balisekit.present.check_text import head_line
 from balisekit.present.headings import finding_lines, finding_words
+from balisekit.present.opening import (
+    Shown,
+    opening,
+    paths_from,
+    program_json,
+    program_words,
+    settings_json,
+    settings_words,
+)
 from balisekit.present.pages import pieces
 from balisekit.present.refusals import not_looked_at, refused, refused_lines
 from balisekit.rules.checking import Checked
@@ -21,6 +30,7 @@ def lines(found: Difference) -> Iterator[str]:
     """The answer in words."""
     for word, side in (("old", found.old), ("new", found.new)):
         yield f"{word}: {head_line(side.checked.table)}"
+    yield from opening(found.new.checked)
     yield ABOUT
     yield from (f"note: {note}" for note in found.notes)
     yield from not_compared(found)
@@ -75,8 +85,10 @@ def as_json(found: Difference) -> Dict[str, Any]:
         "status": found.status,
         "last_line": last_line(found),
         "not_proved": ABOUT,
-        "old": _side_json(found.old.checked),
-        "new": _side_json(found.new.checked),
+        "program": program_json(found.new.checked.program),
+        "settings": settings_json(found.new.checked.settings, paths_from(found.new.checked)),
+        "old": _side_json(found.old.checked, paths_from(found.new.checked)),
+        "new": _side_json(found.new.checked, paths_from(found.new.checked)),
         "notes": found.notes,
         "refused": not_compared(found),
         "groups_added": found.groups_added,
@@ -93,9 +105,9 @@ def as_json(found: Difference) -> Dict[str, Any]:
     }
 
 
-def _side_json(checked: Checked) -> Dict[str, Any]:
+def _side_json(checked: Checked, shown: Shown) -> Dict[str, Any]:
     verdict = checked.verdict.line if checked.verdict and checked.whole else None
-    return {"path": checked.table.path, "sha256": checked.table.sha256, "verdict": verdict}
+    return {"path": shown(checked.table.path), "sha256": checked.table.sha256, "verdict": verdict}
 
 
 def _renumbered_json(each: Renumbered) -> Dict[str, Any]:
@@ -114,6 +126,7 @@ def _changed_json(changed: Changed) -> Dict[str, Any]:
 
 def page(found: Difference, now: datetime) -> Iterator[str]:
     """The answer as a page in the style of the report."""
+    checked = found.new.checked
     return pieces(
         "diff.html",
         ["palette.css", "page.css"],
@@ -124,6 +137,9 @@ def page(found: Difference, now: datetime) -> Iterator[str]:
         not_looked_at=not_looked_at,
         finding_words=finding_words,
         verdict=verdict,
+        shown=paths_from(checked),
+        program=program_words(checked.program),
+        settings=settings_words(checked.settings, paths_from(checked)),
         where=where,
         last_line=last_line(found),
         not_proved=ABOUT,

@@ -5,9 +5,10 @@ from typing import Iterator, List, Sequence, Tuple
 
 from balisekit.present import headings
 from balisekit.present.accepted_text import accepted_words, fault_lines, verdict_lines
-from balisekit.present.check_text import before_last, last_line as last_line_of_program, opening_lines
+from balisekit.present.check_text import before_last, head_line, last_line as last_line_of_program, opening_lines
 from balisekit.present.explanations import Page, page_lines, pages
 from balisekit.present.links_text import compared, empty_rules, found, how_many_compared, lacking, not_compared
+from balisekit.present.opening import Shown, opening
 from balisekit.rules.accepted import UNNAMED, Item, keys
 from balisekit.rules.applied import Applied
 from balisekit.rules.checking import Place
@@ -23,6 +24,8 @@ SHOWN = 20
 
 def lines(outcome: Outcome, explained: bool = False, proposed: bool = False) -> Iterator[str]:
     """The answer in words. With `proposed`, or with a file of entries, it lists items that no entry can name."""
+    yield head_line(outcome.checked.table)
+    yield from opening(outcome.checked, outcome.judged)
     yield from opening_lines(outcome.checked)
     for part in outcome.parts:
         if outcome.letters != PROVED:
@@ -119,13 +122,13 @@ def _why_unnamed(item: Item) -> str:
     return "its message has no name of its own" if message else "the identity of its group is not known"
 
 
-def closing_lines(outcome: Outcome) -> List[str]:
+def closing_lines(outcome: Outcome, shown: Shown = str) -> List[str]:
     """What ends the answer: entries at fault, how much is open, and the verdict."""
     last = verdict(outcome)
     if not outcome.judged:
         return [last]
     judged = outcome.judged
-    return [*fault_lines(judged), *verdict_lines(judged, last, outcome.whole, outcome.letters)]
+    return [*fault_lines(judged, shown), *verdict_lines(judged, last, outcome.whole, outcome.letters)]
 
 
 def _found(part: Part, applied: Applied) -> str:

@@ -19,6 +19,7 @@ from balisekit.present import NOT_PROVED
 from balisekit.present.accepted_text import accepted_words
 from balisekit.present.explanations import Page, pages
 from balisekit.present.headings import entry_lines
+from balisekit.present.opening import opening, paths_from, settings_json
 from balisekit.present.outcome_text import closing_lines, not_applied, not_decoded
 from balisekit.present.refusals import message_refused, refused
 from balisekit.rules.accepted import keys
@@ -57,7 +58,12 @@ def document(outcome: Outcome) -> Object:
         seen[fingerprint] += 1
         result["partialFingerprints"][FINGERPRINT] += f":{seen[fingerprint]}"
     checked = outcome.checked
-    about = {"program": checked.program.version, "programSha256": checked.program.sha256}
+    about = {
+        "program": checked.program.version,
+        "programSha256": checked.program.sha256,
+        "programKnownBy": checked.program.known_by,
+        "settings": settings_json(checked.settings, paths_from(checked)),
+    }
     driver = {"name": "balisekit", "version": __version__, "fullName": f"balisecheck and balisekit; {NOT_PROVED}"}
     run = {
         "tool": {"driver": {**driver, "rules": rules, "properties": about}},
@@ -70,11 +76,12 @@ def document(outcome: Outcome) -> Object:
 
 
 def _invocation(outcome: Outcome) -> Object:
-    """How the run has ended. What was not looked at and the closing lines are notifications."""
-    closing = closing_lines(outcome)
+    """How the run has ended. How the answer begins, what was not looked at and how it ends are notifications."""
+    shown = paths_from(outcome.checked)
+    begin, closing = opening(outcome.checked, outcome.judged, shown), closing_lines(outcome, shown)
     notes = [
         {"level": "note", "message": {"text": note}}
-        for note in [*not_decoded(outcome), *not_applied(outcome), *closing]
+        for note in [*begin, *not_decoded(outcome), *not_applied(outcome), *closing]
     ]
     return {
         "executionSuccessful": True,

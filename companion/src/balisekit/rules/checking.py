@@ -21,6 +21,7 @@ from balisekit.rules.statements import statement
 from balisekit.rules.statements.scene import Balise, BaliseName, Scene, Statement
 from balisekit.tables.grouping import by_position
 from balisekit.tables.model import Aspect, Group, Message, Messages, Row, Table
+from balisekit.tables.settings import Settings
 
 GREATEST_REFUSED = 10_000
 """After this many refused telegrams the others are not tried."""
@@ -192,6 +193,8 @@ class Checked:
     verdict: Optional[Verdict] = None
     """The program's first line, if it was asked."""
     findings: Tuple[Place, ...] = ()
+    settings: Settings = Settings()
+    """Which settings of the command differ from their defaults."""
 
     @property
     def not_looked_at(self) -> int:

@@ -29,6 +29,15 @@ class ReportHeading(NamedTuple):
     """Who signs: there is a box for each of these."""
 
 
+class Found(NamedTuple):
+    """A file that states something about a table. Without a file all is empty."""
+
+    path: str = ""
+    sha256: str = ""
+    tables: Mapping[str, Mapping[str, Any]] = {}
+    """By their names."""
+
+
 STATED = {
     CHECK_TABLE: ("line_speed", "release_speed", "tolerance", "jumps", "plan", "rules"),
     REPORT_TABLE: ReportHeading._fields,
@@ -65,6 +74,12 @@ def stated(path: str, named: Optional[str], table: str) -> Tuple[str, Mapping[st
     return file, _read(file)[table] if file else {}
 
 
+def found(path: str, named: Optional[str]) -> Found:
+    """The file that states something about a table."""
+    file = named or beside(path)
+    return Found(file, inputs.read_settings(file).sha256, _read(file)) if file else Found()
+
+
 def not_read(path: str, named: Optional[str]) -> List[str]:
     """A note on balisekit.toml in the folder of this file, if another file is named: it may state the line too."""
     file = beside(path) if named else ""
@@ -81,7 +96,7 @@ def beside(path: str) -> str:
 def _read(path: str) -> Dict[str, Dict[str, Any]]:
     """The tables of a file. Lines at the top are those of [columns]."""
     with faults_of(path):
-        form = _parsed(inputs.read(path).content)
+        form = _parsed(inputs.read_settings(path).content)
         tables = {name: form.pop(name, {}) for name in (COLUMNS_TABLE, EXPECT_TABLE, *STATED)}
         check = tables[CHECK_TABLE]
         for name in FILES.intersection(check if isinstance(check, dict) else ()):
