@@ -3,8 +3,10 @@ from __future__ import annotations
 
 import gc
 import os
+import re
 import sys
 import tempfile
+from datetime import datetime, timezone
 from importlib.util import find_spec
 from pathlib import Path
 from typing import Callable, Iterator, List, Sequence, Tuple
@@ -15,8 +17,8 @@ from covered import COVERAGE
 from balisekit.cli import main as cli
 from balisekit.engine import find_program
 from balisekit.engine.program import Program
-from balisekit.present.opening import program_words, settings_words
-from balisekit.tables.settings import Settings
+from balisekit.io import clock
+from balisekit.present.opening import program_words
 
 try:
     from hypothesis import settings
@@ -83,6 +85,18 @@ def known() -> Iterator[None]:
         yield
 
 
+def set_day(monkeypatch: pytest.MonkeyPatch, seconds: int) -> None:
+    """The clock has the day of this second since 1970, and outputs have its time."""
+    time = datetime.fromtimestamp(seconds, timezone.utc)
+    monkeypatch.setattr(clock, "today", time.date)
+    monkeypatch.setenv("SOURCE_DATE_EPOCH", str(seconds))
+
+
+def without_program(text: str) -> str:
+    """An answer without version and checksum of the program: stored answers need not be of the program under test."""
+    return re.sub("(?m)^balisecheck( [0-9.]+)?, SHA-256 [0-9a-f]{64}: .+$", "balisecheck", text)
+
+
 @pytest.fixture
 def tmp_path(tmp_path_factory: pytest.TempPathFactory) -> Path:
     """A new folder. (To number it, pytest would read the names of all others.)"""
@@ -96,9 +110,10 @@ def program() -> Program:
 
 
 def without_usual_opening(lines: Sequence[str]) -> List[str]:
-    """The lines of an answer without those that name the program under test, and settings that have their defaults."""
-    usual = (program_words(Program.find()), f"settings: {settings_words(Settings())}")
-    return [line for line in lines if line not in usual]
+    """The lines of an answer without those on the program under test, and on settings if they name no file."""
+    program = program_words(Program.find())
+    rest = [line for line in lines if line != program and (line[:10] != "settings: " or "SHA-256" in line)]
+    return rest[1:] if rest[:1] == [""] and len(rest) < len(lines) else rest  # (`show` has a blank line after them)
 
 
 @pytest.fixture

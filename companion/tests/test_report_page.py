@@ -293,13 +293,14 @@ def test_the_heading_is_that_of_the_project(run: Run, line: Path) -> None:
     """Texts of [report] in balisekit.toml. What it does not state has no box."""
     text = report(run, line)
     facts = re.compile('<tr><th scope="row">([a-z]+)</th><td><bdi>(.*?)</bdi></td></tr>')
-    assert [name for name, _ in facts.findall(text)] == ["table", "date"] and 'class="signatures"' not in text
+    assert [name for name, _ in facts.findall(text)] == ["table", "date", "program", "settings"]
+    assert 'class="signatures"' not in text
     (line.parent / "balisekit.toml").write_text(
         '[report]\nproject = "Line <b>"\nrevision = "C"\nauthor = "J. Doe"\nsignatures = ["prepared", "verified"]\n'
     )
     text = report(run, line)
     found = facts.findall(text)
-    assert [name for name, _ in found] == ["project", "table", "revision", "date", "author"]
+    assert [name for name, _ in found] == ["project", "table", "revision", "date", "author", "program", "settings"]
     assert found[0][1] == "Line &lt;b&gt;" and "<title>Report of balisecheck: Line &lt;b&gt;</title>" in text
     assert re.findall('<th scope="row"><bdi>(.*?)</bdi></th><td></td><td></td>', text) == ["prepared", "verified"]
 

@@ -81,18 +81,18 @@ class _Shown:
         options = self.options
         if options.table is not None:
             program, table, messages = shared.inputs(options)
-            yield opening_of(program, in_force(options, [options.table]))
             chosen = groups_named(table, options.group) if options.group else table
+            yield opening_of(program, in_force(options, [options.table]))
             groups = Identities(chosen.groups, (yield from self._table(program, table, chosen)))
         else:
             messages = messages_file.read(options.messages) if options.messages else None
             program, groups = Program.find(options.program, options.timeout), Identities((), {})
-            yield opening_of(program, in_force(options, []))
-            yield from self._standard_input(program) if messages is None else ()
+            opening = opening_of(program, in_force(options, []))
+            yield from [opening] if messages else self._standard_input(program, opening)
         yield from self._messages(program, messages, groups)
 
-    def _standard_input(self, program: Program) -> Iterator[List[str]]:
-        """The telegrams of standard input, which are decoded as they come."""
+    def _standard_input(self, program: Program, opening: List[str]) -> Iterator[List[str]]:
+        """The telegrams of standard input, which are decoded as they come. Before the first one nothing is written."""
         batches = standard_input.batches()
         waiting: Deque[Tuple[int, str]] = deque()
 
@@ -104,7 +104,10 @@ class _Shown:
 
         for answer in self._tried("telegrams", answers()):
             number, telegram = waiting.popleft()
+            yield from [opening] if opening else []
+            opening = []
             yield self._block(f"line {number}", telegram, answer, telegram_refused, here_alone)
+        yield from [opening] if opening else []
         self.total["telegrams"] += sum(map(len, batches))
 
     def _table(self, program: Program, whole: Table, table: Table) -> Generator[List[str], None, Dict[int, Form]]:
