@@ -35,6 +35,7 @@ install -m 644 "$top/companion/start.py" "$top/companion/pyproject.toml" "$kit/c
 cp -r "$top/companion/src/balisekit" "$kit/companion/src"
 find "$kit" -name __pycache__ -prune -exec rm -r {} +
 install -m 644 "$about" "$kit/dist/x86_64-linux/ABOUT"
+install -m 644 "$top/dist/RELEASES" "$kit/dist/RELEASES"
 ln -sf ../../bin/balisecheck "$kit/balisecheck"
 ln -sf ../share/balisecheck/balisekit "$prefix/bin/balisekit"
 printf 'installed: %s\n' "$prefix/bin/balisecheck" "$prefix/bin/balisekit" >&2

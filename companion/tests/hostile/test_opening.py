@@ -18,11 +18,13 @@ from fakes import fake
 
 from balisekit.cli import main as cli
 from balisekit.engine import find_program
+from balisekit.errors import NoAnswer
 from balisekit.io import clock, inputs
 from balisekit.rules.accepted import COLUMNS
 
 FAULT = TOP / "examples" / "links" / "distance-differs.csv"
-TOML = '[check]\ntolerance = 20\njumps = "j.csv"\nrelease_speed = 40\n[columns]\nkm = "Kilometer"\n[report]\nproject = "P"\n'
+TOML = '[check]\ntolerance = 20\njumps = "j.csv"\nrelease_speed = 40\n[columns]\nkm = "Kilometer"\n'
+TOML += '[report]\nproject = "P"\n'
 JUMPS = "km,km_after\n90.0,91.0\n"
 COMMANDS = {
     "check T": "tolerance jumps columns",
@@ -171,7 +173,7 @@ def test_who_knows_a_program(tmp_path: Path, monkeypatch: pytest.MonkeyPatch) ->
     ]
     assert find_program.known("p", "p", "dd") == find_program.Known()
     monkeypatch.delenv("BALISECHECK", raising=False)
-    with pytest.raises(find_program.NoAnswer, match="^found p, which is not a released program: "):
+    with pytest.raises(NoAnswer, match="^found p, which is not a released program: "):
         find_program.known(None, "p", "dd")
 
 

@@ -2,6 +2,7 @@
 from __future__ import annotations
 
 import argparse
+import os
 import shlex
 from typing import Iterator
 
@@ -9,7 +10,8 @@ from balisekit.cli import options as shared, settings
 from balisekit.cli.outcome import add_only, links_of, outcome as outcome_of, stated
 from balisekit.cli.selection import check_aspect
 from balisekit.io import clock
-from balisekit.present.opening import opening
+from balisekit.io.inputs import InputPath
+from balisekit.present.opening import from_table, opening
 from balisekit.present.outcome_text import closing_lines
 from balisekit.present.report_page import report_page
 from balisekit.tables.names import clean
@@ -45,10 +47,11 @@ def run(options: argparse.Namespace) -> int:
 
 
 def _command(options: argparse.Namespace) -> Iterator[str]:
-    """The words of a command that hands the same document to the program."""
-    yield from ("balisekit", "check", str(options.table))
+    """The words of a command that hands the same document to the program, in the folder of the table."""
+    yield from ("balisekit", "check", os.path.basename(options.table))
     for name in OF_THE_DOCUMENT:
         value = getattr(options, name)
         if value:
             yield f"--{name.replace('_', '-')}"
-            yield from () if value is True else (str(value),)
+            is_path = isinstance(value, InputPath)
+            yield from () if value is True else (from_table(options.table, value) if is_path else str(value),)

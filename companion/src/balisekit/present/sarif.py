@@ -157,6 +157,8 @@ def _location(path: str, rows: Sequence[int], lines: Lines = (), group: str = ""
     first, last = min(rows, default=1), max(rows, default=1)
     if lines:
         first, last = lines[first - 1][0], lines[last - 1][1]
+    inside = os.path.relpath(path)  # (code hosts need a path from the top of the repository, where jobs run)
+    path = path if inside.startswith(os.pardir) else inside
     is_relative = not os.path.isabs(path)
     uri = {"uri": quote(path), "uriBaseId": "%SRCROOT%"} if is_relative else {"uri": Path(path).as_uri()}
     region = {"startLine": first, "endLine": last}
