@@ -12,7 +12,7 @@ from typing import Any, Callable, Dict, List
 import pytest
 from cases_of_program import TOP
 from conftest import Run, set_day
-from telegrams import ALONE, MESSAGE, OTHER, SPARE, digest
+from telegrams import ALONE, MESSAGE, OTHER, SPARE, account, digest
 
 from balisekit.engine.program import Program, Text
 from balisekit.io import csv_writing
@@ -81,6 +81,7 @@ def test_nothing_open(run: Run, table: Write) -> None:
         "    program: F14 group 1: identity used before",
         "    accepted: by design (J. Doe, 2026-01-02)",
         "aspects found: 1 in 2 groups",
+        account(2),
         'program: "no: findings 1"',
         "findings 1: accepted 1, open 0",
         "no open findings",
@@ -125,8 +126,9 @@ def test_the_last_day_counts(run: Run, table: Write) -> None:
 def test_an_unused_entry_is_no_success(run: Run, table: Write) -> None:
     file = table(HEADING, entry(), entry(rule="F1", balise="0"), name="accepted.csv")
     status, out, _ = run("check", twice(table), "--accepted", file)
-    assert status == 1 and out[-3:] == [
+    assert status == 1 and out[-4:] == [
         f"{file}: row 3: unused: it matches no finding",
+        account(2),
         'program: "no: findings 1"',
         "findings 1: accepted 1, open 0; entries at fault 1",
     ]

@@ -100,7 +100,7 @@ def test_the_page_has_all_that_was_said(
             "^(findings that|(findings of|links, by|remarks on).*proved).*:.*", lambda found: _title(found[0]), told
         )
         assert told in text, line
-    assert said[-1:] == closing and f'<p class="verdict">{escape(closing[0])}</p>' in page
+    assert said[-len(closing) :] == closing and f'<p class="verdict">{escape(closing[-1])}</p>' in page
     assert hashlib.sha256(table.read_bytes()).hexdigest() in text
     assert text.count("balisekit is not proved; the program's own lines are quoted in full") == 1
     ids = [attributes["id"] for _, attributes in seen.tags if "id" in attributes]
@@ -134,7 +134,7 @@ def test_links_are_accepted_beside_findings(tmp_path: Path, capsys: pytest.Captu
     status, page = _report(table, tmp_path / "r.html", "--accepted", str(signed))
     told = capsys.readouterr().out.splitlines()[4:]
     assert row["rule"] == "L2" and status == 0
-    assert told[-1].startswith("no open findings, links or remarks") and escape("\n".join(told)) in page
+    assert told[-1].startswith("no open findings, links or remarks") and all(escape(line) in page for line in told)
     accepted = _between(page, ACCEPTED, PAPERS)
     assert accepted.count(f"<td><bdi>surveyed</bdi></td>{SIGNED}</td>") == 1 and "L2: packet 5" in accepted
     block = page[page.index('<section class="group" id="g0">') :]
@@ -590,7 +590,7 @@ def test_a_list_is_a_list(tmp_path: Path) -> None:
     _, page = _report(_table(tmp_path / "t.csv", {"group": "A", "telegram": HEADER}), tmp_path / "r.html")
     said = page.split("<h2>What a yes means")[1].split("<h3>")[0]
     items = re.findall(r"<li>(.+?)</li>", said)
-    assert len(items) == 16 and items[0].startswith("In each aspect of each group, positions, totals")
+    assert len(items) == 18 and items[0].startswith("In each aspect of each group, positions, totals")
     assert said.count("<ul>") == 4 and not re.search(r">\s*- ", said)
 
 
@@ -615,15 +615,23 @@ def test_the_report_beside_the_example(tmp_path: Path, monkeypatch: pytest.Monke
 
 @pytest.mark.uncovered
 def test_any_name_makes_a_picture() -> None:
-    """A picture with any characters as its names is well formed, and has no tag of theirs."""
+    """A picture with any characters as its names is well formed, and has no tag of theirs. Where a name is shortened
+    it is the title of that text."""
     hypothesis = pytest.importorskip("hypothesis")
     strategies = hypothesis.strategies
     plain = [one.tag for one in ElementTree.fromstring(_svg("A")).iter()]
+    svg = plain[0][: -len("svg")]
 
     def tried(name: str) -> None:
-        assert [one.tag for one in ElementTree.fromstring(_svg(name)).iter()] == plain
+        root = ElementTree.fromstring(_svg(name))
+        for text in root.iter(f"{svg}text"):
+            for title in text.findall(f"{svg}title"):
+                assert str(text.text).endswith("\u2026") and title.text == root.findtext(f"{svg}title")
+                text.remove(title)
+        assert [one.tag for one in root.iter()] == plain
 
-    hypothesis.given(strategies.text(strategies.characters(blacklist_categories=())))(tried)()
+    any_name = hypothesis.given(strategies.text(strategies.characters(blacklist_categories=())))(tried)
+    hypothesis.example("<title>" * 100)(any_name)()
 
 
 def _svg(name: str) -> str:

@@ -51,9 +51,8 @@ def run(options: argparse.Namespace) -> int:
     if options.document:
         options.document.write(checking.document(checked.kept, [one.message for one in checked.accepted_messages]))
     _write_for_tools(options, outcome)
-    answer = list(lines(outcome, options.explain, options.propose is not None))
-    if options.document and not checked.whole:
-        answer.insert(-1, LACKING)
+    notes = [LACKING] if options.document and not checked.whole else []
+    answer = lines(outcome, options.explain, options.propose is not None, notes)
     shared.say(answer, options.json, options.document, options.propose, options.junit, options.sarif, options.xlsx)
     return outcome.status
 

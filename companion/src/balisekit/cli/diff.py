@@ -42,7 +42,7 @@ def run(options: argparse.Namespace) -> int:
         _read(options.new, options.new_messages, shared.reading(options)),
     ]
     if all(document for _, _, document in sides):
-        shared.refuse_unused(options, "with two documents", "sheet", "columns", "fill_merged")
+        shared.refuse_unused(options, "with two documents", "sheet", "columns", "skip_column", "fill_merged")
     named = not any(document for _, _, document in sides)
     program = Program.find(options.program, options.timeout)
     old, new = (_checked(program, *side, named) for side in sides)

@@ -17,6 +17,7 @@ from balisekit.engine.program import Program
 from balisekit.errors import TableError
 from balisekit.io.output_folder import OutputFolder
 from balisekit.io.outputs import Output
+from balisekit.present.account_text import overlooked_lines
 from balisekit.present.opening import opening, opening_of
 from balisekit.present.pictures import message_picture, picture_page, track_page, written
 from balisekit.present.refusals import not_looked_at, refused
@@ -69,7 +70,7 @@ def run(options: argparse.Namespace) -> int:
         return draw_all.run(options, checked, of_line) if options.all else _track(options, checked, of_line)
     options.svg.write(picture_page(picture))
     head = [*opening_of(program, in_use), *(f"note: {note}" for note in notes)]
-    shared.say([*head, f"written: {clean(str(options.svg))}"], options.svg)
+    shared.say([*head, *overlooked_lines(table), f"written: {clean(str(options.svg))}"], options.svg)
     return 0
 
 
@@ -107,7 +108,8 @@ def _track(options: argparse.Namespace, checked: Checked, of_line: Options) -> i
     options.svg.write(track_page(outcome, links, track, options.aspect))
     for item in [*refused(checked), *not_looked_at(checked)]:
         print(f"balisekit: {item}", file=sys.stderr)
-    lines = [*opening(checked), *notes_on(table), *written(line, track, options.aspect, clean(str(options.svg)))]
+    lines = [*opening(checked), *notes_on(table), *overlooked_lines(table)]
+    lines += written(line, track, options.aspect, clean(str(options.svg)))
     count = len(checked.accepted_messages)
     lines += [f"left out: {count} message{'s' * (count > 1)}, which --message draws"] if count else []
     shared.say(lines, options.svg)

@@ -10,9 +10,10 @@ from balisekit.cli import options as shared, settings
 from balisekit.cli.in_force import in_force
 from balisekit.io import csv_writing
 from balisekit.io.outputs import Output
+from balisekit.present.account_text import overlooked_lines
 from balisekit.present.check_text import head_line
 from balisekit.present.opening import opening
-from balisekit.present.refusals import not_looked_at, refused_counts, refused_lines
+from balisekit.present.refusals import lacking, refused_lines
 from balisekit.rules import checking
 from balisekit.rules.checking import Checked
 from balisekit.rules.line import Line
@@ -46,7 +47,6 @@ def _lines(options: argparse.Namespace, checked: Checked, made: Made) -> List[st
     """What was read and written. The last line counts the rows, or says that telegrams were refused."""
     counts = Counter(row.kind for row in made.rows)
     written = ", ".join(f"{kind} {count}" for kind, count in counts.items()) or "no row"
-    lacking = [*refused_counts(checked), *not_looked_at(checked)]
     last = f"written: {clean(str(options.csv))}: {written}"
     return [
         head_line(checked.table),
@@ -54,5 +54,6 @@ def _lines(options: argparse.Namespace, checked: Checked, made: Made) -> List[st
         *notes_on(checked.table),
         *(f"note: {clean(note)}" for note in made.notes),
         *refused_lines(checked),
-        last if checked.whole else f"INCOMPLETE: {', '.join(lacking)}; {last}",
+        *overlooked_lines(checked.table),
+        last if checked.whole else f"INCOMPLETE: {', '.join(lacking(checked))}; {last}",
     ]

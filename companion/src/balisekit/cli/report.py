@@ -50,8 +50,8 @@ def _command(options: argparse.Namespace) -> Iterator[str]:
     """The words of a command that hands the same document to the program, in the folder of the table."""
     yield from ("balisekit", "check", os.path.basename(options.table))
     for name in OF_THE_DOCUMENT:
-        value = getattr(options, name)
-        if value:
+        given = getattr(options, name)
+        for value in given if isinstance(given, list) else [given] if given else []:
             yield f"--{name.replace('_', '-')}"
             is_path = isinstance(value, InputPath)
             yield from () if value is True else (from_table(options.table, value) if is_path else str(value),)

@@ -14,9 +14,10 @@ from balisekit.engine.program import Program, Record
 from balisekit.errors import TableError
 from balisekit.etcs.places import Here, Identities, here_alone, places_of_rows
 from balisekit.etcs.variables import Form
+from balisekit.present.account_text import overlooked_lines
 from balisekit.present.bit_table import bit_lines
 from balisekit.present.opening import opening_of
-from balisekit.present.refusals import message_refused, telegram_refused
+from balisekit.present.refusals import message_refused, overlooked, telegram_refused
 from balisekit.present.telegram_text import LEGEND, WIDTH, text
 from balisekit.rules.checking import greatest_refused, until_too_many
 from balisekit.rules.line import Records, with_directions
@@ -43,7 +44,9 @@ def add_options(parser: argparse.ArgumentParser) -> None:
 def run(options: argparse.Namespace) -> int:
     """Does it. The answer is the exit status."""
     if options.table is None:
-        shared.refuse_unused(options, "without TABLE", "sheet", "columns", "fill_merged", "by_position", "group")
+        shared.refuse_unused(
+            options, "without TABLE", "sheet", "columns", "skip_column", "fill_merged", "by_position", "group"
+        )
     if options.group:
         shared.refuse_unused(options, "with --group", "messages")
     shown = _Shown(options)
@@ -53,8 +56,8 @@ def run(options: argparse.Namespace) -> int:
         print(f"and {count}: --all continues\n")
     print(textwrap.fill(LEGEND, WIDTH))
     refused = [f"{count} of {shown.total[what]} {what} refused" for what, count in shown.refused.items() if count]
-    if refused:
-        last_line = f"INCOMPLETE: {', '.join([*refused, *shown.not_looked_at])}"
+    if refused or shown.not_read:
+        last_line = f"INCOMPLETE: {', '.join([*refused, *shown.not_looked_at, *shown.not_read])}"
         print(last_line)
         raise TableError(last_line)
     return 0
@@ -68,6 +71,8 @@ class _Shown:
         self.total: "Counter[str]" = Counter()
         self.tried: "Counter[str]" = Counter()
         self.refused: "Counter[str]" = Counter()
+        self.not_read: Sequence[str] = ()
+        """How many telegrams of the table are in what is not read."""
 
     @property
     def not_looked_at(self) -> List[str]:
@@ -81,6 +86,8 @@ class _Shown:
         options = self.options
         if options.table is not None:
             program, table, messages = shared.inputs(options)
+            self.not_read = overlooked(table)
+            yield from ([line] for line in overlooked_lines(table))
             chosen = groups_named(table, options.group) if options.group else table
             yield opening_of(program, in_force(options, [options.table]))
             groups = Identities(chosen.groups, (yield from self._table(program, table, chosen)))

@@ -10,9 +10,10 @@ from balisekit.cli.in_force import in_force
 from balisekit.compare.sheet import Sheet, compare
 from balisekit.errors import TableError
 from balisekit.present import sheets
+from balisekit.present.account_text import overlooked_lines
 from balisekit.present.check_text import head_line
 from balisekit.present.opening import opening
-from balisekit.present.refusals import not_looked_at, refused_counts, refused_lines
+from balisekit.present.refusals import lacking, refused_lines
 from balisekit.rules import checking
 from balisekit.rules.checking import Checked
 from balisekit.tables import expected
@@ -51,7 +52,7 @@ def run(options: argparse.Namespace) -> int:
         said += sheets.lines(checked, compared)
         status = status or (1 if compared.differences else 0)
     elif not checked.whole:
-        said.append(f"INCOMPLETE: {', '.join([*refused_counts(checked), *not_looked_at(checked)])}")
+        said.append(f"INCOMPLETE: {', '.join(lacking(checked))}")
     shared.say(said, options.csv, options.xlsx)
     return status
 
@@ -61,4 +62,5 @@ def _lines(options: argparse.Namespace, checked: Checked, directions: Sequence[s
     table = checked.table
     written = [f"written: {clean(str(output))}" for output in (options.csv, options.xlsx) if output]
     notes = [*notes_on(table), *(f"note: {clean(note)}" for note in directions)]
-    return [head_line(table), *opening(checked), *notes, *refused_lines(checked), *written]
+    begin = [head_line(table), *opening(checked)]
+    return [*begin, *notes, *refused_lines(checked), *overlooked_lines(table), *written]

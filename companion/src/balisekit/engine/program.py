@@ -181,7 +181,7 @@ class Program:
         """The library for C that was stored with the program, if it can be used here."""
         try:
             from balisekit.engine.library import opened, stored  # (slow, and only needed after a refusal)
-        except ImportError:  # (a wheel has no library, and some builds of Python no ctypes)
+        except ImportError:  # (some builds of Python have no ctypes)
             return None
         return opened(stored(self.sha256))
 
@@ -285,7 +285,19 @@ class Program:
                 if run.status is not None and run.status < 0:
                     raise run.no_answer(_end(run, 0))
                 if (run.status, lines) != (status, [answer]):
-                    raise NoAnswer(f"{self.path} is not the program that this version knows")
+                    raise self._not_known(run)
+
+    def _not_known(self, run: Run) -> NoAnswer:
+        """The error of a wrong trial answer. A released program was not loaded; any other one is another program."""
+        what = "is not the program that this version knows"
+        if self.about:
+            import platform  # (slow, and only needed here)
+
+            here = f"{platform.machine()} with {' '.join(platform.libc_ver()).strip() or 'another C library'}"
+            needs = f"it needs x86-64-v2 and glibc {self.about.get('glibc')} or later"
+            what = f"does not start here: {needs}, and this is {here}"
+        said = run.errors[:1000].decode("utf-8", "backslashreplace").strip().split("\n")[0]
+        return NoAnswer(f"{self.path} {what}" + (f": {said}" if said else ""))
 
     def no_answer(self, command: str, why: str) -> NoAnswer:
         """The error of a command without an answer."""

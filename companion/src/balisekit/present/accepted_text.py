@@ -116,5 +116,5 @@ def proposal(outcome: Outcome) -> str:
         if UNNAMED not in key and key not in rows and not (judged and judged.of(item)):
             reason = reasons.get(item.correct, "") if isinstance(item, Place) else ""
             own = known.reason if known and known.reason not in reasons.values() else reason
-            rows[key] = [*key, own, "", "", "", checksum(items[key])]
+            rows[key] = [*key, clean(own), "", "", "", checksum(items[key])]
     return csv_writing.text(COLUMNS, rows.values())

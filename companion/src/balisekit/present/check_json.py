@@ -6,6 +6,7 @@ from typing import Any, Dict, Iterator, Tuple
 from balisekit.engine.program import Record
 from balisekit.io.outputs import Json, encode
 from balisekit.present import accepted_text
+from balisekit.present.account_text import account_json
 from balisekit.present.check_text import groups_by_aspects
 from balisekit.present.headings import finding_words, not_decoded
 from balisekit.present.links_text import FORMAT, rules_json
@@ -31,6 +32,7 @@ def as_json(outcome: Outcome) -> Dict[str, Any]:
         "not_applied": not_applied(outcome),
         "verdict" if checked.whole else "rest": checked.verdict.line if checked.verdict else None,
         **_inputs(checked),
+        "account": account_json(outcome),
         "counts": _counts(checked),
         "telegrams": _with_forms((_row(row), record) for row, record in checked.accepted.decoded()),
         "read_messages": _with_forms((_message(one.message), one.record) for one in checked.accepted_messages),

@@ -10,11 +10,12 @@ from balisekit.etcs.raw_layouts import layout_of
 from balisekit.io import clock
 from balisekit.present import NOT_PROVED, headings
 from balisekit.present.accepted_text import fault_lines
+from balisekit.present.account_text import account_lines
 from balisekit.present.check_text import aspects_found
-from balisekit.present.links_text import empty_rules, lacking
+from balisekit.present.links_text import empty_rules
 from balisekit.present.opening import KNOWN, entries_words, paths_from, program_words, settings_words
-from balisekit.present.outcome_text import closing_lines, not_looked_at, unnamed_lines
-from balisekit.present.refusals import RefusedInput, not_looked_at as not_tried, refused
+from balisekit.present.outcome_text import last_lines, not_looked_at, unnamed_lines
+from balisekit.present.refusals import RefusedInput, lacking, not_looked_at as not_tried, refused
 from balisekit.rules.accepted import Judged
 from balisekit.rules.checking import Checked, Place, document
 from balisekit.rules.families import FAMILIES, PLAN, PROVED, Outcome
@@ -55,6 +56,10 @@ class Cover(NamedTuple):
     heading: Sequence[Tuple[str, str]]
     signatures: Sequence[str]
     not_looked_at: Sequence[str]
+    account: Sequence[str]
+    """What became of the telegrams and messages of the files."""
+    all_judged: bool
+    """Whether each of them was judged or refused."""
     verdict: Verdict
     at_fault: Sequence[str]
     evidence: Optional[Evidence]
@@ -84,7 +89,9 @@ def cover(outcome: Outcome, heading: ReportHeading, command: str, now: datetime)
         [(name, clean(value)) for name, value in rows if value],
         list(map(clean, heading.signatures)),
         [*not_tried(checked), *not_looked_at(outcome)],
-        _verdict(outcome, closing_lines(outcome, shown)[len(faults) :]),
+        list(account_lines(outcome)),
+        not (outcome.account.not_judged or outcome.account_of_messages and outcome.account_of_messages.not_judged),
+        _verdict(outcome, last_lines(outcome)),
         [*faults, *(unnamed_lines(outcome) if judged else ())],
         _evidence(checked, command),
         list(refused(checked)),

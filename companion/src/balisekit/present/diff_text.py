@@ -8,6 +8,7 @@ from balisekit.compare.moves import Exchanged, Renumbered
 from balisekit.compare.releases import Changed, Difference
 from balisekit.io import clock
 from balisekit.present import NOT_PROVED
+from balisekit.present.account_text import overlooked_lines
 from balisekit.present.check_text import head_line
 from balisekit.present.headings import finding_lines, finding_words
 from balisekit.present.opening import (
@@ -20,7 +21,7 @@ from balisekit.present.opening import (
     settings_words,
 )
 from balisekit.present.pages import pieces
-from balisekit.present.refusals import not_looked_at, refused, refused_lines
+from balisekit.present.refusals import not_looked_at, overlooked, refused, refused_lines
 from balisekit.rules.checking import Checked
 
 ABOUT = f"pairs and differences are found by balisekit; {NOT_PROVED}"
@@ -62,6 +63,7 @@ def not_compared(found: Difference) -> Iterator[str]:
     """What could not be compared."""
     for word, checked in (("old", found.old.checked), ("new", found.new.checked)):
         yield from refused_lines(checked, f"refused in {word}: ")
+        yield from (f"in {word}: {text}" for text in overlooked_lines(checked.table))
         yield from (f"in {word}: {count}" for count in not_looked_at(checked))
 
 
@@ -76,7 +78,16 @@ def last_line(found: Difference) -> str:
         + (f", exchanged {moved}" if moved else ""),
         f"findings new {len(found.findings_new)}, gone {len(found.findings_gone)}",
     ]
-    return ("" if found.whole else "INCOMPLETE: the content of what was refused is not compared; ") + "; ".join(parts)
+    lacks = _lacks(found)
+    return f"{f'INCOMPLETE: {lacks}; ' if lacks else ''}{'; '.join(parts)}"
+
+
+def _lacks(found: Difference) -> str:
+    """What was not compared, if anything."""
+    sides = found.old.checked, found.new.checked
+    refused = any(side.refused or side.refused_messages or side.left_out for side in sides)
+    lacks = ["the content of what was refused is not compared"] if refused else []
+    return ", ".join([*lacks, *(text for side in sides for text in overlooked(side.table))])
 
 
 def as_json(found: Difference) -> Dict[str, Any]:
@@ -135,6 +146,7 @@ def page(found: Difference, now: datetime) -> Iterator[str]:
         sides=(("old", found.old.checked), ("new", found.new.checked)),
         refused=refused,
         not_looked_at=not_looked_at,
+        overlooked_lines=overlooked_lines,
         finding_words=finding_words,
         verdict=verdict,
         shown=paths_from(checked),
@@ -149,5 +161,5 @@ def page(found: Difference, now: datetime) -> Iterator[str]:
 def verdict(checked: Checked) -> str:
     """The program's verdict on one release."""
     if not checked.whole:
-        return "INCOMPLETE: telegrams or messages were refused"
+        return "INCOMPLETE: telegrams or messages were refused or not read"
     return f"program: {checked.verdict.line}" if checked.verdict else "not checked"

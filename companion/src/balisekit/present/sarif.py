@@ -17,6 +17,7 @@ from balisekit import __version__
 from balisekit.io import inputs
 from balisekit.present import NOT_PROVED
 from balisekit.present.accepted_text import accepted_words
+from balisekit.present.account_text import account_json, not_judged_lines
 from balisekit.present.explanations import Page, pages
 from balisekit.present.headings import entry_lines
 from balisekit.present.opening import opening, paths_from, settings_json
@@ -33,12 +34,16 @@ SCHEMA = "https://docs.oasis-open.org/sarif/sarif/v2.1.0/errata01/os/schemas/sar
 LEVELS = {
     Urgency.WRONG_INFORMATION: "error",
     Urgency.WRONG_PLACE: "error",
+    Urgency.NOT_JUDGED: "warning",
     Urgency.BRAKING: "warning",
     Urgency.RULE_ONLY: "note",
 }
 REFUSED = "refused"
 """The identifier of a result for what the program has refused."""
 REFUSED_PAGE = Page("a telegram or message that the program refuses", {"How to correct it": "See docs/refusals.md."})
+NOT_JUDGED = "not-judged"
+"""The identifier of a result for telegrams in a column or sheet that is not read."""
+NOT_JUDGED_PAGE = Page("telegrams that are not judged", {"How to correct it": "See the account in docs/commands.md."})
 FINGERPRINT = "balisekit/v1"
 Object = Dict[str, Any]
 Lines = Sequence[Tuple[int, int]]
@@ -50,7 +55,7 @@ def document(outcome: Outcome) -> Object:
     rules = [_rule(name, page) for name, page in _pages(outcome)]
     numbers = {rule["id"]: number for number, rule in enumerate(rules)}
     lines = _lines(outcome)
-    results = [*_refused(outcome, lines), *_entries(outcome, lines)]
+    results = [*_refused(outcome, lines), *_not_read(outcome, lines), *_entries(outcome, lines)]
     seen: Counter[str] = Counter()
     for result in results:
         result["ruleIndex"] = numbers[result["ruleId"]]
@@ -71,6 +76,7 @@ def document(outcome: Outcome) -> Object:
         "originalUriBaseIds": {"%SRCROOT%": {"description": {"text": "the folder in which the command ran"}}},
         "invocations": [_invocation(outcome)],
         "results": results,
+        "properties": {"account": account_json(outcome, clean)},
     }
     return {"$schema": SCHEMA, "version": "2.1.0", "runs": [run]}
 
@@ -93,6 +99,7 @@ def _invocation(outcome: Outcome) -> Object:
 
 def _pages(outcome: Outcome) -> Iterator[Tuple[str, Page]]:
     yield REFUSED, REFUSED_PAGE
+    yield NOT_JUDGED, NOT_JUDGED_PAGE
     for part in outcome.parts:
         yield from pages(part.family)
 
@@ -128,6 +135,15 @@ def _refused(outcome: Outcome, lines: Lines) -> Iterator[Object]:
         text = f"{message_refused(bad.message.text, bad.refusal)}\nprogram: {bad.refusal.text}"
         path = checked.messages.path if checked.messages else ""
         yield _result(REFUSED, "error", text, [_location(path, [bad.message.number])], bad.message.text)
+
+
+def _not_read(outcome: Outcome, lines: Lines) -> Iterator[Object]:
+    table = outcome.checked.table
+    for each in table.account.not_judged:
+        if not each.asked:
+            (text,) = not_judged_lines([each])
+            location = _location(table.path, each.rows, lines)
+            yield _result(NOT_JUDGED, "error", text, [location], f"{each.sheet} {each.column}")
 
 
 def _entries(outcome: Outcome, lines: Lines) -> Iterator[Object]:
