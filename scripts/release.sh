@@ -179,7 +179,8 @@ pack() {
     dist/pack/deb "$room/$name" "$1" "$4"
     dist/pack/spdx.py "$room/$name" >"$1/balisecheck-$version$4.spdx.json"
     sed "${4:+s/^@UNTESTED@//}; /^@UNTESTED@/d; ${key:+s/^@SIGNED@//; /^@UNSIGNED@/d}; /^@SIGNED@/d; s/^@UNSIGNED@//
-        s/@VERSION@/$version/g; s/@MARK@/$4/g; s/@BUILD@/${4:+-0untested}/g" dist/pack/release.md >"$1/README.md"
+        s/@VERSION@/$version/g; s/@MARK@/$4/g; s/@BUILD@/${4:+-0untested}/g
+        s/@PROGRAM@/$(said program "$room/$name/$dist")/" dist/pack/release.md >"$1/README.md"
 }
 
 # sums DIR: checksums of all files there, and their signature.

@@ -169,9 +169,9 @@ def test_junit_has_a_suite_for_each_family(run: Run, table: Write, tmp_path: Pat
     assert run("check", LINKS, "--junit", out)[0] == 1
     top = ElementTree.parse(out).getroot()
     proved, links, remarks = top
-    assert proved.get("name") == f"balisecheck {LINKS}" and links.get("name") == f"balisekit links {LINKS}"
+    assert proved.get("name") == f"balisecheck {LINKS.name}" and links.get("name") == f"balisekit links {LINKS.name}"
     assert (proved.get("failures"), links.get("failures"), top.get("failures")) == ("0", "1", "1")
-    assert remarks.get("name") == f"balisekit remarks {LINKS}" and remarks.get("failures") == "0"
+    assert remarks.get("name") == f"balisekit remarks {LINKS.name}" and remarks.get("failures") == "0"
     *times, total = [float(each.get("time") or "") for each in (*top, top)]
     assert 0 < times[0] < 60 and 0 < times[1] and abs(sum(times) - total) < 0.003
     failed = [case for case in links if case.find("failure") is not None]

@@ -80,7 +80,9 @@ def test_columns_and_statuses() -> None:
         why = "INCOMPLETE: a telegram or message was refused, telegrams of the table were not read, or a rule L or X "
         why += "compared none of what it had to"
         assert " ".join(text.split()).startswith(why)
-    assert all(number in rows for number in re.findall(r"with (?:status )?(\d+)", cli.STATUSES.split("\n  an interrupt")[1]))
+    assert all(
+        number in rows for number in re.findall(r"with (?:status )?(\d+)", cli.STATUSES.split("\n  an interrupt")[1])
+    )
 
 
 @pytest.mark.parametrize("words", [["--help"], *[[command, "--help"] for command in COMMANDS]])

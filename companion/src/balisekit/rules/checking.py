@@ -22,6 +22,7 @@ from balisekit.rules.statements.scene import Balise, BaliseName, Scene, Statemen
 from balisekit.tables.account import Account
 from balisekit.tables.grouping import by_position
 from balisekit.tables.model import Aspect, Group, Message, Messages, Row, Table
+from balisekit.tables.settings import Settings
 
 GREATEST_REFUSED = 10_000
 """After this many refused telegrams the others are not tried."""
@@ -195,6 +196,8 @@ class Checked:
     verdict: Optional[Verdict] = None
     """The program's first line, if it was asked."""
     findings: Tuple[Place, ...] = ()
+    settings: Settings = Settings()
+    """Which settings of the command differ from their defaults."""
 
     @property
     def not_looked_at(self) -> int:
