@@ -168,11 +168,11 @@ def test_a_page_on_standard_output(
     """It is the page of a file, and the verdict is on standard error."""
     monkeypatch.setenv("SOURCE_DATE_EPOCH", "1700000000")
     _, page = _report(LINE, tmp_path / "r.html")
-    *begin, _, verdict = capfd.readouterr().out.splitlines()
+    told = [line.replace(str(tmp_path / "r.html"), "standard output") for line in capfd.readouterr().out.splitlines()]
     assert cli.main(["report", str(LINE), "--html", "-"]) == 2
     out, err = capfd.readouterr()
     assert out == page
-    assert err.splitlines() == [*begin, "written: standard output", verdict] and verdict.startswith("INCOMPLETE: ")
+    assert err.splitlines() == told and "written: standard output" in told and told[-1].startswith("INCOMPLETE: ")
 
 
 def test_the_rows_of_a_block(tmp_path: Path) -> None:
