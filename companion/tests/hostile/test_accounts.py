@@ -187,4 +187,4 @@ def test_the_report_names_what_is_not_judged(run: Run, table: Write, tmp_path: P
         text = page.read_text("utf-8")
         assert "account: 3 telegrams in the file; 2 judged, 0 refused, 1 not judged" in text
         assert "handed in have been checked" not in text and "names the telegrams and messages" in text
-        assert f"check {path}{' '.join(['', *options])} --document" in text
+        assert f"check {path.name}{' '.join(['', *options])} --document" in text
