@@ -173,10 +173,11 @@ def package_of(venv):
 
 
 def test_wheel(made, venv):
-    """The wheel has the sources of balisekit as they are, with ABOUT and the library."""
+    """The wheel has the sources of balisekit as they are, with ABOUT, RELEASES and the library."""
     tree, package = made.with_name("tree"), package_of(venv)
-    added = {it for it in ("ABOUT", "libbalisecheck.so") if (tree / STORED / it).exists()}
-    assert "ABOUT" in added and all(sum_of(package / it) == sum_of(tree / STORED / it) for it in added)
+    files = {"RELEASES": tree / "dist/RELEASES", **{it: tree / STORED / it for it in ("ABOUT", "libbalisecheck.so")}}
+    added = {it for it, path in files.items() if path.exists()}
+    assert {"ABOUT", "RELEASES"} <= added and all(sum_of(package / it) == sum_of(files[it]) for it in added)
     differ = sh(tree, f"diff -r -x __pycache__ companion/src/balisekit '{package}' || true").splitlines()
     assert {*differ} == {f"Only in {package}: {it}" for it in added}
     assert (package / "py.typed").exists()
