@@ -15,6 +15,7 @@ status is 1 if an answer differs.
 import argparse
 import collections
 import concurrent.futures
+import contextlib
 import functools
 import json
 import pathlib
@@ -232,8 +233,9 @@ def main():
     said, met, differences = parser.parse_args(), collections.Counter(), []
     commands = [BY_NAME[said.command]] if said.command else COMMANDS
     batches = [(said, words, first) for words in commands for first in range(0, said.inputs, BATCH)]
-    with concurrent.futures.ProcessPoolExecutor(said.jobs) as pool:
-        for counted, found in pool.map(batch, *zip(*batches)):
+    # (a pool needs semaphores, which a user cannot have on a system without /dev/shm)
+    with concurrent.futures.ProcessPoolExecutor(said.jobs) if said.jobs > 1 else contextlib.nullcontext() as pool:
+        for counted, found in (pool.map if pool else map)(batch, *zip(*batches)):
             met.update(counted)
             differences += found
     for words, data, old, new in differences[:SHOWN]:

@@ -61,8 +61,10 @@ def group(place, aspects):
 
 def main():
     count, aspects = int(sys.argv[1]), int(sys.argv[2]) if len(sys.argv) > 2 else 1
-    document = {"groups": [group(place, aspects) for place in range(count)], "messages": []}
-    print(json.dumps(document, separators=(",", ":")))
+    print('{"groups":[', end="")
+    for place in range(count):
+        print("," * (place > 0) + json.dumps(group(place, aspects), separators=(",", ":")), end="")
+    print('],"messages":[]}')
 
 
 if __name__ == "__main__":

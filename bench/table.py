@@ -1,13 +1,15 @@
 #!/usr/bin/env python3
-"""Writes a large table for balisekit to standard output: bench/table.py ROWS [new]
+"""Writes a large table for balisekit to standard output: bench/table.py ROWS [new] [--refused N]
 
 Signals of two balises in three aspects, in long telegrams with linking, authority, gradients and speeds, 2,500 groups
-a track. With the second word each twentieth group is another one, for `diff`. The program that ./balisecheck would run,
+a track. With the second word each twentieth group is another one, for `diff`. With `--refused` the telegrams of N rows,
+spread over the table, lack their last byte, so that the program refuses them. The program that ./balisecheck would run,
 or that BALISECHECK names, makes the telegrams. Measure on an idle processor, memory with GNU time:
 
     bench/table.py 100000 >old.csv; hyperfine -i './balisekit check old.csv' './balisekit links old.csv'
     /usr/bin/time -f '%M kB' ./balisekit report old.csv --html report.html
 """
+import argparse
 import csv
 import sys
 from pathlib import Path
@@ -53,10 +55,22 @@ def rows(groups, is_new):
                 yield f"Signal {number}", f"{number}.{balise}", km, f"T{track}", "rising", aspect, balise, form
 
 
+def refused_places(count, most):
+    """The places of this many rows, spread over all of them."""
+    return {it * count // most for it in range(most)}
+
+
 def main():
-    made = list(rows(int(sys.argv[1]) // 6, sys.argv[2:] == ["new"]))
-    texts = Program.find().encode([row[-1] for row in made])
-    csv.writer(sys.stdout).writerows([HEADING, *((*row[:-1], text.line) for row, text in zip(made, texts))])
+    parser = argparse.ArgumentParser(description=__doc__.partition("\n")[0])
+    parser.add_argument("rows", type=int)
+    parser.add_argument("new", nargs="?", choices=["new"], help="each twentieth group is another one")
+    parser.add_argument("--refused", type=int, default=0, metavar="N", help="the program refuses so many rows")
+    words = parser.parse_args()
+    made = list(rows(words.rows // 6, words.new is not None))
+    wrong = refused_places(len(made), words.refused)
+    texts = [text.line for text in Program.find().encode([row[-1] for row in made])]
+    telegrams = [text[:-2] if place in wrong else text for place, text in enumerate(texts)]
+    csv.writer(sys.stdout).writerows([HEADING, *((*row[:-1], text) for row, text in zip(made, telegrams))])
 
 
 if __name__ == "__main__":

@@ -1,7 +1,12 @@
 """Starts balisekit from its sources. ./balisekit runs this file, and its comment states which interpreter is taken."""
 import os
+import signal
 import sys
 
+if signal.getsignal(signal.SIGINT) is signal.default_int_handler:
+    signal.signal(signal.SIGINT, signal.SIG_DFL)  # (no traceback: balisekit.start)
+# An isolated interpreter does not read the variables that keep compiled modules away from the sources.
+sys.dont_write_bytecode = bool(os.environ.get("PYTHONDONTWRITEBYTECODE") or os.environ.get("PYTHONPYCACHEPREFIX"))
 HERE = os.path.dirname(os.path.abspath(__file__))
 DEBIAN = "/usr/bin/python3"
 DEBIAN_PACKAGES = "/usr/lib/python3/dist-packages"
@@ -23,6 +28,10 @@ def serves(packages):
     """Whether this interpreter is new enough and finds the packages."""
     if sys.version_info < (3, 9):
         return False
+    sys.path[0] = os.path.join(HERE, "src")
+    from balisekit.start import add_user_packages
+
+    add_user_packages()
     if packages:
         from importlib.util import find_spec
 
@@ -39,21 +48,17 @@ def debian_serves(packages):
 
 
 def start():
-    """Runs the command, by Debian's interpreter if only that one serves."""
-    packages = packages_of(sys.argv[1:])
-    if not os.environ.get("BALISEKIT_PYTHON") and not serves(packages) and debian_serves(packages):
+    """Runs the command, by Debian's interpreter if only that one serves. It is isolated as the one of ./balisekit."""
+    packages, is_named = packages_of(sys.argv[1:]), os.environ.get("BALISEKIT_PYTHON")
+    if not serves(packages) and not is_named and debian_serves(packages):
         os.environ["BALISEKIT_PYTHON"] = DEBIAN
-        os.execv(DEBIAN, [DEBIAN] + sys.argv)
+        os.execv(DEBIAN, [DEBIAN, "-E", "-s"] + sys.argv)
     if sys.version_info < (3, 9):
         sys.stderr.write("balisekit: it needs Python 3.9 or later, and " + sys.executable + " is older\n")
         return 3
-    sys.path.insert(0, os.path.join(HERE, "src"))
-    try:
-        from balisekit.cli.main import main
-    except KeyboardInterrupt:
-        sys.stderr.write("balisekit: interrupted\n")
-        return 3
-    return main()
+    from balisekit.start import main_of_clone
+
+    return main_of_clone()
 
 
 sys.exit(start())

@@ -97,9 +97,13 @@ json_lines() {
 
 # number_lines FILE: passes on answers to this file, each after the number of its line there.
 number_lines() {
-    awk -v file="$1" '{
+    file=$1 awk 'BEGIN {
+        file = ENVIRON["file"]
+        path = file ~ /^\// ? file : "./" file
+    }
+    {
         do {
-            if ((getline text < file) <= 0) {
+            if ((getline text < path) <= 0) {
                 print file " has no line for answer " NR > "/dev/stderr"
                 exit 1
             }

@@ -1,13 +1,13 @@
 # shellcheck shell=bash
 # Functions for bash that share work among processors by GNU parallel, and find with jq which identities documents share
 # (in Debian the packages `parallel` and `jq`). docs/performance.md says when to use them. tests/test_recipes.py runs the
-# commands below. Read the functions into a bash in the folder of ./balisecheck:
+# commands below. Read the functions into a bash:
 #
 #     $ . examples/parallel.sh
 #
-# They run the program that BALISECHECK names, if that is exported, else ./balisecheck. In a clone this is faster for many
-# small documents, because ./balisecheck then hashes the sources only once:
-# export BALISECHECK=$(BALISECHECK_PATH=1 ./balisecheck)
+# They run the program that BALISECHECK names, if that is exported, else ./balisecheck of a clone, else the one on the path.
+# For many small documents, `export BALISECHECK=$(BALISECHECK_PATH=1 ./balisecheck)` is faster in a clone, because
+# the sources are then hashed only once.
 #
 # check_documents writes the report of each document, each line after the name of the document. In each document groups
 # and messages count from 0. It checks as many documents at once as there are processors, which all take memory:
@@ -37,7 +37,18 @@
 # program, for 200,000 telegrams, parallel took 0.6 s and `decode` 0.4 s; with `encode` 1.3 s and 1.5 s. Its start takes
 # 0.2 s. Answers wait for their turn in the folder that TMPDIR names.
 #
-# check_documents and run_in_blocks end with the greatest exit status of their parts, 0 to 3 as the program's.
+# check_tables has balisekit check many tables, as at night, each with its file of accepted findings: `line.csv` with
+# `line.accepted.csv`. What is written for a table goes into a file of FOLDER, which must be new or empty. Options such as
+# --timeout=600 go to balisekit; end them with `--`. It prints the summary: status, table and last line, then how many
+# tables had each status. `nice` in front of bash leaves the processors to others.
+#
+#     $ check_tables /tmp/night.$$ examples/links/line.csv examples/links/distance-differs.csv; echo "status $?"
+#     0	examples/links/line.csv	program: "yes: groups 4, messages 0"
+#     1	examples/links/distance-differs.csv	program: "yes: groups 4, messages 0"; links: 1 found (L2 1)
+#     tables 2: status 0: 1, status 1: 1, status 2: 0, status 3: 0
+#     status 1
+#
+# check_documents, run_in_blocks and check_tables end with the greatest exit status of their parts, 0 to 3 as the program's.
 # shared_identities ends with 0, with 1 if it has found something, and else with 2 or 3. Status 3 also means that a part
 # ended otherwise or did not run. parallel itself would end otherwise:
 #
@@ -47,6 +58,18 @@
 #   a document is not there                                         logs status 1, as of findings     3
 #   no document is named, or the file cannot be read                0                                 3
 #   the answers cannot be written, as on a full disk                0                                 3
+
+# check_tables runs this.
+check_tables_hook=$(cd "$(dirname "${BASH_SOURCE[0]}")" && pwd)/hooks/check-tables
+
+# the_program: the program that these functions run.
+the_program() {
+    if [ -z "${BALISECHECK:-}" ] && [ ! -x ./balisecheck ]; then
+        echo balisecheck
+    else
+        echo "${BALISECHECK:-./balisecheck}"
+    fi
+}
 
 # status_of_parts LOG COLUMN WHOLE PARALLEL CAT: ends with the greatest status in parallel's log. This column of the log
 # has to add up to the whole; column 0 counts its lines. The last two are the statuses of parallel and of the cat after it.
@@ -65,21 +88,25 @@ status_of_parts() {
 check_documents() (
     [ $# -gt 0 ] || { echo 'check_documents DOCUMENT..' >&2; exit 3; }
     log=$(mktemp) && trap 'rm -f "$log"' EXIT || exit 3
+    BALISECHECK=$(the_program)
+    export BALISECHECK
     # Without the test a document that is not there would end with 1, as one with findings does.
     # shellcheck disable=SC2016
-    parallel -k --tag --joblog "$log" '[ -r {} ] || exit 3; "${BALISECHECK:-./balisecheck}" check <{}' ::: "$@" | cat
-    status_of_parts "$log" 0 $# "${PIPESTATUS[@]}"
+    printf '%s\0' "$@" |
+        parallel -0 -k --tag --joblog "$log" '[ -r {} ] || exit 3; "$BALISECHECK" check <{}' | cat
+    status_of_parts "$log" 0 $# "${PIPESTATUS[@]:1}"
 )
 
 # run_in_blocks SIZE FILE COMMAND WORD..: what the command writes for each block of whole lines of the file, in the order
-# of the file. SIZE is about the size of a block in bytes, such as 10M.
+# of the file. SIZE is about the size of a block in bytes, such as 10M. A command without further words is a line of a shell.
 run_in_blocks() (
     [ $# -gt 2 ] || { echo 'run_in_blocks SIZE FILE COMMAND WORD..' >&2; exit 3; }
     size=$1 file=$2
     shift 2
+    [ $# -eq 1 ] || set -- "${*@Q}"
     bytes=$(wc -c <"$file") && log=$(mktemp) && trap 'rm -f "$log"' EXIT || exit 3
     # What a refused block leaves is read too. Else parallel cannot hand it over, and logs a signal instead of status 2.
-    parallel --pipe --block "$size" -k --joblog "$log" "$*; ended=\$?; cat >/dev/null; exit \$ended" <"$file" | cat
+    parallel --pipe --block "$size" -k --joblog "$log" "$1; ended=\$?; cat >/dev/null; exit \$ended" <"$file" | cat
     status_of_parts "$log" 5 "$bytes" "${PIPESTATUS[@]}"
 )
 
@@ -91,8 +118,8 @@ shared_identities() (
     set -o pipefail
     room=$(mktemp -d) && trap 'rm -rf "$room"' EXIT || exit 3
     jq -r 'input_filename as $name | .groups | to_entries[]
-        | "\(.value | (.aspects[0] // .).balises[0])\t\($name) group \(.key)"' "$@" >"$room/first" || exit 3
-    cut -f 1 "$room/first" | "${BALISECHECK:-./balisecheck}" decode | cut -d , -f 6,7 >"$room/numbers" ||
+        | "\(.value | (.aspects[0] // .).balises[0])\t\($name) group \(.key)"' "${@/#-/./-}" >"$room/first" || exit 3
+    cut -f 1 "$room/first" | "$(the_program)" decode | cut -d , -f 6,7 >"$room/numbers" ||
         exit $(($? == 2 ? 2 : 3))
     [ "$(wc -l <"$room/numbers")" -eq "$(wc -l <"$room/first")" ] || exit 3
     cut -f 2 "$room/first" | paste "$room/numbers" - | LC_ALL=C sort -s -t $'\t' -k 1,1 >"$room/sorted" || exit 3
@@ -102,3 +129,46 @@ shared_identities() (
         { print; shared = 1 }
         END { exit shared + 0 }' "$room/sorted" || exit $(($? == 1 ? 1 : 3))
 )
+
+# check_tables FOLDER [OPTION.. --] TABLE..: a file of the FOLDER for each table, and the summary.
+check_tables() (
+    options=() tables=() place=0
+    [ $# -gt 0 ] && folder=$1 && shift
+    for word; do
+        [ "$word" != -- ] || { options=("${@:1:place}") && shift $((place + 1)) && break; }
+        place=$((place + 1))
+    done
+    for word; do [[ $word == *.accepted.csv ]] || tables+=("$word"); done
+    [ ${#tables[@]} -gt 0 ] || { echo 'check_tables FOLDER [OPTION.. --] TABLE..' >&2; exit 3; }
+    if ! mkdir -p "$folder" || ! folder=$(cd "$folder" && pwd) || [ -n "$(ls -A "$folder")" ]; then
+        echo "check_tables: $folder is not empty, or cannot be written" >&2
+        exit 3
+    fi
+    options="${options[*]}"
+    export folder options check_tables_hook
+    # Without the test a file that cannot be written would end with 1, as a table with findings does.
+    # shellcheck disable=SC2016
+    printf '%s\0' "${tables[@]}" |
+        parallel -0 --joblog "$folder/jobs" 'file=$folder/{#}-{/.}.txt; true >"$file" || exit 3
+            "$check_tables_hook" $options -- {} >"$file" 2>&1 </dev/null'
+    [ $? -le 101 ] && summary_of_tables "$folder" "${tables[@]}"
+)
+
+# summary_of_tables FOLDER TABLE..: a line for each table, in this order, by the log of parallel in the folder. A table
+# without a last line, or without status 0 to 2, counts with 3.
+summary_of_tables() {
+    local folder=$1 number=0 table file last status counts=(0 0 0 0) greatest=0
+    shift
+    for table; do
+        number=$((number + 1)) file=${table##*/}
+        last=$(tail -n 1 "$folder/$number-${file%.*}.txt") || last=
+        status=$(awk -F '\t' -v number="$number" '$1 == number && $7 ~ /^[0-2]$/ && $8 == 0 { print $7 }' "$folder/jobs")
+        [ -n "$last" ] && [ -n "$status" ] || status=3
+        counts[status]=$((counts[status] + 1))
+        [ "$status" -le "$greatest" ] || greatest=$status
+        printf '%s\t%s\t%s\n' "$status" "$table" "${last:-no answer}" || return 3
+    done
+    echo "tables $number: status 0: ${counts[0]}, status 1: ${counts[1]}, status 2: ${counts[2]}, status 3: ${counts[3]}" ||
+        return 3
+    return "$greatest"
+}

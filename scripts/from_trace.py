@@ -11,7 +11,7 @@ from variables import schemas
 from variables.page import PAGE, shown, variables_page
 from variables.table import COLUMNS, TABLE, TOP, layouts_of, read_rows
 
-COUNTING = (PAGE, TOP / "README.md", TOP / "docs/assurance/safety.md")
+COUNTING = (PAGE, TOP / "docs/assurance/safety.md")
 COUNT = re.compile(r"\d+ of \d+ rows")
 RULE = re.compile(r"(?ms)^## (F\d+): (.*?)$.*?\(SUBSET-026, ([^)]*)\)")
 FINDINGS = RULE.findall((TOP / "docs/findings.md").read_text(encoding="utf-8"))

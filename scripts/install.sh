@@ -2,12 +2,14 @@
 # Installs both commands with their manual pages into PREFIX, by default /usr/local:   install.sh [PREFIX]
 #
 # PREFIX/bin/balisecheck is one file that needs only the C library. In a clone it is the program that ./balisecheck would
-# run. PREFIX/bin/balisekit needs python3; its files are in PREFIX/share/balisecheck.
+# run. PREFIX/bin/balisekit needs python3; its files are in PREFIX/share/balisecheck. PREFIX/lib/balisecheck has the library
+# for C that was stored with the program, and its header.
 set -eu
 
 top=$(dirname "$(readlink -f -- "$0")")
 prefix=${1:-/usr/local}
 kit=$prefix/share/balisecheck
+library=$prefix/lib/balisecheck
 manual=$prefix/share/man/man1
 # A release has this script, the program and both manual pages at its top. A clone has the script in scripts/.
 program=$top/balisecheck
@@ -20,7 +22,15 @@ if [ ! -e "$program" ]; then
     pages=$top/man
 fi
 
-for folder in "$prefix/bin" "$kit" "$manual"; do
+# (the start script of a clone has tried its program)
+if ! met=$("$program" decode </dev/null 2>&1); then
+    needs=$(sed -n 's/^glibc \(.*\)/it needs x86-64-v2 and glibc \1 or later, and /p' "$about")
+    here="$(uname -m) with $(getconf GNU_LIBC_VERSION 2>/dev/null || echo 'another C library')"
+    echo "install: not installed, because balisecheck does not start here: ${needs}this is $here: $(echo "$met" | head -n 1)" >&2
+    exit 3
+fi
+
+for folder in "$prefix/bin" "$kit" "$library" "$manual"; do
     lack=$(mkdir -p "$folder" 2>&1) && [ -w "$folder" ] && continue
     echo "install: not installed, because $folder cannot be written${lack:+ ($lack)}." >&2
     echo "install: to install only for yourself: $0 ~/.local" >&2
@@ -35,6 +45,14 @@ install -m 644 "$top/companion/start.py" "$top/companion/pyproject.toml" "$kit/c
 cp -r "$top/companion/src/balisekit" "$kit/companion/src"
 find "$kit" -name __pycache__ -prune -exec rm -r {} +
 install -m 644 "$about" "$kit/dist/x86_64-linux/ABOUT"
+install -m 644 "$top/dist/RELEASES" "$kit/dist/RELEASES"
+rm -rf "$library"
+if grep -q '^library ' "$about"; then
+    mkdir -p "$library"
+    install -m 644 "${about%/*}"/libbalisecheck.* "$top/crates/balisecheck_c/include/balisecheck.h" "$library"
+    # balisekit finds it beside ABOUT.
+    ln -sf ../../../../lib/balisecheck/libbalisecheck.so "$kit/dist/x86_64-linux/libbalisecheck.so"
+fi
 ln -sf ../../bin/balisecheck "$kit/balisecheck"
 ln -sf ../share/balisecheck/balisekit "$prefix/bin/balisekit"
 printf 'installed: %s\n' "$prefix/bin/balisecheck" "$prefix/bin/balisekit" >&2

@@ -9,11 +9,23 @@
 #     scripts/release.sh --try DIR    the same into an empty DIR, with the program that ./balisecheck would run, without
 #                                     logs: the names of its packages have "untested"
 #
+# With `--sign KEY` at the end both SHA256SUMS, that of the release and that in the tarball, get a signature by this
+# ed25519 key of ssh-keygen(1). Without it the release says that it is unsigned.
+#
+# The steps of a release, for version 0.6.0 as an example:
+#
+#     1. The program is stored and committed, and gate, edits and plants have passed (CONTRIBUTING.md).
+#     2. The public key is committed in dist/allowed_signers, unless it is there.
+#     3. scripts/release.sh --sign KEY
+#     4. git -c gpg.format=ssh -c user.signingKey=KEY tag -s -m 'Balisecheck 0.6.0' v0.6.0
+#     5. All of out/release is handed out, and the tag with the clone.
+#
 # `store` takes what the gate, or scripts/build and then scripts/library, have built from these sources in out/, and runs
 # tests/dist. A program that differs from the stored one needs a new version number. A release needs the output of
 # `.ci/run` in out/gate.log, of `tests/edits --all` in out/edits.log and of `tests/plants` in out/plants.log. Two runs on
-# one commit with the same tools give the same bytes. They need git, python3-hatchling, advancecomp, help2man and
-# dpkg-deb.
+# one commit with the same tools, and the same key, give the same bytes. Debian 12 and 13 give the same tarball, .deb and
+# SPDX, but their wheels name different versions of hatchling. They need git, python3-hatchling, help2man, dpkg-deb, and
+# ssh-keygen to sign.
 set -euo pipefail
 
 cd "$(dirname "${BASH_SOURCE[0]}")/.."
@@ -22,9 +34,12 @@ trap 'rm -rf "$room"' EXIT
 dist=dist/x86_64-linux
 header=crates/balisecheck_c/include/balisecheck.h
 version=$(cat VERSION)
+# The key of --sign.
+key=
 # What is handed out beside the program. The tarball has files of scripts/ and man/ at its top.
-handed=(man/balisecheck.1 balisekit scripts/install.sh README.md CHANGELOG.md ERRATA.md LICENSE-APACHE LICENSE-MIT
-    THIRD-PARTY.md companion dist/RELEASES docs schemas examples)
+handed=(man/balisecheck.1 balisekit scripts/install.sh scripts/verify-release README.md CHANGELOG.md ERRATA.md
+    LICENSE-APACHE LICENSE-MIT SECURITY.md THIRD-PARTY.md companion dist/RELEASES dist/allowed_signers docs schemas
+    examples)
 # Where the number of the program stands.
 numbered=(VERSION man/balisecheck.1 crates/balisecheck/src/help.rt companion/src/balisekit/__init__.py examples/ci/*.yml)
 
@@ -66,6 +81,18 @@ is_passed() {
 # The least C library that has all that a program calls.
 glibc_of() {
     grep -aoE 'GLIBC_[0-9]+\.[0-9]+(\.[0-9]+)?' "$1" | cut -d _ -f 2 | sort -uV | tail -n 1
+}
+
+# takes_key FILE: fails if it is no key, or of another kind: others do not give the same signature in each run.
+takes_key() {
+    key=$1
+    command -v ssh-keygen >/dev/null || fail 'to sign needs ssh-keygen'
+    ssh-keygen -l -f "$key" 2>&1 | grep -q ' (ED25519)$' || fail "$key is no ed25519 key: ssh-keygen -t ed25519 makes one"
+}
+
+# sign FOLDER: signs its checksums, if there is a key.
+sign() {
+    [ -z "$key" ] || ssh-keygen -q -Y sign -f "$key" -n balisecheck-release "$1/SHA256SUMS" || fail "$key does not sign"
 }
 
 # papers PROGRAM: its papers, as a program of these sources.
@@ -128,10 +155,11 @@ tree() {
         install -m 644 "$dist"/libbalisecheck.* "$1/$dist"
         install -D -m 644 -t "$1/${header%/*}" "$header"
     fi
-    dist/pack/readme "$1"
+    dist/pack/readme "$1" "$key"
     dist/pack/manual "$1"
     dist/pack/links "$1"
     (cd "$1" && find . -type f ! -name SHA256SUMS -printf '%P\0' | LC_ALL=C sort -z | xargs -0 sha256sum >SHA256SUMS)
+    sign "$1"
 }
 
 # pack TO PROGRAM PAPERS MARK: writes tarball, wheel, .deb and SPDX of the files as they stand here, with the mark in
@@ -145,18 +173,21 @@ pack() {
     [ -z "$(ls -A "$1")" ] || fail "$1 is not empty"
     tree "$room/$name" "$2" "$3"
     tar -c -C "$room" --sort=name --mtime="@$SOURCE_DATE_EPOCH" --owner=0 --group=0 --numeric-owner --mode=u=rwX,go=rX \
-        --format=ustar "$name" | gzip -9n >"$1/$name.tar.gz"
+        --format=gnu "$name" | gzip -9n >"$1/$name.tar.gz"
     (cd "$1" && sha256sum "$name.tar.gz" >"$name.tar.gz.sha256")
     dist/pack/wheel "$room/$name" "$1" "$4"
     dist/pack/deb "$room/$name" "$1" "$4"
     dist/pack/spdx.py "$room/$name" >"$1/balisecheck-$version$4.spdx.json"
-    sed "${4:+s/^@UNTESTED@//}; /^@UNTESTED@/d; s/@VERSION@/$version/g; s/@MARK@/$4/g; s/@BUILD@/${4:+-0untested}/g" dist/pack/release.md >"$1/README.md"
+    sed "${4:+s/^@UNTESTED@//}; /^@UNTESTED@/d; ${key:+s/^@SIGNED@//; /^@UNSIGNED@/d}; /^@SIGNED@/d; s/^@UNSIGNED@//
+        s/@VERSION@/$version/g; s/@MARK@/$4/g; s/@BUILD@/${4:+-0untested}/g
+        s/@PROGRAM@/$(said program "$room/$name/$dist")/" dist/pack/release.md >"$1/README.md"
 }
 
-# sums DIR: checksums of all files there.
+# sums DIR: checksums of all files there, and their signature.
 sums() {
     (cd "$1" && sha256sum -- * >"$room/sums" && mv "$room/sums" SHA256SUMS)
-    echo "written: $1" >&2
+    sign "$1"
+    [ -n "$key" ] || echo 'release: unsigned, since there is no --sign KEY' >&2
 }
 
 release() {
@@ -173,6 +204,11 @@ release() {
     pack out/release "$dist/balisecheck" "$dist/ABOUT" ''
     cp out/gate.log out/edits.log out/plants.log out/release
     sums out/release
+    if [ -n "$key" ] && ! scripts/verify-release out/release >&2; then
+        rm -r out/release
+        fail 'not written, since the signature was not verified'
+    fi
+    echo 'written: out/release' >&2
 }
 
 # try DIR: of the files as they are here, committed or not.
@@ -186,12 +222,21 @@ try() {
     fi
     pack "$1" "$program" "$room/ABOUT" -untested
     sums "$1"
+    echo "written: $1" >&2
 }
 
-case "$#:${1:-}" in
-1:raise) raise ;;
-1:store) store ;;
-2:--try) try "$2" ;;
-0:) release ;;
-*) fail 'usage: scripts/release.sh [raise | store | --try DIR]' ;;
+case "$#:${1:-}:${3:-}" in
+1:raise:) raise ;;
+1:store:) store ;;
+0::) release ;;
+2:--sign:)
+    takes_key "$2"
+    release
+    ;;
+2:--try:) try "$2" ;;
+4:--try:--sign)
+    takes_key "$4"
+    try "$2"
+    ;;
+*) fail 'usage: scripts/release.sh raise | store | [--try DIR] [--sign KEY]' ;;
 esac

@@ -2,10 +2,11 @@
 
 # A package is here if its command is, or its module of Python, or else what follows its name.
 packages='python3 gcc libc6-dev=/usr/include/stdio.h binutils=readelf g++ default-jdk-headless=javac
-    libjna-java=/usr/share/java/jna.jar git groff-base=groff jq parallel valgrind mkdocs help2man advancecomp=advzip
+    libjna-java=/usr/share/java/jna.jar git groff-base=groff jq parallel valgrind mkdocs help2man twine lintian
     python3-pytest python3-pytest-xdist=python:xdist python3-hypothesis python3-jsonschema python3-coverage
     python3-junitparser python3-jinja2 python3-html5lib python3-openpyxl python3-defusedxml python3-rich python3-pip
-    python3-hatchling python3-venv=python:ensurepip mypy=python:mypy flake8=python:flake8 black=python:black'
+    python3-hatchling openssh-client=ssh-keygen shellcheck python3-license-expression=python:license_expression
+    python3-venv=python:ensurepip mypy=python:mypy flake8=python:flake8 black=python:black'
 # Installed separately: it is large, and some distributions lack it.
 browser=chromium
 

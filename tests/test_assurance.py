@@ -91,14 +91,53 @@ def test_pins():
 
 
 def test_yes():
-    """README and the page on a yes quote the comment of the law, and the page has each field of the definition."""
+    """The page on a yes quotes the comment of the law, and has each field of the definition. README has its bullets."""
     law = re.search(r"(?m)^((?:///.*\n)+)pub fn no_finding_says_yes\(", source("etcs_document/src/laws.rt"))
     sentence = " ".join(law[1].replace("///", "").split()).partition("all is true that a yes says: ")[2]
-    for page in ((TOP / "README.md").read_text("utf-8"), YES):
-        assert re.findall(r"(?m)^> Where the answer is yes, (.*)$", page) == [sentence]
+    assert re.findall(r"(?m)^> Where the answer is yes, (.*)$", YES) == [sentence]
+    begin = YES.partition("\n## ")[0].partition("If the answer is yes")[2].strip()
+    assert begin and begin in (TOP / "README.md").read_text("utf-8")
     record = re.search(r"(?ms)^pub record SaysYes .*?(?=\n\n)", source("etcs_document/specs/Verdict.antt"))
     listed = re.findall(r"(?m)^- ((?:`\w+`(?:, )?)+): ", YES.partition("## The sentence")[2].partition("\n## ")[0])
     assert re.findall(r"`(\w+)`", " ".join(listed)) == re.findall(r"(?m)^  pub (\w+) :", record[0])
+
+
+def test_premises():
+    """The page on a yes names all that the page on proofs says has to be trusted."""
+    trusted = PROOFS.partition("## What has to be trusted")[2].partition("\n## ")[0]
+    heads = re.findall(r"(?m)^- \*\*(.+?)[.:,]?\*\*", trusted)
+    premises = YES.partition("## Premises")[2].partition("\n## ")[0].lower()
+    wanted = {"The definitions": "definitions", "The toolchain": "toolchain", "The contracts of libraries": "libraries",
+              "The C library, the operating system and the machine": "c library, system and machine",
+              "`main`": "`main`", "Whoever wrote the clone": "whoever made your clone"}
+    assert heads == [*wanted] and all(words in premises for words in wanted.values()), heads
+
+
+def test_axioms():
+    """The page on proofs lists as many C functions as it counts, for the kit and the version of the stored program."""
+    stated = (r"The program ([\d.]+) rests on the contracts of (\d+) C functions, which .*? \(kit (\w+), [\d-]+\)\. "
+              r"(.*?) The gate")
+    version, count, kit, names = re.search(stated, PROOFS).groups()
+    listed = re.findall(r"\b(?:rattle_\w+|chdir|getcwd|lseek|read|write)\b", names)
+    assert len({*listed}) == len(listed) == int(count) and f"`axioms={count}`" in PROOFS
+    about = (TOP / "dist/x86_64-linux/ABOUT").read_text("utf-8")
+    assert re.search(rf"(?m)^version .*\b{re.escape(version)}$", about) and re.search(rf"(?m)^kit .*\b{kit}\b", about)
+
+
+def test_errata():
+    """The list of wrong answers is that of this version."""
+    errata = (TOP / "ERRATA.md").read_text("utf-8")
+    (version,) = re.findall(r"any version up to ([\d.]+\d) \(20\d\d-\d\d-\d\d\)", errata)
+    assert version == (TOP / "VERSION").read_text("utf-8").strip()
+
+
+def test_statuses_without_a_text():
+    """The pages on the library for C name both statuses after which the buffer has no text."""
+    header = (TOP / "crates/balisecheck_c/include/balisecheck.h").read_text("utf-8")
+    library = (TOP / "docs/library.md").read_text("utf-8")
+    for name, number in re.findall(r"BALISECHECK_(MEMORY|CAPACITY) = (\d)", header):
+        assert f"status {number}" in library.lower() and re.search(rf"returns 3 .* and 4\b", PROOFS), name
+    assert "After a status of 3 or 4 the buffer is unchanged." in header
 
 
 def test_packages():
@@ -129,10 +168,10 @@ def test_failures_and_conditions():
 
 
 @pytest.mark.parametrize("text, script", [
-    ("1 by the loader", "sed s/GLIBC_2.34/GLIBC_9.34/g <$0 >other; chmod +x other; ./other check; [ $? = 1 ]"),
-    ("126 not executable", "cp $0 other; chmod -x other; ./other check; [ $? = 126 ]"),
-    ("127 not found or no address space", "./none check; [ $? = 127 ] && ulimit -v 2000; $0 check; [ $? = 127 ]"),
-    ("above 128", "(ulimit -s 8; $0 check; exit $?); [ $? -gt 128 ]")])
+    ("1 by the loader", 'sed s/GLIBC_2.34/GLIBC_9.34/g <"$0" >other; chmod +x other; ./other check; [ $? = 1 ]'),
+    ("126 not executable", 'cp "$0" other; chmod -x other; ./other check; [ $? = 126 ]'),
+    ("127 not found or no address space", './none check; [ $? = 127 ] && ulimit -v 2000; "$0" check; [ $? = 127 ]'),
+    ("above 128", '(ulimit -s 8; "$0" check; exit $?); [ $? -gt 128 ]')])
 def test_statuses(text, script, tmp_path):
     """What safety.md states about statuses that come from the system. They have no output."""
     ran = run(("-c", script, program()), path="bash", cwd=tmp_path)

@@ -56,6 +56,26 @@ def test_section(rule, title, shown, section):
     assert report.splitlines()[1] == shown
 
 
+def values(name):
+    """The variables of an example's telegrams and messages, with their numbers."""
+    document = json.loads((FOLDER / name).read_text())
+    rows = [row for it in document["groups"] for row in it.get("aspects", [it])]
+    texts = [text for row in rows for text in row["balises"]]
+    lines = run(["decode"], "\n".join(texts)).stdout
+    return set(re.findall(r'"(\w+)":(\d+)', lines))
+
+
+@pytest.mark.parametrize("rule, section", [(rule, section) for rule, *_, section in SECTIONS])
+def test_values_of_example(rule, section):
+    """The variables that the section names before and after the correction have these numbers in the two examples."""
+    (example,) = re.findall(r"(?m)^- \*\*Example\.\*\* Before (.*)$", section)
+    before, after = example.split(" After ")
+    for told, name in zip((before, after), LINK.findall(example)):
+        named = {(key.lower(), number) for key, number in re.findall(r"\b([A-Z]+_[A-Z_]+) (\d+)\b", told)}
+        assert named <= values(name), (rule, named - values(name))
+    assert re.search(r"[A-Z]_[A-Z]+ \d", before)
+
+
 def test_page():
     """The page has a section for each rule, and together they link all corrected documents."""
     assert [int(rule) for rule, *_ in SECTIONS] == [*range(1, 17)]

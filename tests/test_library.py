@@ -151,6 +151,29 @@ def test_small_buffers_and_threads(name):
     threading.stack_size(size)
 
 
+@pytest.mark.parametrize("kind", LINKED)
+def test_threads_that_share_inputs(kind, tmp_path):
+    """ThreadSanitizer reports nothing. It sees the caller, and what the library allocates, frees and copies by libc."""
+    need("cc", "gcc")
+    words = "-O1", "-g", "-fsanitize=thread", "-pthread", *STRICT, TOP / "tests" / "threads.c", *LINKED[kind]
+    built = run(("-o", tmp_path / "threads", *words), path="cc")
+    if "tsan" in built.stderr:
+        pytest.skip("threads of the library by ThreadSanitizer (gcc)")
+    files = [EXAMPLES / name for name in ("check/sound-line.json", "gradients.txt", "gradients.json", "spare-mark.txt")]
+    ran = run(("-R", tmp_path / "threads", *files), path="setarch")
+    assert built.status == 0 and ran == (0, "4 inputs, 8960 calls in 8 threads: 0 wrong\n", ""), (built, ran)
+
+
+@pytest.mark.skipif(not shutil.which("readelf"), reason="hardening of the library (binutils)")
+def test_hardening():
+    """No stack or segment is writable and executable, tables are read-only once the library is loaded, and no path is
+    searched for libraries."""
+    said = run(("-W", "-l", "-d", SHARED), path="readelf").stdout
+    flags = re.findall(r"(?m)^  (\w+) +(?:0x[0-9a-f]+ +){5}([RWE ]{3}) ", said)
+    assert {("GNU_STACK", "RW "), ("GNU_RELRO", "R  "), ("LOAD", "R E")} < {*flags} and ("LOAD", "RWE") not in flags
+    assert re.search(r"\(FLAGS\) +BIND_NOW", said) and not re.search("TEXTREL|RPATH|RUNPATH", said) and re.findall(r"\(NEEDED\).*\[(.*)\]", said) == ["libc.so.6"]
+
+
 def test_random_inputs():
     """The program answers random inputs as the documents name it, and as the library. Records come back."""
     words = program(), SHARED, "--inputs=100", "--jobs=1"

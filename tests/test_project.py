@@ -27,11 +27,11 @@ def test_crates():
 
 @pytest.mark.parametrize("words, wanted", [
     (["a sound.csv"], 0), (["found.csv", "a sound.csv"], 1), (["found.csv", "refused.csv", "a sound.csv"], 2),
-    (["--by-position", "a sound.csv"], 0), (["missing.csv"], 2), (["accepted.csv", "accepted.accepted.csv"], 0)])
+    (["--by-position", "--", "a sound.csv"], 0), (["--by-position", "a sound.csv"], 2), (["missing.csv"], 2), (["accepted.csv", "accepted.accepted.csv"], 0)])
 def test_hook(words, wanted, tmp_path):
     """The hook has these keys, and ends with the greatest status of its tables. An accepted finding is none."""
     hook = dict(re.findall(r"(?m)^(?:- |  )(\w+): (.+)$", (TOP / ".pre-commit-hooks.yaml").read_text("utf-8")))
-    assert " ".join(hook) == "id name description entry language files require_serial"
+    assert " ".join(hook) == "id name description entry args language files require_serial"
 
     def status(command, *words):
         return run(words, path=TOP / command, cwd=tmp_path).status

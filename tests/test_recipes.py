@@ -1,4 +1,4 @@
-"""Commands that pages show, run unchanged in a folder with the files that they name, and the functions of
+"""Commands that pages show, run unchanged at the top of a clone, as a reader runs them; and the functions of
 examples/find-field.sh and examples/parallel.sh with what they must refuse (tests/cases/recipes.txt)."""
 import math
 import os
@@ -8,11 +8,14 @@ import shutil
 import pytest
 
 from runner import TOP, blocks, in_bytes, marked, program, run
+from tiny import write
 
 PAGES = ("README.md", "examples/README.md", "examples/parallel.sh", "man/balisecheck.1", *(
-    f"docs/{name}.md" for name in ("refusals", "formats", "findings", "guide", "commands", "performance")))
+    f"docs/{name}.md" for name in ("refusals", "formats", "findings", "guide", "commands", "performance", "library")))
 # A tool, the words of commands that need it, and what is skipped without it.
-TOOLS = ("jq", "jq|shared_identities", "recipes by jq"), ("parallel", "check_doc|run_in_", "recipes by GNU parallel")
+TOOLS = (("jq", "jq|shared_identities", "recipes by jq"), ("cc", "cc ", "the library for C (gcc)"),
+         ("parallel", "check_doc|run_in_|check_tab", "recipes by GNU parallel"))
+SOURCED = re.compile(r"(?m)^\. examples/\S+\.sh$")
 RECIPES = {name: marked(lines) for name, *lines in blocks("recipes.txt")}
 FILES = {name: in_bytes(texts["<"]) for name, texts in RECIPES.items() if "$" not in texts}
 GOOD = FILES["good.txt"]
@@ -22,11 +25,15 @@ TO_MEND = [("utf16", GOOD.decode().encode("utf-16")), ("utf16 LE", GOOD.decode()
 
 
 def shown(page):
-    """The blocks of commands that a page or the head of a script shows: the commands, and what they write."""
+    """The blocks of commands that a page or the head of a script shows: the commands, and what they write. Before the
+    commands are those of earlier blocks that read functions."""
     text = (TOP / page).read_text(encoding="utf-8").replace(r"\(aq", "'")
     heads = (re.sub("(?m)^#     ", "", it) for it in re.findall(r"(?m)(?:^#     .*\n)+", text))
+    sourced = []
     for block in [*re.findall(r"(?ms)^(?:```console|\.nf)\n(\$ .*?)^(?:```|\.fi)$", text), *heads]:
-        yield "\n".join(re.findall(r"(?m)^\$ (.*)", block)), re.sub(r"(?m)^\$ .*\n", "", block)
+        commands = "\n".join(re.findall(r"(?m)^\$ (.*)", block))
+        yield "\n".join([*sourced, commands]), re.sub(r"(?m)^\$ .*\n", "", block)
+        sourced += SOURCED.findall(commands)  # (a reader has these functions from there on)
 
 
 BLOCKS = [(page, *block) for page in PAGES for block in shown(page)]
@@ -34,28 +41,42 @@ MENDING = dict(re.findall(r"(?m)^\| `(\w+)\.txt`.*\| `(.*mended\.txt)` \|$", (TO
 
 
 @pytest.fixture
-def shell(tmp_path):
-    """Runs commands in a bash that has the functions, in a folder of these files."""
+def reader(tmp_path):
+    """Runs commands in a bash, in a folder with what the top of a clone has."""
     (tmp_path / "balisecheck").symlink_to(program())
-    for name in ("examples", "balisekit", "companion", "docs"):
+    for name in ("examples", "balisekit", "companion", "docs", "crates", "dist"):
         (tmp_path / name).symlink_to(TOP / name)
-    for name, content in FILES.items():
-        (tmp_path / name).write_bytes(content)
-    known = {"BALISECHECK": program(), "T": GOOD[:54].decode(), "S": GOOD[-55:-1].decode(), "E": " \t\r"}
 
-    def ran(commands):
+    def ran(commands, **known):
         for tool, words, skipped in TOOLS:
             if re.search(words, commands) and not shutil.which(tool):
                 pytest.skip(f"{skipped} ({tool})")
-        script = f"PATH=$PATH:.\n. examples/find-field.sh\n. examples/parallel.sh\n{commands}"
-        return run(("-c", script), path="bash", cwd=tmp_path, env={**os.environ, **known})
+        env = {**os.environ, "BALISECHECK": program(), **known}
+        return run(("-c", f"PATH=.:$PATH\n{commands}"), path="bash", cwd=tmp_path, env=env)
     return ran
 
 
+@pytest.fixture
+def shell(reader, tmp_path):
+    """Runs commands in a bash that has the functions, in a folder of these files too."""
+    for name, content in FILES.items():
+        (tmp_path / name).write_bytes(content)
+    known = {"T": GOOD[:54].decode(), "S": GOOD[-55:-1].decode(), "E": " \t\r"}
+    return lambda commands: reader(f". examples/find-field.sh\n. examples/parallel.sh\n{commands}", **known)
+
+
+def test_program(shell, tmp_path, monkeypatch):
+    """Commands run the program under test and the balisekit of these sources, also where others are installed."""
+    for name in ("balisecheck", "balisekit"):
+        write(tmp_path / "bin" / name, "#!/bin/sh\n")
+    monkeypatch.setenv("PATH", f"{tmp_path}/bin", prepend=":")
+    assert shell("command -v balisecheck balisekit").stdout == "./balisecheck\n./balisekit\n"
+
+
 @pytest.mark.parametrize("commands, wanted", [pytest.param(*it, id=page) for page, *it in BLOCKS])
-def test_block(commands, wanted, shell):
-    """The commands of a block write what it shows."""
-    ran = shell(commands)
+def test_block(commands, wanted, reader):
+    """The commands of a block write what it shows, with no file or function that a reader of the page lacks."""
+    ran = reader(commands)
     assert ran.stdout == wanted, ran.stderr
 
 

@@ -1,34 +1,44 @@
 """A release of `scripts/release.sh --try`: each of its files is installed and used in a folder of its own."""
-import ast
 import importlib.util
 import json
 import os
+import platform
 import re
-import runpy
 import shutil
-import typing
 from hashlib import sha256
 from pathlib import Path
 
 import pytest
 
-from runner import TOP, crate_uses, program
-from test_recipes import shown
+from runner import TOP, program
+from test_recipes import FILES, shown
 from tiny import attempt, sh, write
 
 # A release is made once, for all tests: their mark keeps them in one process of xdist.
 pytestmark = [pytest.mark.slow, pytest.mark.xdist_group("release")]
 VERSION, STORED = (TOP / "VERSION").read_text("utf-8").strip(), "dist/x86_64-linux"
 # The commands and modules that are needed, and their packages.
-NEEDS = {"git": "git", "advzip": "advancecomp", "help2man": "help2man", "dpkg-deb": "dpkg", "nm": "binutils",
+NEEDS = {"git": "git", "help2man": "help2man", "dpkg-deb": "dpkg",
          "hatchling": "python3-hatchling", "pip": "python3-pip", "jinja2": "python3-jinja2"}
-# They stand in for the 20 s in which advzip makes a wheel of at most 700,000 bytes: 0.3 s for 1,300 bytes more; and for
-# the 1 s of gzip. A clone's manual page of balisekit has no help of single commands.
-MOST, TOOLS = 700_000, {"advzip": 'for it; do :; done\nexec /usr/bin/advzip -q -z -2 "$it"\n',
-                        "gzip": 'exec /usr/bin/gzip "$@" -1\n', "help": '[ $# != 2 ] || exec /usr/bin/python3 "$@"\n'}
+# A clone's manual page of balisekit has no help of single commands here, which would take long.
+TOOLS = {"help": 'case $* in *.py" --"*) exec /usr/bin/python3 "$@" ;; esac\n'}
 INSTALL = "-m pip install -q --no-index --no-deps --no-compile --disable-pip-version-check *.whl"
-NOT_RUN = "annotation", "returns", "simple", "type_comment"  # (fields of nodes)
-INTERFACE = runpy.run_path(str(TOP / "dist/pack/unread"))["INTERFACE"]
+# It counts how many processes a check starts.
+COUNT = """import contextlib, io, sys
+from balisekit.cli.main import main
+started = []
+sys.addaudithook(lambda event, _: started.append(event) if event in ("os.posix_spawn", "subprocess.Popen") else None)
+with contextlib.redirect_stdout(io.StringIO()) as said, contextlib.suppress(SystemExit):
+    main(sys.argv[1:])
+print(len(started), said.getvalue(), sep="\\n", end="")
+"""
+# A user's script, the last line of which is wrong.
+SCRIPT = """import balisekit
+checked = balisekit.check(balisekit.Program.find(), balisekit.read_table("line.csv"))
+for found in checked.findings:
+    print(found)
+links: int = balisekit.links(checked)
+"""
 
 
 def text_of(path):
@@ -70,41 +80,6 @@ def has_live_pages(folder, is_installed=True):
         assert [link for link in links if "://" not in link and not (page.parent / link).exists()] == [], page
         for line in re.findall(r"(?m)^(?:.*[^.\n])?\./balise.*$", text_of(page)) if is_installed else ():
             assert line[0] != "$" and re.search("clone|repository", line), (page, line)
-
-
-def code_of(text):
-    """What is run of a module, with lines, without texts and types; imports and names of types; the names it uses."""
-    code, bound, left = [], set(), [ast.parse(text)]
-    used = {it.id for it in ast.walk(left[0]) if isinstance(it, ast.Name)}
-    for node in left:  # (which grows)
-        if isinstance(node, ast.ImportFrom):
-            bound.update((it.asname or it.name, node.lineno) for it in node.names)
-        elif isinstance(node, ast.Assign) and getattr(getattr(node.value, "value", 0), "id", 0) in typing.__all__:
-            bound.add((node.targets[0].id, node.lineno))
-        elif not isinstance(node, ast.AST):
-            code += node.__class__, node
-        elif not (isinstance(node, ast.Expr) and isinstance(node.value, ast.Constant)):
-            is_typed = isinstance(node, ast.AnnAssign) and node.value
-            code += ast.Assign if is_typed else node.__class__, isinstance(node, ast.stmt) and node.lineno
-            for field in (it for it in node._fields if it not in NOT_RUN):
-                it = getattr(node, field, None)
-                left += field.rstrip("s"), *(it if isinstance(it, list) else [it])
-    return code, bound, used
-
-
-def differences(origin, package):
-    """The modules of a package that differ: in code, lines, names that are used, or a rule's page."""
-    pages = runpy.run_path(str(package / "rules/pages.py"))
-    for path in origin.rglob("*.py"):
-        name, text = path.relative_to(origin).as_posix(), text_of(path)
-        # (a wheel has no module that has only a text, and no library for C)
-        found = text_of(package / name) if (package / name).exists() else ""
-        (code, bound, _), (other, kept, used) = code_of(text), code_of(found)
-        is_same = text == found or f"balisekit/{name}" not in INTERFACE and code == other
-        page = ast.get_docstring(ast.parse(text)) if "__doc__" in text else ""
-        if not (is_same and {it for it in bound if it[0] in used} <= kept or name == "engine/library.py") \
-                or page.split() != pages.get(path.stem, "").split():
-            yield name
 
 
 @pytest.fixture(scope="module", name="made")
@@ -167,25 +142,109 @@ def test_tarball(made):
     assert sh(tree, uninstall.replace("PREFIX", f"'{prefix}'")) == sh(prefix, "find . ! -type d") == ""
 
 
-def test_wheel(made):
-    """The wheel is installed in a venv without network. It has the code of the tarball, and all names that it uses."""
+def test_older_system(made):
+    """Where the C library is too old nothing is installed, and both commands report what the program needs."""
+    tree, prefix = made.with_name("an old tree"), made.with_name("no prefix")
+    sh(made, f"cp -r ../tree '{tree}'")
+    program, about = tree / "balisecheck", tree / STORED / "ABOUT"
+    before = sum_of(program)
+    program.write_bytes(program.read_bytes().replace(b"GLIBC_2.34", b"GLIBC_9.34"))
+    about.write_text(text_of(about).replace(before, sum_of(program)).replace("\nglibc 2.34\n", "\nglibc 9.34\n"), "utf-8")
+    needs = f"does not start here: it needs x86-64-v2 and glibc 9.34 or later, and this is {platform.machine()} with " \
+        f"{' '.join(platform.libc_ver())}: "
+    for command, first in ((f"./install.sh '{prefix}'", "install: not installed, because balisecheck "),
+                           ("./balisekit check examples/table/line.csv", f"balisekit: {program} ")):
+        status, said = attempt(tree, command)
+        assert status == 3 and said.startswith(first + needs) and "`GLIBC_9.34' not found" in said
+        assert said.count("\n") == 1 and not prefix.exists()
+
+
+@pytest.fixture(scope="module", name="venv")
+def a_venv(made):
+    """A venv with the wheel, which was installed without network."""
     venv = made.with_name("a venv")
-    assert next(made.glob("*.whl")).stat().st_size <= MOST
     sh(made, f"python3 -m venv --without-pip --system-site-packages '{venv}' && '{venv}/bin/python' {INSTALL}")
-    package = next(venv.glob("lib/python3*/site-packages/balisekit"))
-    assert [*differences(made.with_name("tree") / "companion/src/balisekit", package)] == []
-    modules = [".".join(path.relative_to(package.parent).with_suffix("").parts) for path in package.rglob("*.py")]
-    sh(package, f"'{venv}/bin/python' -c 'import {', '.join(name for name in modules if '__' not in name)}'")
+    return venv
+
+
+def package_of(venv):
+    """The folder of balisekit in a venv."""
+    return next(venv.glob("lib/python3*/site-packages/balisekit"))
+
+
+def test_wheel(made, venv):
+    """The wheel has the sources of balisekit as they are, with ABOUT, RELEASES and the library."""
+    tree, package = made.with_name("tree"), package_of(venv)
+    files = {"RELEASES": tree / "dist/RELEASES", **{it: tree / STORED / it for it in ("ABOUT", "libbalisecheck.so")}}
+    added = {it for it, path in files.items() if path.exists()}
+    assert {"ABOUT", "RELEASES"} <= added and all(sum_of(package / it) == sum_of(files[it]) for it in added)
+    differ = sh(tree, f"diff -r -x __pycache__ companion/src/balisekit '{package}' || true").splitlines()
+    assert {*differ} == {f"Only in {package}: {it}" for it in added}
+    assert (package / "py.typed").exists()
     assert all([*venv.rglob(name)] for name in ("LICENSE-MIT", "THIRD-PARTY.md"))
     has_live_pages(venv)
     serves(made, venv)
 
 
-def test_deb(made):
-    """The .deb is unpacked and used. The recipe of the container fits what it has and recommends."""
-    root = made.with_name("a root")
+def test_refused_rows(made, venv):
+    """After refused rows the wheel starts no more processes than a clone, because it has the library too."""
+    user = made.with_name("a user of refused rows")
+    user.mkdir()
+    (user / "count.py").write_text(COUNT)
+    sh(TOP, f"BALISECHECK='{program()}' python3 bench/table.py 1200 --refused 200 >'{user}/refused.csv'")
+    check = "python3 count.py check refused.csv"
+    count, said = sh(user, f"PATH='{venv}/bin':$PATH {check}").split("\n", 1)
+    of_clone = sh(user, f"BALISECHECK='{program()}' PYTHONPATH='{TOP}/companion/src' {check}").split("\n", 1)
+    assert said.endswith("INCOMPLETE: 200 of 1200 telegrams refused, 200 of 200 groups left out\n")
+    assert [count, said] == of_clone and (int(count) < 20 or not (package_of(venv) / "libbalisecheck.so").exists())
+
+
+def test_without_jinja2(made, venv):
+    """A venv without other packages checks. What needs jinja2 names it."""
+    user, settings = made.with_name("a user without jinja2"), venv / "pyvenv.cfg"
+    user.mkdir()
+    shown_before = text_of(settings)
+    settings.write_text(shown_before.replace("include-system-site-packages = true", "include-system-site-packages = false"))
+    try:
+        shows(made / "README.md", user, venv / "bin")
+        status, said = attempt(user, f"'{venv}/bin/balisekit' report line.csv --html report.html")
+    finally:
+        settings.write_text(shown_before)
+    assert status == 3 and "jinja2" in said
+
+
+def test_types(made, venv):
+    """mypy reads the types of the installed wheel: it finds the wrong line of a user's script, and only that."""
+    if not importlib.util.find_spec("mypy"):
+        pytest.skip("types of the wheel (mypy)")
+    user = made.with_name("a user with types")
+    user.mkdir()
+    (user / "script.py").write_text(SCRIPT)
+    status, said = attempt(user, f"python3 -m mypy --strict --python-executable '{venv}/bin/python' script.py")
+    assert (status, said.count("error:")) == (1, 1), said
+    assert re.match(r"script\.py:5: error: Incompatible types in assignment \(.*variable has type .int.\)", said)
+
+
+@pytest.mark.parametrize("judge, package", [("twine check --strict", "*.whl"), ("lintian --fail-on warning", "*.deb")])
+def test_judged(judge, package, made):
+    """Nothing is wrong with the packages by the tools that judge them."""
+    tool = judge.split()[0]
+    if not shutil.which(tool):
+        pytest.skip(f"a judgement of packages ({tool})")
+    said = re.sub(r"\x1b\[\d+m", "", sh(made, f"{judge} {package}"))
+    assert re.fullmatch(r"(Checking \S+: PASSED\n|running with root privileges .*\n)?", said)
+
+
+@pytest.fixture(scope="module", name="root")
+def a_root(made):
+    """A folder in which the .deb is unpacked."""
+    sh(made, f"dpkg-deb -R *.deb '{made.with_name('a root')}'")
+    return made.with_name("a root")
+
+
+def test_deb(made, root):
+    """The .deb is used. The recipe of the container fits what it has and recommends."""
     docs, recipe = root / "usr/share/doc/balisecheck", text_of(TOP / "examples/container/Containerfile")
-    sh(made, f"dpkg-deb -R *.deb '{root}'")
     assert sh(root, "md5sum --quiet -c DEBIAN/md5sums && sh -n DEBIAN/postinst && sh -n DEBIAN/prerm") == ""
     assert all((docs / name).stat().st_size for name in ("copyright", "THIRD-PARTY.md"))
     shows(docs / "README.md", docs, root / "usr/bin")
@@ -196,14 +255,55 @@ def test_deb(made):
     assert {*re.findall(r"[\w-]+", sh(made, "dpkg-deb -f *.deb Recommends"))} <= {*re.findall(r"[\w-]+", recipe)}
 
 
-def test_libraries(made):
-    """The SPDX document, THIRD-PARTY.md, the program and crates.txt name the same libraries."""
-    document = json.loads(text_of(next(made.glob("*.json"))))
-    names = {one["SPDXID"] for one in document["packages"]}
-    assert document["spdxVersion"] == "SPDX-2.3" and len(names) >= 10
-    assert names == {one["relatedSpdxElement"] for one in document["relationships"]}
-    assert f"{document['packages'][0]['checksums'][0]['checksumValue']} " in sh(TOP, f"sha256sum '{program()}'")
-    crates, listed = crate_uses(), re.findall(r"(?m)^\| (\w+) \|.*\| (.*) \|$", text_of(TOP / "THIRD-PARTY.md"))
-    assert {name for names in crates.values() for name in names} - {*crates} <= {name for name, _ in listed}
-    called = re.findall(r"(?m)^[0-9a-f]* [tTwW] ([a-z]\w*)::", sh(TOP, f"nm '{program()}'"))
-    assert {*called} - {*crates} == {name for name, use in listed if use == "in the program"}
+@pytest.mark.parametrize("tool", ["jq", "parallel"])
+def test_recipes_of_the_deb(tool, root, tmp_path):
+    """Commands that its documents show need no clone, only a copy of the examples."""
+    if not shutil.which(tool):
+        pytest.skip(f"recipes of the .deb by {tool}")
+    docs, installed = root / "usr/share/doc/balisecheck", f"set +e\nexport PATH='{root}/usr/bin':$PATH\nunset BALISECHECK\n"
+    sources = ". examples/find-field.sh\n. examples/parallel.sh\n"
+    sh(tmp_path, f"cp -r '{docs}/examples' .")
+    for name, content in FILES.items():
+        (tmp_path / name).write_bytes(content)
+    tried = 0
+    for page in [*docs.rglob("*.md"), *docs.rglob("*.sh")]:
+        for commands, wanted in shown(page):
+            # (the page of the library has other commands for the .deb)
+            if commands and "crates/" not in commands and (tool == "parallel") == bool(re.search(r"check_\w+ |shared_|run_in_", commands)):
+                assert attempt(tmp_path, f"{installed}{sources}{{ {commands}\n}} 2>/dev/null")[1] == wanted, page
+                tried += 1
+    assert tried > (20 if tool == "jq" else 1)
+
+
+def test_library_of_the_deb(root, tmp_path):
+    """A program in C is compiled with the library of the .deb, as the page says."""
+    if not shutil.which("cc") or not (root / "usr/lib/balisecheck").exists():
+        pytest.skip("the library of the .deb (gcc)")
+    docs, there = root / "usr/share/doc/balisecheck", tmp_path / "root"
+    there.symlink_to(root)
+    recipe = re.search(r"(?ms)^```sh\n(cp -r .*?)^```$", text_of(docs / "docs/library.md"))[1]
+    assert sh(tmp_path, recipe.replace("/usr/", f"{there}/usr/")) == text_of(docs / "examples/duplicated-pair.json")
+
+
+def test_python_of_the_deb(root, tmp_path):
+    """The example of the Python module runs with the path that its page names, and after the hook of the examples."""
+    docs = root / "usr/share/doc/balisecheck"
+    page = text_of(docs / "docs/commands.md")
+    path, code = re.search(r"after the \.deb `PYTHONPATH=(.*?)`", page)[1], re.search(r"(?ms)^```python\n(.*?)^```", page)[1]
+    sh(tmp_path, f"cp -r '{docs}/examples' .")
+    (tmp_path / "script.py").write_text(code)
+    said = sh(tmp_path, f"PATH='{root}/usr/bin':$PATH PYTHONPATH='{root}{path}' python3 script.py")
+    assert said.split("\n")[:-1] == [it.strip() for it in re.findall(r"(?m)print\(.*\) *# (.*)$", code)]
+    hook = f"PATH='{root}/usr/bin':$PATH examples/hooks/check-tables examples/links/line.csv"
+    assert attempt(tmp_path, hook) == (0, sh(tmp_path, f"'{root}/usr/bin/balisekit' check ./examples/links/line.csv"))
+
+
+def test_components(made):
+    """The SPDX document has the checksums of the program of the release, and of its library for C, if it has one."""
+    packages = {it["name"]: it for it in json.loads(text_of(next(made.glob("*.json"))))["packages"]}
+    assert packages["balisekit"]["versionInfo"] == VERSION
+    files = {"balisecheck": "balisecheck", **{it: f"{STORED}/{it}" for it in ("libbalisecheck.a", "libbalisecheck.so")}}
+    for name, path in files.items():
+        file = made.with_name("tree") / path
+        assert file.exists() == (name in packages)
+        assert not file.exists() or packages[name]["checksums"][0]["checksumValue"] == sum_of(file)

@@ -42,12 +42,15 @@ def table(rules: Sequence[Rule]) -> str:
 def cells(rule: Rule) -> List[str]:
     """What a row has of the page of its rule."""
     said = [_first(rule.parts[head]) for head in ("What it says", "Usual cause")]
-    sure = (
-        [_first(rule.parts[SURE]).split(" %")[0] + (" %" if rule.is_default else " %, off")]
-        if SURE in rule.parts
-        else []
-    )
+    sure = [f"{rule.parts[SURE].split(' %')[0]} %{_off(rule)}"] if SURE in rule.parts else []
     return [f"{rule.name}: {rule.title}", *said, *sure]
+
+
+def _off(rule: Rule) -> str:
+    """What of a rule is off until it is asked for."""
+    if not rule.is_default:
+        return "; off"
+    return f"; off: {rule.optional_part}" if rule.optional_part else ""
 
 
 def _first(text: str) -> str:

@@ -22,6 +22,14 @@ FAULTY = "a1007f802000c15022a0d4800151402b80d9000105083e87ffffc0"
 MESSAGE = "03048000001900080021e810901ff801f400"
 
 
+def account(count: int, last: int = 0, columns: str = "") -> str:
+    """The account of a table whose rows 2 to `last` are read, with all of its telegrams judged."""
+    end = last or count + 1
+    rows = f"rows 2 to {end}" if end > 2 else "row 2"
+    said = f"account: {count} telegram{'s' * (count > 1)} in the file; {count} judged, 0 refused, 0 not judged; {rows}"
+    return said + (f"; columns not read: {columns}" if columns else "")
+
+
 def digest(*findings: Sequence[str]) -> str:
     """The checksum of an entry: for each of its findings, the telegrams that it is about."""
     blocks = sorted("".join(f"{text.lower()}\n" for text in texts) for texts in findings)

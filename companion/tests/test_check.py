@@ -14,8 +14,8 @@ from typing import Callable, Iterator, List, Union
 
 import line_table
 import pytest
-from conftest import Run
-from telegrams import ALONE, FAULTY, FIRST, MESSAGE, OTHER, SECOND, SPARE
+from conftest import Run, without_program
+from telegrams import ALONE, FAULTY, FIRST, MESSAGE, OTHER, SECOND, SPARE, account
 
 from balisekit.cli import check
 from balisekit.engine.grammar import Refusal
@@ -36,7 +36,11 @@ STARTED = [str(TOP / "balisekit")]
 
 def test_yes(run: Run, table: Write) -> None:
     path = table(*SOUND)
-    assert run("check", "--only", "F", path) == (0, [f"{path}: 3 telegrams of 2 groups", ASPECTS.format(2), YES], [])
+    assert run("check", "--only", "F", path) == (
+        0,
+        [f"{path}: 3 telegrams of 2 groups", ASPECTS.format(2), account(3), YES],
+        [],
+    )
 
 
 def test_findings(run: Run, table: Write) -> None:
@@ -47,6 +51,7 @@ def test_findings(run: Run, table: Write) -> None:
         "    program: F14 group 2: identity used before",
         "1 finding: F14 1; 2 of 3 groups without finding",
         ASPECTS.format(3),
+        account(4),
         'program: "no: findings 1"',
     ]
 
@@ -59,6 +64,7 @@ def test_refused(run: Run, table: Write) -> None:
         "    program: spare at 127 end 129",
         "left out: row 2  A  km 13.850: refused: row 2",
         ASPECTS.format(2),
+        "account: 2 telegrams in the file; 1 judged, 1 refused, 0 not judged; rows 2 to 3",
         "INCOMPLETE: 1 of 2 telegrams refused, 1 of 2 groups left out",
     ]
 
@@ -106,6 +112,7 @@ def test_by_position(run: Run, table: Write) -> None:
         [
             "note: --by-position orders balises by N_PIG, which hides a wrong N_PIG",
             "aspects found: 1 in 1 group",
+            account(2),
             'program: "yes: groups 1, messages 0"',
         ],
     )
@@ -115,7 +122,7 @@ def test_at_most_three_groups_with_one_number_of_aspects_are_named(run: Run, tab
     for count, names in ((3, " (A, B, C)"), (4, "")):
         rows = [f"{name},x,{ALONE}" for name in "ABCD"[:count]]
         path = table("group,aspect,telegram", *rows, f"E,x,{ALONE}", f"E,y,{ALONE}")
-        assert run("check", "--only", "F", path)[1][-2] == f"aspects found: 2 in 1 group (E), 1 in {count}{names}"
+        assert run("check", "--only", "F", path)[1][-3] == f"aspects found: 2 in 1 group (E), 1 in {count}{names}"
 
 
 def test_aspects_are_counted(run: Run, table: Write, tmp_path: Path) -> None:
@@ -131,7 +138,7 @@ def test_aspects_are_counted(run: Run, table: Write, tmp_path: Path) -> None:
         f"D,z,{SPARE}",
     )
     _, out, _ = run("check", "--only", "F", path, "--json", tmp_path / "out.json")
-    assert out[-2] == "aspects found: 3 in 1 group (D), 2 in 2 (A, C), 1 in 1 (B)"
+    assert out[-3] == "aspects found: 3 in 1 group (D), 2 in 2 (A, C), 1 in 1 (B)"
     assert json.loads((tmp_path / "out.json").read_text())["counts"]["aspects"] == [
         {"aspects": 3, "groups": 1},
         {"aspects": 2, "groups": 2},
@@ -167,7 +174,7 @@ def lines_of(kinds: str) -> List[str]:
 def test_fewer_aspects_than_others(run: Run, table: Write, tmp_path: Path, kinds: str, said: List[str]) -> None:
     """A remark before the count, and no more: verdict and status are as without it."""
     _, out, _ = run("check", "--only", "F", table(*lines_of(kinds)), "--json", tmp_path / "out.json")
-    assert [line for line in out if line.startswith("look: ")] == said == out[-2 - len(said) : -2]
+    assert [line for line in out if line.startswith("look: ")] == said == out[-3 - len(said) : -3]
     assert json.loads((tmp_path / "out.json").read_text())["counts"]["look"] == said
     assert out[-1].startswith("program: ")
 
@@ -177,10 +184,11 @@ def test_a_remark_on_aspects_changes_no_yes(run: Run, table: Write) -> None:
         "check",
         table("group,aspect,telegram", *[f"A,{one},{ALONE}" for one in "xyz"], *[f"B,{one},{OTHER}" for one in "xy"]),
     )
-    assert status == 0 and out[-4:] == [
+    assert status == 0 and out[-5:] == [
         'look: B has 2 aspects, 1 other group has 3: it lacks "z"',
         "aspects found: 3 in 1 group (A), 2 in 1 (B)",
         "no kilometres: rules over the line are not applied",
+        account(5),
         'program: "yes: groups 2, messages 0"',
     ]
 
@@ -201,7 +209,8 @@ def test_balises_far_apart(run: Run, table: Write, tmp_path: Path, rows: List[st
     path = table(HEADING, *lines)
     status, out, _ = run("check", "--only", "F", path, "--json", tmp_path / "out.json")
     looks = [f"look: A: {one}" for one in said]
-    assert status == 0 and out[1:] == [*looks, "aspects found: 2 in 1 group", 'program: "yes: groups 1, messages 0"']
+    yes = [account(4), 'program: "yes: groups 1, messages 0"']
+    assert status == 0 and out[1:] == [*looks, "aspects found: 2 in 1 group", *yes]
     assert json.loads((tmp_path / "out.json").read_text())["counts"]["look"] == looks
     if find_spec("jinja2"):
         assert run("report", "--only", "F", path, "--html", tmp_path / "out.html")[0] == 0
@@ -351,11 +360,11 @@ def test_document(run: Run, table: Write, tmp_path: Path, program: Program) -> N
 
 
 def test_a_document_without_refused_telegrams(run: Run, table: Write, tmp_path: Path) -> None:
-    """A line before the verdict warns that a yes for it is not a yes for the table."""
+    """A line before the account warns that a yes for it is not a yes for the table."""
     target = tmp_path / "line.json"
     status, out, _ = run("check", table("group,telegram", f"A,{ALONE}", f"B,{OTHER[:-1]}1"), "--document", target)
     assert status == 2 and json.loads(target.read_text())["groups"] == [{"balises": [ALONE]}]
-    assert out[-2] == check.LACKING and out[-1].startswith("INCOMPLETE: ")
+    assert out[-3] == check.LACKING and out[-1].startswith("INCOMPLETE: ")
     for path in (table("group,telegram", f"A,{ALONE}"), table("group,telegram", f"A,{ALONE}", f"B,{ALONE}")):
         assert check.LACKING not in run("check", path, "--document", target, "--force")[1]
 
@@ -368,8 +377,8 @@ def test_explain_of_a_rule(run: Run, tmp_path: Path, monkeypatch: pytest.MonkeyP
         status, out, _ = run("check", "--explain", name)
         assert status == 0 and out[0].startswith(f"{name}: ") and sum(each.startswith(name) for each in out) == 1
     status, out, _ = run("check", "--explain", "E9")
-    heads = [*explain.HEADS[:-1], "Example", "How sure"]
-    assert [head for line in out for head in heads if line.startswith(f"    {head}. ")] == heads
+    heads = [*explain.WHOLE]
+    assert [head for line in out for head in heads if line.startswith(f"    {head}.")] == heads
     assert run("check", "--explain", "E24")[0] == run("check", "E9")[0] == 2
     unused = ["balisekit: --json is not used with the page of a rule"]
     assert run("check", "--explain", "E9", "--json", "j.json") == (2, [], unused)
@@ -380,7 +389,7 @@ def test_explain_of_a_rule(run: Run, tmp_path: Path, monkeypatch: pytest.MonkeyP
 
 def test_explain_is_what_the_document_says(run: Run, table: Write) -> None:
     known = explain.explanations()
-    parts = {"name", "says", "urgent", "cause", "remedy"}
+    parts = {"name", *explain.KEYS}
     assert sorted(known) == list(range(1, 17))
     assert all(set(page) == parts and all(page.values()) for page in known.values())
     _, out, _ = run("check", table(*SOUND, f"C,,,,{OTHER}"), "--explain")
@@ -511,7 +520,8 @@ def test_wrong_words(run: Run) -> None:
 def test_example(run: Run, monkeypatch: pytest.MonkeyPatch, program: Program) -> None:
     monkeypatch.chdir(TOP)
     status, out, _ = run("check", "examples/table/line.csv")
-    assert status == 2 and out == (TOP / "examples/table/line.txt").read_text("utf-8").splitlines()
+    stored = (TOP / "examples/table/line.txt").read_text("utf-8").splitlines()
+    assert status == 2 and out == [stored[0], *stored[3:]] and without_program(stored[1]) == "balisecheck"
     assert line_table.table(program) == line_table.LINE.read_text("utf-8")
 
 

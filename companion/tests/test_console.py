@@ -20,16 +20,31 @@ from balisekit.engine.program import Program
 
 LINE = "examples/table/line.csv"
 STARTED = [sys.executable, "-m", "balisekit"]
+CLAIMED = """import sys
+from balisekit.cli.main import main
+for name in sys.argv.pop(1).split():
+    getattr(sys, name).isatty = lambda: True
+sys.exit(main())
+"""
+"""It starts balisekit with streams that claim to be terminals."""
 OURS = {"PYTHONPATH": str(TOP / "companion" / "src"), "TERM": "xterm", "NO_COLOR": ""}
 CODES = re.compile("\x1b\\[[0-9;]*[mK]")
 
 
+def _terminal(*streams: str) -> Tuple[int, int, List[str]]:
+    """Both ends of a terminal, and what starts balisekit on it. Without a devpts it is a pipe that claims to be one."""
+    try:
+        return (*pty.openpty(), STARTED)
+    except OSError:
+        return (*os.pipe(), [sys.executable, "-c", CLAIMED, " ".join(streams)])
+
+
 def _on_terminal(words: List[str], more: Dict[str, str], *streams: str) -> Tuple[int, str, str]:
     """The status, what the terminal shows, and what other streams get. `streams` are those of the terminal."""
-    ours, theirs = pty.openpty()
+    ours, theirs, started = _terminal(*streams)
     chosen = {name: theirs if name in streams else subprocess.PIPE for name in ("stdout", "stderr")}
     known = {**os.environ, **OURS, **more}
-    with subprocess.Popen([*STARTED, *words], cwd=TOP, env=known, **chosen) as process:  # type: ignore
+    with subprocess.Popen([*started, *words], cwd=TOP, env=known, **chosen) as process:  # type: ignore
         os.close(theirs)
         shown = b""
         while True:

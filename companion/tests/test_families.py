@@ -11,9 +11,9 @@ from typing import Any, Callable, Dict, List
 import link_tables
 import pytest
 from cases_of_program import TOP
-from conftest import Run
+from conftest import Run, set_day
 from link_tables import authority, telegram
-from telegrams import ALONE, OTHER, SPARE, digest
+from telegrams import ALONE, OTHER, SPARE, account, digest
 from test_links import FOLDER
 
 from balisekit.engine.program import Program, Text
@@ -35,7 +35,7 @@ MEANT = "remarks on what the data mean, by balisekit's own rules, not proved:"
 @pytest.fixture(autouse=True)
 def day(monkeypatch: pytest.MonkeyPatch) -> None:
     """2026-05-28."""
-    monkeypatch.setenv("SOURCE_DATE_EPOCH", "1780000000")
+    set_day(monkeypatch, 1780000000)
 
 
 def line(program: Program, path: Path, *changes: Callable[[List[Any]], None]) -> Path:
@@ -87,13 +87,19 @@ def test_only(run: Run, program: Program, tmp_path: Path) -> None:
     path = line(program, tmp_path / "t.csv", fault("distance-differs"))
     assert run("check", path, "--only", "F")[::2] == (0, [])
     status, out, _ = run("check", path, "--only", "F")
-    assert out[1:] == ["aspects found: 1 in 4 groups", 'program: "yes: groups 4, messages 0"']
+    assert out[1:] == ["aspects found: 1 in 4 groups", account(6), 'program: "yes: groups 4, messages 0"']
     status, out, _ = run("check", path, "--only", "L")
     assert status == 1 and PROVED not in out and OWN in out and out[-1] == "links: 1 found (L2 1)"
     assert run("check", path, "--only", "l,f") == run("check", path, "--only", "F,L")
     assert run("check", path, "--only", "e,l,f") == run("check", path)
     status, out, _ = run("check", path, "--only", "E")
-    assert status == 0 and out[1:] == [f"{MEANT} none", "aspects found: 1 in 4 groups", "remarks: none found"]
+    assert status == 0 and out[1:] == [
+        f"{MEANT} none",
+        "aspects found: 1 in 4 groups",
+        "not judged: 6 telegrams in rows 2 to 7: --only E leaves out the program's findings F",
+        "account: 6 telegrams in the file; 0 judged, 0 refused, 6 not judged; rows 2 to 7",
+        "remarks: none found",
+    ]
     assert run("check", path, "--only", "F,L", "--tolerance", "5")[0] == 0
     assert run("check", path, "--tolerance", "8")[0] == 0
     assert run("check", path, "--only", "F", "--tolerance", "5")[2] == [
@@ -115,8 +121,9 @@ def test_no_kilometres(run: Run, table: Write) -> None:
     """The status comes from the other rules. If there are no others, the table is refused."""
     path = table("group,telegram", f"A,{ALONE}", f"B,{OTHER}")
     status, out, _ = run("check", path)
-    assert status == 0 and out[-2:] == [
+    assert status == 0 and out[-3:] == [
         "no kilometres: rules over the line are not applied",
+        account(2),
         'program: "yes: groups 2, messages 0"',
     ]
     assert not any("not applied" in line for line in run("check", path, "--only", "F")[1])
@@ -316,7 +323,7 @@ def test_every_rule_has_an_urgency() -> None:
         Urgency.RULE_ONLY: ("To be looked at",),
     }
     for rule in RULES:
-        assert any(word in rule.parts["How urgent"] for word in words[rule.urgency]), rule.name
+        assert any(word in rule.parts["Why it matters"] for word in words[rule.urgency]), rule.name
 
 
 def test_a_family_can_be_added(run: Run, program: Program, tmp_path: Path, monkeypatch: pytest.MonkeyPatch) -> None:

@@ -31,7 +31,7 @@ def checked(docs: Path) -> Tuple[int, str]:
 def test_the_package_has_the_texts_of_the_pages() -> None:
     assert checked(DOCS) == (0, "")
     assert len(explanations()) == 16 and len(reasons()) == 9
-    blocks = [1, 4, 1, 4, 1, 6, 1, 2]
+    blocks = [1, 4, 1, 6, 1, 6, 1, 2]
     assert [(is_list, len(block)) for is_list, block in premises()] == list(zip(cycle([False, True]), blocks))
 
 
@@ -67,12 +67,12 @@ def test_a_page_that_has_changed_is_noticed(page: str, heading: str, word: str, 
 AT_WORST = {
     Urgency.WRONG_INFORMATION: r"Wrong information\b|An old profile is used\.|Braking too late\b|Too fast\b",
     Urgency.WRONG_PLACE: r"A wrong position of the train\.",
+    Urgency.NOT_JUDGED: r"Not judged\.",
     Urgency.BRAKING: r"Braking[.,;]",
-    Urgency.RULE_ONLY: r"Only a rule\.",
 }
 
 
 def test_the_order_of_findings_is_by_what_the_page_says_of_the_worst() -> None:
     assert set(URGENCIES) == set(explanations())
     for rule, page in explanations().items():
-        assert re.match(AT_WORST[URGENCIES[rule]], page["urgent"]), rule
+        assert re.match(AT_WORST[URGENCIES[rule]], page["matters"]), rule

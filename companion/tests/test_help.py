@@ -55,7 +55,9 @@ def test_each_word_has_its_help(command: str) -> None:
 @pytest.mark.parametrize("text", [README, PAGE, GUIDE], ids=["README", "commands", "guide"])
 def test_no_page_has_a_word_that_is_none(text: str) -> None:
     """Each option on a page is one of a command, and an option after a command is one of that command."""
-    known = set().union(*map(_options, COMMANDS)) | OF_ALL | {"--radio", "--anew"}  # (of balisecheck and .ci/run)
+    verifies = _named((TOP / "scripts" / "verify-release").read_text("utf-8"))
+    others = {"--radio", "--anew", *verifies}  # (of balisecheck, .ci/run and verify-release)
+    known = set().union(*map(_options, COMMANDS)) | OF_ALL | others
     assert set(_named(text)) - known == set()
     shown = re.findall(r"(?:balisekit|`)\s?(" + "|".join(COMMANDS) + r")\b([^|`\n]*)", text)
     assert shown and not any(set(_named(words)) - _options(command) - OF_ALL for command, words in shown)
@@ -75,9 +77,12 @@ def test_columns_and_statuses() -> None:
     statuses = re.findall(r"^\| ([0-3]) \|", rows, re.MULTILINE)
     assert statuses == re.findall(r"^  ([0-3])  ", cli.STATUSES, re.MULTILINE) == ["0", "1", "2", "3"]
     for text in (rows.split("\n| 2 |")[1].split("|")[1], cli.STATUSES.split("\n  2  ")[1]):
-        why = "INCOMPLETE: a telegram or message was refused, or a rule L or X compared none of what it had to"
+        why = "INCOMPLETE: a telegram or message was refused, telegrams of the table were not read, or a rule L or X "
+        why += "compared none of what it had to"
         assert " ".join(text.split()).startswith(why)
-    assert all(number in rows for number in re.findall(r"with (?:status )?(\d+)", cli.STATUSES.split("\n  SIGTERM")[1]))
+    assert all(
+        number in rows for number in re.findall(r"with (?:status )?(\d+)", cli.STATUSES.split("\n  an interrupt")[1])
+    )
 
 
 @pytest.mark.parametrize("words", [["--help"], *[[command, "--help"] for command in COMMANDS]])
@@ -105,7 +110,7 @@ def test_the_packages_of_the_tests() -> None:
     for path in (*(TOP / "companion" / "tests").rglob("test_*.py"), *(TOP / "tests").glob("*.py")):
         text = path.read_text("utf-8")
         packages |= {f"python3-{name}" for name in re.findall(r'importorskip\("(\w+)"\)', text)}
-        packages |= set(re.findall(r'(?:skip\(|reason=)"[^"\n]*\(([\w-]+)\)"', text))
+        packages |= set(re.findall(r'(?:skip\(|reason ?= ?)"[^"\n]*\(([\w-]+)\)"', text))
     packages -= {"chromium", "toolchain"}
     listed = (TOP / "tests" / "packages.sh").read_text("utf-8").split("\npackages='")[1].split("'")[0]
     assert {"mypy", "python3-jinja2"} <= packages and packages <= {word.split("=")[0] for word in listed.split()}

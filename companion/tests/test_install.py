@@ -35,15 +35,13 @@ def test_install(tmp_path: Path, program: Program) -> None:
     table = tmp_path / "line.csv"
     shutil.copyfile(TOP / "examples" / "table" / "line.csv", table)
     command = str(tmp_path / "room" / "bin" / "balisekit")
-    known = {**os.environ, "BALISECHECK": program.path}
-    done = subprocess.run(
-        [command, "check", str(table), "--explain"], env=known, cwd=tmp_path, check=False, stdout=subprocess.PIPE
-    )
+    words = [command, "check", str(table), "--explain", "--program", program.path]
+    done = subprocess.run(words, cwd=tmp_path, check=False, stdout=subprocess.PIPE)
     assert (done.returncode, done.stdout.decode().splitlines()[-1][:10]) == (2, "INCOMPLETE")
     bare = {key: value for key, value in os.environ.items() if key != "BALISECHECK"}
     done = subprocess.run(
         [command, "check", str(table)],
-        env={**bare, "PATH": str(Path(sys.executable).parent)},
+        env={**bare, "PATH": str(tmp_path / "none")},  # (Debian's package installs the program beside Debian's Python)
         cwd=tmp_path,
         check=False,
         stderr=subprocess.PIPE,
@@ -62,6 +60,7 @@ def test_the_program_beside_the_interpreter_comes_before_the_path(
     monkeypatch.delenv("BALISECHECK", raising=False)
     monkeypatch.setenv("PATH", str(tmp_path / "other"))
     monkeypatch.setattr(program_file, "TOP", tmp_path)
+    monkeypatch.setattr(sys, "executable", str(tmp_path / "python"))
     assert program_file.find(None) == str(tmp_path / "other" / "balisecheck")
     monkeypatch.setattr(sys, "executable", str(tmp_path / "venv" / "python"))
     assert program_file.find(None) == str(tmp_path / "venv" / "balisecheck")

@@ -204,7 +204,7 @@ def _interrupted(command: List[str], there: Callable[[], bool]) -> Tuple[int, by
     ],
 )
 def test_an_interrupt_while_the_program_runs(words: List[str], table: Write, tmp_path: Path) -> None:
-    """One line, status 3, and no file."""
+    """One line, status 130, and no file."""
     stand = tmp_path / "stand"
     stand.write_text(STAND)
     stand.chmod(0o755)
@@ -217,7 +217,7 @@ def test_an_interrupt_while_the_program_runs(words: List[str], table: Write, tmp
         str(stand),
         *[str(tmp_path / word) if word in ("out", "table.csv") else word for word in words[1:]],
     ]
-    assert _interrupted(command, (tmp_path / "stand.started").exists) == (3, b"balisekit: interrupted\n")
+    assert _interrupted(command, (tmp_path / "stand.started").exists) == (130, b"balisekit: interrupted\n")
     assert sorted(os.listdir(tmp_path)) == ["stand", "stand.started", "table.csv"]
 
 
@@ -226,7 +226,7 @@ def test_an_interrupt_while_a_file_is_written(releases: Releases, program: Progr
     pytest.importorskip("jinja2")
     (tmp_path / "report.html").write_text("before")
     command = _words(program, "report", releases(250, "OLD"), "--force", "--html", tmp_path / "report.html")
-    assert _interrupted(command, lambda: len(os.listdir(tmp_path)) > 1) == (3, b"balisekit: interrupted\n")
+    assert _interrupted(command, lambda: len(os.listdir(tmp_path)) > 1) == (130, b"balisekit: interrupted\n")
     assert os.listdir(tmp_path) == ["report.html"] and (tmp_path / "report.html").read_text() == "before"
 
 

@@ -18,12 +18,13 @@ from telegrams import SPARE
 
 from balisekit.engine.program import Program
 from balisekit.etcs.geometry import kilometres
+from balisekit.present.explanations import WHOLE
 from balisekit.present.links_text import compared, singular
 from balisekit.rules.chainage import Jump
 from balisekit.rules.line import BY_LINKS, Line, with_directions
 from balisekit.rules.links import RULES, compare
 from balisekit.rules.accepted import RULES as OWN
-from balisekit.rules.rule import CORRECT_DATA, REFUSED, Options
+from balisekit.rules.rule import REFUSED, Options
 from balisekit.tables.model import Aspect, Group, Message, Row
 
 Write = Callable[..., Path]
@@ -358,16 +359,7 @@ def _examples() -> List[Tuple[str, str, str]]:
 
 def test_the_page_is_made_of_the_rules() -> None:
     assert rules_page.page(PAGE) == PAGE
-    heads = [
-        "What it says",
-        "How urgent",
-        "Usual cause",
-        "What may happen",
-        "How to correct it",
-        CORRECT_DATA,
-        "Example",
-    ]
-    assert [list(rule.parts) for rule in RULES] == [heads] * 9
+    assert [tuple(rule.parts) for rule in RULES] == [WHOLE[:-1]] * 9
 
 
 def test_the_page_names_the_rules_that_correct_data_may_get() -> None:

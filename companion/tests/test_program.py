@@ -11,6 +11,7 @@ import pytest
 from fakes import RECORD, fake
 from telegrams import ALONE, FAULTY, MESSAGE, OTHER, SPARE
 
+from balisekit.engine import find_program
 from balisekit.engine.grammar import Refusal
 from balisekit.engine.program import Program, Record, Report, Text
 from balisekit.errors import NoAnswer
@@ -147,6 +148,19 @@ def test_no_answer_of_check(stand: Stand, does: str) -> None:
 def test_another_program_is_not_taken(stand: Stand, first: str) -> None:
     with pytest.raises(NoAnswer, match="is not the program that this version knows"):
         stand("", first)
+
+
+@pytest.mark.parametrize("first", ["exit 1", "echo 'no GLIBC_2.34' >&2; echo 'no GLIBC_2.33' >&2; exit 1"])
+def test_a_released_program_that_does_not_start(
+    stand: Stand, tmp_path: Path, monkeypatch: pytest.MonkeyPatch, first: str
+) -> None:
+    """The metadata tell what it needs, and the first line of the loader what is missing. It is not another program."""
+    monkeypatch.setattr(find_program, "papers", lambda _: {"glibc": "2.34"})
+    with pytest.raises(NoAnswer) as raised:
+        stand("", first)
+    needs, *missing = str(raised.value).split(" does not start here: ")[1].split(": ")
+    assert needs.startswith("it needs x86-64-v2 and glibc 2.34 or later, and this is ")
+    assert missing == ["no GLIBC_2.34"] * ("GLIBC" in first)
 
 
 def test_no_program(monkeypatch: pytest.MonkeyPatch, tmp_path: Path) -> None:

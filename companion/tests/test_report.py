@@ -16,7 +16,7 @@ from typing import Any, Dict, List, Optional, Tuple
 
 import pytest
 from cases_of_program import TOP
-from conftest import Run
+from conftest import Run, without_program
 from telegrams import FIRST, MESSAGE, OTHER, SECOND, digest
 from test_text_boxes import faults
 
@@ -89,18 +89,18 @@ def test_the_page_has_all_that_was_said(
 ) -> None:
     """Each line of `check`, its status, checksums, each balise, and from each entry a link that leads somewhere."""
     status, page = _report(table, tmp_path / "report.html", *words)
-    closing = capsys.readouterr().out.splitlines()[1:]
+    closing = capsys.readouterr().out.splitlines()[3:]
     assert status == cli.main(["check", str(table), *words])
     said = capsys.readouterr().out.splitlines()
     seen = _Page(page)
     text = "".join(seen.texts)
     for line in said[1:]:
-        told = line.strip().replace("program: ", "").replace("left out: ", "")
+        told = line.strip().replace("program: ", "").replace("left out: ", "").replace("settings: ", "")
         told = re.sub(
             "^(findings that|(findings of|links, by|remarks on).*proved).*:.*", lambda found: _title(found[0]), told
         )
         assert told in text, line
-    assert said[-1:] == closing and f'<p class="verdict">{escape(closing[0])}</p>' in page
+    assert said[-len(closing) :] == closing and f'<p class="verdict">{escape(closing[-1])}</p>' in page
     assert hashlib.sha256(table.read_bytes()).hexdigest() in text
     assert text.count("balisekit is not proved; the program's own lines are quoted in full") == 1
     ids = [attributes["id"] for _, attributes in seen.tags if "id" in attributes]
@@ -132,9 +132,9 @@ def test_links_are_accepted_beside_findings(tmp_path: Path, capsys: pytest.Captu
     signed = _accepted(tmp_path / "accepted.csv", {**key, "reason": "surveyed"})
     capsys.readouterr()
     status, page = _report(table, tmp_path / "r.html", "--accepted", str(signed))
-    told = capsys.readouterr().out.splitlines()[1:]
+    told = capsys.readouterr().out.splitlines()[4:]
     assert row["rule"] == "L2" and status == 0
-    assert told[-1].startswith("no open findings, links or remarks") and escape("\n".join(told)) in page
+    assert told[-1].startswith("no open findings, links or remarks") and all(escape(line) in page for line in told)
     accepted = _between(page, ACCEPTED, PAPERS)
     assert accepted.count(f"<td><bdi>surveyed</bdi></td>{SIGNED}</td>") == 1 and "L2: packet 5" in accepted
     block = page[page.index('<section class="group" id="g0">') :]
@@ -168,11 +168,11 @@ def test_a_page_on_standard_output(
     """It is the page of a file, and the verdict is on standard error."""
     monkeypatch.setenv("SOURCE_DATE_EPOCH", "1700000000")
     _, page = _report(LINE, tmp_path / "r.html")
-    verdict = capfd.readouterr().out.splitlines()[1:]
+    told = [line.replace(str(tmp_path / "r.html"), "standard output") for line in capfd.readouterr().out.splitlines()]
     assert cli.main(["report", str(LINE), "--html", "-"]) == 2
     out, err = capfd.readouterr()
     assert out == page
-    assert err.splitlines() == ["written: standard output", *verdict] and verdict[-1].startswith("INCOMPLETE: ")
+    assert err.splitlines() == told and "written: standard output" in told and told[-1].startswith("INCOMPLETE: ")
 
 
 def test_the_rows_of_a_block(tmp_path: Path) -> None:
@@ -236,7 +236,7 @@ def test_accepted_findings_stand_apart(tmp_path: Path, capsys: pytest.CaptureFix
         said = capsys.readouterr().out.splitlines()
         assert _report(table, tmp_path / "report.html", *words)[0] == status
         page = (tmp_path / "report.html").read_text("utf-8")
-        told = capsys.readouterr().out.splitlines()[1:]
+        told = capsys.readouterr().out.splitlines()[4:]
         assert told == said[-len(told) :] and 'program: "no: findings 5"' in told
         closing = "\n".join(
             ['program: "no: findings 5"', f"findings 5: {counts}", *(["no open findings; accepted by *: 3"][status:])]
@@ -590,7 +590,7 @@ def test_a_list_is_a_list(tmp_path: Path) -> None:
     _, page = _report(_table(tmp_path / "t.csv", {"group": "A", "telegram": HEADER}), tmp_path / "r.html")
     said = page.split("<h2>What a yes means")[1].split("<h3>")[0]
     items = re.findall(r"<li>(.+?)</li>", said)
-    assert len(items) == 16 and items[0].startswith("In each aspect of each group, positions, totals")
+    assert len(items) == 18 and items[0].startswith("In each aspect of each group, positions, totals")
     assert said.count("<ul>") == 4 and not re.search(r">\s*- ", said)
 
 
@@ -600,7 +600,8 @@ def test_a_list_is_a_list(tmp_path: Path) -> None:
 def test_outputs_beside_the_example(name: str, words: List[str], capfdbinary: pytest.CaptureFixture[bytes]) -> None:
     """What `show` and `draw` write for the example is what the files beside it contain."""
     cli.main([str(LINE) if word == "LINE" else word for word in words])
-    assert capfdbinary.readouterr().out == (LINE.with_name(name)).read_bytes()
+    said, stored = capfdbinary.readouterr().out.decode(), LINE.with_name(name).read_text("utf-8")
+    assert without_program(said) == without_program(stored)
 
 
 def test_the_report_beside_the_example(tmp_path: Path, monkeypatch: pytest.MonkeyPatch) -> None:
@@ -614,15 +615,23 @@ def test_the_report_beside_the_example(tmp_path: Path, monkeypatch: pytest.Monke
 
 @pytest.mark.uncovered
 def test_any_name_makes_a_picture() -> None:
-    """A picture with any characters as its names is well formed, and has no tag of theirs."""
+    """A picture with any characters as its names is well formed, and has no tag of theirs. Where a name is shortened
+    it is the title of that text."""
     hypothesis = pytest.importorskip("hypothesis")
     strategies = hypothesis.strategies
     plain = [one.tag for one in ElementTree.fromstring(_svg("A")).iter()]
+    svg = plain[0][: -len("svg")]
 
     def tried(name: str) -> None:
-        assert [one.tag for one in ElementTree.fromstring(_svg(name)).iter()] == plain
+        root = ElementTree.fromstring(_svg(name))
+        for text in root.iter(f"{svg}text"):
+            for title in text.findall(f"{svg}title"):
+                assert str(text.text).endswith("\u2026") and title.text == root.findtext(f"{svg}title")
+                text.remove(title)
+        assert [one.tag for one in root.iter()] == plain
 
-    hypothesis.given(strategies.text(strategies.characters(blacklist_categories=())))(tried)()
+    any_name = hypothesis.given(strategies.text(strategies.characters(blacklist_categories=())))(tried)
+    hypothesis.example("<title>" * 100)(any_name)()
 
 
 def _svg(name: str) -> str:

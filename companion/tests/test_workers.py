@@ -288,7 +288,7 @@ def _command(pid: int) -> bytes:
 ENDS = [
     (signal.SIGTERM, 143, b"balisekit: ended by SIGTERM\n"),
     (signal.SIGHUP, 129, b"balisekit: ended by SIGHUP\n"),
-    (signal.SIGINT, 3, b"balisekit: interrupted\n"),
+    (signal.SIGINT, 130, b"balisekit: interrupted\n"),
 ]
 
 

@@ -16,7 +16,14 @@ from typing import Any, Callable, Dict, List, Optional, Tuple
 
 TOP = Path(__file__).resolve().parents[2]
 PACKAGE = TOP / "companion" / "src" / "balisekit"
-PARTS = {"Risk": "urgent", "Usual causes": "cause", "Correction": "remedy"}
+PARTS = {
+    "Why it matters": "matters",
+    "Example": "example",
+    "When it is a false alarm": "false_alarm",
+    "Usual cause": "cause",
+    "How to correct it": "remedy",
+    "How to accept it": "acceptance",
+}
 """The items about a finding, and their keys."""
 YES = ("In plain words", "Premises", "What a yes does not cover", "Rules of our own")
 """The parts of the page on a yes that a report has."""

@@ -10,7 +10,7 @@ from __future__ import annotations
 TYPE_CHECKING = False  # (that of typing would make the start slower)
 if TYPE_CHECKING:
     from decimal import Decimal
-    from typing import Optional, Union
+    from typing import Optional, Sequence, Union
 
     from balisekit.compare.releases import Difference
     from balisekit.engine.program import Program
@@ -29,14 +29,16 @@ def read_table(
     by_position: bool = False,
     columns: Optional[str] = None,
     fill_merged: bool = False,
+    skip_columns: Sequence[str] = (),
 ) -> Table:
     """The table of a CSV file or of a sheet of an .xlsx. `by_position` is as in `check`.
 
     `columns` is a TOML file with headings of your own, and `fill_merged` fills the cells of merged areas.
+    `skip_columns` are the headings of columns that are not to be read, even if they have telegrams.
     """
     from balisekit.tables import reader
 
-    return reader.read(path, sheet, by_position, columns, fill_merged)
+    return reader.read(path, sheet, by_position, columns, fill_merged, skip_columns)
 
 
 def read_messages(path: str) -> Messages:

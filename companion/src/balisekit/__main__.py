@@ -1,6 +1,6 @@
 """`python3 -m balisekit`."""
 import sys
 
-from balisekit.cli.main import main
+from balisekit.start import main_of_module
 
-sys.exit(main())
+sys.exit(main_of_module())

@@ -7,7 +7,7 @@ from pathlib import Path
 from typing import Any, Callable, Dict, List
 
 import pytest
-from conftest import Run
+from conftest import Run, set_day
 from link_tables import authority, telegram
 from telegrams import ALONE, DEFAULT, MESSAGE, OTHER, digest
 
@@ -21,7 +21,7 @@ SIGNED = {"reason": "harmless at the buffer stop", "who": "J. Doe", "date": "202
 @pytest.fixture(autouse=True)
 def day(monkeypatch: pytest.MonkeyPatch) -> None:
     """2026-05-28."""
-    monkeypatch.setenv("SOURCE_DATE_EPOCH", "1780000000")
+    set_day(monkeypatch, 1780000000)
 
 
 def signed(run: Run, path: Path, *words: object, **fields: str) -> Path:
@@ -58,6 +58,24 @@ def test_other_data_are_open_again(program: Program, run: Run, table: Write) -> 
     status, out, _ = run("check", table(*short_gradients(program, 990), name="new.csv"), "--accepted", file)
     assert status == 1 and out[-1] == "findings 1: accepted 0, open 1; entries at fault 1"
     assert f"{file}: row 2: the telegram has changed since 2026-01-01" in out
+
+
+def test_proposed_names_have_no_control_characters(program: Program, run: Run, table: Write) -> None:
+    """They are escaped as in all outputs, and entries with either form are about the same finding."""
+    name, shown = "\x1b[2J\u202ered", "\\x1b[2J\\u202ered"
+    text = short_gradients(program, 10)[1].partition(",")[2]
+    path = table("group,aspect,telegram", f"A,{name},{text}")
+    radio = table(f"{MESSAGE};{name}", name="m.txt")
+    file = signed(run, path, "--messages", radio, reason=name)
+    rows = list(csv.DictReader(io.StringIO(file.read_text("utf-8"))))
+    assert {row["aspect"] for row in rows} == {"", shown} and {row["message"] for row in rows} == {"", shown}
+    for written in (shown, name):
+        renamed = [{**row, **{it: written for it in ("aspect", "message") if row[it]}} for row in rows]
+        words = ("--accepted", entries(file, *renamed), "--messages", radio)
+        assert run("check", path, *words)[0] == 0
+    proposed = path.with_name("again.csv")
+    run("check", path, "--accepted", entries(file, {**rows[0], "sha256": ""}), "--propose", proposed)
+    assert proposed.read_text("utf-8").replace("\n", "").isprintable() and shown in proposed.read_text("utf-8")
 
 
 def test_the_reason_goes_into_the_next_proposal(program: Program, run: Run, table: Write, tmp_path: Path) -> None:

@@ -8,6 +8,7 @@ import subprocess
 import time
 from dataclasses import replace
 from pathlib import Path
+from types import SimpleNamespace
 from typing import Callable, List, Optional
 
 import pytest
@@ -339,14 +340,15 @@ def test_a_timeout_that_is_none(text: str, run: Run) -> None:
     assert status == 2 and "is no time in seconds: write 600 or 2.5" in errors[-1]
 
 
-def test_only_waiting_counts(program: Program) -> None:
-    """A reader may take longer for the lines than the program has for them."""
-    hasty = replace(program, timeout=0.5)
+def test_only_waiting_counts(program: Program, monkeypatch: pytest.MonkeyPatch) -> None:
+    """A reader may take longer for the lines than the program has for them: 30 s by this clock, and between two pieces
+    of output more than what counts at once."""
+    late = 0.0
+    monkeypatch.setattr(process, "time", SimpleNamespace(monotonic=lambda: time.monotonic() + late, sleep=time.sleep))
     lines = 0
-    for _ in hasty.decode([ALONE] * 3000):
+    for _ in replace(program, timeout=5).decode([ALONE] * 3000):
         lines += 1
-        if lines % 1000 == 0:
-            time.sleep(0.3)
+        late += 0.01
     assert lines == 3000
 
 

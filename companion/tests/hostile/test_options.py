@@ -1,6 +1,7 @@
 """Options that are empty, cut short, given twice or not used are refused, with status 2."""
 from __future__ import annotations
 
+import ast
 import os
 import subprocess
 import sys
@@ -11,6 +12,8 @@ import pytest
 from cases_of_program import TOP
 from conftest import Run
 from telegrams import MESSAGE
+
+from balisekit.tables.names import clean
 
 pytestmark = pytest.mark.uncovered
 LINE = str(TOP / "examples" / "table" / "line.csv")
@@ -67,8 +70,42 @@ REFUSED = [
 ]
 
 
+ECHOED = [
+    "{}",
+    "check LINE {}",
+    "check LINE --{}",
+    "check LINE --js{}n x",
+    "check {}",
+    "check LINE --only {}",
+    "check LINE --timeout {}",
+    "check LINE --tolerance {}",
+    "check LINE --program {}",
+    "check LINE --accepted {}",
+    "check LINE --messages {}",
+    "check LINE --sheet {}",
+    "check LINE --json no/{}",
+    "check LINE --columns {}",
+    "show LINE --group {}",
+    "draw LINE --group {}",
+    "draw LINE --track {}",
+    "diff LINE {}",
+    "table LINE --expect {}",
+]
+"""Command lines that are refused, with a word that the error repeats."""
+CONTROLS = Path(__file__).with_name("control_characters.txt")
+
+
+@pytest.mark.parametrize("line", ECHOED)
+def test_no_control_character_is_repeated(line: str, run: Run) -> None:
+    """An error text moves no cursor and changes no terminal, whatever a word of the command line contains."""
+    for text in map(ast.literal_eval, CONTROLS.read_text("utf-8").splitlines()[1:]):
+        status, out, err = run(*_words(line.replace("{}", text)))
+        assert status in (2, 3) and out == [] and err[-1].startswith("balisekit")
+        assert all(clean(said) == said for said in err) and len(err) < 20, err
+
+
 def _words(line: str) -> List[str]:
-    return ["" if word == "{empty}" else LINE if word == "LINE" else word for word in line.split()]
+    return ["" if word == "{empty}" else LINE if word == "LINE" else word for word in line.split(" ")]
 
 
 @pytest.fixture(autouse=True)
@@ -110,7 +147,14 @@ def test_version_imports_no_command() -> None:
     ours = {name for name in done.stderr.decode().split() if name.startswith("balisekit")}
     assert done.returncode == 0 and done.stdout.startswith(b"balisekit ")
     metadata = {"balisekit.engine", "balisekit.engine.find_program", "balisekit.engine.library"}
-    assert ours == {"balisekit", "balisekit.cli", "balisekit.cli.main", "balisekit.errors", *metadata}
+    assert ours == {
+        "balisekit",
+        "balisekit.cli",
+        "balisekit.cli.main",
+        "balisekit.cli.signals",
+        "balisekit.errors",
+        *metadata,
+    }
     assert "subprocess" not in done.stderr.decode().split()
 
 

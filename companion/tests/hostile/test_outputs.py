@@ -357,7 +357,7 @@ def test_two_outputs_in_one_place_are_refused(room: Path, run: Run) -> None:
     assert (status, err) == (2, ["balisekit: new: it is named twice"])
 
 
-@pytest.mark.parametrize("number, status", [(signal.SIGTERM, 143), (signal.SIGHUP, 129), (signal.SIGINT, 3)])
+@pytest.mark.parametrize("number, status", [(signal.SIGTERM, 143), (signal.SIGHUP, 129), (signal.SIGINT, 130)])
 def test_signals_leave_nothing(
     number: signal.Signals, status: int, room: Path, tmp_path_factory: pytest.TempPathFactory
 ) -> None:

@@ -73,6 +73,14 @@ def test_kilometres_that_look_like_metres(run: Run, table: Write, kms: Sequence[
     assert looks(out) == wanted
 
 
+@pytest.mark.parametrize("km, is_refused", [("9999", False), ("10000", True)])
+def test_metres_with_five_digits_are_refused(run: Run, table: Write, km: str, is_refused: bool) -> None:
+    """They are no kilometres, so nobody has to ask whether they are metres."""
+    status, _, errors = run("check", table("group,km,telegram", f"G,{km},{ALONE}"))
+    assert (status == 2) == is_refused and bool(errors) == is_refused
+    assert f"{km} is no kilometre" in "".join(errors) or not is_refused
+
+
 def test_balises_of_a_group_in_metres(run: Run, table: Write) -> None:
     out = run("check", table("group,km,telegram", f"G,1850,{ALONE}", f"G,1853,{OTHER}"))[1]
     assert looks(out)[-1] == "look: the column km has whole numbers only, 1850 to 1853: are they metres?"

@@ -163,6 +163,8 @@ BROKEN: List[Tuple[Any, str]] = [
     ({"balises": ["zz"], "x": 1}, "/groups/0 has the keys balises, x, and balises has to be the only key"),
 ]
 """Groups of a document that the program refuses."""
+TWICE = Path(__file__).with_name("keys_twice.txt")
+"""Documents that have a key twice, with this key."""
 ENCODED = "or with a byte order mark: save it as UTF-8 without one"
 DOCUMENTS: List[Tuple[bytes, str]] = [
     *((json.dumps(document(group)).encode(), why) for group, why in BROKEN),
@@ -178,7 +180,8 @@ DOCUMENTS: List[Tuple[bytes, str]] = [
     ),
     (b'{"groups":[{"balises":["\xff"]}],"messages":[]}', f"it is a document in windows-1252 {ENCODED}"),
     (b'{"groups":[{"balises":["\\ud800"]}],"messages":[]}', "program: refused: not JSON"),
-    (b'{"groups":[],"messages":[],"messages":[]}\x0b', "it is no document that can be read"),
+    (b'{"groups":[],"messages":[]}\x0b', "it is no document that can be read"),
+    (b'{"groups":[],"messages":[],"messages":[]}\x0b', "an object has the key messages twice"),
     (b'{"groups":[],"messages":["\t"]}', "it is no document that can be read"),
     (b'{"groups":[],"messages":["\x7f", NaN]}', "/messages/1 is no text of hexadecimal digits"),
 ]
@@ -191,6 +194,18 @@ def test_documents_that_the_program_refuses(run: Run, table: Write, content: byt
     for words in ((bad, good), (good, bad), (bad, bad)):
         status, out, err = run("diff", *words)
         assert (status, out, len(err)) == (2, [], 1) and err[0].startswith(f"balisekit: {bad}: {why}"), err
+
+
+@pytest.mark.parametrize("line", TWICE.read_text("utf-8").splitlines()[1:])
+def test_a_key_twice(line: str, run: Run, table: Write, program: Program) -> None:
+    """The program takes the last value, and another reader might see another railway line: balisekit refuses it."""
+    key, _, text = line.replace("ALONE", ALONE).replace("OTHER", OTHER).partition(" ")
+    bad, good = table(content=text.encode(), name="bad.json"), table("group,telegram", f"A,{ALONE}", name="good.csv")
+    assert isinstance(program.check(text.encode()), Report)
+    for words in ((bad, good), (good, bad), (bad, bad)):
+        status, out, err = run("diff", *words)
+        why = f"an object has the key {key} twice: the program takes the last value, others the first"
+        assert (status, out, err) == (2, [], [f"balisekit: {bad}: {why}"])
 
 
 @pytest.mark.uncovered

@@ -21,7 +21,8 @@ OLD = f"""#!/bin/sh
 exec {DEBIAN} -c '
 import runpy, sys
 sys.version_info = (3, 8, 20)
-del sys.argv[0]
+del sys.argv[:3]  # -c, -E, -s
+sys.path.insert(0, "")
 runpy.run_path(sys.argv[0], run_name="__main__")' "$@"
 """
 """An interpreter that is too old."""
@@ -126,3 +127,19 @@ def test_it_is_found_through_a_link(tmp_path: Path) -> None:
     (tmp_path / "link").symlink_to(TOP / "balisekit")
     done = subprocess.run([str(tmp_path / "link"), "--version"], cwd=tmp_path, stdout=subprocess.PIPE, check=False)
     assert done.returncode == 0 and done.stdout.startswith(b"balisekit ")
+
+
+@pytest.mark.parametrize("limit", [*(f"-n {number}" for number in range(12, 20)), "-u 1"])
+def test_too_few_files_or_processes(limit: str, tmp_path: Path) -> None:
+    """Status 3, as for the program: a shell that cannot go on ends with 2, which would mean a refusal.
+
+    With fewer files than 12 the shell cannot open the script itself, and ends with its own status 2.
+    """
+    table = str(TOP / "examples" / "links" / "line.csv")
+    words = ["bash", "-c", f'ulimit {limit} || exit 9; exec "$0" check "$1"', str(TOP / "balisekit"), table]
+    user = [] if os.getuid() else "setpriv --reuid=65534 --clear-groups --inh-caps=+dac_override".split()
+    user += [] if os.getuid() else ["--ambient-caps=+dac_override"]
+    known = {**os.environ, "BALISEKIT_PYTHON": str(DEBIAN)}
+    done = subprocess.run([*user, *words], env=known, cwd=tmp_path, capture_output=True, check=False)
+    assert done.returncode in ((3,) if limit == "-u 1" else (0, 3)), done
+    assert done.returncode == 0 or done.stderr and not done.stdout

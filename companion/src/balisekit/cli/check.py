@@ -43,16 +43,16 @@ def run(options: argparse.Namespace) -> int:
         shared.refuse_unused(options, "with the page of a rule", *FILES)
         shared.say(page)
         return 0
-    outcome = outcome_of(options, stated(options), clock.now())
+    clock.now()  # (a SOURCE_DATE_EPOCH that is none is refused before any work)
+    outcome = outcome_of(options, stated(options))
     checked = outcome.checked
     if options.propose:
         options.propose.write([accepted_text.proposal(outcome)])
     if options.document:
         options.document.write(checking.document(checked.kept, [one.message for one in checked.accepted_messages]))
     _write_for_tools(options, outcome)
-    answer = list(lines(outcome, options.explain, options.propose is not None))
-    if options.document and not checked.whole:
-        answer.insert(-1, LACKING)
+    notes = [LACKING] if options.document and not checked.whole else []
+    answer = lines(outcome, options.explain, options.propose is not None, notes)
     shared.say(answer, options.json, options.document, options.propose, options.junit, options.sarif, options.xlsx)
     return outcome.status
 

@@ -11,7 +11,7 @@ from typing import Callable, Iterator, Optional, TextIO
 STYLES = (
     (('program: "yes', "no open findings"), "bold green"),
     (('program: "no', "INCOMPLETE", "findings "), "bold red"),
-    (("look: ", "note: ", "left out: "), "yellow"),
+    (("look: ", "note: ", "left out: ", "not judged: "), "yellow"),
     (("    program: ",), "dim"),
 )
 """How lines begin, and their style."""

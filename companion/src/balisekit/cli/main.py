@@ -7,13 +7,13 @@ import os
 import shutil
 import signal
 import sys
-import threading
 from contextlib import contextmanager, nullcontext, suppress
 from importlib import import_module
 from itertools import product
-from typing import Any, ContextManager, Iterator, List, Optional, Sequence, TextIO
+from typing import Any, ContextManager, Iterator, List, NoReturn, Optional, Sequence, TextIO
 
 from balisekit import __version__
+from balisekit.cli.signals import Signals
 from balisekit.errors import KitError, NoAnswer, TableError, Terminated
 
 COMMANDS = {
@@ -34,16 +34,16 @@ STATUSES = """\
 exit status:
   0  nothing was found or differs, or everything found is accepted; or the command is done
   1  `check`, `report`, `links`, `diff` or `table --expect` found something, or an accepted entry is at fault
-  2  INCOMPLETE: a telegram or message was refused, or a rule L or X compared none of what it had to; or refused: a
-     table that cannot be read, wrong options, an output that would replace an input or, without --force, another file
-  3  no answer, such as no program, a file that cannot be written, an interrupt
-  SIGTERM ends a command with status 143, SIGHUP with 129
+  2  INCOMPLETE: a telegram or message was refused, telegrams of the table were not read, or a rule L or X compared
+     none of what it had to; or refused: a table that cannot be read, wrong options, an output that would replace an
+     input or, without --force, another file
+  3  no answer, such as no program, or a file that cannot be written
+  an interrupt ends a command with status 130, SIGTERM with 143, SIGHUP with 129
 
 balisekit is not proved. It quotes findings and refusals of balisecheck.
 """
 NO_SCRIPT = ("-h", "--help", "--program")
 """The start script of a clone is not run for a command with these options."""
-TERMINATING = (signal.SIGTERM, signal.SIGHUP)
 
 
 class _Once(argparse.Action):
@@ -65,7 +65,7 @@ class _Version(argparse.Action):
         from balisekit.engine.find_program import released
 
         library = ""
-        with suppress(ImportError):  # (a wheel has no library)
+        with suppress(ImportError):  # (some builds of Python have no ctypes)
             from balisekit.engine.library import stored
 
             library = stored() and f"library {stored()}"
@@ -79,6 +79,12 @@ class _Parser(argparse.ArgumentParser):
     def __init__(self, **settings: Any) -> None:
         super().__init__(allow_abbrev=False, **settings)
         self.register("action", None, _Once)
+
+    def error(self, message: str) -> NoReturn:
+        """Ends with status 2. The message repeats words of the command line: control characters are escaped."""
+        from balisekit.tables.names import clean
+
+        super().error(clean(message))
 
 
 def parser(arguments: Sequence[str]) -> argparse.ArgumentParser:
@@ -118,20 +124,22 @@ def main(arguments: Optional[List[str]] = None) -> int:
     options, ends = argparse.Namespace(debug=False, command=None), arguments is None
     try:
         arguments = sys.argv[1:] if arguments is None else arguments
-        with _process(ends), _script_ahead(arguments):
+        with Signals(ends) as signals, _without_collector(ends), _script_ahead(arguments):
             try:
                 parser(arguments).parse_args(arguments, options)
             except SystemExit:  # help was written, or the options are wrong
                 sys.stdout.flush()
                 raise
-            return _run(options)
+            return _run(options, signals)
     except KitError as error:
         return _ended(error, options.debug, *error.lines(), status=error.status)
-    except Terminated as error:
-        return _ended(error, options.debug, f"ended by {error.signal.name}", status=128 + error.signal)
+    except KeyboardInterrupt as error:
+        number = error.signal if isinstance(error, Terminated) else signal.SIGINT
+        why = "interrupted" if number == signal.SIGINT else f"ended by {number.name}"
+        return _ended(error, options.debug, why, status=128 + number)
     except BrokenPipeError as error:
         return _ended(error, options.debug, *([] if options.command in QUIET else [CLOSED]))
-    except (KeyboardInterrupt, Exception) as error:
+    except Exception as error:
         return _ended(error, options.debug, _reason(error))
 
 
@@ -144,7 +152,7 @@ def _script_ahead(arguments: Sequence[str]) -> ContextManager[None]:
     return script_ahead()
 
 
-def _run(options: argparse.Namespace) -> int:
+def _run(options: argparse.Namespace, signals: Signals) -> int:
     """Runs the command. Its outputs are moved into place once standard output has taken the text."""
     from balisekit.cli import console
     from balisekit.io.inputs import guarded
@@ -160,6 +168,7 @@ def _run(options: argparse.Namespace) -> int:
         with placing(outputs, force), console.working(options.command) if shows else nullcontext():
             status: int = options.run(options)
             sys.stdout.flush()
+            signals.done()
     return status
 
 
@@ -185,22 +194,8 @@ def _claim(options: argparse.Namespace, replaces: bool) -> None:
 
 
 @contextmanager
-def _process(ends: bool) -> Iterator[None]:
-    """Raises Terminated for the first SIGTERM or SIGHUP, unless that is ignored. Cycles of objects stay in memory.
-
-    If the process then `ends`, they stay until its end.
-    """
-
-    def terminate(number: int, frame: object) -> None:
-        for other in handlers:
-            signal.signal(other, signal.SIG_IGN)
-        raise Terminated(signal.Signals(number))
-
-    handlers = {}
-    if threading.current_thread() is threading.main_thread():
-        for number in TERMINATING:
-            if signal.getsignal(number) is not signal.SIG_IGN:
-                handlers[number] = signal.signal(number, terminate)
+def _without_collector(ends: bool) -> Iterator[None]:
+    """Cycles of objects stay in memory. If the process then `ends`, they stay until its end."""
     collects = gc.isenabled()
     gc.disable()  # (each search for cycles would visit all telegrams, and would free little)
     try:
@@ -210,14 +205,10 @@ def _process(ends: bool) -> Iterator[None]:
             gc.freeze()  # (the end of the process would visit and free them one by one)
         if collects:
             gc.enable()
-        for number, handler in handlers.items():
-            signal.signal(number, handler)
 
 
 def _reason(error: BaseException) -> str:
     """Why there is no answer."""
-    if isinstance(error, KeyboardInterrupt):
-        return "interrupted"
     if isinstance(error, MemoryError):
         return "memory"
     if isinstance(error, OSError):

@@ -21,9 +21,12 @@ TABLE = "a CSV file or an .xlsx with the columns group and telegram"
 TIMEOUT = "how long to wait for each answer of the program; by default one minute, and longer for a large input"
 ASPECT = "the aspect of the groups that a track shows; by default the aspect with the farthest end of authority"
 TOLERANCE = "by how much places may differ, for L1 and L2 beyond Q_LOCACC; by default 0"
+SKIP = "the heading of a column that is not to be read, even if it has telegrams; it can be given several times"
 EXPLAIN = "show cause and remedy of each rule that has found something"
 EXACT = Decimal()
 """The tolerance without --tolerance."""
+GREATEST_TOLERANCE = 20
+"""In metres. With a greater one no distance to a neighbouring balise or stop location would be compared."""
 
 
 def name(text: str) -> str:
@@ -41,10 +44,13 @@ def _seconds(text: str) -> float:
 
 
 def tolerance(text: str) -> Decimal:
-    """A number of metres."""
-    if not re.fullmatch(r"[0-9]{1,5}([.,][0-9])?", text):
-        raise argparse.ArgumentTypeError(f"{text[:40]} is no number of metres: write 5 or 2.5")
-    return Decimal(text.replace(",", "."))
+    """A number of metres that places may differ by."""
+    is_number = re.fullmatch(r"[0-9]{1,5}([.,][0-9])?", text)
+    metres = Decimal(text.replace(",", ".")) if is_number else None
+    if metres is None or metres > GREATEST_TOLERANCE:
+        why = f"{text[:40]} is no number of metres from 0 to {GREATEST_TOLERANCE}: write 5 or 2.5"
+        raise argparse.ArgumentTypeError(why)
+    return metres
 
 
 def value(metavar: str, kind: Callable[[str], Any], text: str) -> Dict[str, Any]:
@@ -73,6 +79,7 @@ OPTIONS: Dict[str, Dict[str, Any]] = {
     "--by-position": flag("order the balises of a group by N_PIG, which hides a wrong N_PIG"),
     "--sheet": value("NAME", name, "the sheet of an .xlsx file to read"),
     "--columns": input_file('your own headings: a TOML file with lines such as telegram = "Telegram (hex)"'),
+    "--skip-column": {**value("HEADING", name, SKIP), "action": "append"},
     "--fill-merged": flag("give all cells of a merged area of an .xlsx file the value of its first cell"),
     "--program": value("PATH", name, "the balisecheck to use"),
     "--timeout": value("SECONDS", _seconds, TIMEOUT),
@@ -84,7 +91,7 @@ OPTIONS: Dict[str, Dict[str, Any]] = {
     "--aspect": value("NAME", name, ASPECT),
     "--tolerance": {**value("METRES", tolerance, TOLERANCE), "default": EXACT},
 }
-READING = ("--sheet", "--columns", "--fill-merged")
+READING = ("--sheet", "--columns", "--skip-column", "--fill-merged")
 """How tables are read."""
 INPUTS = ("table", "--messages", "--by-position", *READING, "--program", "--timeout")
 
@@ -104,7 +111,8 @@ def refuse_unused(options: argparse.Namespace, purpose: str, *unused: str) -> No
 
 def reading(options: argparse.Namespace) -> Dict[str, Any]:
     """How the table is to be read, for `reader.read`."""
-    return {"sheet": options.sheet, "columns": options.columns, "fill_merged": options.fill_merged}
+    how = {"sheet": options.sheet, "columns": options.columns, "fill_merged": options.fill_merged}
+    return {**how, "skip_columns": options.skip_column or ()}
 
 
 def inputs(options: argparse.Namespace) -> Tuple[Program, Table, Optional[Messages]]:

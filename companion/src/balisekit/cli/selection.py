@@ -32,7 +32,10 @@ def groups_named(table: Table, names: Sequence[str]) -> Table:
         if name not in known:
             raise TableError(f"there is no group {quoted(name)} in {table.path}{meant(name, known)}")
     groups = tuple(group for group in table.groups if group.name in names)
-    return replace(table, groups=groups, rows=tuple(row for row in table.rows if row.group in names))
+    others = [row.number for row in table.rows if row.group not in names]
+    account = table.account.without("--group leaves them out", others, asked=True)
+    rows = tuple(row for row in table.rows if row.group in names)
+    return replace(table, groups=groups, rows=rows, account=account)
 
 
 def with_directions_of(

@@ -7,14 +7,17 @@ from collections import Counter, deque
 from typing import Callable, Deque, Dict, Generator, Iterable, Iterator, List, Mapping, Optional, Sequence, Tuple, Union
 
 from balisekit.cli import options as shared
+from balisekit.cli.in_force import in_force
 from balisekit.cli.selection import groups_named, with_directions_of
 from balisekit.engine.grammar import Refusal
 from balisekit.engine.program import Program, Record
 from balisekit.errors import TableError
 from balisekit.etcs.places import Here, Identities, here_alone, places_of_rows
 from balisekit.etcs.variables import Form
+from balisekit.present.account_text import overlooked_lines
 from balisekit.present.bit_table import bit_lines
-from balisekit.present.refusals import message_refused, telegram_refused
+from balisekit.present.opening import opening_of
+from balisekit.present.refusals import message_refused, overlooked, telegram_refused
 from balisekit.present.telegram_text import LEGEND, WIDTH, text
 from balisekit.rules.checking import greatest_refused, until_too_many
 from balisekit.rules.line import Records, with_directions
@@ -41,7 +44,9 @@ def add_options(parser: argparse.ArgumentParser) -> None:
 def run(options: argparse.Namespace) -> int:
     """Does it. The answer is the exit status."""
     if options.table is None:
-        shared.refuse_unused(options, "without TABLE", "sheet", "columns", "fill_merged", "by_position", "group")
+        shared.refuse_unused(
+            options, "without TABLE", "sheet", "columns", "skip_column", "fill_merged", "by_position", "group"
+        )
     if options.group:
         shared.refuse_unused(options, "with --group", "messages")
     shown = _Shown(options)
@@ -51,8 +56,8 @@ def run(options: argparse.Namespace) -> int:
         print(f"and {count}: --all continues\n")
     print(textwrap.fill(LEGEND, WIDTH))
     refused = [f"{count} of {shown.total[what]} {what} refused" for what, count in shown.refused.items() if count]
-    if refused:
-        last_line = f"INCOMPLETE: {', '.join([*refused, *shown.not_looked_at])}"
+    if refused or shown.not_read:
+        last_line = f"INCOMPLETE: {', '.join([*refused, *shown.not_looked_at, *shown.not_read])}"
         print(last_line)
         raise TableError(last_line)
     return 0
@@ -66,6 +71,8 @@ class _Shown:
         self.total: "Counter[str]" = Counter()
         self.tried: "Counter[str]" = Counter()
         self.refused: "Counter[str]" = Counter()
+        self.not_read: Sequence[str] = ()
+        """How many telegrams of the table are in what is not read."""
 
     @property
     def not_looked_at(self) -> List[str]:
@@ -79,16 +86,20 @@ class _Shown:
         options = self.options
         if options.table is not None:
             program, table, messages = shared.inputs(options)
+            self.not_read = overlooked(table)
+            yield from ([line] for line in overlooked_lines(table))
             chosen = groups_named(table, options.group) if options.group else table
+            yield opening_of(program, in_force(options, [options.table]))
             groups = Identities(chosen.groups, (yield from self._table(program, table, chosen)))
         else:
             messages = messages_file.read(options.messages) if options.messages else None
             program, groups = Program.find(options.program, options.timeout), Identities((), {})
-            yield from self._standard_input(program) if messages is None else ()
+            opening = opening_of(program, in_force(options, []))
+            yield from [opening] if messages else self._standard_input(program, opening)
         yield from self._messages(program, messages, groups)
 
-    def _standard_input(self, program: Program) -> Iterator[List[str]]:
-        """The telegrams of standard input, which are decoded as they come."""
+    def _standard_input(self, program: Program, opening: List[str]) -> Iterator[List[str]]:
+        """The telegrams of standard input, which are decoded as they come. Before the first one nothing is written."""
         batches = standard_input.batches()
         waiting: Deque[Tuple[int, str]] = deque()
 
@@ -100,7 +111,10 @@ class _Shown:
 
         for answer in self._tried("telegrams", answers()):
             number, telegram = waiting.popleft()
+            yield from [opening] if opening else []
+            opening = []
             yield self._block(f"line {number}", telegram, answer, telegram_refused, here_alone)
+        yield from [opening] if opening else []
         self.total["telegrams"] += sum(map(len, batches))
 
     def _table(self, program: Program, whole: Table, table: Table) -> Generator[List[str], None, Dict[int, Form]]:

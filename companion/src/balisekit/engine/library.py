@@ -13,6 +13,8 @@ NO_MEMORY, TOO_SMALL = 3, 4
 CAPACITY = 1 << 16
 TIMES = 40
 """The first buffer has this many bytes for each byte of the input, and some more: records are longer than digits."""
+ARGUMENTS = (ctypes.c_char_p, ctypes.c_size_t, ctypes.c_char_p, ctypes.c_size_t, ctypes.POINTER(ctypes.c_size_t))
+"""The types of a call's arguments: others are refused before the library reads them."""
 
 
 class Call:
@@ -42,10 +44,11 @@ class Library:
         """What the program would write for these words and this input."""
         name = "balisecheck_" + "_".join(words).replace("--", "")
         capacity, length = CAPACITY + TIMES * len(data), ctypes.c_size_t()
+        function = getattr(self._shared, name)
+        function.argtypes = ARGUMENTS
         while True:
             buffer = ctypes.create_string_buffer(capacity)
-            size = ctypes.c_size_t(len(data)), buffer, ctypes.c_size_t(capacity)
-            status: int = getattr(self._shared, name)(data, *size, ctypes.byref(length))
+            status: int = function(data, len(data), buffer, capacity, ctypes.byref(length))
             if status != TOO_SMALL:
                 break
             capacity = length.value

@@ -92,17 +92,21 @@ class Program:
     """The metadata of a stored program. Empty for any other program."""
     timeout: Optional[float] = None
     """How many seconds an answer may take. None is a limit by the size of the input."""
+    known_by: str = ""
+    """What its checksum is known by: ABOUT, RELEASES or sources. Nothing for any other program."""
     _stop: Event = field(default_factory=Event, compare=False, repr=False)
 
     @classmethod
     def find(cls, named: Optional[str] = None, timeout: Optional[float] = None) -> Program:
         """The program of this path, else of BALISECHECK, else that of the clone, else that on the path.
 
-        NoAnswer is raised if there is none, or if it fails a trial run.
+        NoAnswer is raised if there is none, if it is not `named` and its checksum is not known, or if it fails a trial
+        run.
         """
         path = find_program.find(named)
         sha256 = find_program.checksum(path)
-        program = cls(path, sha256, find_program.papers(sha256), timeout)
+        known = find_program.known(named, path, sha256)
+        program = cls(path, sha256, known.papers, timeout, known.by)
         program._shake_hands()
         return program
 
@@ -177,7 +181,7 @@ class Program:
         """The library for C that was stored with the program, if it can be used here."""
         try:
             from balisekit.engine.library import opened, stored  # (slow, and only needed after a refusal)
-        except ImportError:  # (a wheel has no library, and some builds of Python no ctypes)
+        except ImportError:  # (some builds of Python have no ctypes)
             return None
         return opened(stored(self.sha256))
 
@@ -281,7 +285,19 @@ class Program:
                 if run.status is not None and run.status < 0:
                     raise run.no_answer(_end(run, 0))
                 if (run.status, lines) != (status, [answer]):
-                    raise NoAnswer(f"{self.path} is not the program that this version knows")
+                    raise self._not_known(run)
+
+    def _not_known(self, run: Run) -> NoAnswer:
+        """The error of a wrong trial answer. A released program was not loaded; any other one is another program."""
+        what = "is not the program that this version knows"
+        if self.about:
+            import platform  # (slow, and only needed here)
+
+            here = f"{platform.machine()} with {' '.join(platform.libc_ver()).strip() or 'another C library'}"
+            needs = f"it needs x86-64-v2 and glibc {self.about.get('glibc')} or later"
+            what = f"does not start here: {needs}, and this is {here}"
+        said = run.errors[:1000].decode("utf-8", "backslashreplace").strip().split("\n")[0]
+        return NoAnswer(f"{self.path} {what}" + (f": {said}" if said else ""))
 
     def no_answer(self, command: str, why: str) -> NoAnswer:
         """The error of a command without an answer."""

@@ -3,7 +3,7 @@ from __future__ import annotations
 
 from typing import Dict, Iterator, List, Tuple
 
-from balisekit.present.refusals import not_looked_at, refused_counts, refused_lines
+from balisekit.present.refusals import not_looked_at, not_tried, refused_counts, refused_lines
 from balisekit.rules.checking import Checked
 from balisekit.rules.remarks import remarks
 from balisekit.tables.model import Group, Table
@@ -14,13 +14,11 @@ NAMED = 3
 
 
 def opening_lines(checked: Checked) -> Iterator[str]:
-    """The first lines of the answer: the table, and what was refused, left out or not looked at."""
-    table = checked.table
-    yield head_line(table)
-    yield from notes_on(table)
+    """How the table was read, and what was refused, left out or not looked at."""
+    yield from notes_on(checked.table)
     yield from refused_lines(checked)
     yield from (f"left out: {describe_group(one.group)}: {one.why}" for one in checked.left_out)
-    yield from (f"and {count}: --all continues" for count in not_looked_at(checked))
+    yield from (f"and {count}: --all continues" for count in not_tried(checked))
 
 
 def head_line(table: Table) -> str:
@@ -39,7 +37,8 @@ def last_line(checked: Checked) -> str:
     if checked.whole and checked.verdict:
         return f'program: "{checked.verdict.line}"'
     groups = f"{len(checked.left_out)} of {len(checked.table.groups)} groups left out"
-    parts = [*refused_counts(checked), groups, *not_looked_at(checked)]
+    refused = checked.refused or checked.refused_messages or checked.left_out
+    parts = [*([*refused_counts(checked), groups] if refused else []), *not_looked_at(checked)]
     found = f"; findings in the rest: {len(checked.findings)}" if checked.findings else ""
     return f"INCOMPLETE: {', '.join(parts)}{found}"
 

@@ -8,10 +8,20 @@ from balisekit.compare.moves import Exchanged, Renumbered
 from balisekit.compare.releases import Changed, Difference
 from balisekit.io import clock
 from balisekit.present import NOT_PROVED
+from balisekit.present.account_text import overlooked_lines
 from balisekit.present.check_text import head_line
 from balisekit.present.headings import finding_lines, finding_words
+from balisekit.present.opening import (
+    Shown,
+    opening,
+    paths_from,
+    program_json,
+    program_words,
+    settings_json,
+    settings_words,
+)
 from balisekit.present.pages import pieces
-from balisekit.present.refusals import not_looked_at, refused, refused_lines
+from balisekit.present.refusals import not_looked_at, overlooked, refused, refused_lines
 from balisekit.rules.checking import Checked
 
 ABOUT = f"pairs and differences are found by balisekit; {NOT_PROVED}"
@@ -21,6 +31,7 @@ def lines(found: Difference) -> Iterator[str]:
     """The answer in words."""
     for word, side in (("old", found.old), ("new", found.new)):
         yield f"{word}: {head_line(side.checked.table)}"
+    yield from opening(found.new.checked)
     yield ABOUT
     yield from (f"note: {note}" for note in found.notes)
     yield from not_compared(found)
@@ -52,6 +63,7 @@ def not_compared(found: Difference) -> Iterator[str]:
     """What could not be compared."""
     for word, checked in (("old", found.old.checked), ("new", found.new.checked)):
         yield from refused_lines(checked, f"refused in {word}: ")
+        yield from (f"in {word}: {text}" for text in overlooked_lines(checked.table))
         yield from (f"in {word}: {count}" for count in not_looked_at(checked))
 
 
@@ -66,7 +78,16 @@ def last_line(found: Difference) -> str:
         + (f", exchanged {moved}" if moved else ""),
         f"findings new {len(found.findings_new)}, gone {len(found.findings_gone)}",
     ]
-    return ("" if found.whole else "INCOMPLETE: the content of what was refused is not compared; ") + "; ".join(parts)
+    lacks = _lacks(found)
+    return f"{f'INCOMPLETE: {lacks}; ' if lacks else ''}{'; '.join(parts)}"
+
+
+def _lacks(found: Difference) -> str:
+    """What was not compared, if anything."""
+    sides = found.old.checked, found.new.checked
+    refused = any(side.refused or side.refused_messages or side.left_out for side in sides)
+    lacks = ["the content of what was refused is not compared"] if refused else []
+    return ", ".join([*lacks, *(text for side in sides for text in overlooked(side.table))])
 
 
 def as_json(found: Difference) -> Dict[str, Any]:
@@ -75,8 +96,10 @@ def as_json(found: Difference) -> Dict[str, Any]:
         "status": found.status,
         "last_line": last_line(found),
         "not_proved": ABOUT,
-        "old": _side_json(found.old.checked),
-        "new": _side_json(found.new.checked),
+        "program": program_json(found.new.checked.program),
+        "settings": settings_json(found.new.checked.settings, paths_from(found.new.checked)),
+        "old": _side_json(found.old.checked, paths_from(found.new.checked)),
+        "new": _side_json(found.new.checked, paths_from(found.new.checked)),
         "notes": found.notes,
         "refused": not_compared(found),
         "groups_added": found.groups_added,
@@ -93,9 +116,9 @@ def as_json(found: Difference) -> Dict[str, Any]:
     }
 
 
-def _side_json(checked: Checked) -> Dict[str, Any]:
+def _side_json(checked: Checked, shown: Shown) -> Dict[str, Any]:
     verdict = checked.verdict.line if checked.verdict and checked.whole else None
-    return {"path": checked.table.path, "sha256": checked.table.sha256, "verdict": verdict}
+    return {"path": shown(checked.table.path), "sha256": checked.table.sha256, "verdict": verdict}
 
 
 def _renumbered_json(each: Renumbered) -> Dict[str, Any]:
@@ -114,6 +137,7 @@ def _changed_json(changed: Changed) -> Dict[str, Any]:
 
 def page(found: Difference, now: datetime) -> Iterator[str]:
     """The answer as a page in the style of the report."""
+    checked = found.new.checked
     return pieces(
         "diff.html",
         ["palette.css", "page.css"],
@@ -122,8 +146,12 @@ def page(found: Difference, now: datetime) -> Iterator[str]:
         sides=(("old", found.old.checked), ("new", found.new.checked)),
         refused=refused,
         not_looked_at=not_looked_at,
+        overlooked_lines=overlooked_lines,
         finding_words=finding_words,
         verdict=verdict,
+        shown=paths_from(checked),
+        program=program_words(checked.program),
+        settings=settings_words(checked.settings, paths_from(checked)),
         where=where,
         last_line=last_line(found),
         not_proved=ABOUT,
@@ -133,5 +161,5 @@ def page(found: Difference, now: datetime) -> Iterator[str]:
 def verdict(checked: Checked) -> str:
     """The program's verdict on one release."""
     if not checked.whole:
-        return "INCOMPLETE: telegrams or messages were refused"
+        return "INCOMPLETE: telegrams or messages were refused or not read"
     return f"program: {checked.verdict.line}" if checked.verdict else "not checked"

@@ -1,4 +1,4 @@
-"""Meaning, urgency, cause and remedy of each finding from docs/findings.md, and of each rule from its own page.
+"""The pages of the rules: of findings from docs/findings.md, and of each rule of balisekit from its own docstring.
 
 companion/tools/from_docs.py makes `findings.json` of findings.md.
 """
@@ -10,22 +10,33 @@ import re
 from typing import Dict, Iterable, Iterator, Mapping, NamedTuple, Sequence, Tuple
 
 from balisekit.rules.families import FAMILIES, Family
-from balisekit.rules.rule import CORRECT_DATA
+from balisekit.rules.rule import FALSE_ALARM
 
 WIDTH = 116
 
-EXPLAINED = ("What it says", "How urgent", "Usual cause", "How to correct it", CORRECT_DATA, "How sure")
-"""The paragraphs that `--explain` shows."""
-HEADS = (*EXPLAINED[:3], "What may happen", *EXPLAINED[3:])
-"""The paragraphs of a report."""
-WHOLE = (*HEADS[:-1], "Example", HEADS[-1])
-"""All paragraphs."""
-KEYS = ("says", "urgent", "cause", "remedy")
-"""The keys in `findings.json` of the first paragraphs of EXPLAINED, which each finding has."""
+WHOLE = (
+    "What it says",
+    "Why it matters",
+    "Example",
+    FALSE_ALARM,
+    "Usual cause",
+    "How to correct it",
+    "How to accept it",
+    "How sure",
+)
+"""All paragraphs of a page. Only rules of balisekit's remarks state how sure they are."""
+EXPLAINED = tuple(head for head in WHOLE if head != "Example")
+"""The paragraphs that `--explain` shows beside the findings of a table."""
+ASSUMPTION = re.compile(
+    r"(?<=\.) (?=(?:The rule|It|Finally, it)(?: also)? (?:assumes|takes|relies)\b|On a track for one direction)"
+)
+"""Where the next assumption of a rule begins."""
+KEYS = ("says", "matters", "example", "false_alarm", "cause", "remedy", "acceptance")
+"""The keys in `findings.json` of the paragraphs that each finding has, in the order of WHOLE."""
 
 
 def explanations() -> Dict[int, Dict[str, str]]:
-    """The paragraphs on each finding, by its number: `name`, `says`, `urgent`, `cause`, `remedy`."""
+    """The paragraphs on each finding by its number, with its `name` and the KEYS."""
     with open(os.path.join(os.path.dirname(__file__), "findings.json"), encoding="utf-8") as file:
         return {int(rule): parts for rule, parts in json.load(file).items()}
 
@@ -38,18 +49,18 @@ class Page(NamedTuple):
     """The paragraphs, by their heads."""
 
 
-def pages(family: Family, heads: Sequence[str] = HEADS) -> Iterator[Tuple[str, Page]]:
-    """The pages of the rules of a family, by their names, with these paragraphs."""
+def pages(family: Family) -> Iterator[Tuple[str, Page]]:
+    """The pages of the rules of a family, by their names."""
     if not family.rules:
         for number, page in explanations().items():
-            yield f"F{number}", Page(page["name"], dict(zip(EXPLAINED, (page[key] for key in KEYS))))
+            yield f"F{number}", Page(page["name"], dict(zip(WHOLE, (page[key] for key in KEYS))))
     for rule in family.rules:
-        yield rule.name, Page(rule.title, {head: _plain(rule.parts[head]) for head in heads if head in rule.parts})
+        yield rule.name, Page(rule.title, {head: _plain(rule.parts[head]) for head in WHOLE if head in rule.parts})
 
 
 def page_of(name: str) -> Iterator[str]:
     """The complete page of the rule with this name, as lines of text: none if no rule has this name."""
-    named = (one for family in FAMILIES.values() for one in pages(family, WHOLE) if one[0] == name.upper())
+    named = (one for family in FAMILIES.values() for one in pages(family) if one[0] == name.upper())
     return page_lines(named, WHOLE)
 
 
@@ -60,7 +71,16 @@ def page_lines(named: Iterable[Tuple[str, Page]], heads: Sequence[str] = EXPLAIN
     for name, page in named:
         yield f"{name}: {page.title}"
         for head, text in ((head, page.parts[head]) for head in heads if head in page.parts):
-            yield from textwrap.wrap(f"{head}. {text}", WIDTH, initial_indent="    ", subsequent_indent="    ")
+            first, *assumptions = with_assumptions(head, text)
+            yield from textwrap.wrap(first, WIDTH, initial_indent="    ", subsequent_indent="    ")
+            for each in assumptions:
+                yield from textwrap.wrap(each, WIDTH, initial_indent="    - ", subsequent_indent="      ")
+
+
+def with_assumptions(head: str, text: str) -> Sequence[str]:
+    """A paragraph of a page with its head, and then each assumption of the rule that makes it a false alarm."""
+    whole = f"{head}. {text}"
+    return ASSUMPTION.split(whole) if head == FALSE_ALARM else [whole]
 
 
 def _plain(text: str) -> str:

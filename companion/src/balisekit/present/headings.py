@@ -13,6 +13,7 @@ from balisekit.tables.names import clean, counted, describe_message, kilometre, 
 URGENCIES: Dict[Urgency, str] = {
     Urgency.WRONG_INFORMATION: "at worst wrong information:",
     Urgency.WRONG_PLACE: "at worst a wrong position of the train:",
+    Urgency.NOT_JUDGED: "not judged, check by other means:",
     Urgency.BRAKING: "at worst the train brakes:",
     Urgency.RULE_ONLY: "a rule only:",
 }

@@ -1,8 +1,9 @@
 """The answer of `check` as JUnit writes the results of tests: a suite for each family of rules.
 
 A suite has a case for each group and message, and for each rule that compared nothing. The first suite also has a case
-for each refused message and each entry at fault. Cases have no time, because the program and the rules look at all
-groups in one run. Python's own XML library writes the file, so its form does not depend on installed packages.
+for each refused message, each entry at fault, and each column or sheet whose telegrams are not judged. Cases have no
+time, because the program and the rules look at all groups in one run. Python's own XML library writes the file, so its
+form does not depend on installed packages.
 """
 from __future__ import annotations
 
@@ -12,10 +13,12 @@ from typing import Dict, Iterator, List, NamedTuple, Optional, Sequence, Tuple
 
 from balisekit.present import NOT_PROVED
 from balisekit.present.accepted_text import accepted_words
+from balisekit.present.account_text import account_lines, not_judged_lines
 from balisekit.present.check_text import before_last
 from balisekit.present.headings import finding_lines
 from balisekit.present.links_text import empty_rules
-from balisekit.present.outcome_text import closing_lines, item_words, not_applied
+from balisekit.present.opening import Shown, opening, paths_from
+from balisekit.present.outcome_text import item_words, last_lines, not_applied
 from balisekit.present.refusals import message_refused, refused
 from balisekit.rules.accepted import Item, Judged
 from balisekit.rules.checking import Checked, Place
@@ -36,13 +39,14 @@ class Case(NamedTuple):
 
 
 def document(outcome: Outcome) -> bytes:
-    """The file. The output of its first suite has the remarks on the table, and the last line of `check`."""
+    """The file. The output of its first suite has how `check` begins, its remarks on the table, and its last line."""
     suites = [(part, list(_cases(outcome, part))) for part in outcome.parts]
+    shown = paths_from(outcome.checked)
     top = ElementTree.Element("testsuites", _numbers([case for _, cases in suites for case in cases]))
     top.set("time", _seconds(sum(part.seconds for part in outcome.parts)))
     for part, cases in suites:
         program = "balisecheck" if part.family.letter == PROVED else f"balisekit {part.family.things}"
-        name = f"{program} {clean(outcome.checked.table.path)}"
+        name = f"{program} {clean(shown(outcome.checked.table.path))}"
         suite = ElementTree.SubElement(top, "testsuite", {"name": name, **_numbers(cases)})
         suite.set("time", _seconds(part.seconds))
         for case in cases:
@@ -51,7 +55,9 @@ def document(outcome: Outcome) -> bytes:
                 ElementTree.SubElement(
                     element, case.result, {"message": case.why, "type": case.result}
                 ).text = case.text
-    out = [*before_last(outcome.checked.table), *not_applied(outcome), closing_lines(outcome)[-1]]
+    begin = opening(outcome.checked, outcome.judged, shown)
+    out = [*begin, *before_last(outcome.checked.table), *not_applied(outcome), *account_lines(outcome)]
+    out.append(last_lines(outcome)[-1])
     ElementTree.SubElement(top[0], "system-out").text = "\n".join([*map(clean, out), NOT_PROVED])
     written: bytes = ElementTree.tostring(top, "utf-8", xml_declaration=True)
     return written + b"\n"
@@ -82,8 +88,9 @@ def _cases(outcome: Outcome, part: Part) -> Iterator[Case]:
     for rule in empty_rules(part.applied) if part.applied else ():
         yield Case("rule", rule.split(" ", 1)[0], "error", rule)
     if is_first:
+        yield from _not_read(checked)
         yield from _bad_messages(checked)
-        yield from _at_fault(judged) if judged else ()
+        yield from _at_fault(judged, paths_from(checked)) if judged else ()
 
 
 def _about(item: Item) -> object:
@@ -105,15 +112,23 @@ def _left_out(checked: Checked) -> Iterator[Tuple[str, Case]]:
         yield name, Case("group", clean(name), "error", f"left out: {clean(skipped.why)}", telegrams.get(name, ""))
 
 
+def _not_read(checked: Checked) -> Iterator[Case]:
+    """A case for each column and sheet with telegrams that nobody asked to leave out."""
+    for each in checked.table.account.not_judged:
+        if not each.asked:
+            (text,) = not_judged_lines([each])
+            yield Case("not judged", clean(each.column or each.sheet or ""), "error", clean(each.why), text)
+
+
 def _bad_messages(checked: Checked) -> Iterator[Case]:
     for bad in checked.refused_messages:
         why = message_refused(bad.message.text, bad.refusal)
         yield Case("message", describe_message(bad.message), "error", why, f"program: {bad.refusal.text}")
 
 
-def _at_fault(judged: Judged) -> Iterator[Case]:
+def _at_fault(judged: Judged, shown: Shown) -> Iterator[Case]:
     for fault, why in judged.faults:
-        yield Case("accepted", f"row {fault.row}", "failure", why, f"{clean(judged.entries.path)}: {why}")
+        yield Case("accepted", f"row {fault.row}", "failure", why, f"{clean(shown(judged.entries.path))}: {why}")
 
 
 def _case(kind: str, name: str, items: Sequence[Item], judged: Optional[Judged]) -> Case:

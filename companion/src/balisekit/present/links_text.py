@@ -6,10 +6,12 @@ from collections import Counter
 from typing import Any, Dict, Iterator, List, Sequence
 
 from balisekit.present import NOT_PROVED
+from balisekit.present.account_text import overlooked_lines
 from balisekit.present.check_text import head_line
 from balisekit.present.explanations import page_lines, pages
 from balisekit.present.headings import words
-from balisekit.present.refusals import not_looked_at, refused_counts, refused_lines
+from balisekit.present.opening import opening, paths_from, program_json, settings_json
+from balisekit.present.refusals import lacking, refused_lines
 from balisekit.rules.checking import Checked
 from balisekit.rules.families import FAMILIES, entry_of_remark
 from balisekit.rules.links import L2, Links
@@ -34,10 +36,12 @@ def lines(checked: Checked, links: Links, explained: bool = False) -> Iterator[s
     """The answer in words."""
     table = checked.table
     yield head_line(table)
+    yield from opening(checked)
     yield from passed_over(table)
     yield ABOUT
     yield from (f"note: {clean(note)}" for note in (*table.notes, *links.notes))
     yield from refused_lines(checked)
+    yield from overlooked_lines(table)
     yield from map(_words, links.remarks)
     if explained:
         rules = {remark.rule for remark in links.remarks}
@@ -56,11 +60,6 @@ def last_line(checked: Checked, links: Links) -> str:
     where = "the rest" if lacking(checked) else f"{count} group{'s' * (count != 1)}"
     said = f"links: {found(links, f' of {OF_RULES}')} in {where}; {compared(links)}"
     return f"INCOMPLETE: {', '.join(parts)}; {said}" if parts else said
-
-
-def lacking(checked: Checked) -> List[str]:
-    """How many telegrams and messages were refused or not tried."""
-    return [count for count in refused_counts(checked) if not count.startswith("0 ")] + not_looked_at(checked)
 
 
 def found(links: Links, rules: str = "") -> str:
@@ -139,14 +138,16 @@ def as_json(checked: Checked, links: Links) -> Dict[str, Any]:
         "status": status_of(checked, links),
         "last_line": last_line(checked, links),
         "not_proved": ABOUT,
-        "program": {"path": checked.program.path, "sha256": checked.program.sha256},
-        "table": {"path": table.path, "sha256": table.sha256, "passed_over": table.passed_over},
+        "program": program_json(checked.program),
+        "settings": settings_json(checked.settings, paths_from(checked)),
+        "table": {"path": paths_from(checked)(table.path), "sha256": table.sha256, "passed_over": table.passed_over},
         "counts": {
             "telegrams": len(table.rows),
             "groups": len(table.groups),
             "refused": len(checked.refused),
             "refused_messages": len(checked.refused_messages),
             "not_looked_at": checked.not_looked_at,
+            "not_read": table.account.overlooked,
         },
         "rules": rules_json([links]),
         "notes": [*table.notes, *links.notes],

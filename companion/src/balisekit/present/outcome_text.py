@@ -4,10 +4,13 @@ from __future__ import annotations
 from typing import Iterator, List, Sequence, Tuple
 
 from balisekit.present import headings
+from balisekit.present.account_text import account_lines
 from balisekit.present.accepted_text import accepted_words, fault_lines, verdict_lines
-from balisekit.present.check_text import before_last, last_line as last_line_of_program, opening_lines
+from balisekit.present.check_text import before_last, head_line, last_line as last_line_of_program, opening_lines
 from balisekit.present.explanations import Page, page_lines, pages
-from balisekit.present.links_text import compared, empty_rules, found, how_many_compared, lacking, not_compared
+from balisekit.present.links_text import compared, empty_rules, found, how_many_compared, not_compared
+from balisekit.present.opening import Shown, opening
+from balisekit.present.refusals import lacking
 from balisekit.rules.accepted import UNNAMED, Item, keys
 from balisekit.rules.applied import Applied
 from balisekit.rules.checking import Place
@@ -21,8 +24,15 @@ SHOWN = 20
 """How many items that no entry can name are listed. The others are counted."""
 
 
-def lines(outcome: Outcome, explained: bool = False, proposed: bool = False) -> Iterator[str]:
-    """The answer in words. With `proposed`, or with a file of entries, it lists items that no entry can name."""
+def lines(
+    outcome: Outcome, explained: bool = False, proposed: bool = False, notes: Sequence[str] = ()
+) -> Iterator[str]:
+    """The answer in words. With `proposed`, or with a file of entries, it lists items that no entry can name.
+
+    `notes` are on what else was written.
+    """
+    yield head_line(outcome.checked.table)
+    yield from opening(outcome.checked, outcome.judged)
     yield from opening_lines(outcome.checked)
     for part in outcome.parts:
         if outcome.letters != PROVED:
@@ -35,6 +45,7 @@ def lines(outcome: Outcome, explained: bool = False, proposed: bool = False) -> 
     yield from before_last(outcome.checked.table)
     yield from unnamed_lines(outcome) if proposed or outcome.judged else ()
     yield from not_applied(outcome)
+    yield from notes
     yield from closing_lines(outcome)
 
 
@@ -119,13 +130,16 @@ def _why_unnamed(item: Item) -> str:
     return "its message has no name of its own" if message else "the identity of its group is not known"
 
 
-def closing_lines(outcome: Outcome) -> List[str]:
-    """What ends the answer: entries at fault, how much is open, and the verdict."""
-    last = verdict(outcome)
-    if not outcome.judged:
-        return [last]
-    judged = outcome.judged
-    return [*fault_lines(judged), *verdict_lines(judged, last, outcome.whole, outcome.letters)]
+def closing_lines(outcome: Outcome, shown: Shown = str) -> List[str]:
+    """What ends the answer: entries at fault, the account, how much is open, and the verdict."""
+    faults = fault_lines(outcome.judged, shown) if outcome.judged else ()
+    return [*faults, *account_lines(outcome), *last_lines(outcome)]
+
+
+def last_lines(outcome: Outcome) -> List[str]:
+    """The verdict, and how much is open if there is a file of entries."""
+    last, judged = verdict(outcome), outcome.judged
+    return list(verdict_lines(judged, last, outcome.whole, outcome.letters)) if judged else [last]
 
 
 def _found(part: Part, applied: Applied) -> str:

@@ -6,7 +6,8 @@ from typing import Iterator, List, NamedTuple, Optional, Sequence
 from balisekit.engine.grammar import Refusal
 from balisekit.etcs.layout import Field, bits_of, message_fields, telegram_fields, user_bits
 from balisekit.rules.checking import Checked
-from balisekit.tables.names import describe_balise, describe_message, ordinal, quoted
+from balisekit.tables.model import Table
+from balisekit.tables.names import counted, describe_balise, describe_message, ordinal, quoted
 
 CODED = {86: 341, 256: 1023}
 """The digits of a telegram with its channel coding, and its bits."""
@@ -58,10 +59,21 @@ def refused_lines(checked: Checked, before: str = "") -> Iterator[str]:
         yield from (before + item.sentence, f"    program: {item.program}")
 
 
-def not_looked_at(checked: Checked) -> List[str]:
+def not_tried(checked: Checked) -> List[str]:
     """How many rows and messages were not tried after too many refused ones."""
     counts = ((checked.not_looked_at, "rows"), (checked.messages_not_looked_at, "messages"))
     return [f"{count} {what} not looked at" for count, what in counts if count]
+
+
+def not_looked_at(checked: Checked) -> List[str]:
+    """How many rows and messages were not tried, and how many telegrams are in what is not read."""
+    return [*not_tried(checked), *overlooked(checked.table)]
+
+
+def overlooked(table: Table) -> List[str]:
+    """How many telegrams are in columns or sheets that are not read, although no option asked for that."""
+    count = table.account.overlooked
+    return [f"{counted(count, 'telegram')} in columns or sheets that are not read"] if count else []
 
 
 def refused_counts(checked: Checked) -> List[str]:
@@ -70,6 +82,11 @@ def refused_counts(checked: Checked) -> List[str]:
     if checked.messages and checked.refused_messages:
         counts.append(f"{len(checked.refused_messages)} of {len(checked.messages.messages)} messages refused")
     return counts
+
+
+def lacking(checked: Checked) -> List[str]:
+    """How many telegrams and messages were refused, not tried or not read."""
+    return [count for count in refused_counts(checked) if not count.startswith("0 ")] + not_looked_at(checked)
 
 
 def telegram_refused(digits: str, refusal: Refusal) -> str:

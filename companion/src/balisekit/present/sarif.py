@@ -17,8 +17,10 @@ from balisekit import __version__
 from balisekit.io import inputs
 from balisekit.present import NOT_PROVED
 from balisekit.present.accepted_text import accepted_words
+from balisekit.present.account_text import account_json, not_judged_lines
 from balisekit.present.explanations import Page, pages
 from balisekit.present.headings import entry_lines
+from balisekit.present.opening import opening, paths_from, settings_json
 from balisekit.present.outcome_text import closing_lines, not_applied, not_decoded
 from balisekit.present.refusals import message_refused, refused
 from balisekit.rules.accepted import keys
@@ -32,12 +34,16 @@ SCHEMA = "https://docs.oasis-open.org/sarif/sarif/v2.1.0/errata01/os/schemas/sar
 LEVELS = {
     Urgency.WRONG_INFORMATION: "error",
     Urgency.WRONG_PLACE: "error",
+    Urgency.NOT_JUDGED: "warning",
     Urgency.BRAKING: "warning",
     Urgency.RULE_ONLY: "note",
 }
 REFUSED = "refused"
 """The identifier of a result for what the program has refused."""
 REFUSED_PAGE = Page("a telegram or message that the program refuses", {"How to correct it": "See docs/refusals.md."})
+NOT_JUDGED = "not-judged"
+"""The identifier of a result for telegrams in a column or sheet that is not read."""
+NOT_JUDGED_PAGE = Page("telegrams that are not judged", {"How to correct it": "See the account in docs/commands.md."})
 FINGERPRINT = "balisekit/v1"
 Object = Dict[str, Any]
 Lines = Sequence[Tuple[int, int]]
@@ -49,7 +55,7 @@ def document(outcome: Outcome) -> Object:
     rules = [_rule(name, page) for name, page in _pages(outcome)]
     numbers = {rule["id"]: number for number, rule in enumerate(rules)}
     lines = _lines(outcome)
-    results = [*_refused(outcome, lines), *_entries(outcome, lines)]
+    results = [*_refused(outcome, lines), *_not_read(outcome, lines), *_entries(outcome, lines)]
     seen: Counter[str] = Counter()
     for result in results:
         result["ruleIndex"] = numbers[result["ruleId"]]
@@ -57,7 +63,12 @@ def document(outcome: Outcome) -> Object:
         seen[fingerprint] += 1
         result["partialFingerprints"][FINGERPRINT] += f":{seen[fingerprint]}"
     checked = outcome.checked
-    about = {"program": checked.program.version, "programSha256": checked.program.sha256}
+    about = {
+        "program": checked.program.version,
+        "programSha256": checked.program.sha256,
+        "programKnownBy": checked.program.known_by,
+        "settings": settings_json(checked.settings, paths_from(checked)),
+    }
     driver = {"name": "balisekit", "version": __version__, "fullName": f"balisecheck and balisekit; {NOT_PROVED}"}
     run = {
         "tool": {"driver": {**driver, "rules": rules, "properties": about}},
@@ -65,16 +76,18 @@ def document(outcome: Outcome) -> Object:
         "originalUriBaseIds": {"%SRCROOT%": {"description": {"text": "the folder in which the command ran"}}},
         "invocations": [_invocation(outcome)],
         "results": results,
+        "properties": {"account": account_json(outcome, clean)},
     }
     return {"$schema": SCHEMA, "version": "2.1.0", "runs": [run]}
 
 
 def _invocation(outcome: Outcome) -> Object:
-    """How the run has ended. What was not looked at and the closing lines are notifications."""
-    closing = closing_lines(outcome)
+    """How the run has ended. How the answer begins, what was not looked at and how it ends are notifications."""
+    shown = paths_from(outcome.checked)
+    begin, closing = opening(outcome.checked, outcome.judged, shown), closing_lines(outcome, shown)
     notes = [
         {"level": "note", "message": {"text": note}}
-        for note in [*not_decoded(outcome), *not_applied(outcome), *closing]
+        for note in [*begin, *not_decoded(outcome), *not_applied(outcome), *closing]
     ]
     return {
         "executionSuccessful": True,
@@ -86,6 +99,7 @@ def _invocation(outcome: Outcome) -> Object:
 
 def _pages(outcome: Outcome) -> Iterator[Tuple[str, Page]]:
     yield REFUSED, REFUSED_PAGE
+    yield NOT_JUDGED, NOT_JUDGED_PAGE
     for part in outcome.parts:
         yield from pages(part.family)
 
@@ -123,6 +137,15 @@ def _refused(outcome: Outcome, lines: Lines) -> Iterator[Object]:
         yield _result(REFUSED, "error", text, [_location(path, [bad.message.number])], bad.message.text)
 
 
+def _not_read(outcome: Outcome, lines: Lines) -> Iterator[Object]:
+    table = outcome.checked.table
+    for each in table.account.not_judged:
+        if not each.asked:
+            (text,) = not_judged_lines([each])
+            location = _location(table.path, each.rows, lines)
+            yield _result(NOT_JUDGED, "error", text, [location], f"{each.sheet} {each.column}")
+
+
 def _entries(outcome: Outcome, lines: Lines) -> Iterator[Object]:
     names = {id(item): key for item, key in zip(outcome.items, keys(outcome.items, outcome.checked))}
     for entry in outcome.entries:
@@ -150,6 +173,8 @@ def _location(path: str, rows: Sequence[int], lines: Lines = (), group: str = ""
     first, last = min(rows, default=1), max(rows, default=1)
     if lines:
         first, last = lines[first - 1][0], lines[last - 1][1]
+    inside = os.path.relpath(path)  # (code hosts need a path from the top of the repository, where jobs run)
+    path = path if inside.startswith(os.pardir) else inside
     is_relative = not os.path.isabs(path)
     uri = {"uri": quote(path), "uriBaseId": "%SRCROOT%"} if is_relative else {"uri": Path(path).as_uri()}
     region = {"startLine": first, "endLine": last}

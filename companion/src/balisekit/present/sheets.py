@@ -5,7 +5,7 @@ from typing import Iterator, List, Union
 
 from balisekit.compare.sheet import COLUMNS, Compared, Difference, Sheet
 from balisekit.io import csv_writing, xlsx_writing
-from balisekit.present.refusals import refused_counts
+from balisekit.present.refusals import lacking
 from balisekit.rules.checking import Checked
 from balisekit.rules.entries import Entry
 from balisekit.rules.families import Outcome
@@ -52,7 +52,7 @@ def difference_words(each: Difference) -> str:
 def last_line(checked: Checked, compared: Compared) -> str:
     """How many cells differ, and what was compared."""
     count, path = len(compared.differences), clean(compared.path)
-    parts = [text for text in refused_counts(checked) if not text.startswith("0 ")]
+    parts = lacking(checked)
     parts += [f"{compared.refused} rows of the sheet about them not compared"] if compared.refused else []
     said = f"differences {count}; compared: {compared.rows - compared.refused} rows of {path}"
     left = compared.variables - compared.seen

@@ -1,8 +1,8 @@
 """Findings and remarks that were accepted: the entries of a file, and which findings and remarks of a line they fit.
 
 An entry names a group by its identity, a message by its name in the messages' file, an aspect by its name in the table,
-and a balise and packet by their places. So a group that is put in before moves nothing. The checksum of an entry holds
-the telegrams that were looked at: it accepts no other ones.
+and a balise and packet by their places. So a group that is put in before moves nothing. Names have the escapes of all
+outputs. The checksum of an entry holds the telegrams that were looked at: it accepts no other ones.
 """
 from __future__ import annotations
 
@@ -24,7 +24,7 @@ from balisekit.tables import csv as csv_file
 from balisekit.tables.cells import headings
 from balisekit.tables.headings import Headings
 from balisekit.tables.model import Group, Message, Row
-from balisekit.tables.names import BLANK
+from balisekit.tables.names import BLANK, clean
 
 FIELDS = ("rule", "nid_c", "nid_bg", "message", "aspect", "balise", "packet", "direction")
 """What says which finding is meant."""
@@ -109,7 +109,7 @@ class Acceptance(NamedTuple):
         if self.date and self.until and self.until < self.date:
             faults.append(f"until {self.until} is before date {self.date}")
         elif self.until and self.until < day:
-            faults.append(f"until {self.until} is past")
+            faults.append(f"expired: until {self.until} is past")
         return faults
 
     def changed(self, items: Sequence[Item]) -> List[str]:
@@ -149,6 +149,8 @@ class Judged:
     """For each item the first entry that fits it only, whether or not it accepts it."""
     passed_over: Tuple[Acceptance, ...] = ()
     """The entries for rules that were not applied: nobody knows whether they fit."""
+    day: datetime.date = EARLIEST
+    """By which day the entries were judged."""
 
     @cached_property
     def _by_id(self) -> Dict[int, Optional[Acceptance]]:
@@ -212,7 +214,7 @@ def _entry(number: int, heading: Sequence[str], cells: Sequence[str]) -> Accepta
     for name, value in values.items():
         if "\n" in value or "\r" in value:
             raise TableError("the cell contains a line end", column=name)
-    key = tuple(_value(name, values[name]) for name in FIELDS)
+    key = tuple(clean(_value(name, values[name])) for name in FIELDS)
     if {"", ANY} & set(key[1:3]) and key[3] in ("", ANY):
         why = "an entry is about one group, by nid_c and nid_bg, or about one message, by its name"
         raise TableError(why, column="message" if key[1:3] == ("", "") else "nid_c")
@@ -255,7 +257,7 @@ def _date(name: str, value: str) -> Optional[datetime.date]:
 def keys(items: Iterable[Item], checked: Checked) -> List[Key]:
     """What an entry has to say of each item."""
     items = list(items)
-    names = Counter(one.name for one in (checked.messages.messages if checked.messages else ()))
+    names = Counter(clean(one.name) for one in (checked.messages.messages if checked.messages else ()))
     known = identities(checked, [item.group for item in items if isinstance(item, Place) and item.group])
     return [_key(item, known, names) for item in items]
 
@@ -270,8 +272,8 @@ def identities(checked: Checked, groups: Iterable[Group]) -> Dict[str, Tuple[int
 
 def _key(item: Item, known: Mapping[str, Tuple[int, int]], names: Mapping[str, int]) -> Key:
     message = _message(item)
-    name = "" if message is None else message.name if names[message.name] == 1 else UNNAMED
-    name = UNNAMED if message is not None and name in ("", ANY) else name
+    name = "" if message is None else clean(message.name)
+    name = UNNAMED if message is not None and (name in ("", ANY) or names[name] > 1) else name
     if isinstance(item, Remark):
         return (item.rule, *_identity(item), name, *_place_of(item))
     finding = item.finding
@@ -280,7 +282,7 @@ def _key(item: Item, known: Mapping[str, Tuple[int, int]], names: Mapping[str, i
         nid_c, nid_bg = known[item.group.name]
         identity = (str(nid_c), str(nid_bg))
     numbers = ["" if number is None else str(number) for number in (finding.balise, finding.packet)]
-    return (f"F{finding.rule}", *identity, name, item.aspect or "", *numbers, finding.direction or "")
+    return (f"F{finding.rule}", *identity, name, clean(item.aspect or ""), *numbers, finding.direction or "")
 
 
 def _identity(remark: Remark) -> Tuple[str, str]:
@@ -295,7 +297,7 @@ def _place_of(remark: Remark) -> Tuple[str, str, str, str]:
     """Aspect, balise, packet and direction of a remark."""
     where, aspect, balise = remark.location, "", ""
     if where.row is not None and where.group is not None:
-        aspect = "" if where.row.aspect == ANY else where.row.aspect
+        aspect = "" if where.row.aspect == ANY else clean(where.row.aspect)
         balise = str(where.group.group.places[where.row.number])
     return aspect, balise, "" if where.packet is None else str(where.packet), where.direction
 
@@ -372,7 +374,7 @@ def judge(
     former = [next((entry for entry in fits if not entry.is_wide), None) for fits in about]
     at_fault = [(entry, ", ".join(faults[entry.row])) for entry in applied if faults[entry.row]]
     others = tuple(entry for entry in entries.entries if entry.rule[0] not in families)
-    return Judged(entries, tuple(items), tuple(by_item), tuple(at_fault), tuple(former), others)
+    return Judged(entries, tuple(items), tuple(by_item), tuple(at_fault), tuple(former), others, day)
 
 
 def _entries_about(wanted: Iterable[Key], entries: Iterable[Acceptance]) -> Iterator[List[Acceptance]]:

@@ -19,11 +19,15 @@ from balisekit.etcs.places import Identities
 from balisekit.rules.findings_on_correct_data import row_of
 from balisekit.rules.statements import statement
 from balisekit.rules.statements.scene import Balise, BaliseName, Scene, Statement
+from balisekit.tables.account import Account
 from balisekit.tables.grouping import by_position
 from balisekit.tables.model import Aspect, Group, Message, Messages, Row, Table
+from balisekit.tables.settings import Settings
 
 GREATEST_REFUSED = 10_000
 """After this many refused telegrams the others are not tried."""
+NOT_TRIED = f"not tried after {GREATEST_REFUSED:,} refused ones; --all tries them"
+LEFT_OUT = "another telegram of the group was refused or not tried"
 ALL_HELP = f"continue after {GREATEST_REFUSED:,} refused telegrams or messages"
 ENCODE = json.JSONEncoder().encode
 BODY = re.compile('"body":"[^"]*","l_packet":[0-9]+,"nid_packet":([0-9]+)')
@@ -192,6 +196,8 @@ class Checked:
     verdict: Optional[Verdict] = None
     """The program's first line, if it was asked."""
     findings: Tuple[Place, ...] = ()
+    settings: Settings = Settings()
+    """Which settings of the command differ from their defaults."""
 
     @property
     def not_looked_at(self) -> int:
@@ -212,10 +218,33 @@ class Checked:
             note_raw(raw, accepted.message.number, accepted.record)
         return raw
 
+    @cached_property
+    def account(self) -> Account:
+        """What became of the telegrams of the table."""
+        account = self.table.account.refusing(len(self.refused))
+        if not (self.refused or self.left_out or self.not_looked_at):
+            return account
+        refused = {each.row.number for each in self.refused}
+        tried = refused | self.accepted.keys()
+        account = account.without(NOT_TRIED, {row.number for row in self.table.rows} - tried)
+        left_out = {row.number for each in self.left_out for row in each.group.rows()}
+        return account.without(LEFT_OUT, left_out & self.accepted.keys())
+
+    @cached_property
+    def account_of_messages(self) -> Optional[Account]:
+        """What became of the messages, if there is a file of them."""
+        if self.messages is None:
+            return None
+        tried = {each.message.number for each in self.accepted_messages}
+        tried |= {each.message.number for each in self.refused_messages}
+        lines = {message.number for message in self.messages.messages}
+        return self.messages.account.refusing(len(self.refused_messages)).without(NOT_TRIED, lines - tried)
+
     @property
     def whole(self) -> bool:
-        """Whether all that was handed in has been checked."""
-        return not (self.refused or self.refused_messages or self.left_out or self.not_looked_at)
+        """Whether all that is in the file, and was not left out by an option, has been checked."""
+        is_checked = not (self.refused or self.refused_messages or self.left_out or self.not_looked_at)
+        return is_checked and not self.table.account.overlooked
 
     @property
     def status(self) -> int:

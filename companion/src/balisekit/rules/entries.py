@@ -64,7 +64,7 @@ URGENCIES: Mapping[int, Urgency] = {
     **dict.fromkeys((1, 2, 5, 8, 10, 11, 12, 13, 16), Urgency.WRONG_INFORMATION),
     **dict.fromkeys((3, 14), Urgency.WRONG_PLACE),
     **dict.fromkeys((4, 6, 7, 15), Urgency.BRAKING),
-    9: Urgency.RULE_ONLY,
+    9: Urgency.NOT_JUDGED,
 }
 """What a finding means at worst, by docs/findings.md. F15 is worse with F16, which is an entry of its own."""
 

@@ -21,11 +21,13 @@ from balisekit.rules.location import Identity
 from balisekit.rules.results import read, results
 from balisekit.rules.rule import Options, Remark, Result, Rule
 from balisekit.rules.statements.scene import BaliseName
+from balisekit.tables.account import Account
 
 IN_FULL = 1
 """How many copies of this process compare the contents of all telegrams: each needs much memory."""
 PROVED, PLAN = "F", "X"
 """The family of the program, and the one that needs a track plan."""
+WITHOUT_F = "--only {} leaves out the program's findings F"
 
 
 class Family(NamedTuple):
@@ -134,6 +136,24 @@ class Outcome:
         """Who has accepted an entry."""
         found = map(self.judged.of, items_of(entry)) if self.judged else ()
         return list(dict.fromkeys(each for each in found if each))
+
+    @cached_property
+    def account(self) -> Account:
+        """What became of the telegrams of the table. Without the rules F the program's findings cover none."""
+        account = self.checked.account
+        if PROVED in self.letters:
+            return account
+        rows = {row.number for group in self.checked.kept for row in group.rows()}
+        return account.without(WITHOUT_F.format(",".join(self.letters)), rows, asked=True)
+
+    @cached_property
+    def account_of_messages(self) -> Optional[Account]:
+        """What became of the messages, if there is a file of them."""
+        account = self.checked.account_of_messages
+        if account is None or PROVED in self.letters:
+            return account
+        lines = {each.message.number for each in self.checked.accepted_messages}
+        return account.without(WITHOUT_F.format(",".join(self.letters)), lines, asked=True)
 
     @property
     def whole(self) -> bool:

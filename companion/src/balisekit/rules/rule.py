@@ -14,13 +14,14 @@ from typing import Callable, Dict, FrozenSet, Iterator, List, Mapping, NamedTupl
 from balisekit.rules.chainage import Jump
 from balisekit.rules.line import Line
 from balisekit.rules.location import BaliseGroup, Location
+from balisekit.rules.page_sentences import filled_in
 from balisekit.rules.passages import Chain
 from balisekit.tables.model import Row
 from balisekit.tables.plan import Plan
 
 REFUSED = "refused"
-CORRECT_DATA, NONE = "Correct data that gets it", "None"
-"""The paragraph of a page, and how it begins if there are none."""
+FALSE_ALARM, NEVER = "When it is a false alarm", "Never"
+"""The paragraph of a page, and how it begins if no correct data gets a remark."""
 ALL = "all"
 """Asks for all rules."""
 LINE_SPEED, RELEASE_SPEED = 350, 40
@@ -38,9 +39,11 @@ class Urgency(IntEnum):
     """A train may go by information that is wrong, is not for it or does not reach far enough."""
     WRONG_PLACE = 2
     """A train may believe itself to be somewhere else."""
-    BRAKING = 3
+    NOT_JUDGED = 3
+    """The program does not judge what a packet does, so anything above or below may follow."""
+    BRAKING = 4
     """A train may brake or be tripped without need."""
-    RULE_ONLY = 4
+    RULE_ONLY = 5
     """No effect on a train is known; a rule of the standard or of this project is broken."""
 
 
@@ -159,6 +162,8 @@ class Rule:
     """Whether it is not applied to a table without kilometres."""
     is_default: bool = True
     """Whether it is applied if nobody asks for it."""
+    optional_part: str = ""
+    """What it also reports if it is asked for by name, of a rule that is otherwise always applied."""
 
     @cached_property
     def title(self) -> str:
@@ -168,10 +173,10 @@ class Rule:
     @property
     def has_correct_data(self) -> bool:
         """Whether correct data may get a remark of this rule, by its page."""
-        return not self.parts.get(CORRECT_DATA, NONE).startswith(NONE)
+        return not self.parts.get(FALSE_ALARM, NEVER).startswith(NEVER)
 
     @cached_property
     def parts(self) -> Dict[str, str]:
-        """The paragraphs of the page behind the first line, by their first words: `What it says`, `How urgent`."""
-        paragraphs = [" ".join(each.split()) for each in self.page.split("\n\n")[1:]]
+        """The paragraphs of the page after the first line, by their first words: `What it says`, `Why it matters`."""
+        paragraphs = [" ".join(each.split()) for each in filled_in(self.page).split("\n\n")[1:]]
         return {head: text for head, _, text in (each.partition(". ") for each in paragraphs)}

@@ -2,7 +2,7 @@
 from __future__ import annotations
 
 import re
-from typing import Collection, List, NamedTuple, Sequence, Tuple
+from typing import Collection, List, Mapping, NamedTuple, Sequence, Tuple
 
 from balisekit.errors import TableError
 
@@ -13,10 +13,15 @@ GREATEST_NAME = 1000
 """The most characters of a cell that is no telegram, and how many of a heading are shown."""
 BLANKS = " \t\u00a0\u2000-\u200b\u202f\u3000"
 QUOTES = "\"'\u2018\u2019\u201c\u201d\u201e\u00ab\u00bb"
-DIGITS = re.compile("[0-9A-Fa-f]+")
+DIGITS, NO_DIGIT = re.compile("[0-9A-Fa-f]+"), re.compile("[^0-9A-Fa-f]+")
 ERROR = re.compile("#[A-Z/0]+[!?]|#N/A|#NV")
 """What a spreadsheet has in a cell whose formula failed, in one language or another."""
 PAIRS = re.compile(r"[^:-]{2}(?:([:-])[^:-]{2})(?:\1[^:-]{2})*")
+LEAST_DIGITS = 40
+"""How many characters a cell has at least that looks like a telegram. The shortest telegrams have 54."""
+LINE_END = re.compile("[\r\n\v\f\x1c-\x1e\x85\u2028\u2029]")
+PARTS = re.compile("[,;\t\r\n\v\f\x1c-\x1e\x85\u2028\u2029]")
+"""What separates cells and rows that a quote has put into one cell."""
 
 
 class Sheet(NamedTuple):
@@ -35,6 +40,10 @@ class Sheet(NamedTuple):
     """The merged areas, if their cells are to be filled."""
     is_merged: bool = False
     """Whether there are merged areas whose cells are not filled."""
+    telegrams_of_others: Mapping[str, Sequence[int]] = {}
+    """The rows of cells that look like telegrams in the other sheets, by the names of these."""
+    is_chosen: bool = False
+    """Whether the user has named the sheet."""
 
 
 Area = Tuple[int, int, int, int]
@@ -67,6 +76,19 @@ def digits(cell: str) -> str:
     if text[-1:] in ("h", "H"):
         text = text[:-1]
     return re.sub("[:-]", "", text) if PAIRS.fullmatch(text) else text
+
+
+def is_telegram(cell: str) -> bool:
+    """Whether a cell looks like a telegram, perhaps with some wrong characters."""
+    if len(cell) < LEAST_DIGITS:
+        return False
+    text = digits("".join(kind_and_text(cell)[1].split()))
+    return len(text) >= LEAST_DIGITS and 10 * len(NO_DIGIT.sub("", text)) >= 9 * len(text)
+
+
+def has_telegram(cell: str) -> bool:
+    """Whether a cell looks like a telegram, or has one between separators or line ends."""
+    return len(cell) >= LEAST_DIGITS and (is_telegram(cell) or any(map(is_telegram, PARTS.split(cell))))
 
 
 def fill_heads(rows: List[List[str]], areas: Sequence[Area]) -> None:

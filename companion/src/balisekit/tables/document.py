@@ -3,10 +3,11 @@ from __future__ import annotations
 
 import json
 from codecs import BOM_UTF8
-from typing import Any, List, Tuple
+from typing import Any, Dict, List, Tuple
 
 from balisekit.errors import TableError, faults_of
 from balisekit.io.inputs import Input
+from balisekit.tables.account import of_rows
 from balisekit.tables.encoding import text_of
 from balisekit.tables.grouping import GREATEST_COUNT
 from balisekit.tables.model import Aspect, Group, Message, Messages, Row, Table
@@ -25,7 +26,7 @@ def read(file: Input) -> Tuple[Table, Messages]:
             if encoding != "utf-8" or file.content.startswith(BOM_UTF8):
                 why = f"it is a document in {encoding} or with a byte order mark: save it as UTF-8 without one"
                 raise TableError(why)
-            form = json.loads(text)
+            form = json.loads(text, object_pairs_hook=_object)
             groups, rows = _groups(form)
             messages = [
                 Message(place + 1, _text(text, f"/messages/{place}"), name=f"message {place}")
@@ -35,8 +36,18 @@ def read(file: Input) -> Tuple[Table, Messages]:
                 raise TableError(f"it has the keys {', '.join(form)[:100]}, and a document has groups and messages")
         except (ValueError, RecursionError) as error:
             raise TableError(f"it is no document that can be read: {str(error)[:100]}") from error
-    table = Table(file.path, file.sha256, encoding, "", (), tuple(rows), tuple(groups))
-    return table, Messages(file.path, file.sha256, encoding, tuple(messages))
+    account, of_messages = of_rows([row.number for row in rows]), of_rows([each.number for each in messages])
+    table = Table(file.path, file.sha256, encoding, "", (), tuple(rows), tuple(groups), account)
+    return table, Messages(file.path, file.sha256, encoding, tuple(messages), of_messages)
+
+
+def _object(members: List[Tuple[str, Any]]) -> Dict[str, Any]:
+    """An object of JSON. TableError is raised if it has a key twice: readers differ in which value they take."""
+    form = dict(members)
+    if len(form) != len(members):
+        key = next(key for index, (key, _) in enumerate(members) if key in dict(members[:index]))
+        raise TableError(f"an object has the key {key[:40]} twice: the program takes the last value, others the first")
+    return form
 
 
 def _groups(form: Any) -> Tuple[List[Group], List[Row]]:

@@ -6,7 +6,8 @@ from typing import List
 
 from balisekit.errors import TableError, TableErrors, faults_of
 from balisekit.io import inputs
-from balisekit.tables.cells import digits
+from balisekit.tables.account import of_rows
+from balisekit.tables.cells import digits, has_telegram
 from balisekit.tables.encoding import text_of
 from balisekit.tables.model import Message, Messages
 
@@ -17,7 +18,7 @@ def read(path: str) -> Messages:
     with faults_of(path):
         text, encoding = text_of(file.content)
         messages = _messages(text)
-    return Messages(path, file.sha256, encoding, tuple(messages))
+    return Messages(path, file.sha256, encoding, tuple(messages), of_rows([each.number for each in messages]))
 
 
 def _messages(text: str) -> List[Message]:
@@ -26,7 +27,9 @@ def _messages(text: str) -> List[Message]:
         if not line.strip():
             continue
         cell, _, name = line.partition(";")
-        if digits(cell):
+        if has_telegram(name):
+            faults.append(TableError("after the semicolon is a message: write one per line", line=number))
+        elif digits(cell):
             messages.append(Message(number, digits(cell), cell.strip(), name.strip()))
         else:
             faults.append(TableError("no message before the semicolon", line=number))

@@ -6,6 +6,8 @@ from decimal import Decimal
 from functools import cached_property
 from typing import Dict, Iterator, NamedTuple, Optional, Tuple
 
+from balisekit.tables.account import Account
+
 
 class Row(NamedTuple):
     """One telegram of the table."""
@@ -68,6 +70,8 @@ class Table:
     rows: Tuple[Row, ...]
     """In the order of the table, but those of each group together."""
     groups: Tuple[Group, ...]
+    account: Account
+    """What became of the telegrams of the file, as far as the table was read."""
     notes: Tuple[str, ...] = ()
     """What the user should know about how the table was read."""
     meant: Tuple[str, ...] = ()
@@ -93,3 +97,4 @@ class Messages(NamedTuple):
     sha256: str
     encoding: str
     messages: Tuple[Message, ...]
+    account: Account

@@ -9,7 +9,7 @@ from typing import Any, Callable, Dict, Iterator, List, Mapping, Optional, Seque
 
 from balisekit.errors import TableError, TableErrors, faults_of
 from balisekit.io import inputs
-from balisekit.tables import csv as csv_file, own_headings
+from balisekit.tables import beside, csv as csv_file, own_headings
 from balisekit.tables.cells import (
     COLUMNS,
     DIGITS,
@@ -47,45 +47,47 @@ def read(
     by_position: bool = False,
     columns: Optional[str] = None,
     fill_merged: bool = False,
+    skip_columns: Sequence[str] = (),
 ) -> Table:
     """The table of this file. TableError or TableErrors is raised if it cannot be read.
 
     `sheet` names the sheet of an .xlsx, and `columns` a file with headings of the user's own. With `fill_merged` all
-    cells of a merged area have the value of its first cell.
+    cells of a merged area have the value of its first cell. `skip_columns` are the headings of columns that are not to
+    be read, even if they have telegrams.
     """
     headings = own_headings.of_table(path, columns)
     file = inputs.read(path)
     with faults_of(path):
         cells = sheet_of(file.content, headings, sheet, fill_merged)
         place, places = head_of(cells, headings)
+        not_there = beside.skip(cells.rows[place], places, skip_columns, place + 1)
+        begin = end_of_heading(place + 1, cells.merged, places.values())
         named = _has_names(cells, place, places)
         if named:
             places["name"] = places.pop("balise")
         passed_over = _passed_over(cells, place, places)
         meant = tuple(_meant(name, places) for name in passed_over[:COMPARED])
         try:
-            rows = _rows(cells, place, places)
+            in_columns = beside.telegrams(cells, begin, places["telegram"])
+            rows = _rows(cells, places, begin, len(cells.rows[place]))
             grouped = groups_of(rows, by_position, place + 1)
         except (TableError, TableErrors) as error:
-            named_hint = [TableError(NAMES, row=place + 1)] if named else []
-            raise TableErrors([*_hints(passed_over, meant, place), *named_hint, *error.faults]) from error
-    of_heading = [
-        *own_headings.not_read(path, columns),
-        *_notes_on_heading(place, headings.used(cells.rows[place])),
-        *([NAMES] if named else []),
-    ]
-    notes = (*cells.notes, *of_heading, *([BY_POSITION] if by_position else []), *grouped.notes)
+            raise TableErrors([*_hints(passed_over, meant, place, named), *error.faults]) from error
     about = path, file.sha256, cells.encoding, cells.separator
-    return Table(*about, passed_over, grouped.rows, grouped.groups, notes, meant)
+    not_judged = beside.of_columns(cells, place, places, in_columns, skip_columns)
+    account = beside.account(cells, [row.number for row in rows], passed_over, not_judged)
+    of_heading = _notes_on_heading(place, headings.used(cells.rows[place]), named)
+    of_file = *cells.notes, *own_headings.not_read(path, columns)
+    notes = (*of_file, *of_heading, *not_there, *([BY_POSITION] if by_position else []), *grouped.notes)
+    return Table(*about, passed_over, grouped.rows, grouped.groups, account, notes, meant)
 
 
-def _hints(passed_over: Sequence[str], meant: Sequence[str], place: int) -> List[TableError]:
-    """A line for each heading that is passed over and may have been mistyped."""
-    return [
-        TableError(f'the column {name} is passed over: did you mean "{known}"?', row=place + 1)
-        for name, known in zip(passed_over, meant)
-        if known
+def _hints(passed_over: Sequence[str], meant: Sequence[str], place: int, named: bool) -> List[TableError]:
+    """A line for each heading that is passed over and may have been mistyped, and one on names in `balise`."""
+    hints = [
+        f'the column {name} is passed over: did you mean "{known}"?' for name, known in zip(passed_over, meant) if known
     ]
+    return [TableError(hint, row=place + 1) for hint in [*hints, *([NAMES] if named else [])]]
 
 
 def sheet_of(content: bytes, headings: Headings, sheet: Optional[str] = None, fill_merged: bool = False) -> Sheet:
@@ -122,10 +124,11 @@ def head_of(sheet: Sheet, headings: Headings) -> Tuple[int, Dict[str, int]]:
     return place, places
 
 
-def _notes_on_heading(place: int, own: List[str]) -> List[str]:
-    """Notes on headings of the user's own, and on the rows above the headings."""
+def _notes_on_heading(place: int, own: List[str], named: bool) -> List[str]:
+    """Notes on headings of the user's own, on the rows above the headings, and on a column `balise` with names."""
     above = f"the {place} rows above it are" if place > 1 else "row 1 is"
-    return [*own, *([f"the headings are in row {place + 1}: {above} passed over"] if place else [])]
+    passed_over = [f"the headings are in row {place + 1}: {above} passed over"] if place else []
+    return [*own, *passed_over, *([NAMES] if named else [])]
 
 
 def _has_names(sheet: Sheet, place: int, places: Mapping[str, int]) -> bool:
@@ -161,13 +164,12 @@ def _passed_over(sheet: Sheet, place: int, places: Mapping[str, int]) -> Tuple[s
     return tuple(names)
 
 
-def _rows(sheet: Sheet, place: int, places: Dict[str, int]) -> Tuple[Row, ...]:
-    """The rows below the heading that have a cell with something in it."""
+def _rows(sheet: Sheet, places: Dict[str, int], begin: int, width: int) -> Tuple[Row, ...]:
+    """The rows below the heading that have a cell with something in it. `width` is that of the heading."""
     columns = [_Column(name, places.get(name, ABSENT), meaning) for name, meaning in MEANINGS.items()]
     telegrams, *others = columns
     at, others_of, is_plain = telegrams.place, itemgetter(*(column.place for column in others)), DIGITS.fullmatch
-    width, rows, wide = len(sheet.rows[place]), [], False
-    begin = end_of_heading(place + 1, sheet.merged, places.values())
+    rows, wide = [], False
     for number, cells in _filled(sheet, begin, width):
         cell = cells[at]
         telegram = cell if is_plain(cell) else telegrams[cell]

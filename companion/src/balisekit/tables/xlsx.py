@@ -13,7 +13,7 @@ from typing import Any, Callable, Dict, Iterable, Iterator, List, Optional, Patt
 from xml.etree.ElementTree import Element, ParseError, iterparse
 
 from balisekit.errors import KitError, TableError, needed
-from balisekit.tables.cells import Area, Sheet, fill_heads, of_kind
+from balisekit.tables.cells import Area, Sheet, fill_heads, is_telegram, of_kind
 from balisekit.tables.encoding import OLD_WORKBOOK
 from balisekit.tables.headings import SEARCHED, Headings, is_data
 
@@ -42,6 +42,8 @@ MERGED = (
 )
 FILLED = "merged ranges, whose cells all have the value of the first one: {count}, the first {first}"
 DATES = (datetime.date, datetime.time, datetime.timedelta)
+ParseCell = Callable[[Element], Dict[str, Any]]
+"""What openpyxl makes of the element of a cell: its value, and more."""
 
 
 def read(content: bytes, name: Optional[str], headings: Headings = Headings(), fill_merged: bool = False) -> Sheet:
@@ -52,15 +54,23 @@ def read(content: bytes, name: Optional[str], headings: Headings = Headings(), f
     with warnings.catch_warnings():
         warnings.simplefilter("ignore")  # (openpyxl warns of what it would not write again)
         try:
-            book = openpyxl.load_workbook(io.BytesIO(content), read_only=True, data_only=True, keep_links=False)
+            file = io.BytesIO(content)
+            reader = openpyxl.reader.excel.ExcelReader(file, read_only=True, data_only=True, keep_links=False)
+            reader.read()
+            book, named = reader.wb, len(reader.parser.sheets)
         except Exception as error:
             raise _unreadable(error) from error
+        all_sheets = [*book.worksheets, *book.chartsheets]
+        if len(all_sheets) < named:
+            raise TableError(f"{named - len(all_sheets)} of its {named} sheets cannot be found in it: {SHORT_WAY_OUT}")
         sheet, note = _chosen(book, name, headings, fill_merged)
         formulas, merged = _read_as_empty(sheet)
         rows, areas = _cells(_rows(sheet)), _areas(merged) if fill_merged else ()
         notes = (note, *_notes(formulas, FORMULAS), *_notes(merged, FILLED if fill_merged else MERGED))
-        others = tuple(other for other in book.sheetnames if other != sheet.title)
-        return Sheet("xlsx", "", rows, notes, sheet.title, others, areas, bool(merged) and not fill_merged)
+        others = tuple(other.title for other in all_sheets if other is not sheet)
+        found = _telegrams_of_others(book, sheet) if "telegram" in headings.needed else {}
+        is_merged, is_chosen = bool(merged) and not fill_merged, name is not None
+        return Sheet("xlsx", "", rows, notes, sheet.title, others, areas, is_merged, found, is_chosen)
 
 
 def _unreadable(error: Exception, row: Optional[int] = None) -> Exception:
@@ -136,24 +146,31 @@ def _tag(name: bytes, xml: bytes) -> Pattern[bytes]:
 
 def _rows(sheet: Any) -> Iterator[List[Any]]:
     """The values of each row of a sheet, also of rows that it skips. TableError is raised for what openpyxl raises."""
-    from openpyxl.worksheet._reader import WorkSheetParser
-
-    book, strings, number = sheet.parent, _Strings(sheet._shared_strings), 0
-    parser = WorkSheetParser(None, strings, data_only=True, epoch=book.epoch, date_formats=book._date_formats)
+    number = 0
     try:
-        with sheet._get_source() as part:
-            for _, row in iterparse(part):
-                if row.tag == f"{NAMESPACE}row":
-                    before, number = number, _number(row.get("r", str(number + 1)))
-                    _look_at_number(sheet._worksheet_path, number)
-                    if number <= before:
-                        why = f"it follows row {before} in the workbook, which is damaged: save it again"
-                        raise TableError(why, row=number)
-                    yield from ([] for _ in range(before + 1, number))
-                    yield _values(row, number, parser.parse_cell)
-                    row.clear()
+        for row, parse_cell in _elements(sheet):
+            before, number = number, _number(row.get("r", str(number + 1)))
+            _look_at_number(sheet._worksheet_path, number)
+            if number <= before:
+                why = f"it follows row {before} in the workbook, which is damaged: save it again"
+                raise TableError(why, row=number)
+            yield from ([] for _ in range(before + 1, number))
+            yield _values(row, number, parse_cell)
     except Exception as error:
         raise _unreadable(error, number) from error
+
+
+def _elements(sheet: Any) -> Iterator[Tuple[Element, ParseCell]]:
+    """The elements of the rows of a sheet, each with what reads one of its cells."""
+    from openpyxl.worksheet._reader import WorkSheetParser
+
+    book, strings = sheet.parent, _Strings(sheet._shared_strings)
+    parser = WorkSheetParser(None, strings, data_only=True, epoch=book.epoch, date_formats=book._date_formats)
+    with sheet._get_source() as part:
+        for _, row in iterparse(part):
+            if row.tag == f"{NAMESPACE}row":
+                yield row, parser.parse_cell
+                row.clear()
 
 
 def _number(text: str) -> int:
@@ -161,8 +178,8 @@ def _number(text: str) -> int:
     return int(text) if re.fullmatch(r"\s*-?[0-9]{1,20}\s*", text) else 0
 
 
-def _values(row: Element, number: int, parse_cell: Callable[[Element], Dict[str, Any]]) -> List[Any]:
-    """The values of a row. A plain text is read without the objects of openpyxl, which take three times as long."""
+def _values(row: Element, number: int, parse_cell: ParseCell) -> List[Any]:
+    """The values of a row."""
     from openpyxl.utils import column_index_from_string
 
     values: List[Any] = []
@@ -171,10 +188,15 @@ def _values(row: Element, number: int, parse_cell: Callable[[Element], Dict[str,
         skipped = column_index_from_string(column) - len(values) - 1 if column else 0
         if skipped < 0:
             raise TableError("its cells are not in the order of their columns: save the workbook again", row=number)
-        child = cell.find(f"{NAMESPACE}is") if cell.get("t") == "inlineStr" else None
-        text = child.findtext(f"{NAMESPACE}t") if child is not None and len(child) == 1 else None
-        values += [*[None] * skipped, parse_cell(cell)["value"] if text is None else text]
+        values += [*[None] * skipped, _value(cell, parse_cell)]
     return values
+
+
+def _value(cell: Element, parse_cell: ParseCell) -> Any:
+    """The value of a cell. A plain text is read without the objects of openpyxl, which take three times as long."""
+    child = cell.find(f"{NAMESPACE}is") if cell.get("t") == "inlineStr" else None
+    text = child.findtext(f"{NAMESPACE}t") if child is not None and len(child) == 1 else None
+    return parse_cell(cell)["value"] if text is None else text
 
 
 class _Strings(List[str]):
@@ -204,6 +226,29 @@ def _chosen(book: Any, name: Optional[str], headings: Headings, fill_merged: boo
     if hidden and name is None and (fits or headings.row_of(_head(sheet, fill_merged)) is not None):
         raise TableError(f"only the hidden sheet {sheet.title} has the headings: name it by --sheet, or show it")
     return sheet, f"the sheet is {sheet.title}{', which is hidden' * hidden}; hidden and filtered rows are read as well"
+
+
+def _telegrams_of_others(book: Any, chosen: Any) -> Dict[str, Sequence[int]]:
+    """The rows of cells that look like telegrams in the sheets that are not read, hidden ones among them."""
+    found: Dict[str, Sequence[int]] = {}
+    for sheet in book.worksheets:
+        try:
+            numbers = list(_telegrams(sheet)) if sheet is not chosen else []
+        except Exception as error:
+            fault = _unreadable(error)
+            raise TableError(f"sheet {sheet.title}: {fault}") if isinstance(fault, TableError) else fault from error
+        found.update({sheet.title: numbers} if numbers else {})
+    return found
+
+
+def _telegrams(sheet: Any) -> Iterator[int]:
+    """The row of each cell that looks like a telegram, in a sheet whose rows and cells may be in any order."""
+    number = 0
+    for row, parse_cell in _elements(sheet):
+        number = _number(row.get("r", "")) or number + 1
+        for cell in row.iterfind(f"{NAMESPACE}c"):
+            if is_telegram(_text(_value(cell, parse_cell))):
+                yield number
 
 
 def _head(sheet: Any, fill_merged: bool) -> List[List[str]]:
@@ -259,7 +304,9 @@ def _areas(references: Sequence[str]) -> Tuple[Area, ...]:
 
 
 def _text(value: Any) -> str:
-    """A cell that is no text."""
+    """A cell as text, with its kind if it is no text."""
+    if isinstance(value, str):
+        return value
     if value is None:
         return ""
     if isinstance(value, bool):

@@ -1,30 +1,35 @@
 """L1: linked group not in the table.
 
-What it says. A packet 5 names a group that the table lacks, and that by D_LINK is not beyond the track's ends. A link
-without NID_C takes it from the group before it. A link that may lead to a group without a read telegram is only
-counted. If the table has that NID_BG under another NID_C, the line names that group. Other links are not named one by
-one if by D_LINK they lead beyond an end of a track by more than Q_LOCACC and `--tolerance`. A note for each end counts
-them, because the table may be a section of a longer line. D_LINK counts from the last linked group of the table, along
-its track. A link to NID_BG 16,383 names no group, and is not reported (SUBSET-026, 3.4.4 and 7.4.2).
+What it says. A packet 5 names a group that is not in the table, although its D_LINK leads to a place inside the table's
+track. D_LINK counts along the track, from the sender or from the last group of this packet that the table has. A link
+without NID_C takes the NID_C of the link before it, and the first link that of the telegram. If a link leads beyond an
+end of the track by more than Q_LOCACC and `--tolerance`, the table might be a section of a longer line. The rule then
+only counts the link, in one note for each end. It also only counts a link that might lead to a group of which no
+telegram could be read. If the table has the NID_BG under another NID_C, the line names that group. A link to NID_BG
+16,383 names no group, so it is not reported (SUBSET-026, 3.4.4 and 7.4.2).
 
-How urgent. At worst the train brakes or is tripped at each passage.
+Why it matters. At worst the train brakes or is tripped at each passage. It waits for a group that does not come, and
+then applies the linking reaction (Q_LINKREACTION). If a group with another identity and Q_LINK 1 is at that place, the
+train passes over it and loses its information.
 
-Usual cause. The number of the group was mistyped. The group got a new number. Or Q_NEWCOUNTRY and NID_C were forgotten
-at a border. If the table has another group at that place, the line names it with its identity. If F14 is found for that
-identity, this group may have the wrong one.
+Example. Before (`examples/links/group-not-in-table.csv`): the reverse link of group B (km 11.000) names group 5, and
+the table has no such group. At the place to which D_LINK leads, km 12.000, it has C as group 3. After
+(`examples/links/line.csv`): the link names group 3.
 
-What may happen. The train waits for a group that does not come, and applies the linking reaction (Q_LINKREACTION). A
-group there with another identity and Q_LINK 1 is passed over, and its information is lost.
+When it is a false alarm. The rule assumes that the table lacks only groups beyond its ends. A branch line that is
+linked from the middle of the table breaks this assumption. The rule also relies on D_LINK to show where a link leads.
+It cannot do so if the kilometres repeat, or jump and nobody stated it. The same holds if the sending group, or the last
+linked group before the missing one, has no kilometre or no direction. A group just beyond an end is named too, if it is
+within Q_LOCACC and `--tolerance` of that end. So is a group beyond the end that has the NID_BG of another group of the
+table. {one way}
+
+Usual cause. The number of the group was mistyped. Or the group got a new number and the link kept the old one. Or
+Q_NEWCOUNTRY and NID_C were forgotten at a border. If the table has another group at that place, the line names it with
+its identity. If F14 is found for that identity, this group might be the one with the wrong number.
 
 How to correct it. Correct the link, or add the group to the table.
 
-Correct data that gets it. Any that break one of these assumptions; usual cases follow "not". The table lacks only
-groups beyond its ends: not those of a branch line that is linked from its middle. D_LINK shows that: not if the
-kilometres repeat or jump unstated, or if the sender, or the last linked group before, has no kilometre or direction.
-Nor if the group is within Q_LOCACC and `--tolerance` of the end, or has the NID_BG of another one. Packets with Q_DIR 2
-are for both directions: not on a track for one.
-
-Example. The reverse link of group B names group 5, and the table has no group 5.
+How to accept it. Give the branch line or the neighbouring project that has the group as the reason.
 """
 from __future__ import annotations
 

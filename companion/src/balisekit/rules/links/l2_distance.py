@@ -1,30 +1,33 @@
 """L2: distance differs.
 
 What it says. The distance of a linked group by D_LINK differs from the distance by the kilometres by more than
-Q_LOCACC, `--tolerance` and rounding. Both count in metres from the group that the line names. "In rear of it" means
-that by the kilometres the train has already passed the linked group. If the direction of the sending group along the
-kilometres is not known, the first link that is compared shows it. If all links of two groups or more over a stretch
-differ by one amount, one remark asks whether the kilometres jump there (SUBSET-026, 3.4.4, 3.16.2.3 and 7.5.1).
+Q_LOCACC, `--tolerance` and rounding. Both count in metres from the group that the line names. That is the sending
+group, or the last group of the packet whose distance differed. The words "in rear of it" mean that by the kilometres
+the train has already passed the linked group. If the direction of the sending group along the kilometres is not known,
+the first link that is compared shows it. If all links of two groups or more over one stretch differ by the same amount,
+a single remark asks whether the kilometres jump. See SUBSET-026, 3.4.4, 3.16.2.3 and 7.5.1.
 
-How urgent. At worst the train brakes or is tripped, or takes a wrong position for its own.
+Why it matters. At worst the train takes a wrong position for its own. It expects the group at another place. If the
+group is inside the expectation window, the train corrects its position by a wrong distance. If the group is outside the
+window, the train applies the linking reaction, so it might brake or be tripped.
 
-Usual cause. A group was moved and the links to it were not made anew. Q_SCALE is not that of the distances. A distance
-was counted from another balise than the first one of the group. Or the kilometre of the table is wrong: then all links
-to and from that group differ.
+Example. Before (`examples/links/distance-differs.csv`): by the kilometres B (km 11.000) is 1,000 m from A (km 10.000),
+and the link of A has D_LINK 1,010 m with Q_LOCACC 5 m. After (`examples/links/line.csv`): D_LINK is 1,000 m.
 
-What may happen. The train expects the group at another place. It applies the linking reaction if the group is outside
-the expectation window. Else it corrects its position by a wrong distance.
+When it is a false alarm. The rule takes the kilometres of the table for places on the track. It is wrong if they follow
+another axis, are rounded coarsely, or belong to signals. It is also wrong if they jump at a place that neither
+`--jumps` nor a track plan states. All links over that place then differ by the same amount. The rule assumes too that
+the links stay on the track. A route through another track breaks this assumption, and so does a balloon loop that leads
+back to a group which was already passed. {one way}
+
+Usual cause. A group was moved and the links to it were not made anew. Or Q_SCALE is not the scale of the distances. Or
+a distance was counted from another balise than the first one of the group. Or the kilometre in the table is wrong: then
+all links to and from that group differ.
 
 How to correct it. Correct D_LINK, or the kilometre of the table. If the kilometres are rounded, state by how much with
-`--tolerance`.
+`--tolerance`. If they jump, state the place with `--jumps`.
 
-Correct data that gets it. Any that break one of these assumptions; usual cases follow "not". Kilometres give the place
-on the track: not if they follow another axis, are rounded coarsely or belong to signals. Nor if they jump, and neither
-`--jumps` nor a track plan states it: all links over that place then differ by the same amount. Links stay on the track:
-not on a route through another one, or on a balloon loop, which leads back to a group that was passed. Packets with
-Q_DIR 2 are for both directions: not on a track for one.
-
-Example. The link of group A to group B says 1,010 m, and their kilometres are 1,000 m apart.
+How to accept it. Give the route that the links follow, or the source of the kilometres, as the reason.
 """
 from __future__ import annotations
 

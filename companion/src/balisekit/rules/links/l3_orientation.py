@@ -1,25 +1,29 @@
 """L3: orientation differs.
 
-What it says. Q_LINKORIENTATION of a linked group does not fit the order of its balises along the track. It states
-whether a train that runs towards the group passes its balises in rising order (nominal, 1) or in falling order
-(reverse, 0). The rule compares only groups of two or more balises: a single balise has no order, and gets its direction
-by this variable (SUBSET-026, 3.4.2 and 3.4.4).
+What it says. Q_LINKORIENTATION of a linked group does not fit the order of its balises along the track. The variable
+states whether a train that runs towards the group passes its balises in rising order (nominal, 1) or in falling order
+(reverse, 0). The rule compares only groups of two or more balises. A single balise has no order, and gets its direction
+by this very variable (SUBSET-026, 3.4.2 and 3.4.4).
 
-How urgent. At worst the train brakes or is tripped at each passage.
+Why it matters. At worst the train brakes or is tripped at each passage. By the balises it finds another direction than
+the link announced. It then applies the linking reaction, or rejects the message of the group.
+
+Example. Before (`examples/links/orientation-differs.csv`): the link of A says that B (km 11.000) is passed in nominal
+direction, but its balises show the reverse direction. After (`examples/links/line.csv`): Q_LINKORIENTATION of this link
+is 0, reverse.
+
+When it is a false alarm. Never, if each track has a name and is one straight chain of kilometres, and packets with
+Q_DIR 2 are used in both directions. A balloon loop is no such chain. Nor is a track whose kilometres turn back, jump or
+are rounded within a group.
 
 Usual cause. The group was turned, or a link was copied from a group that faces the other way. If the table has the
-balises in another order than the track, F1 is found as well, and the line says so. It may be the sending group whose
-order is wrong: then the line blames the next group.
-
-What may happen. By the balises the train finds another direction than was announced. It applies the linking reaction or
-rejects the message.
+balises in another order than the track, F1 is found as well, and the line says so. Sometimes the order of the sending
+group is the wrong one: the line then blames the next group.
 
 How to correct it. Correct Q_LINKORIENTATION. If the order of the balises in the table is wrong, correct the table.
 
-Correct data that gets it. None, if each track has a name and is one straight chain of kilometres, and packets with
-Q_DIR 2 are for both directions. Balloon loops are none, nor kilometres that turn, jump or are rounded within a group.
-
-Example. Group B faces the other way, and the link of group A says that it is passed in nominal direction.
+How to accept it. Only a track that is no straight chain of kilometres is a reason. Name it, for example as a balloon
+loop.
 """
 from __future__ import annotations
 

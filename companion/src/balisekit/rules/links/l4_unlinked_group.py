@@ -3,19 +3,21 @@
 What it says. A group that a packet 5 of the table names has Q_LINK 0: it is not linked. The line is about the group
 that is named, and lists up to three groups whose packets name it (SUBSET-026, 3.4.4 and 7.5.1).
 
-How urgent. To be looked at: linking does not protect the group.
+Why it matters. To be looked at: linking does not protect the group. A train accepts a group with Q_LINK 0 at any place,
+also outside its expectation window. So nothing shows that the group is at a wrong place, and the train does not correct
+its position by it.
+
+Example. Before (`examples/links/linked-but-not-linked.csv`): both balises of B (km 11.000) have Q_LINK 0, and the
+packet 5 of A names B. After (`examples/links/line.csv`): both balises have Q_LINK 1.
+
+When it is a false alarm. Never, as far as this project knows: the packet 5 and the header contradict each other.
 
 Usual cause. The telegrams of a group that was linked later were not made anew. Or a group that is unlinked on purpose
 got into a packet 5.
 
-What may happen. A train accepts a group with Q_LINK 0 at any place, also outside its expectation window. Linking does
-not protect against a group at a wrong place, and the train does not correct its position by this one.
+How to correct it. Set Q_LINK to 1 in all telegrams of the group, or take the group out of the packets 5.
 
-How to correct it. Set Q_LINK to 1 in all telegrams of the group, or take it out of the packets 5.
-
-Correct data that gets it. None.
-
-Example. Both balises of group B have Q_LINK 0, and group A links it.
+How to accept it. There is no usual reason to accept it. Correct one of the two.
 """
 from __future__ import annotations
 

@@ -4,19 +4,22 @@ What it says. A single balise has Q_LINK 0, and a packet other than 44, 145 and 
 (Q_DIR 0 or 1). The line names the first such packet. A single balise has no direction of its own, and with Q_LINK 0 it
 gets none by linking (SUBSET-026, 3.4.2).
 
-How urgent. At worst wrong information for the other direction, or none.
+Why it matters. At worst the train gets wrong information for the other direction, or none. It does not know in which
+direction it passes the balise, so it cannot use a packet that holds in only one of them.
 
-Usual cause. A group of two was reduced to one balise. Q_LINK was left at 0. Or the packet was meant for both
+Example. Before (`examples/links/direction-not-known.csv`): D (km 12.500) is a single balise with Q_LINK 0, and its
+packet 41 holds only in nominal direction. After (`examples/links/line.csv`): the packet 41 has Q_DIR 2, because its
+order is for the place of the balise.
+
+When it is a false alarm. Never, as far as this project knows: nothing else tells the train its direction.
+
+Usual cause. A group of two was reduced to one balise. Or Q_LINK was left at 0. Or the packet was meant for both
 directions.
 
-What may happen. The train does not know in which direction it passes the balise, and uses nothing of the packet.
+How to correct it. Link the balise and set Q_LINK to 1, or add a second balise. If the distances of the packet fit both
+ways, you can set its Q_DIR to 2 instead.
 
-How to correct it. Link the balise and set Q_LINK to 1, or add a second balise. Only a packet whose distances fit both
-ways can hold in both: then set Q_DIR to 2.
-
-Correct data that gets it. None.
-
-Example. Group D is one balise with Q_LINK 0, and its level transition order holds in nominal direction.
+How to accept it. There is no usual reason to accept it. Give the balise a direction.
 """
 from __future__ import annotations
 

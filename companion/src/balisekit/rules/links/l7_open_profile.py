@@ -2,22 +2,24 @@
 
 What it says. A group or message 3 gives an authority, and with it in its direction a gradient or speed profile without
 an end mark. The program takes an open profile to reach any place. Its yes then rests on a rule of this project, which
-the standard may not share.
+the standard might not share.
 
-How urgent. To be looked at: the yes says less than it seems to.
+Why it matters. To be looked at: the yes says less than it seems to. The last gradient or speed holds without end, also
+on track that has another one. A train might refuse an authority whose profiles do not end.
+
+Example. Before (`examples/links/open-profile.csv`): packet 21 of balise A2 (km 10.003) has no end mark, and the
+authority of its group rests on it. After (`examples/links/line.csv`): an element with G_A 255 ends the profile 1,000 m
+from the group.
+
+When it is a false alarm. Never, if each profile needs an end mark. Whether it does was not looked up in a printed
+standard. If it does not, the remark is a false alarm in a project that omits end marks on purpose.
 
 Usual cause. The end mark (G_A 255, V_STATIC 127) was forgotten. Or the tool that made the data omits it at the end of a
 line.
 
-What may happen. The last gradient or speed holds without end, also on track that has another one. A train may refuse an
-authority whose profiles do not end.
+How to correct it. End the profile with an end mark at the supervised location or beyond.
 
-How to correct it. End the profile with an end mark at the supervised location or beyond, or note why it is open.
-
-Correct data that gets it. None, if each profile needs an end mark, which was not looked up in a print: else that of a
-project that omits them on purpose.
-
-Example. The gradient profile of balise A2 has no end mark.
+How to accept it. Give the reason why the profile is open, and where the train gets the next one.
 """
 from __future__ import annotations
 

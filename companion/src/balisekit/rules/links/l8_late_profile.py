@@ -1,25 +1,26 @@
 """L8: profile begins late.
 
-What it says. Under an authority of a group or the first message 3 a gradient or speed profile begins beyond 0 m, and
-none of its kind begins at 0 m. The track before it has no profile of this message. Such profiles of a message 3 after
-another message 3 are counted in a note. The program does not check where a profile begins (SUBSET-026, 3.7, 3.8 and
-3.11).
+What it says. A gradient or speed profile under an authority begins beyond 0 m, and no other profile of its kind in this
+message begins at 0 m. The track before it then has no profile of this message. The rule looks at groups and at the
+first message 3. A later message 3 might rely on the one before it, so its late profiles are only counted in a note. The
+program does not check where a profile begins (SUBSET-026, 3.7, 3.8 and 3.11).
 
-How urgent. At worst an old profile is used on that track. Mostly the authority is refused.
+Why it matters. At worst an old profile is used on the track before the first element, or the train has none there.
+Mostly the train refuses the authority.
+
+Example. Before (`examples/links/profile-begins-late.csv`): packet 27 of balise A2 (km 10.003) begins at 50 m from the
+group. After (`examples/links/line.csv`): D_STATIC of its first element is 0 m.
+
+When it is a false alarm. The rule assumes that a message has the profiles from its group on. That is not so if an
+earlier group gave the profile of the track before. Nor is it so if a message 3 did that was refused, or that the file
+of messages lacks.
 
 Usual cause. The distance was counted from another balise or from a signal. Or the track before it is meant to have its
 profile from an earlier message.
 
-What may happen. Before the first element the train has no profile, or one of an earlier message. It may refuse the
-authority.
+How to correct it. Set the first distance to 0, and add the values of the track from the group on.
 
-How to correct it. Set the first distance to 0, or note which earlier message gives the profile.
-
-Correct data that gets it. Any that break one of these assumptions; usual cases follow "not". A message has the profiles
-from its group on: not if an earlier group, or a message 3 that was refused or that the file lacks, gave those of the
-track before them.
-
-Example. The speed profile of balise A2 begins at 50 m.
+How to accept it. Name the earlier message or group that gives the profile of the track before.
 """
 from __future__ import annotations
 

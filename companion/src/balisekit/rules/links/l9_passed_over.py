@@ -1,30 +1,33 @@
 """L9: linked group passed over.
 
-What it says. A packet 5 does not name a group with Q_LINK 1 and data for its direction that by the kilometres is
-between two neighbours of it. The sender and the first group that it names are neighbours too. The data are for the
-direction in which the group is passed, or for both if that is not known: packets 0, 145, 254 and 255, and refused
-telegrams, do not count. A note counts the other groups that are passed over. Of several groups between the same two the
-line names up to three. Nothing is looked for beside a neighbour that is not in the table or is on another track
-(SUBSET-026, 3.4.4).
+What it says. A packet 5 does not name a group with Q_LINK 1 and data for its direction, although the group is between
+two neighbours of the packet. Neighbours are two groups that follow each other in the packet, and also the sender and
+the first group that it names. The kilometres show what is between them. The data must hold in the direction in which
+the group is passed, or in either one if that direction is not known. Packets 0, 145, 254 and 255 and refused telegrams
+do not count as data. Other groups with Q_LINK 1 that are passed over are counted in a note. If several groups are
+between the same two neighbours, the line names up to three. Nothing is compared beside a neighbour that is not in the
+table or is on another track (SUBSET-026, 3.4.4).
 
-How urgent. To be looked at: the group says nothing to a train that uses these links.
+Why it matters. To be looked at: the group says nothing to a train that uses these links. Such a train takes a group
+with Q_LINK 1 only if it is linked. So it loses the information of this group, and does not react to that.
+
+Example. Before (`examples/links/group-passed-over.csv`): A (km 10.000) links only C (km 12.000), and B (km 11.000) has
+Q_LINK 1 and is between them. After (`examples/links/line.csv`): the packet 5 of A names B and then C.
+
+When it is a false alarm. The rule assumes that trains which use a packet 5 pass all groups between those that it names.
+That is not so if a group is on another route. It does not matter if a later packet 5 names the group in time. A group
+with repositioning information (packet 16), to which NID_BG 16,383 leads, is such a case. The rule also assumes that a
+group with Q_LINK 1 is for these trains. A group for level 2 or a national system (packet 44) is not, if the packets 5
+are for level 1. Finally, groups must be passed in the order of their kilometres, which is not so if these jump back and
+nobody stated it.
 
 Usual cause. The group was added later, and the links of its neighbours were not made anew. Or the route of this packet
 5 does not pass the group.
 
-What may happen. A train that uses linking takes a group with Q_LINK 1 only if it is linked. The group's information is
-lost without a reaction.
-
 How to correct it. Add the group to the packet 5, and correct the distance of the group after it. If trains are to take
-it without linking, set Q_LINK to 0.
+the group without linking, set its Q_LINK to 0.
 
-Correct data that gets it. Any that break one of these assumptions; usual cases follow "not". Trains that use a packet 5
-pass the groups between those that it names: not on another route, or if a later packet 5 names them in time. Such is a
-group with repositioning information (packet 16) to which NID_BG 16,383 leads. A group with Q_LINK 1 is for them: not
-one of level 2 or a national system (packet 44), if the packets 5 are for level 1. Groups are passed in the order of
-their kilometres: not if these jump back unstated.
-
-Example. Group A links only group C, and group B stands between them.
+How to accept it. Give the route of the packet 5, or the trains that the group is for, as the reason.
 """
 from __future__ import annotations
 

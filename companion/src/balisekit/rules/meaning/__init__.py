@@ -2,17 +2,19 @@
 
 A rule is added so:
 
-1. Write `eN_what_is_wrong.py`, with fewer than 150 lines. Its docstring is its page: the title, then the paragraphs
-   `What it says`, `How urgent`, `Usual cause`, `What may happen`, `How to correct it`, `Correct data that gets it`
-   (`None`, or what the rule assumes, so that such data breaks one assumption), `Example` and `How sure`.
+1. Write `eN_what_is_wrong.py`, with fewer than 130 lines after its docstring. This is the page of the rule: the title,
+   then the paragraphs `What it says`, `Why it matters` (what could happen to a train), `Example` (the stored example
+   before and after the correction), `When it is a false alarm`, `Usual cause`, `How to correct it`, `How to accept it`
+   and `How sure`. `When it is a false alarm` begins with `Never` if no correct data gets a remark. Otherwise it states
+   what the rule assumes, and which data breaks each assumption. page_sentences.py has what several pages share.
 2. Write `find(line, options) -> Result`. `line.decoded` has all packets and passages, `line.groups` the groups, and
    `line.chains` the linking packets with their groups. `options` has what the user states of the line, and
    `options.asks_for("E2")` says whether the part that is off by default is wanted.
 3. A `Remark` has the location (`Passage.at`, `GroupData.location`, `GroupData.of_packet`), one sentence with the values
    and their units, and these values by name. It has no reason for which it may be accepted.
 4. Put the `Rule` into RULES below. State its urgency, `needs_kilometres`, and `is_default=False` if it is less than
-   85 % sure. Then run `python3 companion/tests/rules_page.py`, which writes its row of docs/remarks.md from the first
-   sentences of its page.
+   85 % sure, or `optional_part` if a part of it is. Then run `python3 companion/tests/rules_page.py`, which writes its
+   row of docs/remarks.md from the first sentences of its page.
 5. Name it in the pattern of rules in rules/accepted.py, schemas/kit-check.json and schemas/kit-sarif.json.
 6. Give it a mistake in companion/tests/meaning_mistakes.py, which writes its example in examples/meaning/mistakes.
 7. Test a hit, no hit, and the correct data that the page names, by one change of `meaning_line.py`.

@@ -1,29 +1,28 @@
 """E10: aspects that contradict each other about the track.
 
 What it says. Two aspects of a group that lead to one place state different V_STATIC, or gradients more than 5 ‰ apart,
-on a stretch longer than `--tolerance` and rounding. Gradients have their sign. Both are compared as far as the packets
-5 of both name the same groups, also beyond an end of authority. Without packets 5 they are compared if both authorities
-end at the same place. What lies beyond a `point` of the track plan is passed over. One remark names the aspect that
-most others disagree with, and the longest stretch (SUBSET-026, 3.11).
+on a stretch longer than `--tolerance` and rounding. Gradients have their sign. The two aspects are compared as far as
+the packets 5 of both name the same groups, also beyond an end of authority. Without packets 5 they are compared if both
+authorities end at the same place. What lies beyond a `point` of the track plan is passed over. One remark names the
+aspect that most others disagree with, and the longest stretch (SUBSET-026, 3.11).
 
-How urgent. At worst wrong information.
+Why it matters. At worst the train gets wrong information. At one of the aspects it gets a speed that is too great, or a
+gradient that is too favourable.
+
+Example. Before (`examples/meaning/mistakes/E10.csv`): from km 13.000 to km 14.700 "yellow" of Signal 3 has V_STATIC 160
+km/h, and "green" has 140 km/h. After: both have 140 km/h there.
+
+When it is a false alarm. The rule assumes that aspects which name the same groups belong to one route. That is not so
+if the routes part before the last of these groups. Nor is it so if two routes without packets 5 end at one distance.
+{exact} {track speed} The profile of a stop aspect can differ too, because no train uses it.
 
 Usual cause. The profile of one aspect was not made anew. It has a wrong sign, scale or unit.
 
-What may happen. The train gets a speed that is too great, or a gradient that is too favourable, at one of the aspects.
-
 How to correct it. Correct the wrong profile by the track plan.
 
-Correct data that gets it. Any that break one of these assumptions; usual cases follow "not". Aspects that name the same
-groups are for one route: not if routes part before the last of these, or end at one distance without packets 5.
-Profiles have the values and places of the track: not if merged, rounded or on the safe side, such as for an overlap.
-V_STATIC is the speed of the track: not if it includes that of the route, the aspect or a temporary restriction. Nor if
-it is for limited supervision, or unused, such as 0 beside a V_DIFF of each category. Trains use each profile: not that
-of a stop aspect.
+How to accept it. Name the routes of the two aspects, or what V_STATIC of the one includes.
 
-Example. At Signal B yellow has 120 km/h from 500 m to 1,000 m, and green 100 km/h.
-
-How sure. 87 %.
+How sure. 87 %, by practice and memory of the standard.
 """
 from __future__ import annotations
 

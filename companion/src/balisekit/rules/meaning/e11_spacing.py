@@ -1,27 +1,30 @@
 """E11: spacing of balises.
 
-What it says. Beyond rounding neighbouring balises of a group with different kilometres are less than 2.3 m or more than
-12 m apart, or the column `nominal` contradicts their kilometres. With a `--line-speed` above 180 km/h the least spacing
-is 3.0 m. One unit of the last decimal of the kilometres is allowed in either direction. The rule passes over a group
-whose balises all have the same kilometre (SUBSET-036 and SUBSET-040, installation of balise groups).
+What it says. Neighbouring balises of a group are less than 2.3 m or more than 12 m apart by their kilometres, or the
+column `nominal` contradicts these. With a `--line-speed` above 180 km/h the least spacing is 3.0 m. One unit of the
+last decimal of the kilometres is allowed in either direction. The rule passes over a group whose balises all have the
+same kilometre (SUBSET-036 and SUBSET-040, installation of balise groups).
 
-How urgent. At worst a wrong position of the train: distances of the group count from its first balise.
+Why it matters. At worst the train has a wrong position, because distances of the group count from its first balise.
+Balises that are too close disturb each other, so a train might miss one. A balise that is too far away is not taken for
+a part of the group.
 
-Usual cause. A kilometre was mistyped. A row belongs to another group. The balises were exchanged in the table, or the
-column `nominal` was filled in for the other direction.
+Example. Before (`examples/meaning/mistakes/E11.csv`): the second balise of Signal 3 is at km 13.033, 33 m from the
+first one. After: it is at km 13.003, 3 m from the first one.
 
-What may happen. Balises that are too close disturb each other, and a train may miss one. One that is too far away is
-not taken for a part of the group.
+When it is a false alarm. The rule assumes that the track keeps these distances. That is not so if a balise has an
+exception, or if `--line-speed` is that of a faster track. The rule also assumes that the kilometres within a group
+follow the track. They do not if they jump there, if they belong to something else, or if all or some of them are
+rounded coarsely.
+
+Usual cause. A kilometre was mistyped. Or a row belongs to another group. Or the balises were exchanged in the table, or
+the column `nominal` was filled in for the other direction.
 
 How to correct it. Correct the kilometre, the group of the row or the column `nominal`.
 
-Correct data that gets it. Any that break one of these assumptions; usual cases follow "not". The track keeps these
-distances: not with an exception, or if `--line-speed` is that of a faster track. Within a group kilometres follow the
-track: not if they jump, are rounded coarsely, also some of them only, or are those of something else.
+How to accept it. Name the exception for these balises, or the source of their kilometres.
 
-Example. The second balise of group C is at km 12.033, 33 m from the first one at km 12.000.
-
-How sure. 88 %: the distances are from memory.
+How sure. 88 %, because the distances are from memory.
 """
 from __future__ import annotations
 

@@ -1,32 +1,34 @@
 """E12: end of authority.
 
-What it says. An authority ends elsewhere than others to the same group, or that of a packet 12 ends, between signals,
-50 m to 200 m from the nearest group. It ends at the kilometre of its group and the sum of L_SECTION and L_ENDSECTION of
-a packet 12 with V_MAIN above 0, or a packet 15. It leads to the group of its packets 5 nearest to its end, within 200
-m. If none is so near, it is the last one before the end, if another one is beyond it. Without packets 5 ends at most 20
-m from the next one are compared. The nearest group counts by its first balise. None there that packets 5 name may lack
-a kilometre or be on another track. Signals are the first and last one of its way. Places may differ by `--tolerance`
-(else 1 m) and rounding (SUBSET-026, 3.8 and 7.4.2).
+What it says. An authority ends elsewhere than the others to the same group, or it ends 50 m to 200 m from the nearest
+group, where no signal is. The end counts from the kilometre of the group, by the sum of L_SECTION and L_ENDSECTION.
+Authorities are packets 12 with V_MAIN above 0, and packets 15. An authority leads to the group of its packets 5 that is
+nearest to its end, within 200 m. If none is so near, it leads to the last one before the end, if another one is beyond
+it. Authorities without packets 5 are compared if each ends at most 20 m from the next one. The second part of the rule
+is only for packets 12. It takes the first balise of each group for its place, and looks only between the first and the
+last signal of the way. It says nothing if packets 5 name a group there that has no kilometre or is on another track.
+Places may differ by `--tolerance` (else 1 m) and rounding (SUBSET-026, 3.8 and 7.4.2).
 
-How urgent. At worst wrong information: a train may pass the signal at which it has to stop.
+Why it matters. At worst the train gets wrong information, and might pass the signal at which it has to stop. Or it
+stops some metres in rear of the signal.
 
-Usual cause. A length was mistyped, or has a wrong Q_SCALE. A signal was moved, and not all groups in rear were changed.
+Example. Before (`examples/meaning/mistakes/E12.csv`): at "green" the authority of Signal 3 ends at km 16.050, and 1
+other that leads to Signal 5 ends at km 16.000. After: L_ENDSECTION of "green" is 50 m shorter.
 
-What may happen. The train stops beyond the signal, or some metres in rear of it.
+When it is a false alarm. The rule assumes that all authorities to one group end at one place. A calling-on route, a
+limit of authority (V_LOA above 0), or an end at a marker board by radio can be elsewhere. So can an authority that ends
+at a signal up to 200 m beyond its links. The rule also assumes that each authority ends at a group. In limited
+supervision an authority might end elsewhere. The same holds for a buffer stop, a board or a border, if no group of the
+table or of a packet 5 is within 50 m. {leaving} {points} {kilometres} {one way}
+
+Usual cause. A length was mistyped, or has a wrong Q_SCALE. Or a signal was moved, and not all groups in rear of it were
+changed.
 
 How to correct it. Correct the sum of the lengths by the distance to the signal.
 
-Correct data that gets it. Any that break one of these assumptions; usual cases follow "not". All authorities to one
-group end at one place: not on a calling-on route, at a limit of authority (V_LOA above 0), or by radio at a marker
-board. Nor if one ends at a signal up to 200 m beyond its links. Each ends at a group: not in limited supervision, or at
-a buffer stop, board or border without a group of the table or of a packet 5 within 50 m. Trains stay on the track: not
-through a loop, or on a route to another one, if no `point` of the track plan says where. Kilometres and distances show
-the place on the track: not if they repeat, jump unstated, follow another axis, are rounded coarsely, or belong to
-signals or to tracks without names. Packets with Q_DIR 2 are for both directions: not on a track for one.
+How to accept it. Name what is at the end of this authority, for example a buffer stop or a marker board.
 
-Example. At green the authority of signal 3 ends at km 16.050, and three others that lead to signal 5 end at km 16.000.
-
-How sure. 88 %.
+How sure. 88 %, by practice and memory of the standard.
 """
 from __future__ import annotations
 

@@ -1,30 +1,28 @@
 """E13: profiles that disagree.
 
 What it says. All aspects of a group and of the next one ahead state different V_STATIC, or gradients more than 5 ‰
-apart, on a stretch longer than `--tolerance` and rounding. The next one ahead is of its track and way, and has a
-profile there. No value of one group then fits one of the other. Groups with a refused telegram do not count. Of the
-group in rear only those aspects count whose packet 5 names the group ahead, if any does. `--tolerance` is 1 m if it is
-not given. A group that differs from those on both sides has the remark (SUBSET-026, 3.11.3 and 3.11.12).
+apart, on a stretch longer than `--tolerance` and rounding. No value of the one group then fits a value of the other.
+The next group ahead is on the same track, for the same way, and has a profile there. Groups with a refused telegram do
+not count. If packets 5 of the group in rear name the group ahead, only the aspects with these packets count.
+`--tolerance` is 1 m if it is not given. If a group differs from its neighbours on both sides, the remark is on this
+group (SUBSET-026, 3.11.3 and 3.11.12).
 
-How urgent. At worst wrong information: a train may go too fast, or brake too late on a slope.
+Why it matters. At worst the train gets wrong information: it might go too fast, or brake too late on a slope. It goes
+by the profile that it got last, which might be the wrong one.
 
-Usual cause. V_STATIC is in km/h, or Q_SCALE or Q_GDIR is wrong. A speed or a gradient was changed in one group only.
+Example. Before (`examples/meaning/mistakes/E13.csv`): from km 13.000 to km 14.700 Signal 3 has a gradient of +18 per
+mille, and Signal 2 has -18 per mille. After: Q_GDIR of Signal 3 is the other one, and both have -18 per mille.
 
-What may happen. The train goes by the profile that it got last, which may be the wrong one.
+When it is a false alarm. {exact} A project might also begin a speed 20 m early. {track speed} {leaving} {points}
+{kilometres} {missing} {one way}
+
+Usual cause. V_STATIC is in km/h, or Q_SCALE or Q_GDIR is wrong. Or a speed or a gradient was changed in one group only.
 
 How to correct it. Correct the wrong profile by the track plan.
 
-Correct data that gets it. Any that break one of these assumptions; usual cases follow "not". Profiles have the values
-and places of the track: not if merged, rounded or on the safe side, such as for an overlap, or a speed 20 m early.
-V_STATIC is the speed of the track: not if it includes that of the route, the aspect or a temporary restriction. Nor if
-it is for limited supervision, or unused, such as 0 beside a V_DIFF of each category. Trains stay on the track: not
-through a loop, or on a route to another one, if no `point` of the track plan says where. Kilometres and distances show
-the place on the track: not if they are missing, repeat, jump unstated, follow another axis, are rounded coarsely, or
-belong to signals or to tracks without names. Packets with Q_DIR 2 are for both directions: not on a track for one.
+How to accept it. State which of the two profiles is exact, and why the other one might differ.
 
-Example. From km 14.500 to km 15.200 signal 3 says 500 km/h, and signal 4 says 100 km/h.
-
-How sure. 87 %.
+How sure. 87 %, by practice and memory of the standard.
 """
 from __future__ import annotations
 

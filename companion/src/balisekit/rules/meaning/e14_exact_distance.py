@@ -3,28 +3,28 @@
 What it says. A distance by D_LINK differs from the kilometres by more than `--tolerance` (else 1 m) and rounding, but
 not enough for L2. L2 allows Q_LOCACC, which describes how exactly a group is installed, not how exactly D_LINK is
 written. The distance counts from the sender, or from the linked group before. If all links of two groups or more over a
-stretch differ by one amount, one remark asks whether the kilometres jump there. If five links of a track or more differ
-elsewhere, and more than a fifth of all, one note counts them: the kilometres may follow another axis than the track
-(SUBSET-026, 3.4.4 and 7.5.1).
+stretch differ by one amount, a single remark asks whether the kilometres jump there. The kilometres might also follow
+another axis than the track (SUBSET-026, 3.4.4 and 7.5.1). The rule assumes this if at least five links of a track
+differ elsewhere, and more than a fifth of all. One note then counts them.
 
-How urgent. At worst a wrong position of the train.
+Why it matters. At worst the train has a wrong position: it believes itself some metres from where it is. All places
+that count from there move with it.
 
-Usual cause. A distance was counted from or to another balise than the first. A group was moved a few metres. The
+Example. Before (`examples/meaning/mistakes/E14.csv`): Signal 5 is 1,504 m from Signal 4 by D_LINK and 1,500 m by the
+kilometres, and Q_LOCACC is 5 m. After: D_LINK is 1,500 m.
+
+When it is a false alarm. {kilometres} {missing} The rule assumes that D_LINK is rounded to the nearest unit. A tool
+that always rounds to one side breaks this assumption. {leaving}
+
+Usual cause. A distance was counted from or to another balise than the first. Or a group was moved a few metres. Or the
 kilometre of the table is wrong.
-
-What may happen. The train believes itself some metres from where it is, and all places that count from there move.
 
 How to correct it. Correct D_LINK or the kilometre. Give jumps of the kilometres by `--jumps` or in the track plan.
 State a greater `--tolerance` if the kilometres follow another axis.
 
-Correct data that gets it. Any that break one of these assumptions; usual cases follow "not". Kilometres and distances
-show the place on the track: not if they are missing, repeat, jump unstated, follow another axis, are rounded coarsely,
-or belong to signals or to tracks without names. D_LINK is rounded to the nearest unit: not if always to one side.
-Trains stay on the track: not on a route to another one, or through a loop.
+How to accept it. Name the source of the distance, and why the kilometres of the table differ from it.
 
-Example. Signal 5 is 1,504 m from signal 4 by D_LINK and 1,500 m by the kilometres, and Q_LOCACC is 5 m.
-
-How sure. 90 %.
+How sure. 90 %, by practice and memory of the standard.
 """
 from __future__ import annotations
 

@@ -1,34 +1,35 @@
 """E15: infill that is not its signal.
 
 What it says. A packet 12, 21, 27 or 80 after a packet 136 differs from that of the signal's aspect of the same name, or
-the signal is in rear. The signal is the group that the packet 136 names; it is also named if it is missing. Packets are
-compared in all fields but Q_DIR, Q_SCALE, the Q_GDIR of a G_A 0 or 255, and the Q_FRONT and V_DIFF of a V_STATIC 127,
-for the direction in which the train passes the signal. Distances are compared in metres; if Q_SCALE differs, the
-greater unit is allowed. Sections without timers count by their sum. Packets that only one of the groups has are passed
-over. A missing signal gets only a note if a group without a read telegram may be it. So it does if no group ahead of
-the infill group gives an authority in its direction: it may be beyond the table. The layouts of packets 80 and 136 are
-balisekit's own (SUBSET-026, 3.6.2 and 7.4.2).
+the signal is in rear. The signal is the group that the packet 136 names. A signal that is not in the table is reported
+too. It gets only a note if a group of which no telegram could be read might be it. The same holds if no group ahead of
+the infill gives an authority in its direction, because the signal might be beyond the table. The packets are compared
+for the direction in which the train passes the signal. Not compared are Q_DIR, Q_SCALE, the Q_GDIR of a G_A 0 or 255,
+and the Q_FRONT and V_DIFF of a V_STATIC 127. Distances are compared in metres, and if Q_SCALE differs, they may differ
+by the greater unit. Sections without timers count by their sum. Packets that only one of the two groups has are passed
+over. The layouts of packets 80 and 136 are balisekit's own (SUBSET-026, 3.6.2 and 7.4.2).
 
-How urgent. At worst wrong information.
+Why it matters. At worst the train gets wrong information: it releases its brake for an aspect that the signal does not
+show.
 
-Usual cause. The infill was not changed with its signal. It was copied from the wrong aspect.
+Example. Before (`examples/meaning/mistakes/E15.csv`): at "yellow" the infill of Signal 4 has L_ENDSECTION 1,350 m, and
+Signal 4 (km 14.500) has 1,500 m. After: both have 1,500 m.
 
-What may happen. A train releases its brake for an aspect that the signal does not show.
+When it is a false alarm. The rule assumes that an aspect name means the same at the infill and at its signal. That is
+not so if the names are numbers, or if the infill has the names of a distant signal. It assumes that infill repeats its
+signal. A project might say less on purpose, with a lower V_MAIN, shorter or merged profiles, or other timers. Infill
+for a signal at danger might also have a V_MAIN above 0 and no length. It assumes that the table has the signal, which
+is not so on a branch line. Sometimes no packet 5 links the signal, and the kilometres show no direction or the tracks
+differ. The rule then assumes that both groups face the same way. A loop between the two groups can mislead it.
+{kilometres} {one way}
 
-How to correct it. If the signal is right, copy its packets after packet 136, aspect by aspect.
+Usual cause. The infill was not changed with its signal. Or it was copied from the wrong aspect.
 
-Correct data that gets it. Any that break one of these assumptions; usual cases follow "not". An aspect name means the
-same at the infill and its signal: not if it is a number, or that of a distant signal. Infill repeats its signal: not if
-it says less on purpose, such as a lower V_MAIN, shorter or merged profiles, or other timers. Nor if it has V_MAIN above
-0 and no length for a signal at danger. The table has the signal: not on a branch line. If no packet 5 links the signal
-and the kilometres show no direction, or the tracks differ, both groups face the same way. Trains do not pass a loop
-between them. Kilometres and distances show the place on the track: not if they repeat, jump unstated, follow another
-axis, are rounded coarsely, or belong to signals or to tracks without names. Packets with Q_DIR 2 are for both
-directions: not on a track for one.
+How to correct it. If the signal is right, copy its packets after the packet 136, aspect by aspect.
 
-Example. At yellow the infill of signal 4 has L_ENDSECTION 1,350 m, and signal 4 has 1,500 m.
+How to accept it. State what the infill leaves out or changes on purpose.
 
-How sure. 88 %.
+How sure. 88 %, by practice and memory of the standard.
 """
 from __future__ import annotations
 

@@ -1,31 +1,33 @@
 """E16: direction of a single balise.
 
 What it says. Packets 5 lead past a single balise with Q_LINK 1 and packets for one direction that none names, or
-disagree about the direction of a single balise. A direction other than that of the column `nominal` is named too.
-Packets 44, 145 and 254 do not count. Such a packet 5 is for that way and leads past its kilometre. Passed over is a
-balise with a packet 16 within 500 m of a link to NID_BG 16,383, or on another track than this link, or with a refused
-telegram at most 10 km in rear. Single balises with Q_LINK 0 are L5 (SUBSET-026, 3.4.2 and 3.4.4).
+disagree about the direction of a single balise. A direction other than that of the column `nominal` is reported too.
+Packets 44, 145 and 254 do not count. A packet 5 leads past the balise if it holds for that way, and reaches beyond the
+kilometre of the balise. The rule passes over a balise with packet 16 within 500 m of a link to NID_BG 16,383, or on
+another track than this link. It also passes over a balise with a refused telegram at most 10 km in rear of it. Single
+balises with Q_LINK 0 are L5 (SUBSET-026, 3.4.2 and 3.4.4).
 
-How urgent. At worst wrong information.
+Why it matters. At worst the train gets wrong information. It learns the direction of a single balise by linking, or by
+radio in level 2. Without it the train ignores what is for one direction. With the wrong direction it takes what is for
+the other one.
 
-Usual cause. The link to an infill balise was forgotten. Q_LINKORIENTATION was copied from another link. The column
-`nominal` was filled in for the other direction.
+Example. Before (`examples/meaning/mistakes/E16.csv`): a single balise at km 15.600 has a packet 12 for the nominal
+direction, and packets 5 of other groups lead past it without its name. After: the packets 5 of Signals 3 and 4 name the
+balise.
 
-What may happen. A train learns the direction of a single balise by linking, or by radio in level 2. Without it the
-train ignores what is for one direction; with the wrong one it takes what is for the other.
+When it is a false alarm. The rule assumes that the table has all links. In level 2, also as an overlay of level 1,
+radio might send them, and groups beyond the table might name the balise. It assumes that packets 5 which lead past a
+balise are for trains that pass it. That is not so if the balise is on another route. It assumes that trains of one way
+come to the balise from one side, which is not so on a balloon loop or triangle. {kilometres} {missing} {one way}
+
+Usual cause. The link to an infill balise was forgotten. Or Q_LINKORIENTATION was copied from another link. Or the
+column `nominal` was filled in for the other direction.
 
 How to correct it. Name the balise in the packets 5 of the groups before it, and give all these links one orientation.
 
-Correct data that gets it. Any that break one of these assumptions; usual cases follow "not". The table has all links:
-not in level 2, also as an overlay of level 1, if radio sends them, and not if groups beyond the table name the balise.
-Packets 5 that lead past a balise are for trains that pass it: not if it is on another route. Trains of one way of a
-track come to it from one side: not on a balloon loop or triangle. Kilometres and distances show the place on the track:
-not if they are missing, repeat, jump unstated, follow another axis, are rounded coarsely, or belong to signals or to
-tracks without names. Packets with Q_DIR 2 are for both directions: not on a track for one.
+How to accept it. State how a train learns the direction of this balise, for example by radio.
 
-Example. Infill balise 5 has a packet 12 for the nominal direction. Signals 3 and 4 lead past it and do not name it.
-
-How sure. 95 %.
+How sure. 95 %, by practice and memory of the standard.
 """
 from __future__ import annotations
 

@@ -1,35 +1,34 @@
 """E17: links that end before the authority.
 
-What it says. A packet 12 with V_MAIN above 0 ends more than 50 m beyond the last group that packets 5 name, at or
-between others with Q_LINK 1 for its direction. The packets 5 are those of all aspects of the group, and of groups
-before it on that track and way. If the direction of one is not known, its first link shows it. D_LINK shows where one
-without a kilometre is. The first of the others may be up to 50 m beyond the end of the authority, and is then enough.
-They have packets for that direction other than 0, 145, 254 and 255. The rule is silent if the last link is NID_BG
-16,383: the group with repositioning information there names the next ones. Nor does it speak if this group, or one
-before it at most 10 km in rear of the end, has a refused telegram. Packets 5 after a packet 136 do not count. A table
-with such an authority, without any packet 5 and without refused telegrams or messages gets one remark (SUBSET-026,
-3.4.4).
+What it says. A packet 12 with V_MAIN above 0 ends more than 50 m beyond the last group that packets 5 name, although
+other linked groups follow. These packets 5 are those of all aspects of the group, and of the groups before it on that
+track and way. If the direction of one is not known, its first link shows it. D_LINK shows the place of a group without
+a kilometre. A linked group that follows has Q_LINK 1, and packets for that direction other than 0, 145, 254 and 255.
+One such group is enough, and it may be up to 50 m beyond the end of the authority. If the authority ends beyond the
+last group of its track and way, the rule is silent. The rule is silent if the last link is NID_BG 16,383, because the
+group with repositioning information there names the next ones. It is also silent if this group has a refused telegram,
+or one before it at most 10 km in rear of the end. Packets 5 after a packet 136 do not count. A table with such an
+authority but without any packet 5 gets one remark, if nothing in it was refused (SUBSET-026, 3.4.4).
 
-How urgent. At worst a wrong position of the train.
+Why it matters. At worst the train has a wrong position. Nothing shows that it missed such a group, and it does not
+correct its position there.
 
-Usual cause. A link was forgotten. The packet 5 was made for another aspect.
+Example. Before (`examples/meaning/mistakes/E17.csv`): the authority of Signal 3 at "green" ends at km 16.000, and the
+packets 5 lead to km 14.500 only. After: the packet 5 of Signal 3 also names the group at km 16.000.
 
-What may happen. Nothing shows that a train missed such a group, and it does not correct its position there.
+When it is a false alarm. The rule assumes that the line uses linking. A line might use none, or none on this part, such
+as in rear of a level 2 area. It assumes that packets 5 lead to the end of the authority. They might lead only to the
+next signal, which has its own packet 5. Or groups that the table lacks, or of another track, might have the other
+links. It assumes that the groups ahead are for these trains. Groups for level 2 or a national system (packet 44) are
+not. {leaving} {points} {kilometres} A missing kilometre matters only if no packet 5 leads to its group. {one way}
 
-How to correct it. Name all groups to the end of the authority in the packet 5.
+Usual cause. A link was forgotten. Or the packet 5 was made for another aspect.
 
-Correct data that gets it. Any that break one of these assumptions; usual cases follow "not". The line uses linking: not
-if on no part, or not on this one, such as in rear of a level 2 area. Packets 5 lead to the end of authority: not if
-only to the next signal, which has its own, or if groups that the table lacks, or of another track, have them. Groups
-ahead are for these trains: not those of level 2 or a national system (packet 44). Trains stay on the track: not through
-a loop, or on a route to another one, if no `point` of the track plan says where. Kilometres and distances show the
-place on the track: not if they are missing and no packet 5 leads there, repeat, jump unstated, follow another axis, are
-rounded coarsely, or belong to signals or to tracks without names. Packets with Q_DIR 2 are for both directions: not on
-a track for one.
+How to correct it. Name all groups up to the end of the authority in the packet 5.
 
-Example. The authority of signal 3 ends at km 16.000, and its packet 5 names groups to km 14.500 only.
+How to accept it. State which group has the other links, or that this part of the line uses no linking.
 
-How sure. 86 %.
+How sure. 86 %, by practice and memory of the standard.
 """
 from __future__ import annotations
 

@@ -1,34 +1,35 @@
 """E18: level transition.
 
 What it says. Packets 41 for one level transition differ in its place or its levels, or none orders it at its place
-within the table. Compared are packets of one track and way, each at most 500 m from the next one. Places may differ by
-`--tolerance` (else 1 m) and rounding, and M_LEVELTR and NID_NTC must be the same in the same order. A place is that of
-D_LEVELTR, or of the group if that is 0 or 32,767 (now). Of packets for now the one that most others announce counts as
-right, else the first along the way. Without one the most frequent place counts. A packet that repeats it beyond the
-border agrees. Only a place between the first and the last group of the track needs one. A group whose direction or
-place is unknown, or with a refused telegram, may have it, or one on another track to which its own packets 5 lead. A
-packet for both directions with a distance is E5 (SUBSET-026, 5.10 and 7.4.2).
+within the table. Packets of one track and way are compared if each is at most 500 m from the next one. Places may
+differ by `--tolerance` (else 1 m) and rounding, and M_LEVELTR and NID_NTC must be the same in the same order. The place
+is that of D_LEVELTR, or of the group if D_LEVELTR is 0 or 32,767 (now). Of several packets for now, the one that most
+others announce counts as right, or else the first along the way. If there is none for now, the most frequent place
+counts. A packet that repeats the order beyond the border agrees with it. A place needs an order only between the first
+and the last group of the track. The rule is silent if a group whose direction or place is unknown, or with a refused
+telegram, might have the order. The same holds if a group on another track, to which the packets 5 of the announcement
+lead, might have it. A packet for both directions with a distance is E5 (SUBSET-026, 5.10 and 7.4.2).
 
-How urgent. At worst wrong information.
+Why it matters. At worst the train gets wrong information. A driver acknowledges at one place, and the train changes its
+level at another. Or it goes on in a level whose trackside equipment has ended.
 
-Usual cause. D_LEVELTR is mistyped, or did not follow a moved border. The border has no packet 41.
+Example. Before (`examples/meaning/mistakes/E18.csv`): Signal 4 announces the level transition at km 16.750 (2250 m),
+and the group Border orders it at km 16.700. After: D_LEVELTR is 2,200 m.
 
-What may happen. A driver acknowledges at one place and the train changes at another. Or it goes on in a level whose
-trackside equipment has ended.
+When it is a false alarm. The rule assumes that all packets 41 within 500 m are for one border. There might be two
+borders, one of them on another route, or orders for trains that start there. It assumes that they have one place. A
+packet with D_LEVELTR 32,767 might be some metres from the border. It assumes one list of levels, but announcement and
+border might differ on purpose. It assumes that a group of the table orders the change, but the last announcement might
+be the only order. Trains might also leave the track: they can run through a loop, or take a route to another track that
+no packet 5 shows. {kilometres} {missing}
 
-How to correct it. Correct each D_LEVELTR by the kilometre of the border. Put a packet 41 into its group.
+Usual cause. D_LEVELTR is mistyped, or did not follow a moved border. Or the border has no packet 41.
 
-Correct data that gets it. Any that break one of these assumptions; usual cases follow "not". Within 500 m all packets
-41 are for one border: not if there are two, one on another route, or orders for trains that start there. They have one
-place: not with D_LEVELTR 32,767 some metres from the border. They have one list of levels: not if announcement and
-border differ on purpose. A group of the table orders the change: not if only the last announcement does. Trains stay on
-the track: not through a loop, or on a route to another one that no packet 5 shows. Kilometres and distances show the
-place on the track: not if they are missing, repeat, jump unstated, follow another axis, are rounded coarsely, or belong
-to signals or to tracks without names.
+How to correct it. Correct each D_LEVELTR by the kilometre of the border. Put a packet 41 into the group at the border.
 
-Example. Signal 4 announces level 0 at km 16.750, and the group at the border, at km 16.700, has it at once.
+How to accept it. Name the borders or routes of the packets that differ.
 
-How sure. 88 %.
+How sure. 88 %, by practice and memory of the standard.
 """
 from __future__ import annotations
 

@@ -1,28 +1,28 @@
 """E19: gradients of both directions.
 
 What it says. On a stretch each gradient of one direction and each of the other add up to more than 1 ‰, or all go down
-by 3 ‰ for 1 km. Gradients are as each train meets them. A stretch up to `--tolerance` (else 1 m) and rounding does not
-count. Of each group without refused telegrams the longest profile counts, and of one way the one that contradicts the
-other way least: groups of one way that disagree are E13 only. Downhill both ways has the lowest urgency (SUBSET-026,
-3.11.12).
+by 3 ‰ for 1 km. Gradients are as each train meets them, so what is uphill for one direction is downhill for the other.
+A stretch up to `--tolerance` (else 1 m) and rounding does not count. Of each group without refused telegrams the
+longest profile counts. Of the groups of one way, the profile counts that contradicts the other way least. Groups of one
+way that disagree with each other are E13 only (SUBSET-026, 3.11.12).
 
-How urgent. At worst wrong information: a train brakes too late, because it believes that it goes uphill.
+Why it matters. At worst the train gets wrong information: it brakes too late, because it believes that it goes uphill.
+The braking curve is wrong by twice the gradient. If both directions go down, the urgency is lowest.
 
-Usual cause. Q_GDIR of one direction is wrong. It may be copied from the other direction.
+Example. Before (`examples/meaning/mistakes/E19.csv`): from km 10.000 to km 10.260 Signal 1 has +3 per mille, and Signal
+R1 of the other direction has +3 per mille too. They add up to 6 per mille. After: Signal R1 has -3 per mille.
 
-What may happen. The brake curve is wrong by twice the gradient.
+When it is a false alarm. The rule assumes that each gradient is that of its place. It might be the steepest or the mean
+value of a longer stretch. Safe gradients near a summit or a valley are of this kind, and might go down in both
+directions. {leaving} {kilometres} {missing} {one way}
 
-How to correct it. Compare both directions with the track plan.
+Usual cause. Q_GDIR of one direction is wrong. It might be copied from the other direction.
 
-Correct data that gets it. Any that break one of these assumptions; usual cases follow "not". Each gradient is that of
-its place: not the steepest or mean value of a longer stretch. Safe gradients near a summit or a valley are so, and may
-both go down. Trains stay on the track: not on a route to another one, or through a loop. Kilometres and distances show
-the place on the track: not if they are missing, repeat, jump unstated, follow another axis, are rounded coarsely, or
-belong to signals or to tracks without names. Packets with Q_DIR 2 are for both directions: not on a track for one.
+How to correct it. Compare both directions with the track plan, and correct the wrong one.
 
-Example. From km 14.500 to km 15.200 signal 3 says +8 per mille, and signal R4 of the other direction says +8 per mille.
+How to accept it. State how the gradients of this stretch were made safe, or over which length they are a mean value.
 
-How sure. 87 %.
+How sure. 87 %, by practice and memory of the standard.
 """
 from __future__ import annotations
 

@@ -1,24 +1,28 @@
 """E1: raw packet that does not fit its layout.
 
-What it says. A raw packet to trains misfits its layout, if 97 % certain, or has a spare scale, level, mode or speed. It
-has fewer or more bits than the layout. Spare are an M_LEVELTR from 5 to 7, a Q_SCALE 3, an M_MAMODE 3, and a speed
-above 120 without a special meaning. The first place that does not fit is named. The layouts are balisekit's own and not
-compared with a print (SUBSET-026, 7.4 and 7.5.1).
+What it says. A raw packet to trains does not fit balisekit's layout of it, or has a spare value. Only layouts that are
+at least 97 % certain count. A packet does not fit if it has fewer or more bits than its layout. Spare are an M_LEVELTR
+from 5 to 7, a Q_SCALE 3, an M_MAMODE 3, and a speed above 120 that has no special meaning. The line names the first
+place that does not fit. The layouts are balisekit's own, and nobody has compared them with a printed standard
+(SUBSET-026, 7.4 and 7.5.1).
 
-How urgent. At worst wrong information.
+Why it matters. At worst the train gets wrong information: it takes the bits of one variable for another. Or it rejects
+the message.
 
-Usual cause. The body was made by hand or with another tool. L_PACKET was not adapted. A condition, such as Q_NEWCOUNTRY
-or N_ITER, does not fit what follows.
+Example. Before (`examples/meaning/mistakes/E1.csv`): the packet 65 of Signal 3 (km 13.003) has 8 bits more than its
+layout, and its L_PACKET is 79 bits. After: the packet ends with its layout, and L_PACKET is 71.
 
-What may happen. The train rejects the message, or takes the bits of one variable for another.
+When it is a false alarm. Never, if the layout and its spare numbers are those of the standard. If your print shows
+another layout, the remark is wrong.
+
+Usual cause. The body was made by hand or with another tool. Or L_PACKET was not adapted. Or a condition, such as
+Q_NEWCOUNTRY or N_ITER, does not fit what follows.
 
 How to correct it. Make the packet anew, with the bits of the layout that `balisekit show` writes.
 
-Correct data that gets it. None, if the layout and its spare numbers are those of the standard.
+How to accept it. Quote the section of the printed standard that has another layout.
 
-Example. A packet 65 has 8 bits more than its layout.
-
-How sure. 97 %.
+How sure. 97 %, by practice and memory of the standard.
 """
 from __future__ import annotations
 

@@ -1,24 +1,26 @@
 """E20: one group, several descriptions.
 
-What it says. A packet 5 names its own group, or one group twice. With `--rules E20` the rule also compares the links to
-one group. It names different Q_LOCACC, and different Q_LINKREACTION for trains of one way; the most frequent value
-counts as right (SUBSET-026, 3.4.4 and 7.4.2).
+What it says. A packet 5 names its own group, or one group twice. With `--rules E20` the rule also compares all links to
+one group. It then reports a different Q_LOCACC, and a different Q_LINKREACTION for trains of one way. The most frequent
+value counts as right (SUBSET-026, 3.4.4 and 7.4.2).
 
-How urgent. At worst the train brakes without need.
+Why it matters. At worst the train brakes without need. It waits for a group twice, or opens another expectation window
+for it than from other groups.
 
-Usual cause. A NID_BG was copied from the link before it. Q_LOCACC was changed in one packet only.
+Example. Before (`examples/meaning/mistakes/E20.csv` with `--rules E20`): Signal 4 links Signal 5 (km 16.000) with
+Q_LOCACC 12 m, and 2 of 3 links to it have 5 m. After: all links to Signal 5 have Q_LOCACC 5 m.
 
-What may happen. The train waits for a group twice, or opens another window for it than from other groups.
+When it is a false alarm. The rule assumes that a train passes each group of a packet 5 once. On a balloon loop it
+passes a group twice. With `--rules E20` it also assumes that Q_LOCACC and Q_LINKREACTION belong to the group. They
+might depend on the route, the aspect or the sender.
+
+Usual cause. A NID_BG was copied from the link before it. Or Q_LOCACC was changed in one packet only.
 
 How to correct it. Correct NID_BG, Q_LOCACC or Q_LINKREACTION.
 
-Correct data that gets it. Any that break one of these assumptions; usual cases follow "not". A train passes each group
-of a packet 5 once: not on a balloon loop. With `--rules E20`, Q_LOCACC and Q_LINKREACTION belong to the group: not if
-they depend on the route, the aspect or the sender.
+How to accept it. Name the balloon loop, or state why this link has another value than the others.
 
-Example. The packet 5 of signal 4 names signal 5 as its first and as its second link.
-
-How sure. 95 % for the part that is always applied, 82 % for the other.
+How sure. 95 % for the part that is always applied, and 82 % for the part for which you have to ask.
 """
 from __future__ import annotations
 
@@ -131,4 +133,5 @@ def _differing(decoded: Decoded, key: Literal["q_locacc", "q_linkreaction"], lin
             yield Remark("E20", link.location, sentence, None, values, urgency=Urgency.RULE_ONLY, others=others)
 
 
-RULE = Rule("E20", "links", __doc__ or "", find, Urgency.BRAKING)
+COMPARED = "different Q_LOCACC or Q_LINKREACTION of links to one group"
+RULE = Rule("E20", "links", __doc__ or "", find, Urgency.BRAKING, optional_part=COMPARED)

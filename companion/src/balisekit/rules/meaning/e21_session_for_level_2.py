@@ -1,26 +1,28 @@
 """E21: level 2 needs a session.
 
 What it says. A packet 41 or 46 names level 2 or 3, and no packet 42 with Q_RBC 1 comes with it or before it. Packets 42
-of its group and of those before it on that track count, unless they are known to be for the other way. A group there
-with a refused telegram may have one. The rule is off unless it is asked for. The layouts of packets 42 and 46 are
-balisekit's own (SUBSET-026, 3.5.3, 5.10 and 7.4.2).
+of its group and of the groups before it on that track count, unless they are known to be for the other way. A group
+there with a refused telegram might have one, so the rule is then silent. The rule is off unless you ask for it. The
+layouts of packets 42 and 46 are balisekit's own (SUBSET-026, 3.5.3, 5.10 and 7.4.2).
 
-How urgent. At worst the train brakes without need.
+Why it matters. At worst the train brakes without need. It reaches the border without a movement authority by radio, and
+stops there.
 
-Usual cause. The packet 42 was forgotten, or has Q_RBC 0. It may be for the other direction.
+Example. Before (`examples/meaning/mistakes/E21.csv` with `--rules E21`): Signal 4 (km 14.500) announces level 2, and no
+group up to there has a packet 42 with Q_RBC 1. After: the packet 42 of Signal 1 has Q_RBC 1.
 
-What may happen. The train reaches the border without a movement authority by radio, and stops there.
+When it is a false alarm. The rule assumes that the table has the packet 42 of each train. A train might come with a
+session, open one at the start of mission, or get the packet between announcement and border. It assumes that trains
+stay on the track, but they might get the packet on another one. It assumes that the kilometres show the order of the
+groups. They do not if they are missing, repeat, or jump and nobody stated it. {one way}
+
+Usual cause. The packet 42 was forgotten, or has Q_RBC 0. It might be for the other direction.
 
 How to correct it. Put a packet 42 with Q_RBC 1 far enough before the border.
 
-Correct data that gets it. Any that break one of these assumptions; usual cases follow "not". The table has the packet
-42 of each train: not if it comes with a session, gets the packet between announcement and border, or opens one at the
-start of mission. Trains stay on the track: not if they get it on another one. Kilometres show the order of the groups:
-not if they are missing, repeat or jump unstated. Packets with Q_DIR 2 are for both directions: not on a track for one.
+How to accept it. State how trains get their session before this border.
 
-Example. Signal 4 announces level 2 in 2,200 m, and no group before it has a packet 42.
-
-How sure. 80 %.
+How sure. 80 %, by practice and memory of the standard.
 """
 from __future__ import annotations
 

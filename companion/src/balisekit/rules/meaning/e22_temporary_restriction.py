@@ -1,28 +1,28 @@
 """E22: temporary speed restriction.
 
 What it says. Packets 65 with one NID_TSR below 255, at most 2 km apart on one track and way, contradict each other
-about its place, length or speed. Apart is each from the next one. Place and L_TSR may differ by `--tolerance` (else 1
-m) and rounding. The most frequent one counts as right. A packet with D_TSR 0 agrees if its group is within the
-restriction, V_TSR is equal and the end is the same. The layout of packet 65 is balisekit's own (SUBSET-026, 3.11.5 and
-7.4.2).
+about its place, length or speed. The distance counts from each packet to the next one. Place and L_TSR may differ by
+`--tolerance` (else 1 m) and rounding. The most frequent restriction counts as right. A packet with D_TSR 0 agrees if
+its group is within the restriction, V_TSR is equal and the end is the same. The layout of packet 65 is balisekit's own
+(SUBSET-026, 3.11.5 and 7.4.2).
 
-How urgent. At worst wrong information.
+Why it matters. At worst the train gets wrong information: the restriction begins too late, ends too early, or has
+another speed.
 
-Usual cause. D_TSR was not made anew for the second group. A restriction was changed in one group only.
+Example. Before (`examples/meaning/mistakes/E22.csv`): Signal 4 has restriction 7 at km 14.600, and Signal 2 has it at
+km 14.000, both for 500 m with 40 km/h. After: Signal 4 has no packet 65, because the restriction ends there.
 
-What may happen. The restriction begins too late, ends too early, or has another speed.
+When it is a false alarm. The rule assumes that a number is that of one restriction. Two restrictions might have it, one
+of them on another route. It assumes that all packets state the complete restriction exactly. D_TSR or L_TSR might be on
+the safe side, or might depend on the aspect or the route. {kilometres} {missing} {one way}
+
+Usual cause. D_TSR was not made anew for the second group. Or a restriction was changed in one group only.
 
 How to correct it. Correct D_TSR, L_TSR and V_TSR by the list of restrictions.
 
-Correct data that gets it. Any that break one of these assumptions; usual cases follow "not". A number is that of one
-restriction: not if two have it, or one on another route. All packets state the whole of it exactly: not if D_TSR or
-L_TSR is on the safe side, or depends on the aspect or route. Kilometres and distances show the place on the track: not
-if they are missing, repeat, jump unstated, follow another axis, are rounded coarsely, or belong to signals or to tracks
-without names. Packets with Q_DIR 2 are for both directions: not on a track for one.
+How to accept it. Name both restrictions in the list of restrictions, or the route of this one.
 
-Example. Signal 3 has restriction 7 at km 14.000 with 40 km/h, and signal 4 has it at km 14.100.
-
-How sure. 86 %.
+How sure. 86 %, by practice and memory of the standard.
 """
 from __future__ import annotations
 

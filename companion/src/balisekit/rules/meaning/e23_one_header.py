@@ -1,26 +1,28 @@
 """E23: one line, one header.
 
-What it says. A telegram has another M_VERSION than is most frequent in the table, or between groups with the most
-frequent NID_C of a track one has another. Of equally frequent ones the first counts, of refused telegrams none. The
-order is that of the kilometres, or else of the table. The rule is off unless it is asked for (SUBSET-026, 7.5.1 and
-8.4.2).
+What it says. A telegram has another M_VERSION than most of the table, or a group has another NID_C than its neighbours
+on the track. Most of the table is the most frequent M_VERSION. NID_C is compared between the first and the last group
+that have the most frequent NID_C of the track. If two values are equally frequent, the first one counts. Groups are in
+the order of their kilometres, or in that of the table if one is missing. Refused telegrams do not count. The rule is
+off unless you ask for it (SUBSET-026, 7.5.1 and 8.4.2).
 
-How urgent. To be looked at. L1 finds links that name the group by another NID_C.
+Why it matters. To be looked at: a train with the older version ignores what the later one has added. A group with a
+wrong NID_C is another group for the train. L1 finds links that name the group by another NID_C.
 
-Usual cause. A telegram was made with another version of a tool. It was copied from another line.
+Example. Before (`examples/meaning/mistakes/E23.csv` with `--rules E23`): a telegram of Signal 4 (km 14.500) has
+M_VERSION 2.0, and 23 other telegrams of the table have 2.1. After: it has 2.1 too.
 
-What may happen. A train with the older version ignores what the later one has added. A group with a wrong NID_C is
-another one for it.
+When it is a false alarm. The rule assumes that a table has one version. That is not so at a border between versions, or
+if balises differ on purpose. It also assumes that a track has one NID_C between its ends. That is not so if the groups
+of two countries alternate, or if a region has several NID_C.
+
+Usual cause. A telegram was made with another version of a tool. Or it was copied from another line.
 
 How to correct it. Correct the header.
 
-Correct data that gets it. Any that break one of these assumptions; usual cases follow "not". A table has one version:
-not at a border between versions, or if balises differ on purpose. A track has one NID_C between its ends: not if the
-groups of two countries alternate, or a region has several.
+How to accept it. Name the border of versions or countries, or the reason for the other version.
 
-Example. Row 14 has M_VERSION 32, and the 44 other telegrams have 33.
-
-How sure. 80 %.
+How sure. 80 %, by practice and memory of the standard.
 """
 from __future__ import annotations
 

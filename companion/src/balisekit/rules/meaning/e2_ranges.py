@@ -2,27 +2,30 @@
 
 What it says. V_MAIN, V_LOA, V_STATIC, V_DIFF, V_TSR or V_MAMODE is above `--line-speed` (else 350 km/h), a release
 speed above `--release-speed` (else 40 km/h), or G_A above 40 ‰. Special values, such as the end mark, are no speeds or
-gradients. With `--rules E2` it also names a V_MAIN above the greatest speed of the speed profiles that are said with it
-(SUBSET-026, 3.8, 3.11 and 7.5.1).
+gradients. With `--rules E2` the rule also reports a V_MAIN that is above the greatest speed of the speed profiles in
+the same message (SUBSET-026, 3.8, 3.11 and 7.5.1).
 
-How urgent. At worst wrong information.
+Why it matters. At worst the train gets wrong information. A speed that is too great does not restrict the train. With a
+wrong gradient it brakes too early or too late.
+
+Example. Before (`examples/meaning/mistakes/E2.csv`): at "green" of Signal 3 (km 13.003) V_MAIN is sent as 120, which is
+600 km/h and above 350 km/h. After: V_MAIN is sent as 24, which is 120 km/h.
+
+When it is a false alarm. The rule assumes that its limits hold for all trains. That is not so if the line is faster or
+steeper, or if it has greater release speeds. V_DIFF for tilting trains can be above the limit too. The rule also
+assumes that each speed restricts. Some projects send a great speed to say that it does not restrict. With `--rules E2`,
+the profile with a V_MAIN must have the greatest speed of its route. That is not so if another group states the fastest
+stretch.
 
 Usual cause. A speed was entered in km/h and not in steps of 5 km/h. So 100 means 500 km/h. Or a gradient was entered in
 tenths of a per mille.
 
-What may happen. A speed that is too great does not restrict the train. With a wrong gradient the train brakes too early
-or too late.
-
 How to correct it. Correct the value. If the line is faster, state its greatest speed with `--line-speed`.
 
-Correct data that gets it. Any that break one of these assumptions; usual cases follow "not". The limits hold for all
-trains: not if the line is faster or steeper or has greater release speeds, or for the V_DIFF of tilting trains. Each
-speed restricts: not one by which a project says that it does not. With `--rules E2`, the profile with a V_MAIN has the
-greatest speed of its route: not if another group states that stretch.
+How to accept it. Give the greatest speed or gradient of this place by the track plan as the reason.
 
-Example. V_STATIC of the first element at Signal B is 500 km/h, sent as 100: 100 km/h are sent as 20.
-
-How sure. 92 %. V_MAIN above the profile is below 85 %, and off.
+How sure. 92 %, by practice and memory of the standard. The part about V_MAIN and the profile is less than 85 % sure, so
+it is off unless you ask for it.
 """
 from __future__ import annotations
 
@@ -146,4 +149,7 @@ def _greatest(passage: Passage) -> Optional[int]:
     return max([*speeds, *(one["v_diff"] for each in elements for one in each["differences"])], default=None)
 
 
-RULE = Rule("E2", "packets with speeds or gradients", __doc__ or "", find, Urgency.WRONG_INFORMATION)
+ABOVE = "a V_MAIN above the speed profiles in its message"
+RULE = Rule(
+    "E2", "packets with speeds or gradients", __doc__ or "", find, Urgency.WRONG_INFORMATION, optional_part=ABOVE
+)

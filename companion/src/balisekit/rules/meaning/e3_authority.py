@@ -1,29 +1,32 @@
 """E3: authority that contradicts itself.
 
 What it says. Values of a packet 12 or 15 contradict each other in one of nine ways, such as an overlap that ends before
-the danger point. The rule names a D_SECTIONTIMERSTOPLOC beyond its section, and a D_ENDTIMERSTARTLOC or D_STARTOL above
-the sum of all lengths, if that is above 0. It names D_OL below D_DP, V_LOA above V_MAIN, an L_SECTION 0, and V_MAIN
-above 0 if all lengths are 0. It names V_LOA 0 with a T_LOA other than 1,023 (no time limit), and a danger point or
-overlap with V_LOA above 0 and T_LOA 1,023 (SUBSET-026, 3.8 and 7.4.2).
+the danger point. Of the distances, the rule reports a D_SECTIONTIMERSTOPLOC beyond its section, and a D_OL below D_DP.
+It reports a D_ENDTIMERSTARTLOC or D_STARTOL above the sum of all lengths, if that sum is above 0. It reports an
+L_SECTION 0, and a V_MAIN above 0 if all lengths are 0. Of the limits, it reports a V_LOA above V_MAIN, and a V_LOA 0
+with a T_LOA other than 1,023 (no time limit). It also reports a danger point or an overlap beside a V_LOA above 0 with
+T_LOA 1,023 (SUBSET-026, 3.8 and 7.4.2).
 
-How urgent. At worst wrong information.
+Why it matters. At worst the train gets wrong information. A timer starts or stops at a place that the train never
+passes. The train supervises an overlap that ends before its danger point. Or it might run at V_MAIN without any length.
 
-Usual cause. A length was changed, and the timers or the overlap were not. Q_SCALE was changed for some of the values. A
-value of another signal was copied.
+Example. Before (`examples/meaning/mistakes/E3.csv`): at "green" of Signal 3 (km 13.003) the overlap has D_OL 200 m, and
+the danger point has D_DP 250 m. After: the overlap ends at the danger point or beyond it, so D_OL is at least 250 m.
 
-What may happen. A timer starts or stops at a place that the train never passes. The train supervises an overlap that
-ends before its danger point, or may run at V_MAIN without any length.
+When it is a false alarm. The rule assumes that trains use each value. A template might fill in a section of 0 m, a
+T_LOA, a danger point or an overlap that no train uses. The rule assumes that timers start and stop within their
+lengths. A timer might stop later on purpose, or start in rear of the group. It assumes that V_LOA restricts. A project
+might send a V_LOA above V_MAIN to say that it does not. Finally, a V_MAIN above 0 without any length can be right at a
+signal at danger, often after a packet 136.
+
+Usual cause. A length was changed, and the timers or the overlap were not. Or Q_SCALE was changed for some of the
+values. Or a value of another signal was copied.
 
 How to correct it. Correct the wrong value by the design of the signal.
 
-Correct data that gets it. Any that break one of these assumptions; usual cases follow "not". Trains use each value: not
-a section of 0 m, a T_LOA, a danger point or an overlap that a template fills in. Timers start and stop within their
-lengths: not one that on purpose stops later, or starts in rear of the group. V_LOA restricts: not one above V_MAIN by
-which a project says that it does not. V_MAIN above 0 has a length: not at a signal at danger, often after a packet 136.
+How to accept it. Name the value that no train uses, and the design that leaves it in the packet.
 
-Example. The overlap of Signal B ends 20 m after the end of authority, and the danger point is 50 m after it.
-
-How sure. 88 %.
+How sure. 88 %, by practice and memory of the standard.
 """
 from __future__ import annotations
 

@@ -1,30 +1,34 @@
 """E4: profile that contradicts itself.
 
 What it says. A profile has two elements at one place, elements after the end mark, V_STATIC 0, or an element that
-needlessly repeats the one before it. The rule names a D_GRADIENT or D_STATIC 0 after the first element, and an end mark
-that is the first element. A gradient, or a speed with its Q_FRONT and categories, is repeated needlessly if one
-distance (up to 32,767 units) could state both. The rule also names a train category twice in an element, and a V_DIFF
-by cant deficiency that is below V_STATIC or falls while NC_CDDIFF rises (SUBSET-026, 3.11 and 7.4.2).
+needlessly repeats the one before it. Two elements are at one place if the second one has D_GRADIENT or D_STATIC 0. An
+end mark that is the first element is reported too. A gradient, or a speed with its Q_FRONT and categories, is repeated
+needlessly if one distance of at most 32,767 units could state both. The rule also reports a train category that an
+element has twice. It reports a V_DIFF by cant deficiency that is below V_STATIC, or that falls while NC_CDDIFF rises
+(SUBSET-026, 3.11 and 7.4.2).
 
-How urgent. At worst wrong information.
+Why it matters. At worst the train gets wrong information. Of two elements at one place only one can hold. What follows
+an end mark is not used. A repeated element often hides a change of speed or gradient that was meant.
 
-Usual cause. The elements were sorted wrongly, or one was entered twice. A distance was forgotten. An end mark is left
-from a shorter profile, or a value of the categories was mistyped.
+Example. Before (`examples/meaning/mistakes/E4.csv`): in the gradient profile of Signal 3 at "green" the second element
+(km 13.100) repeats the -18 ‰ of the first one. After: the second element is gone, and the distance of the next one is
+100 m greater.
 
-What may happen. Of two elements at one place only one can hold. What follows an end mark is not used. A repeated
-element often hides a change that was meant.
+When it is a false alarm. The rule assumes that trains run over the complete profile. Beyond a buffer stop or an end of
+authority, and at a stop aspect, a profile may have 0 km/h or no length. The rule assumes that trains use V_STATIC. If
+each train category has its own V_DIFF, V_STATIC may be 0, or may be for a greater cant deficiency. It assumes that more
+cant deficiency never means less speed, which is not so if tilting trains have a restriction of their own. Finally, it
+assumes that each element and category is needed. A tool might begin an element at each boundary of its data, or fill up
+with end marks.
+
+Usual cause. The elements were sorted wrongly, or one was entered twice. Or a distance was forgotten. Or an end mark is
+left from a shorter profile, or a value of the categories was mistyped.
 
 How to correct it. Correct or remove the wrong element by the profile of the track.
 
-Correct data that gets it. Any that break one of these assumptions; usual cases follow "not". Trains run over the whole
-profile: not beyond a buffer stop or end of authority, or at a stop aspect. It may have 0 km/h there, or no length.
-Trains use V_STATIC: not if each category has a V_DIFF. V_STATIC may then be 0, or for a greater cant deficiency. More
-cant deficiency never means less speed: not if tilting trains have their own restriction. Each element and category is
-needed: not if a tool begins one at each boundary of its data, or fills up with end marks.
+How to accept it. Name the habit of the tool that made the data, or the place beyond which no train runs.
 
-Example. In the gradient profile of Signal B the third element has D_GRADIENT 0 m, the place of the second one.
-
-How sure. 90 %.
+How sure. 90 %, by practice and memory of the standard.
 """
 from __future__ import annotations
 

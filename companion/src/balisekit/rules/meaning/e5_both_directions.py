@@ -1,30 +1,31 @@
 """E5: both directions with a distance.
 
-What it says. One of 21 packets with distances holds in both directions (Q_DIR 2); nine kinds may give only their
-group's place. The 21 are 5, 12, 15, 16, 21, 27, 39, 40, 41, 51, 52, 65, 67 to 71, 80, 88, 131 and 138. Passed over is a
-packet 41 with D_LEVELTR 0 or 32,767 (now). So is a packet 39, 40, 51, 52, 68 to 70 or 131 that gives only the place of
-its group, by D_TRACTION, D_CURRENT, D_TRACKINIT, D_SUITABILITY or D_RBCTR 0, or D_RBCTR 32,767 (now). An authority
-without any length is named if no other such packet is there: it stops the trains of both directions. All such packets
-of a balise or message are named together (SUBSET-026, 3.6.1 and 7.4).
+What it says. One of 21 packets with distances holds in both directions (Q_DIR 2), and does not only give the place of
+its group. The 21 are 5, 12, 15, 16, 21, 27, 39, 40, 41, 51, 52, 65, 67 to 71, 80, 88, 131 and 138. A packet 41 with
+D_LEVELTR 0 or 32,767 (now) is not reported. Nor is a packet 39, 40, 51, 52, 68 to 70 or 131 whose only distance gives
+the place of its group. That is a D_TRACTION, D_CURRENT, D_TRACKINIT, D_SUITABILITY or D_RBCTR 0, or a D_RBCTR 32,767
+(now). An authority without any length stops the trains of both directions, and is reported if no other such packet is
+there. All such packets of a balise or message are named together (SUBSET-026, 3.6.1 and 7.4).
 
-How urgent. At worst wrong information for trains in one of the directions.
+Why it matters. At worst the trains of one direction get wrong information. Trains count distances in their own
+direction. So the end of authority, the level border or the restriction is on both sides of the group.
+
+Example. Before (`examples/meaning/mistakes/E5.csv`): the packet 41 of Signal 4 (km 14.500) has D_LEVELTR 2200 m and
+Q_DIR 2. After: Q_DIR is 1, so only trains in nominal direction count the distance.
+
+When it is a false alarm. The rule assumes that trains of both directions get the packet. That is not so on a track for
+one direction, or for a radio message. It assumes that the track differs on both sides. Level track, one speed, big
+metal masses or a restriction around the group are the same on both sides. It also assumes that nobody wants to stop
+both directions, which a group for the signals of both directions might do.
 
 Usual cause. The template had Q_DIR 2. Or the packet was meant for one direction, and a single balise with Q_LINK 0 has
 no direction.
 
-What may happen. Trains count the distances in their own direction. The end of authority, the level border or the
-restriction is then on both sides of the group.
-
 How to correct it. Set Q_DIR to 1 or 0. A group of one balise gets its direction if it is linked, or by a second balise.
 
-Correct data that gets it. Any that break one of these assumptions; usual cases follow "not". Trains of both directions
-get the packet: not on a track for one direction, or by a radio message. The track differs on both sides: not for a
-level track, one speed, big metal masses or a restriction around the group. Nobody wants to stop both directions: not at
-a group for signals of both.
+How to accept it. State why the packet is true on both sides of the group, or that the track has one direction.
 
-Example. The level transition order of group D has Q_DIR 2 and D_LEVELTR 500 m.
-
-How sure. 93 %.
+How sure. 93 %, by practice and memory of the standard.
 """
 from __future__ import annotations
 

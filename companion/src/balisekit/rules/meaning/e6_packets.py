@@ -1,27 +1,30 @@
 """E6: packets of one message.
 
-What it says. A balise has one of five packets that only radio sends, packet 0 after another one, or a train gets at
-once two packets 5 that count from one group. The five are 15, 57, 58, 63 and 140. The two packets 5 hold in one
-direction, and what follows a packet 136 is counted by itself. With `--rules E6` it also names two different packets of
-one kind in one direction. These are 2, 3, 12, 15, 16, 21, 27, 41, 45, 46, 80, 131, 132, 136, 137, 141 and 254. It then
-names in a message 3 a packet 0, 6, 12, 16, 46, 90, 132 to 137, 145 or 254 (SUBSET-026, 7.4 and 8.4.4).
+What it says. A balise has one of five packets that only radio sends, packet 0 after another one, or a train gets two
+packets 5 that count from one group. The five are 15, 57, 58, 63 and 140. The train gets the two packets 5 at once and
+in one direction. What follows a packet 136 is counted by itself. With `--rules E6` the rule also reports two different
+packets of one kind in one direction. The kinds are 2, 3, 12, 15, 16, 21, 27, 41, 45, 46, 80, 131, 132, 136, 137, 141
+and 254. It then also reports a packet 0, 6, 12, 16, 46, 90, 132 to 137, 145 or 254 in a message 3 (SUBSET-026, 7.4 and
+8.4.4).
 
-How urgent. At worst wrong information.
+Why it matters. At worst the train gets wrong information. It might use either of two packets, or reject the message. It
+does not use a packet that only radio sends.
 
-Usual cause. Telegrams were put together from parts that both have the packet. A packet was copied from a message of the
-other kind.
+Example. Before (`examples/meaning/mistakes/E6.csv`): at "yellow" of Signal 3 (km 13.003) a train gets 2 packets 5 in
+nominal direction, in rows 10 and 12. After: only row 10 has a packet 5.
 
-What may happen. The train may use one of two packets, or reject the message. A packet that only radio sends is not
-used.
+When it is a false alarm. Never, unless a project sends two packets 5 for one direction on purpose. It might do so with
+a fixed and a switched one, or with the same packet in two balises. With `--rules E6`, packets of one kind might differ
+on purpose.
+
+Usual cause. Telegrams were put together from parts that both have the packet. Or a packet was copied from a message of
+the other kind.
 
 How to correct it. Remove the packet that is too many, or put packet 0 at the beginning.
 
-Correct data that gets it. None, unless a project sends two packets 5 for one direction on purpose, such as a fixed and
-a switched one, or the same in two balises. With `--rules E6`, packets of one kind that differ on purpose.
+How to accept it. Quote the rule of the project by which both packets are sent.
 
-Example. Both balises of Signal B have a packet 5 for the nominal direction.
-
-How sure. 96 %. The part that is off by default is 80 % sure.
+How sure. 96 %, by practice and memory of the standard. The part for which you have to ask is 80 % sure.
 """
 from __future__ import annotations
 
@@ -110,4 +113,5 @@ def _several_remark(passage: Passage, packets: List[Packet]) -> Remark:
     return Remark(made.rule, made.location, made.sentence, values=made.values, others=others)
 
 
-RULE = Rule("E6", "passages", __doc__ or "", find, Urgency.WRONG_INFORMATION)
+MORE = "two different packets of one kind in a message, and packets that no message 3 has"
+RULE = Rule("E6", "passages", __doc__ or "", find, Urgency.WRONG_INFORMATION, optional_part=MORE)

@@ -3,25 +3,29 @@
 What it says. Aspects of a group have equal packets in every balise, among them a packet 12 with V_MAIN above 0.
 M_MCOUNT may differ. If no packet 12 of such aspects has a V_MAIN above 0, one note for the table counts them.
 
-How urgent. At worst wrong information. The urgency is the lowest one if the authority ends within 50 m of the last
-group of its track and way, with no other signal in between. A group is of the ways for which it has packets other than
-0, 145, 254 and 255. Groups of unknown direction, or with a refused telegram, count for both ways. Infill has the
-lowest one if its signal has it.
+Why it matters. At worst the train gets wrong information: at the more restrictive aspect it gets the authority and the
+speed of the other one. The urgency is lowest if the authority ends within 50 m of the last group of its track and way,
+and no other signal is in between. A group is of the ways for which it has packets other than 0, 145, 254 and 255. A
+group of unknown direction, or with a refused telegram, counts for both ways. Infill has the lowest urgency if its
+signal has it.
+
+Example. Before (`examples/meaning/mistakes/E7.csv`): the aspects "yellow" and "green" of Signal 3 (km 13.003) have the
+same packets, with V_MAIN 140 km/h. After: the authority of "yellow" ends at the next signal, and that of "green" at the
+one after it.
+
+When it is a false alarm. The rule assumes that two names are two aspects. One aspect might have two names, or a default
+telegram might repeat it. The rule also assumes that a train gets different data at two aspects. That is not so if only
+the driver sees the difference, or if two routes have the same data. Two aspects might also differ only beyond the end
+of authority, such as yellow and green in rear of a buffer stop or level border. Such aspects can have the lowest
+urgency.
 
 Usual cause. The telegram of one aspect was copied and not changed.
 
-What may happen. A train that passes the more restrictive aspect gets the authority and the speed of the other one.
-
 How to correct it. Correct the wrong telegram by the aspect table of the signal.
 
-Correct data that gets it. Any that break one of these assumptions; usual cases follow "not". Two names are two aspects:
-not if one has two names, or a default telegram repeats it. A train gets different data at them: not if only the driver
-sees the difference, or two routes have the same data. Nor if they differ only beyond the end of authority, such as
-yellow and green in rear of a buffer stop or level border, which can have the lowest urgency.
+How to accept it. State why both aspects give a train the same data, for example because the track ends there.
 
-Example. Signal B has the packets of green at yellow: both allow 120 km/h for 1,400 m.
-
-How sure. 93 %.
+How sure. 93 %, by practice and memory of the standard.
 """
 from __future__ import annotations
 

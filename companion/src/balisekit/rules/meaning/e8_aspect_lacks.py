@@ -1,31 +1,36 @@
 """E8: aspect that lacks what its siblings have.
 
-What it says. Only one of three or more proceed aspects for a direction lacks a packet 5, 12, 21 or 27, or a stop aspect
-lacks a usual packet 137 or 132. A proceed aspect has a V_MAIN above 0 in that direction, or for packets 12 in either
-direction. An aspect is also named if it has one of these packets only for the other direction than all others that have
-it, two at least. A stop aspect has a packet 12 with V_MAIN 0, not after a packet 136. It is named if it has no packet
-137 and four of five stop aspects of the table, five at least, have one with "stop". It is also named if only it, of
-three or more in its group, has no packet 132, and a stop aspect of its name has one elsewhere. Aspects with a refused
-telegram do not count. Their group is looked at only for packet 137 (SUBSET-026, 3.8).
+What it says. Only one of three or more proceed aspects lacks a packet 5, 12, 21 or 27, or a stop aspect lacks a usual
+packet 137 or 132. The proceed aspects are compared in each direction. A proceed aspect has a V_MAIN above 0 in that
+direction, or in either direction if it is packet 12 that is missing. One of these packets might also be for the wrong
+direction. The rule reports an aspect that alone has it for one direction, if at least two others have it only for the
+other one. A stop aspect has a packet 12 with V_MAIN 0 that does not follow a packet 136. It is reported if it has no
+packet 137, although at least four of five stop aspects of the table have one with "stop". The table must have at least
+five stop aspects for this. A stop aspect is also reported if it is the only one of three or more in its group without a
+packet 132. A stop aspect of its name must have one elsewhere. Aspects with a refused telegram do not count, and their
+group is compared only for packet 137 (SUBSET-026, 3.8).
 
-How urgent. At worst wrong information.
+Why it matters. At worst the train gets wrong information, or lacks what it needs. Without profiles it might refuse the
+authority. Without linking nothing shows that it missed a group. Without packet 137 a train in staff responsible mode
+passes the signal.
+
+Example. Before (`examples/meaning/mistakes/E8.csv`): "green" of Signal 3 (km 13.003) has its packets 12, 21 and 27 for
+the reverse direction. "Red" and "yellow" have them for the nominal one. After: Q_DIR of the packets of "green" is 1,
+nominal.
+
+When it is a false alarm. The rule assumes that the aspects of a group need the same packets for one direction. An
+aspect for calling-on or for another route might need fewer, and so might one for another direction which only stops
+trains there. The rule also assumes that all stop aspects of the table, in both directions, stop trains in staff
+responsible mode too. At some signals these trains are allowed to pass. Finally, it assumes that stop aspects of one
+name treat shunting alike, which is not so if shunting is allowed at some.
 
 Usual cause. A packet was lost, or its Q_DIR is wrong. The aspect was added later.
 
-What may happen. Without profiles the authority may be refused. Without linking nothing shows a missed group. Without
-packet 137 a train in staff responsible mode passes the signal.
-
 How to correct it. Add the packet, or correct Q_DIR.
 
-Correct data that gets it. Any that break one of these assumptions; usual cases follow "not". The aspects of a group
-need the same packets for one direction: not for calling-on, for another route, or for another direction, which one of
-them may only stop. All stop aspects of the table, in both directions, stop trains in staff responsible mode too: not
-where these may pass. Stop aspects of one name treat shunting alike: not if it is allowed at some.
+How to accept it. State what the aspect is for, for example calling-on, and why it needs no such packet.
 
-Example. The aspects red and yellow of Signal B have packets 12 for the nominal direction, and green for the reverse
-one.
-
-How sure. 87 %.
+How sure. 87 %, by practice and memory of the standard.
 """
 from __future__ import annotations
 

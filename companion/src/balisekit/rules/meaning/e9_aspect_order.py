@@ -1,30 +1,32 @@
 """E9: aspects in the wrong order.
 
-What it says. Of two proceed aspects with different packets one has the longer or an equal authority, although in at
-least four of five cases it has the shorter one. Proceed aspects have a V_MAIN above 0. A case is a group with both
-aspects in one direction. Equal authorities have the lowest urgency, and are not named if both aspects say the same in
-that direction. The rule also names an aspect with V_MAIN 0 if this name has a V_MAIN above 0 in at least three cases
-and four of five. It names the reverse too. Aspects with a refused telegram do not count. `--tolerance` and the rounding
-of lengths are allowed (SUBSET-026, 3.8).
+What it says. At this signal one proceed aspect leads as far as another one or farther, although it leads less far in
+most cases of the table. For example, yellow leads as far as green or farther. Most cases are at least three, and at
+least four of five. Proceed aspects have a V_MAIN above 0, and the two have different packets. A case is a group that
+has both aspects in one direction. The rule also reports an aspect with V_MAIN 0 if this name has a V_MAIN above 0 in
+most cases, and the reverse. Aspects with a refused telegram do not count. Authorities are equal if they differ by no
+more than `--tolerance` and the rounding of lengths (SUBSET-026, 3.8).
 
-How urgent. At worst wrong information.
+Why it matters. At worst the train gets wrong information. At yellow it gets the authority of green, and might run
+beyond a signal at danger. A red aspect with V_MAIN above 0 does not stop it. Authorities that are only equal have the
+lowest urgency.
+
+Example. Before (`examples/meaning/mistakes/E9.csv`): at Signal 3 "yellow" ends 3000 m from the group and "green" 1500
+m, and in 5 of 6 cases "yellow" ends before "green". After: "yellow" ends 1,500 m from the group, and "green" 3,000 m.
+
+When it is a false alarm. The rule assumes that an aspect name means the same at each signal. That is not so if a signal
+uses a name in another way, or if the names are numbers of routes. In a group for both directions, an aspect might also
+stop only the trains of one of them. The rule assumes that the more restrictive aspect ends first. Both might end at the
+same buffer stop or level border. Or one of them is for another track whose next signal is farther away, such as at a
+junction or at staggered exit signals.
 
 Usual cause. The telegrams of two aspects were exchanged, or their names in the table.
 
-What may happen. At yellow the train gets the authority of green, and may run beyond a signal at danger. A red aspect
-with V_MAIN above 0 does not stop it.
-
 How to correct it. Exchange the telegrams of the two aspects, or correct their names.
 
-Correct data that gets it. Any that break one of these assumptions; usual cases follow "not". An aspect name means the
-same at each signal: not if one uses it otherwise, or names are numbers of routes. Nor if one of a group for both
-directions stops the trains of one. The more restrictive aspect ends first: not if both end at a buffer stop or level
-border. Nor if one is for another track whose next signal is farther away, such as at a junction or staggered exit
-signals.
+How to accept it. Name the routes of the two aspects, and the signals at which they end.
 
-Example. In 14 of 15 cases yellow ends before green, and at Signal B green ends at 1,400 m and yellow at 2,900 m.
-
-How sure. 86 %.
+How sure. 86 %, by practice and memory of the standard.
 """
 from __future__ import annotations
 

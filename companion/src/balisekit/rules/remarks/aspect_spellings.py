@@ -3,7 +3,7 @@
 What it says. At most three groups have this aspect, and most of the groups that share all their other aspects with
 them have one other aspect in its place. One word of two languages, a slip of the pen or another case looks like that.
 
-How urgent. To be looked at: what is one aspect for the engineer is two for pictures of a track, and for entries of
+Why it matters. To be looked at: what is one aspect for the engineer is two for pictures of a track, and for entries of
 accepted findings.
 
 Usual cause. The table was put together from lists of several people.

@@ -3,7 +3,7 @@
 What it says. By the column km the first and the last balise of a group are more than 100 m from each other. A group of
 eight balises is shorter.
 
-How urgent. To be looked at: pictures and sums of distances count from a wrong place.
+Why it matters. To be looked at: pictures and sums of distances count from a wrong place.
 
 Usual cause. A kilometre was mistyped, or a row belongs to another group. The kilometres may also jump there.
 

@@ -3,7 +3,7 @@
 What it says. At most three groups have just the aspects of this one, and most of the other groups that have these all
 have the same further aspects.
 
-How urgent. To be looked at: an aspect that the table lacks is not checked.
+Why it matters. To be looked at: an aspect that the table lacks is not checked.
 
 Usual cause. The last aspect of a group was left out of the table. A group of another kind, such as one with infill, may
 have fewer aspects rightly.

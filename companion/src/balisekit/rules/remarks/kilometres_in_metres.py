@@ -3,7 +3,7 @@
 What it says. All numbers of the column km are whole, and they are so far apart that they are metres rather than
 kilometres: balises of one group a kilometre or more from each other, or all groups 50 km or more.
 
-How urgent. To be looked at: every place and every distance by the kilometres is then wrong by a factor of 1,000.
+Why it matters. To be looked at: every place and every distance by the kilometres is then wrong by a factor of 1,000.
 
 Usual cause. The column was taken from a list in metres.
 

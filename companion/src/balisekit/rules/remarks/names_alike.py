@@ -3,7 +3,7 @@
 What it says. Two groups, aspects or tracks of the table have names that differ by characters without ink, by letters of
 another script or by the way an accent is written. Names that differ in case or blanks only have a note of their own.
 
-How urgent. To be looked at: what reads as one group or aspect is checked as two.
+Why it matters. To be looked at: what reads as one group or aspect is checked as two.
 
 Usual cause. A name was copied from a document or a page that has such characters.
 

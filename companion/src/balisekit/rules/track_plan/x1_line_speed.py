@@ -2,28 +2,27 @@
 
 What it says. A speed profile has a V_STATIC that is not the line speed of the plan, on a stretch longer than
 `--tolerance` (else 1 m) and rounding. Speeds for train categories are not compared, nor is what follows a packet 136.
-Beyond a `point` of the plan nothing is compared, unless a packet 5 of the same message names a group of the track at or
-beyond that point, and none of another track before it (SUBSET-026, 7.4.2 and 7.5.1).
+Beyond a `point` of the plan a train might have left the track, so nothing is compared there, unless a packet 5 shows
+that it stays. This packet must be of the same message. It must name a group of the track at or beyond the point, and
+none on another track before it (SUBSET-026, 7.4.2 and 7.5.1).
 
-How urgent. At worst wrong information: the train may run faster than the track allows. A lower speed only slows trains.
+Why it matters. At worst the train gets wrong information, and might run faster than the track allows. A speed that is
+lower than in the plan only slows trains.
 
-Usual cause. A speed was typed in km/h and not in steps of 5 km/h. The place of a change of speed was counted from
-another group. Q_SCALE is not that of the distances. The line speed has changed since the telegrams were made.
+Example. Before (`examples/meaning/level-border.csv` with `examples/meaning/plan.csv`): V_STATIC of Signal 6 is 100 km/h
+from km 17.990 to km 20.700, and the plan has 80 km/h there. After: both have the speed of the track.
 
-What may happen. The train supervises another speed than that of the track.
+When it is a false alarm. The rule assumes that the plan has the speed that V_STATIC must have, and not that of a train
+category. {track speed} {exact} A profile without a short higher speed is also on the safe side. {leaving} {points}
+{kilometres} {missing} {one way}
+
+Usual cause. A speed was typed in km/h and not in steps of 5 km/h. Or the place of a change of speed was counted from
+another group. Or Q_SCALE is not the scale of the distances. Or the line speed has changed since the telegrams were
+made.
 
 How to correct it. Correct V_STATIC or D_STATIC of the packet, or the row of the plan.
 
-Correct data that gets it. Any that break one of these assumptions; usual cases follow "not". The plan has the speed
-that V_STATIC must have: not that of a category. V_STATIC is the speed of the track: not if it includes that of the
-route, the aspect or a temporary restriction. Nor if it is for limited supervision, or unused, such as 0 beside a V_DIFF
-of each category. Profiles have the values and places of the track: not if merged, rounded or on the safe side, such as
-for an overlap, or without a short higher speed. Trains stay on the track: not through a loop, or on a route to another
-one, if no `point` of the track plan says where. Kilometres and distances show the place on the track: not if they are
-missing, repeat, jump unstated, follow another axis, are rounded coarsely, or belong to signals or to tracks without
-names. Packets with Q_DIR 2 are for both directions: not on a track for one.
-
-Example. The profile of signal B has 120 km/h from km 15.900 to km 15.950, where the plan has 100 km/h.
+How to accept it. State why V_STATIC differs from the speed of the track, for example for an overlap.
 """
 from __future__ import annotations
 

@@ -1,28 +1,28 @@
 """X2: gradient other than in the plan.
 
 What it says. A gradient profile has another gradient than the plan, on a stretch longer than `--tolerance` (else 1 m)
-and rounding. Uphill is positive: by Q_GDIR as the train meets it, in the plan by the row's way. What follows a packet
-136 is not compared. Beyond a `point` of the plan nothing is compared, unless a packet 5 of the same message names a
-group of the track at or beyond that point, and none of another track before it (SUBSET-026, 7.4.2 and 7.5.1).
+and rounding. Uphill is positive: by Q_GDIR as the train meets it, and in the plan by the way of the row. What follows a
+packet 136 is not compared. Beyond a `point` of the plan a train might have left the track, so nothing is compared
+there, unless a packet 5 shows that it stays. This packet must be of the same message. It must name a group of the track
+at or beyond the point, and none on another track before it (SUBSET-026, 7.4.2 and 7.5.1).
 
-How urgent. At worst wrong information: with a gradient less downhill than the track the train brakes too late. One that
-is more downhill makes it brake early.
+Why it matters. At worst the train gets wrong information: it brakes too late if the gradient is less downhill than the
+track. A gradient that is more downhill makes it brake early.
 
-Usual cause. The sign of the other direction was taken. The gradient of the neighbouring stretch was copied. Q_SCALE is
-not that of the distances.
+Example. Before (`examples/meaning/level-border.csv` with `examples/meaning/plan.csv`): the gradient of Signal 4 is +1 ‰
+from km 16.620 to km 17.700, and the plan has -1 ‰ there. After: both have the sign of the track.
 
-What may happen. The train computes its braking curves with another gradient than that of the track.
+When it is a false alarm. The rule assumes that plan and profile have the gradient of each place. One of them might have
+a mean of several gradients, or a safe one. A safe gradient is the most downhill one, one that was rounded down, or one
+of a stop aspect or overlap. Write safe gradients into the plan, a row for each way. {leaving} {points} {kilometres}
+{missing} {one way}
+
+Usual cause. The sign of the other direction was taken. Or the gradient of the neighbouring stretch was copied. Or
+Q_SCALE is not the scale of the distances.
 
 How to correct it. Correct Q_GDIR, G_A or D_GRADIENT of the packet, or the row of the plan.
 
-Correct data that gets it. Any that break one of these assumptions; usual cases follow "not". Plan and profile have the
-gradient of each place: not a mean of several, or a safe gradient. That may be the most downhill one, one rounded down,
-or one of a stop aspect or overlap. Write safe gradients into the plan, a row for each way. Trains stay on the track:
-not through a loop, or on a route to another one, if no `point` of the track plan says where. Kilometres and distances
-show the place on the track: not if they are missing, repeat, jump unstated, follow another axis, are rounded coarsely,
-or belong to signals or to tracks without names. Packets with Q_DIR 2 are for both directions: not on a track for one.
-
-Example. The profile of signal C has +5 ‰ from km 14.200 to km 16.000, where the plan has -5 ‰: the sign is wrong.
+How to accept it. State how the gradient of the profile was made safe.
 """
 from __future__ import annotations
 

@@ -2,29 +2,31 @@
 
 What it says. A movement authority lets trains run to no signal of the plan for their way, although the track has some.
 The line names the plan's nearest signal and its distance. Authorities are packets 12 with V_MAIN above 0 and packets
-15, if they have a length; each ends at the end of its end section. Allowed are `--tolerance` (0 without it), one unit
-of Q_SCALE, half a unit for each further section, and one unit of the last decimal of the kilometres. A track with a
-signal in the plan for one way needs all signals of that way at which authorities end. Beyond a `point` of the plan
-nothing is compared, unless a packet 5 of the same message names a group of the track at or beyond that point, and none
-of another track before it (SUBSET-026, 7.4.2 and 7.5.1).
+15, if they have a length. Each ends at the end of its end section. The end may differ by `--tolerance` (0 without it)
+and by one unit of the last decimal of the kilometres. It may also differ by one unit of Q_SCALE, and half a unit for
+each further section. As soon as the plan has one signal of a track and way, it must have all signals at which
+authorities of that way end. Beyond a `point` of the plan a train might have left the track, so nothing is compared
+there, unless a packet 5 shows that it stays. This packet must be of the same message. It must name a group of the track
+at or beyond the point, and none on another track before it (SUBSET-026, 7.4.2 and 7.5.1).
 
-How urgent. At worst wrong information.
+Why it matters. At worst the train gets wrong information, and stops beyond the signal. Or it stops too far in rear of
+the signal.
 
-Usual cause. A section is missing or was counted twice. The length was taken to another signal, or from another group.
+Example. Before (`examples/meaning/level-border.csv` with `examples/meaning/plan.csv`): the authority of Signal 4 at
+"green" ends at km 17.500, 50 m beyond Signal 6, which the plan has at km 17.450. After: both are at the place of the
+signal.
 
-What may happen. The train stops beyond the signal, or too far in rear of it.
+When it is a false alarm. The rule assumes that the plan has all ends of authority. A marker board, buffer stop, level
+border or limit of authority (V_LOA above 0), or the end of a calling-on route might be missing. Write such places into
+the plan as signals. In limited supervision an authority might end at no signal. {leaving} {points} {kilometres}
+{missing} {one way}
+
+Usual cause. A section is missing or was counted twice. Or the length was taken to another signal, or from another
+group.
 
 How to correct it. Correct L_SECTION and L_ENDSECTION, or the row of the plan.
 
-Correct data that gets it. Any that break one of these assumptions; usual cases follow "not". The plan has all ends of
-authority: not a marker board, buffer stop, level border, limit of authority (V_LOA above 0) or end of a calling-on
-route. Write such places into the plan. In limited supervision an authority may end at no signal. Trains stay on the
-track: not through a loop, or on a route to another one, if no `point` of the track plan says where. Kilometres and
-distances show the place on the track: not if they are missing, repeat, jump unstated, follow another axis, are rounded
-coarsely, or belong to signals or to tracks without names. Packets with Q_DIR 2 are for both directions: not on a track
-for one.
-
-Example. The authority of signal A at green ends at km 15.350, and the nearest signal of the plan is at km 15.300.
+How to accept it. Name what is at the end of the authority. If it stays there, write it into the plan instead.
 """
 from __future__ import annotations
 

@@ -3,24 +3,26 @@
 What it says. The packet 12 of an aspect differs from its row of the plan in V_MAIN, end, overlap or release speed. The
 end is its distance from the group. The release speed is that of the overlap, or of the danger point if there is no
 overlap. Lengths may differ by the rounding of Q_SCALE and by `--tolerance`. A row of the plan for an aspect without a
-packet 12 for that way is named too. What follows a packet 136 is not compared (SUBSET-026, 7.4.2 and 7.5.1).
+packet 12 for that way is reported too. What follows a packet 136 is not compared (SUBSET-026, 7.4.2 and 7.5.1).
 
-How urgent. At worst wrong information.
+Why it matters. At worst the train gets wrong information: it runs farther or faster than the route that is set for it
+allows.
 
-Usual cause. The telegrams of two aspects were exchanged. A value was copied from another signal. The route table has
-changed since the telegrams were made.
+Example. Before (`examples/meaning/level-border.csv` with `examples/meaning/plan.csv`): at "yellow" Signal 9 (km 22.003)
+has V_MAIN 140 km/h, and the plan has 100 km/h. After: both have the speed of the route.
 
-What may happen. The train runs farther or faster than the route that is set for it allows.
+When it is a false alarm. The rule assumes that the plan has the values of the packet. It might have those of the route,
+and the packet might reduce one, state one that does not restrict, or be for limited supervision. The rule assumes that
+each aspect of the plan has a packet 12. An aspect might lack it on purpose, such as one that stops trains by other
+packets. It assumes that a row has the way of its packet. That is not so if rows for a group with both directions state
+no `way`. Finally, it assumes that lengths are rounded as Q_SCALE states.
+
+Usual cause. The telegrams of two aspects were exchanged. Or a value was copied from another signal. Or the route table
+has changed since the telegrams were made.
 
 How to correct it. Correct the packet 12, or the row of the plan.
 
-Correct data that gets it. Any that break one of these assumptions; usual cases follow "not". The plan has the values of
-the packet: not if it has those of the route, and the packet reduces one, does not restrict, or is for limited
-supervision. Each aspect of the plan has a packet 12: not one that lacks it on purpose, such as a stop by other packets.
-A row has the way of its packet: not if rows for a group with both directions state no `way`. Lengths are rounded as
-Q_SCALE states.
-
-Example. Signal B has V_MAIN 160 km/h at yellow, and the plan has 120 km/h.
+How to accept it. State why the packet differs from the route table, for example because it reduces the speed.
 """
 from __future__ import annotations
 

@@ -3,32 +3,33 @@
 What it says. Packets 41, 42, 46 or 131 contradict a border of the plan in place, levels or RBC, or none names it. A
 packet 41 or 131 is compared with the nearest border of its kind for trains of that way. A packet 46 is compared with
 the levels beyond the last border in rear. A packet 42 that establishes a session is compared with the RBCs beyond the
-next border ahead and beyond the last one in rear. NID_RBC 16,383 (the last known RBC) is not compared. For places
-`--tolerance` (0 without it), one unit of Q_SCALE and one unit of the last decimal of the kilometres are allowed. A
-track with a border in the plan for one way needs all borders of that kind. If it begins in the area of an RBC, it also
-needs a row `rbc` in rear of the first group. A border of the plan within the table that no packet names is named at the
-nearest group, unless the track has a packet of its kind without a direction, beyond a `point` or after a packet 136, or
-a refused telegram. What follows a packet 136 is not compared (SUBSET-026, 7.4.2 and 7.5.1).
+next border ahead and beyond the last one in rear. NID_RBC 16,383 (the last known RBC) is not compared. Places may
+differ by `--tolerance` (0 without it), by one unit of Q_SCALE and by one unit of the last decimal of the kilometres. As
+soon as the plan has one border of a kind for a track and way, it must have all of them. If the track begins in the area
+of an RBC, the plan also needs a row `rbc` in rear of the first group. A border of the plan within the table that no
+packet names is reported at the nearest group. It is not reported if the track has a refused telegram, or a packet of
+its kind without a direction, beyond a `point` or after a packet 136. What follows a packet 136 is not compared
+(SUBSET-026, 7.4.2 and 7.5.1).
 
-How urgent. At worst wrong information.
+Why it matters. At worst the train gets wrong information. It is in a level that the track does not support there, or
+asks the wrong RBC for its authority.
+
+Example. Before (`examples/meaning/level-border.csv` with `examples/meaning/plan.csv`): Signal 4 (km 14.500) announces
+level 0 at km 16.700, and the plan has the border at km 16.750, 50 m away. After: both have the place of the border.
+
+When it is a false alarm. The rule assumes that the plan has the borders of all trains and routes. It might lack those
+of trains that have no radio or start near a border, or an RBC of another route. The rule assumes that orders are
+exactly at the border. A packet with D_LEVELTR 32,767 or D_RBCTR 0 might be some metres from it, and an order might be
+repeated beyond it. Write such places into the plan. It assumes that packets have the levels of the plan, but
+announcement and border might differ on purpose. It assumes that groups of the own track name each border. Only radio,
+another track or a group beyond the table might do so, or the table might have one way only. {leaving} {points}
+{kilometres} {missing} {one way}
 
 Usual cause. The distance was counted from another group, or not all announcements followed a border that was moved.
 
-What may happen. The train is in a level that the track does not support there, or asks the wrong RBC for its authority.
-
 How to correct it. Correct the packet, or the row of the plan.
 
-Correct data that gets it. Any that break one of these assumptions; usual cases follow "not". The plan has the borders
-of all trains and routes: not those of trains that have no radio or start near one, or an RBC of another route. Orders
-are exactly at the border: not D_LEVELTR 32,767 or D_RBCTR 0 some metres from it, or one repeated beyond it. Write such
-places into the plan. Packets have its levels: not if announcement and border differ on purpose. Groups of its own track
-name each border: not if only radio, another track or a group beyond the table does, or if the table has one way only.
-Trains stay on the track: not through a loop, or on a route to another one, if no `point` of the track plan says where.
-Kilometres and distances show the place on the track: not if they are missing, repeat, jump unstated, follow another
-axis, are rounded coarsely, or belong to signals or to tracks without names. Packets with Q_DIR 2 are for both
-directions: not on a track for one.
-
-Example. Group F announces level 2 at km 20.050, and the plan has the border at km 20.000.
+How to accept it. Name the trains or the route for which the packet differs from the plan.
 """
 from __future__ import annotations
 

@@ -1,0 +1,38 @@
+"""Sentences that the pages of several rules share. A page has the name of such sentences in braces: `{kilometres}`."""
+from __future__ import annotations
+
+import re
+from typing import Mapping
+
+SENTENCES: Mapping[str, str] = {
+    "kilometres": (
+        "The rule takes the kilometres of the table for places on the track. It can be wrong if a kilometre occurs "
+        "twice, is rounded coarsely, follows another axis than the track, or belongs to a signal instead of the "
+        "balise. It can also be wrong if the kilometres jump and neither `--jumps` nor the track plan states it, or if "
+        "several tracks have no names."
+    ),
+    "missing": "A missing kilometre can have the same effect.",
+    "leaving": (
+        "The rule also assumes that trains stay on the track. A train that runs through a loop, or takes a route to "
+        "another track, breaks this assumption."
+    ),
+    "points": "To prevent such remarks, state with a `point` of the track plan where trains can leave the track.",
+    "one way": (
+        "On a track for one direction, a packet with Q_DIR 2 is also compared for the other direction, in which no "
+        "train runs."
+    ),
+    "exact": (
+        "The rule assumes that profiles state the values and places of the track. A profile whose elements were merged "
+        "or rounded can differ although it is right. So can one that is on the safe side, such as for an overlap."
+    ),
+    "track speed": (
+        "It takes V_STATIC for the speed of the track. That is not so if V_STATIC includes the speed of the route, of "
+        "the aspect or of a temporary restriction, or if it is for limited supervision. Nor is it so if no train uses "
+        "V_STATIC, for example if it is 0 because each train category has its own V_DIFF."
+    ),
+}
+
+
+def filled_in(page: str) -> str:
+    """A page with the shared sentences in their places."""
+    return re.sub(r"\{([a-z ]+)\}", lambda name: SENTENCES[" ".join(name[1].split())], page)

@@ -1,0 +1,71 @@
+"""The account of a file: each of its telegrams is judged, or refused, or named as not judged."""
+from __future__ import annotations
+
+from dataclasses import dataclass, replace
+from typing import Collection, Iterable, NamedTuple, Optional, Sequence, Tuple
+
+
+class NotJudged(NamedTuple):
+    """Telegrams of a file that are not judged, and why."""
+
+    why: str
+    rows: Tuple[int, ...]
+    """Each row once."""
+    telegrams: int
+    asked: bool = False
+    """Whether an option of the command line asked for it."""
+    column: Optional[str] = None
+    """The heading of their column, if it is not the one of the telegrams."""
+    sheet: Optional[str] = None
+    """Of a workbook."""
+
+
+@dataclass(frozen=True)
+class Account:
+    """What became of the telegrams of a table, or of the messages of a file.
+
+    The reader begins it. Each later stage that leaves something out gives a new one, which has that too.
+    """
+
+    telegrams: int
+    """How many there are in the file: what is read as one, and each other cell that looks like one."""
+    rows: Tuple[int, int]
+    """The first and the last row that was read."""
+    refused: int = 0
+    not_judged: Tuple[NotJudged, ...] = ()
+    sheets: Tuple[str, ...] = ()
+    """Of a workbook: the sheet that was read."""
+    sheets_not_read: Tuple[str, ...] = ()
+    columns_not_read: Tuple[str, ...] = ()
+
+    @property
+    def judged(self) -> int:
+        """How many telegrams the verdict covers."""
+        return self.telegrams - self.refused - sum(each.telegrams for each in self.not_judged)
+
+    @property
+    def overlooked(self) -> int:
+        """How many telegrams are not judged, although no option of the command line asked for that."""
+        return sum(each.telegrams for each in self.not_judged if not each.asked)
+
+    def refusing(self, count: int) -> Account:
+        """The same with so many more telegrams refused."""
+        return replace(self, refused=self.refused + count)
+
+    def without(self, why: str, rows: Collection[int], asked: bool = False) -> Account:
+        """The same with the telegrams of these rows not judged."""
+        left_out = NotJudged(why, tuple(sorted(rows)), len(rows), asked, sheet=next(iter(self.sheets), None))
+        return replace(self, not_judged=(*self.not_judged, left_out)) if rows else self
+
+
+def of_rows(numbers: Sequence[int]) -> Account:
+    """The account of rows with a telegram each, in a file that has nothing else."""
+    return Account(len(numbers), (numbers[0], numbers[-1]) if numbers else (0, 0))
+
+
+def elsewhere(
+    why: str, numbers: Iterable[int], asked: bool, column: Optional[str] = None, sheet: Optional[str] = None
+) -> NotJudged:
+    """Telegrams that are not in the column that is read. The row of each is given."""
+    rows = list(numbers)
+    return NotJudged(why, tuple(sorted(set(rows))), len(rows), asked, column, sheet)

@@ -1,0 +1,126 @@
+"""The pre-commit hook takes every file name for a table, as pre-commit calls it: the hook's `args`, then the names."""
+from __future__ import annotations
+
+import ast
+import os
+import re
+import shutil
+import subprocess
+import sys
+from pathlib import Path
+from typing import List, Sequence, Tuple
+
+import pytest
+from cases_of_program import TOP
+from telegrams import ALONE, OTHER
+
+from balisekit.cli.main import parser
+
+HOOK = TOP / "examples" / "hooks" / "check-tables"
+HOOKS = TOP / ".pre-commit-hooks.yaml"
+NAMES = Path(__file__).with_name("names_of_tables.txt")
+SOUND = f"group,telegram\nA,{ALONE}\nB,{OTHER}\n"
+EVIL = "#!/bin/sh\ntouch evil\n"
+STAND = """#!/bin/sh
+printf '%s\\0' "$@" >>calls
+printf '\\0' >>calls
+"""
+"""A balisekit that writes down how it is called."""
+pytestmark = [
+    pytest.mark.uncovered,
+    pytest.mark.skipif(not HOOKS.exists(), reason="only a clone has the hook of pre-commit"),
+]
+
+
+def names() -> List[str]:
+    """The names of the data file."""
+    lines = NAMES.read_text("utf-8").splitlines()
+    return [ast.literal_eval(line) for line in lines if not line.startswith("#")]
+
+
+def arguments() -> List[str]:
+    """The words that pre-commit puts before the names."""
+    found = re.search(r"(?m)^  args: \[(.*)\]$", HOOKS.read_text("utf-8"))
+    assert found
+    return found[1].split(", ")
+
+
+def hook(room: Path, *words: str, script: Path = HOOK) -> Tuple[int, str, str]:
+    """What the hook answers in this folder."""
+    known = {**os.environ, "BALISEKIT_PYTHON": sys.executable}
+    done = subprocess.run([str(script), *words], cwd=room, env=known, capture_output=True, check=False)
+    return done.returncode, done.stdout.decode(), done.stderr.decode()
+
+
+def calls(folder: Path, room: Path, *words: str) -> List[List[str]]:
+    """How the hook calls balisekit. The hook is a copy in this folder."""
+    copy = folder / "examples" / "hooks" / "check-tables"
+    copy.parent.mkdir(parents=True)
+    shutil.copy2(HOOK, copy)
+    put(folder, "balisekit", STAND)
+    assert hook(room, *words, script=copy)[0] == 0
+    return [call.split("\0") for call in (room / "calls").read_text("utf-8").split("\0\0")[:-1]]
+
+
+def put(room: Path, name: str, text: str) -> None:
+    """Writes a table, which can be started as a program too."""
+    path = room / name
+    path.parent.mkdir(parents=True, exist_ok=True)
+    path.write_text(text, "utf-8")
+    path.chmod(0o755)
+
+
+def test_each_name_is_a_table(tmp_path: Path, tmp_path_factory: pytest.TempPathFactory) -> None:
+    """Whatever it is called. Only what stands before `--` is an option."""
+    for name in names():
+        put(tmp_path, name, EVIL)
+    called = calls(tmp_path_factory.mktemp("hook"), tmp_path, "--by-position", "--timeout=6", *arguments(), *names())
+    assert called == [["check", "--by-position", "--timeout=6", "--", f"./{name}"] for name in names()]
+    for words in called:
+        options = vars(parser(words).parse_args(words))
+        given = {"table": words[-1], "by_position": True, "timeout": 6.0, "command": "check"}
+        assert {name: options[name] for name in given} == given and not (options["program"] or options["json"])
+    assert not (tmp_path / "evil").exists()
+
+
+def test_accepted_findings_beside_a_name(tmp_path: Path, tmp_path_factory: pytest.TempPathFactory) -> None:
+    """They are taken from the file beside the table, if the name has an ending."""
+    for name in ("--a.csv", "--a.accepted.csv", "table", ".accepted.csv", "b.c/table"):
+        put(tmp_path, name, SOUND)
+    words = (*arguments(), "--a.accepted.csv", "--a.csv", "table", "b.c/table", str(tmp_path / "table"))
+    assert calls(tmp_path_factory.mktemp("hook"), tmp_path, *words) == [
+        ["check", "--accepted", "./--a.accepted.csv", "--", "./--a.csv"],
+        ["check", "--", "./table"],
+        ["check", "--", "./b.c/table"],
+        ["check", "--", str(tmp_path / "table")],
+    ]
+
+
+@pytest.mark.parametrize("words", [("--program=x/evil.csv",), ("--", "--", "--program=x/evil.csv")])
+def test_without_the_end_of_options(words: Sequence[str], tmp_path: Path) -> None:
+    """A user who overrides `args` without `--` gets a refusal with the reason, and no option from a name."""
+    put(tmp_path, "x/evil.csv", EVIL)
+    status, _, err = hook(tmp_path, *words)
+    assert status == 2 and not (tmp_path / "evil").exists()
+    assert "check-tables: --program=x/evil.csv is no table, and options end with --\n" in err
+
+
+@pytest.mark.slow
+@pytest.mark.skipif(not shutil.which("pre-commit"), reason="pre-commit is not installed")
+def test_pre_commit_itself(tmp_path: Path) -> None:
+    """A commit with these names runs none of them."""
+    clone, room = tmp_path / "clone", tmp_path / "room"
+    git = ["git", "-c", "user.name=a", "-c", "user.email=a@b"]
+    known = {**os.environ, "PRE_COMMIT_HOME": str(tmp_path / "cache"), "BALISEKIT_PYTHON": sys.executable}
+    for name in ("balisekit", "companion/start.py", "companion/src", "examples/hooks", HOOKS.name):
+        (clone / name).parent.mkdir(parents=True, exist_ok=True)
+        subprocess.run(["cp", "-r", str(TOP / name), str(clone / name)], check=True)
+    for name in names():
+        put(room, name, EVIL)
+    for folder in (clone, room):
+        for command in ("init -q", "add .", "commit -q -m all"):
+            subprocess.run([*git, *command.split()], cwd=folder, check=True)
+    words = ["pre-commit", "try-repo", str(clone), "balisekit-check", "--all-files", "--verbose"]
+    done = subprocess.run(words, cwd=room, env=known, capture_output=True, check=False)
+    assert done.returncode == 1 and b"exit code: 2" in done.stdout, done
+    assert not (room / "evil").exists()
