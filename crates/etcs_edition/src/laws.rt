@@ -1,7 +1,7 @@
 //! Laws that the definitions of the edition and those of other crates say the same. Each law is the contract of
 //! a call that does nothing.
 
-ghost use Rattle.std.specs.Prelude.{◌≡◌, ◌↔◌, ℕ, List, Bool, Ok, IsOkAnd};
+ghost use Rattle.std.specs.Prelude.{◌≡◌, ◌↔◌, ℕ, List, [], Bool, Ok, IsErr, IsOkAnd};
 ghost use Rattle.etcs_telegram.specs.Record.{Telegram};
 ghost use Rattle.etcs_telegram.specs.Telegram.{IsTelegram as IsDecodedTelegram};
 ghost use Rattle.etcs_telegram.specs.Text.{IsTelegramText as IsDecodedTelegramText, IsCanonicalText as IsEncodedTelegram};
@@ -18,6 +18,8 @@ ghost use Rattle.etcs_check.specs.Violation.{HasParts};
 ghost use Rattle.etcs_check.specs.declared.finding.Finding.{Finding};
 ghost use Rattle.etcs_edition.specs.Telegram.{IsTelegram, IsTelegramText};
 ghost use Rattle.etcs_edition.specs.Message.{IsMessage, IsMessageText};
+ghost use Rattle.etcs_telegram.specs.TextMeaning.{telegram_of_text};
+ghost use Rattle.etcs_radio.specs.TextMeaning.{message_of_text};
 ghost use Rattle.etcs_edition.specs.Encoding.{IsWrittenTelegram, IsWrittenMessage};
 ghost use Rattle.etcs_edition.specs.Document.{IsLineText};
 ghost use Rattle.etcs_edition.specs.Yes.{SaysYes};
@@ -100,4 +102,22 @@ pub fn findings_agree()
 pub fn reports_agree()
     ensures { (bytes text : List ℕ) → IsReport bytes text
         ↔ IsOkAnd (summary_of_text bytes) (λ s. text ≡ report_words s.0.0 s.0.1 s.1) }
+{}
+
+/// A line has a yes by the edition if and only if it has no finding by the edition.
+pub fn a_yes_has_no_finding()
+    ensures { (bytes : List ℕ) (groups : List Aspects) (messages : List Message)
+        → SaysYes bytes groups messages ↔ (IsLineText bytes groups messages × AreFindings groups messages []) }
+{}
+
+/// What is a telegram, a radio message or the document of a line by the edition has no reason to be refused, and
+/// everything else has one. `etcs_telegram::from_hex`, `etcs_radio::from_hex` and `etcs_document::read_line` return
+/// this reason, or that memory ran out.
+pub fn refusals_agree()
+    ensures telegrams { (text : List ℕ)
+        → ((t : Telegram) → IsTelegramText t text → ⊥) ↔ IsErr (telegram_of_text text) }
+    ensures messages { (text : List ℕ)
+        → ((m : Message) → IsMessageText m text → ⊥) ↔ IsErr (message_of_text text) }
+    ensures documents { (bytes : List ℕ)
+        → ((line : List Aspects × List Message) → IsLineText bytes line.0 line.1 → ⊥) ↔ IsErr (line_of_text bytes) }
 {}
