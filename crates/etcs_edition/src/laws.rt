@@ -1,25 +1,29 @@
 //! Laws that the definitions of the edition and those of other crates say the same. Each law is the contract of
 //! a call that does nothing.
 
-ghost use Rattle.std.specs.Prelude.{◌≡◌, ◌↔◌, ℕ, List, [], Bool, Ok, IsErr, IsOkAnd};
+ghost use Rattle.std.specs.Prelude.{◌≡◌, ◌↔◌, ℕ, List, [], Bool, length, take, Ok, Err, IsErr, IsOkAnd};
+ghost use Rattle.etcs_bits.specs.declared.layout.fault.Fault.{Fault};
 ghost use Rattle.etcs_telegram.specs.Record.{Telegram};
 ghost use Rattle.etcs_telegram.specs.Telegram.{IsTelegram as IsDecodedTelegram};
 ghost use Rattle.etcs_telegram.specs.Text.{IsTelegramText as IsDecodedTelegramText, IsCanonicalText as IsEncodedTelegram};
+ghost use Rattle.etcs_telegram.specs.Meaning.{read_telegram};
+ghost use Rattle.etcs_telegram.specs.TextMeaning.{telegram_of_text};
 ghost use Rattle.etcs_radio.specs.declared.message.Message.{Message};
 ghost use Rattle.etcs_radio.specs.Message.{IsMessage as IsDecodedMessage};
 ghost use Rattle.etcs_radio.specs.Text.{IsMessageText as IsDecodedMessageText, IsCanonicalText as IsEncodedMessage};
+ghost use Rattle.etcs_radio.specs.Meaning.{read_message};
+ghost use Rattle.etcs_radio.specs.TextMeaning.{message_of_text};
 ghost use Rattle.etcs_group.specs.Group.{Aspects};
-ghost use Rattle.etcs_document.specs.Document.{line_of_text};
-ghost use Rattle.etcs_document.specs.ReportText.{report_words};
-ghost use Rattle.etcs_document.specs.Verdict.{SaysYes as CheckSaysYes, summary_of_text};
 ghost use Rattle.etcs_check.specs.Laws.{AreControlled};
 ghost use Rattle.etcs_check.specs.Line.{findings};
 ghost use Rattle.etcs_check.specs.Violation.{HasParts};
 ghost use Rattle.etcs_check.specs.declared.finding.Finding.{Finding};
+ghost use Rattle.etcs_document.specs.Document.{line_of_text};
+ghost use Rattle.etcs_document.specs.ReportText.{report_words};
+ghost use Rattle.etcs_document.specs.Verdict.{SaysYes as CheckSaysYes, summary_of_text};
 ghost use Rattle.etcs_edition.specs.Telegram.{IsTelegram, IsTelegramText};
 ghost use Rattle.etcs_edition.specs.Message.{IsMessage, IsMessageText};
-ghost use Rattle.etcs_telegram.specs.TextMeaning.{telegram_of_text};
-ghost use Rattle.etcs_radio.specs.TextMeaning.{message_of_text};
+ghost use Rattle.etcs_edition.specs.Wire.{bits_of_bytes};
 ghost use Rattle.etcs_edition.specs.Encoding.{IsWrittenTelegram, IsWrittenMessage};
 ghost use Rattle.etcs_edition.specs.Document.{IsLineText};
 ghost use Rattle.etcs_edition.specs.Yes.{SaysYes};
@@ -120,4 +124,14 @@ pub fn refusals_agree()
         → ((m : Message) → IsMessageText m text → ⊥) ↔ IsErr (message_of_text text) }
     ensures documents { (bytes : List ℕ)
         → ((line : List Aspects × List Message) → IsLineText bytes line.0 line.1 → ⊥) ↔ IsErr (line_of_text bytes) }
+{}
+
+/// The bits up to the end of a fault decide it: no telegram of as many bits begins with them by the edition, and
+/// no radio message of as many bytes.
+pub fn a_fault_is_decided_by_its_bits()
+    ensures telegrams { (bits others : List Bool) (f : Fault) (t : Telegram) → read_telegram bits ≡ Err f
+        → length others ≡ length bits → take f.end others ≡ take f.end bits → IsTelegram t others → ⊥ }
+    ensures messages { (bytes others : List ℕ) (f : Fault) (m : Message) → read_message bytes ≡ Err f
+        → length others ≡ length bytes → take f.end (bits_of_bytes others) ≡ take f.end (bits_of_bytes bytes)
+        → IsMessage m others → ⊥ }
 {}
