@@ -48,13 +48,14 @@ pub fn messages_agree()
     ensures { (m : Message) (bytes : List ℕ) → IsMessage m bytes ↔ IsDecodedMessage m bytes }
 {}
 
-/// A text is that of a radio message by the edition if and only if it is one that `etcs_radio::from_hex` reads.
+/// A text is that of a radio message by the edition if and only if it is one that `etcs_radio::from_hex`
+/// reads.
 pub fn message_texts_agree()
     ensures { (m : Message) (text : List ℕ) → IsMessageText m text ↔ IsDecodedMessageText m text }
 {}
 
-/// A text is the one that is written for a telegram or a radio message by the edition if and only if it is the one
-/// that `etcs_telegram::to_hex` or `etcs_radio::to_hex` writes.
+/// A text is the one that is written for a telegram or a radio message by the edition if and only if it is
+/// the one that `etcs_telegram::to_hex` or `etcs_radio::to_hex` writes.
 pub fn written_texts_agree()
     ensures telegrams { (t : Telegram) (text : List ℕ) → IsWrittenTelegram t text ↔ IsEncodedTelegram t text }
     ensures messages { (m : Message) (text : List ℕ) → IsWrittenMessage m text ↔ IsEncodedMessage m text }
@@ -66,15 +67,15 @@ pub fn what_is_written_is_read()
     ensures messages { (m : Message) (text : List ℕ) → IsWrittenMessage m text → IsMessageText m text }
 {}
 
-/// A text is that of one telegram at most, and of one radio message at most. So no two of them are written as the
-/// same text.
+/// A text is that of one telegram at most, and of one radio message at most. So no two of them are written as
+/// the same text.
 pub fn a_text_has_one_record()
     ensures telegrams { (t u : Telegram) (text : List ℕ) → IsTelegramText t text → IsTelegramText u text → t ≡ u }
     ensures messages { (m k : Message) (text : List ℕ) → IsMessageText m text → IsMessageText k text → m ≡ k }
 {}
 
-/// Bytes are the document of a line by the edition if and only if `etcs_document::read_line` reads them as this
-/// line.
+/// Bytes are the document of a line by the edition if and only if `etcs_document::read_line` reads them as
+/// this line.
 pub fn lines_agree()
     ensures { (bytes : List ℕ) (groups : List Aspects) (messages : List Message)
         → IsLineText bytes groups messages ↔ (line_of_text bytes ≡ Ok (groups, messages)) }
@@ -87,8 +88,8 @@ pub fn yes_agrees()
         → SaysYes bytes groups messages ↔ CheckSaysYes bytes groups messages }
 {}
 
-/// The rule of a finding holds at its place by the edition, F1 to F16, if and only if the parts of soundness hold
-/// that findings of `etcs_check::check` are about.
+/// The rule of a finding holds at its place by the edition, F1 to F16, if and only if the parts of soundness
+/// hold that findings of `etcs_check::check` are about.
 pub fn rules_agree()
     ensures { (groups : List Aspects) (messages : List Message) (f : Finding)
         → RuleHolds groups messages f ↔ HasParts groups messages f }
@@ -101,8 +102,8 @@ pub fn findings_agree()
         → AreFindings groups messages found ↔ (found ≡ findings groups messages) }
 {}
 
-/// A text is the report on bytes by the edition if and only if the bytes are a line, and the text is the report on
-/// the counts and findings that `etcs_document::check_in_order` takes of them.
+/// A text is the report on bytes by the edition if and only if the bytes are a line, and the text is the
+/// report on the counts and findings that `etcs_document::check_in_order` takes of them.
 pub fn reports_agree()
     ensures { (bytes text : List ℕ) → IsReport bytes text
         ↔ IsOkAnd (summary_of_text bytes) (λ s. text ≡ report_words s.0.0 s.0.1 s.1) }
@@ -114,9 +115,9 @@ pub fn a_yes_has_no_finding()
         → SaysYes bytes groups messages ↔ (IsLineText bytes groups messages × AreFindings groups messages []) }
 {}
 
-/// What is a telegram, a radio message or the document of a line by the edition has no reason to be refused, and
-/// everything else has one. `etcs_telegram::from_hex`, `etcs_radio::from_hex` and `etcs_document::read_line` return
-/// this reason, or that memory ran out.
+/// What is a telegram, a radio message or the document of a line by the edition has no reason to be refused,
+/// and everything else has one. `etcs_telegram::from_hex`, `etcs_radio::from_hex` and
+/// `etcs_document::read_line` return this reason, or that memory ran out.
 pub fn refusals_agree()
     ensures telegrams { (text : List ℕ)
         → ((t : Telegram) → IsTelegramText t text → ⊥) ↔ IsErr (telegram_of_text text) }
@@ -126,8 +127,8 @@ pub fn refusals_agree()
         → ((line : List Aspects × List Message) → IsLineText bytes line.0 line.1 → ⊥) ↔ IsErr (line_of_text bytes) }
 {}
 
-/// The bits up to the end of a fault decide it: no telegram of as many bits begins with them by the edition, and
-/// no radio message of as many bytes.
+/// The bits up to the end of a fault decide it: no telegram of as many bits begins with them by the edition,
+/// and no radio message of as many bytes.
 pub fn a_fault_is_decided_by_its_bits()
     ensures telegrams { (bits others : List Bool) (f : Fault) (t : Telegram) → read_telegram bits ≡ Err f
         → length others ≡ length bits → take f.end others ≡ take f.end bits → IsTelegram t others → ⊥ }
