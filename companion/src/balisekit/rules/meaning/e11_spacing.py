@@ -18,8 +18,8 @@ exception, or if `--line-speed` is that of a faster track. The rule also assumes
 follow the track. They do not if they jump there, if they belong to something else, or if all or some of them are
 rounded coarsely.
 
-Usual cause. A kilometre was mistyped. Or a row belongs to another group. Or the balises were exchanged in the table, or
-the column `nominal` was filled in for the other direction.
+Usual cause. A kilometre was typed wrongly. Or a row belongs to another group. Or the balises were exchanged in the
+table, or the column `nominal` was filled in for the other direction.
 
 How to correct it. Correct the kilometre, the group of the row or the column `nominal`.
 

@@ -13,7 +13,7 @@ announcement lead to another track, where the order might be. A packet for both 
 (SUBSET-026, 5.10 and 7.4.2).
 
 Why it matters. At worst the train gets wrong information. A driver acknowledges at one place, and the train changes its
-level at another. Or it goes on in a level whose trackside equipment has ended.
+level at another. Or it goes on in a level that the track there does not support.
 
 Example. Before (`examples/meaning/mistakes/E18.csv`): by D_LEVELTR 2,250 m Signal 4 announces the level transition at
 km 16.750, and the group Border orders it at km 16.700. After: D_LEVELTR is 2,200 m.
@@ -25,7 +25,7 @@ border might differ on purpose. It assumes that a group of the table orders the 
 be the only order. Trains might also leave the track: they can run through a loop, or take a route to another track that
 no packet 5 shows. {kilometres} {missing}
 
-Usual cause. D_LEVELTR is mistyped, or did not follow a moved border. Or the border has no packet 41.
+Usual cause. D_LEVELTR was typed wrongly, or did not follow a moved border. Or the border has no packet 41.
 
 How to correct it. Correct each D_LEVELTR by the kilometre of the border. Put a packet 41 into the group at the border.
 
