@@ -14,7 +14,7 @@ from typing import Callable, Iterator, List, Union
 
 import line_table
 import pytest
-from conftest import Run
+from conftest import Run, without_program
 from telegrams import ALONE, FAULTY, FIRST, MESSAGE, OTHER, SECOND, SPARE, account
 
 from balisekit.cli import check
@@ -36,7 +36,11 @@ STARTED = [str(TOP / "balisekit")]
 
 def test_yes(run: Run, table: Write) -> None:
     path = table(*SOUND)
-    assert run("check", "--only", "F", path) == (0, [f"{path}: 3 telegrams of 2 groups", ASPECTS.format(2), account(3), YES], [])
+    assert run("check", "--only", "F", path) == (
+        0,
+        [f"{path}: 3 telegrams of 2 groups", ASPECTS.format(2), account(3), YES],
+        [],
+    )
 
 
 def test_findings(run: Run, table: Write) -> None:
@@ -516,7 +520,8 @@ def test_wrong_words(run: Run) -> None:
 def test_example(run: Run, monkeypatch: pytest.MonkeyPatch, program: Program) -> None:
     monkeypatch.chdir(TOP)
     status, out, _ = run("check", "examples/table/line.csv")
-    assert status == 2 and out == (TOP / "examples/table/line.txt").read_text("utf-8").splitlines()
+    stored = (TOP / "examples/table/line.txt").read_text("utf-8").splitlines()
+    assert status == 2 and out == [stored[0], *stored[3:]] and without_program(stored[1]) == "balisecheck"
     assert line_table.table(program) == line_table.LINE.read_text("utf-8")
 
 
