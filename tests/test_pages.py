@@ -13,7 +13,7 @@ from variables.table import read_rows
 
 LONGEST = 30
 # Pages with too many short or long sentences. Rewrite one and remove it here: no page is added.
-TO_REWRITE = {"CHANGELOG.md", "docs/contributing/architecture.md"}
+TO_REWRITE = {"docs/contributing/architecture.md"}
 # Pages with words that neither Debian's lists of English words nor the glossary has. No page is added here either.
 WITH_OTHER_WORDS = {
     "CHANGELOG.md", "SECURITY.md", "docs/assurance/proofs.md", "docs/contributing/architecture.md",
