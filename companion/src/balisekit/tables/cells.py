@@ -86,9 +86,15 @@ def is_telegram(cell: str) -> bool:
     return len(text) >= LEAST_DIGITS and 10 * len(NO_DIGIT.sub("", text)) >= 9 * len(text)
 
 
-def has_telegram(cell: str) -> bool:
-    """Whether a cell looks like a telegram, or has one between separators or line ends."""
-    return len(cell) >= LEAST_DIGITS and (is_telegram(cell) or any(map(is_telegram, PARTS.split(cell))))
+def has_telegram(cell: str, separator: str = "") -> bool:
+    """Whether a cell looks like a telegram, or has one between separators or line ends.
+
+    `separator` is that of the file, which may be another one than those of spreadsheets.
+    """
+    if len(cell) < LEAST_DIGITS:
+        return False
+    parts = PARTS.split(cell.replace(separator, "\n") if separator else cell)
+    return is_telegram(cell) or any(map(is_telegram, parts))
 
 
 def fill_heads(rows: List[List[str]], areas: Sequence[Area]) -> None:
