@@ -108,6 +108,14 @@ FILES: List[Tuple[bytes, str]] = [
     (b"kind,km,km,value\nspeed,12,12,120\n", "row 1: columns 2 and 3 have one heading, km"),
     (b"kind,km,value\n\n,,\n", "the plan has no row below its heading"),
     (b'kind,km,value\nspeed,12,"120\n', "row 2: a quote is not closed"),
+    (
+        b'kind,km,value,\npoint,11,,"old\nspeed,12,120,\npoint,13,,12"\n',
+        "row 2: cell 4 is not empty, and has no heading",
+    ),
+    (
+        b"kind,km,value\nspeed,12,120\nkind,km,value,name\nspeed,13,100,\n",
+        "row 2: it is above the headings: put one row with headings above all others",
+    ),
     (b"PK\x03\x04", "it is a workbook or another zip: save it as text, such as CSV"),
     (b"kind,km\0,value\n", "character 8 is NUL: this is no text file"),
 ]

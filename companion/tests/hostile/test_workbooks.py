@@ -16,7 +16,8 @@ from conftest import Run
 from telegrams import ALONE, OTHER
 
 from balisekit.errors import KitError
-from balisekit.tables import reader as tables
+from balisekit.tables import expected, reader as tables
+from balisekit.tables.cells import NOT_CALCULATED
 
 pytest.importorskip("openpyxl")
 sys.path.insert(0, str(Path(__file__).parent))
@@ -116,6 +117,8 @@ def test_a_row_number_takes_no_memory(table: Write) -> None:
     tracemalloc.stop()
 
 
+OUTSIDE = f"xl/worksheets/sheet1.xml in it has cells that are in none of its rows: {SAVE}"
+STRICT = "http://purl.oclc.org/ooxml/spreadsheetml/main"
 DISORDER = "in the workbook, which is damaged: save it again"
 
 
@@ -133,12 +136,44 @@ DISORDER = "in the workbook, which is damaged: save it again"
         ),
         ([f"<row>{text('B', 'A3')}{text('C', 'A3')}</row>"], "row 3: its cells are not in the order of their columns"),
         ([f"<row r='3'>{row('B', OTHER, number='4')}</row>"], f"row 3: it follows row 4 {DISORDER}"),
+        ([f"<row><x:y xmlns:x='x'>{text('B')}{text(OTHER)}</x:y></row>"], OUTSIDE),
+        ([row("B", OTHER).replace("<row>", f"<row xmlns='{STRICT}'>")], OUTSIDE),
+        (["<row><c r='A3' t='inlineStr'><v>B</v></c></row>"], "its cell A3 has a text that is not its value: save"),
+        (["<row><c r='A3' t='str'><is><t>B</t></is></c></row>"], "its cell A3 has a text that is not its value: save"),
+        (["<row><c r='A3'><f>D3</f></c><c r='B3'><f>E3</f><v/></c></row>"], f"row 3: {NOT_CALCULATED}"),
+        (["<row><c><f>D3</f></c><c t='str'><f>E3</f></c></row>"], f"row 3: {NOT_CALCULATED}"),
         (["<row><c t='s'><v>-1</v></c></row>"], "row 3: openpyxl cannot read it (IndexError: shared string -1): "),
     ],
 )
 def test_rows_that_would_be_lost(table: Write, rows: List[str], wanted: str) -> None:
-    """openpyxl passes over rows whose numbers do not rise, and counts strings from the end."""
+    """openpyxl passes over rows whose numbers do not rise, and counts strings from the end.
+
+    A row of cells that it reads as empty, or does not find, is an empty row.
+    """
     assert refusal(table(content=workbook(sheet(HEADING, GOOD, *rows), more=strings("S")))).startswith(wanted)
+
+
+def test_formulas_whose_value_is_empty(table: Write) -> None:
+    """A spreadsheet stores an empty text: such rows are empty. Formulas above the headings do not count."""
+    empty = "<row><c t='str'><f>D3</f><v></v></c></row>"
+    title = "<row><c><f>D1</f></c></row>"
+    assert len(tables.read(str(table(content=workbook(sheet(title, HEADING, GOOD, empty))))).rows) == 1
+
+
+def test_formulas_that_are_expected(table: Write) -> None:
+    """A row of an expected sheet is not left out because its formulas have not been calculated."""
+    rows = row("group", "variable", "raw"), row("A", "N_PIG", "0"), "<row><c><f>A2</f></c></row>"
+    path = table(content=workbook(sheet(*rows)))
+    with pytest.raises(KitError) as raised:
+        expected.read(str(path))
+    assert raised.value.lines() == [f"{path}: row 3: {NOT_CALCULATED}"]
+
+
+def test_another_sheet_that_cannot_be_read(table: Write) -> None:
+    """Its telegrams cannot be counted."""
+    other = sheet(row("x", OTHER)).replace(MAIN, STRICT)
+    wanted = f"sheet S2: {OUTSIDE.replace('sheet1', 'sheet2')}"
+    assert refusal(table(content=workbook(sheet(HEADING, GOOD), other))) == wanted
 
 
 def test_disorder_in_another_sheet(table: Write) -> None:
@@ -162,16 +197,24 @@ def test_a_sheet_that_cannot_be_found(table: Write) -> None:
 
 
 def test_sheets_of_one_name(table: Write) -> None:
-    """The one that is not read is named as well."""
+    """Nobody can tell which of them is meant, so the workbook is refused. Letters of another case are the same."""
     content = workbook(sheet(HEADING, GOOD), sheet(row("x", OTHER)))
     with zipfile.ZipFile(io.BytesIO(content)) as file:
-        parts = {name: file.read(name).replace(b"'S2'", b"'S1'") for name in file.namelist()}
+        parts = {name: file.read(name).replace(b"'S2'", b"'s1'") for name in file.namelist()}
     out = io.BytesIO()
     with zipfile.ZipFile(out, "w") as file:
         for name, part in parts.items():
             file.writestr(name, part)
-    account = tables.read(str(table(content=out.getvalue()))).account
-    assert (account.telegrams, account.overlooked, account.sheets_not_read) == (2, 1, ("S1",))
+    assert refusal(table(content=out.getvalue())) == f"it has the sheet s1 twice: {SAVE}"
+
+
+@pytest.mark.filterwarnings("ignore:Duplicate name")
+def test_parts_of_one_name(table: Write) -> None:
+    """One reader takes the first, another the last."""
+    out = io.BytesIO(workbook(sheet(HEADING, GOOD, row("B", OTHER))))
+    with zipfile.ZipFile(out, "a") as file:
+        file.writestr("xl/worksheets/sheet1.xml", sheet(HEADING, GOOD))
+    assert refusal(table(content=out.getvalue())) == f"it has the part xl/worksheets/sheet1.xml twice: {SAVE}"
 
 
 KM = "<row>" + "".join(map(text, ["group", "telegram", "km"])) + "</row>"

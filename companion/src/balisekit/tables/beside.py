@@ -2,6 +2,7 @@
 from __future__ import annotations
 
 import shlex
+from functools import partial
 from itertools import islice
 from typing import Dict, Iterable, Iterator, List, Mapping, Sequence, Tuple
 
@@ -45,7 +46,8 @@ def telegrams(sheet: Sheet, begin: int, column: int) -> Dict[int, List[int]]:
     """
     found: Dict[int, List[int]] = {}
     heads = enumerate(islice(sheet.rows, begin), 1)
-    faults = [TableError(ABOVE, number) for number, row in heads if any(map(has_telegram, row))]
+    in_part = partial(has_telegram, separator=sheet.separator)
+    faults = [TableError(ABOVE, number) for number, row in heads if any(map(in_part, row))]
     for number, row in enumerate(islice(sheet.rows, begin, None), begin + 1):
         own = len(row[column]) if column < len(row) else 0
         if len("".join(row)) - own < LEAST_DIGITS:
@@ -53,7 +55,7 @@ def telegrams(sheet: Sheet, begin: int, column: int) -> Dict[int, List[int]]:
         for at, cell in enumerate(row):
             if at == column or len(cell) < LEAST_DIGITS:
                 continue
-            if LINE_END.search(cell.strip()) and has_telegram(cell):
+            if LINE_END.search(cell.strip()) and in_part(cell):
                 faults.append(TableError(f"cell {at + 1} has line ends and a telegram in it: {SWALLOWED}", number))
             elif is_telegram(cell):
                 found.setdefault(at, []).append(number)

@@ -4,7 +4,7 @@ from __future__ import annotations
 import re
 from typing import Collection, List, Mapping, NamedTuple, Sequence, Tuple
 
-from balisekit.errors import TableError
+from balisekit.errors import TableError, TableErrors
 
 COLUMNS = ("group", "telegram", "name", "km", "track", "aspect", "balise", "nominal")
 """The headings that are known."""
@@ -22,6 +22,8 @@ LEAST_DIGITS = 40
 LINE_END = re.compile("[\r\n\v\f\x1c-\x1e\x85\u2028\u2029]")
 PARTS = re.compile("[,;\t\r\n\v\f\x1c-\x1e\x85\u2028\u2029]")
 """What separates cells and rows that a quote has put into one cell."""
+
+NOT_CALCULATED = "the values of its formulas are not stored: open the workbook in a spreadsheet, and save it"
 
 
 class Sheet(NamedTuple):
@@ -44,6 +46,14 @@ class Sheet(NamedTuple):
     """The rows of cells that look like telegrams in the other sheets, by the names of these."""
     is_chosen: bool = False
     """Whether the user has named the sheet."""
+    not_calculated: Sequence[int] = ()
+    """Of a workbook: the rows that are empty only because the values of their formulas are not stored."""
+
+    def look_at_calculated(self, heading: int) -> None:
+        """TableErrors is raised for rows below the heading that are not calculated."""
+        faults = [TableError(NOT_CALCULATED, number) for number in self.not_calculated if number > heading]
+        if faults:
+            raise TableErrors(faults)
 
 
 Area = Tuple[int, int, int, int]
@@ -86,9 +96,15 @@ def is_telegram(cell: str) -> bool:
     return len(text) >= LEAST_DIGITS and 10 * len(NO_DIGIT.sub("", text)) >= 9 * len(text)
 
 
-def has_telegram(cell: str) -> bool:
-    """Whether a cell looks like a telegram, or has one between separators or line ends."""
-    return len(cell) >= LEAST_DIGITS and (is_telegram(cell) or any(map(is_telegram, PARTS.split(cell))))
+def has_telegram(cell: str, separator: str = "") -> bool:
+    """Whether a cell looks like a telegram, or has one between separators or line ends.
+
+    `separator` is that of the file, which may be another one than those of spreadsheets.
+    """
+    if len(cell) < LEAST_DIGITS:
+        return False
+    parts = PARTS.split(cell.replace(separator, "\n") if separator else cell)
+    return is_telegram(cell) or any(map(is_telegram, parts))
 
 
 def fill_heads(rows: List[List[str]], areas: Sequence[Area]) -> None:

@@ -190,10 +190,17 @@ def _value_text(row: PlanRow) -> str:
 
 
 def _head(sheet: Sheet, headings: Headings) -> Tuple[int, Dict[str, int]]:
-    """The row of the headings, and where each column is. A column that is not known is refused: it may be mistyped."""
+    """The row of the headings, and where each column is. A column that is not known is refused: it may be mistyped.
+
+    So is a row of the plan above the headings, which would be passed over.
+    """
     place = headings.row_of(sheet.rows)
     if place is None:
         raise TableError(f"no column kind: the columns of a track plan are {', '.join(COLUMNS)}", row=1)
+    for number, row in enumerate(sheet.rows[:place], 1):
+        filled = [cell.strip().lower() for cell in row if cell.strip()]
+        if len(filled) > 1 and not READERS.keys().isdisjoint(filled):
+            raise TableError("it is above the headings: put one row with headings above all others", row=number)
     _, places = head_of(sheet, headings)
     for name in compared(sheet.rows[place]):
         if name and name not in COLUMNS:
@@ -213,6 +220,7 @@ def _rows(sheet: Sheet, place: int, places: Mapping[str, int]) -> Tuple[PlanRow,
             try:
                 if any(map(str.strip, cells[width:])):
                     raise TableError(f"it has {len(cells)} cells, and the heading {width}")
+                _look_at_others(cells, places)
                 found = {name: cells[at] if at < len(cells) else "" for name, at in places.items()}
                 rows.append(_row(number, {name: _cell(name, found.get(name, "")) for name in COLUMNS}))
             except TableError as fault:
@@ -224,6 +232,13 @@ def _rows(sheet: Sheet, place: int, places: Mapping[str, int]) -> Tuple[PlanRow,
     if not rows:
         raise TableError("the plan has no row below its heading")
     return tuple(rows)
+
+
+def _look_at_others(cells: Sequence[str], places: Mapping[str, int]) -> None:
+    """Raises TableError for a cell without a heading that is not empty: a quote may have put rows into it."""
+    for at, cell in enumerate(cells):
+        if cell.strip() and at not in places.values():
+            raise TableError(f"cell {at + 1} is not empty, and has no heading")
 
 
 def _cell(name: str, cell: str) -> str:

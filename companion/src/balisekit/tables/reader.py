@@ -68,6 +68,7 @@ def read(
         passed_over = _passed_over(cells, place, places)
         meant = tuple(_meant(name, places) for name in passed_over[:COMPARED])
         try:
+            cells.look_at_calculated(begin)
             in_columns = beside.telegrams(cells, begin, places["telegram"])
             rows = _rows(cells, places, begin, len(cells.rows[place]))
             grouped = groups_of(rows, by_position, place + 1)

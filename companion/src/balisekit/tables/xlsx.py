@@ -13,7 +13,7 @@ from typing import Any, Callable, Dict, Iterable, Iterator, List, Optional, Patt
 from xml.etree.ElementTree import Element, ParseError, iterparse
 
 from balisekit.errors import KitError, TableError, needed
-from balisekit.tables.cells import Area, Sheet, fill_heads, is_telegram, of_kind
+from balisekit.tables.cells import GREATEST_NAME, Area, Sheet, fill_heads, is_telegram, of_kind
 from balisekit.tables.encoding import OLD_WORKBOOK
 from balisekit.tables.headings import SEARCHED, Headings, is_data
 
@@ -41,6 +41,8 @@ MERGED = (
     "value for all cells"
 )
 FILLED = "merged ranges, whose cells all have the value of the first one: {count}, the first {first}"
+CELL_TAGS = ("}c", "c")
+"""How the name of the element of a cell ends, whatever its namespace."""
 DATES = (datetime.date, datetime.time, datetime.timedelta)
 ParseCell = Callable[[Element], Dict[str, Any]]
 """What openpyxl makes of the element of a cell: its value, and more."""
@@ -63,14 +65,16 @@ def read(content: bytes, name: Optional[str], headings: Headings = Headings(), f
         all_sheets = [*book.worksheets, *book.chartsheets]
         if len(all_sheets) < named:
             raise TableError(f"{named - len(all_sheets)} of its {named} sheets cannot be found in it: {SHORT_WAY_OUT}")
+        _look_at_names("sheet", [each.title for each in all_sheets])
         sheet, note = _chosen(book, name, headings, fill_merged)
         formulas, merged = _read_as_empty(sheet)
-        rows, areas = _cells(_rows(sheet)), _areas(merged) if fill_merged else ()
+        not_calculated: List[int] = []
+        rows, areas = _cells(_rows(sheet, not_calculated)), _areas(merged) if fill_merged else ()
         notes = (note, *_notes(formulas, FORMULAS), *_notes(merged, FILLED if fill_merged else MERGED))
         others = tuple(other.title for other in all_sheets if other is not sheet)
         found = _telegrams_of_others(book, sheet) if "telegram" in headings.needed else {}
         is_merged, is_chosen = bool(merged) and not fill_merged, name is not None
-        return Sheet("xlsx", "", rows, notes, sheet.title, others, areas, is_merged, found, is_chosen)
+        return Sheet("xlsx", "", rows, notes, sheet.title, others, areas, is_merged, found, is_chosen, not_calculated)
 
 
 def _unreadable(error: Exception, row: Optional[int] = None) -> Exception:
@@ -88,6 +92,7 @@ def _look_at_parts(content: bytes) -> None:
     try:
         with zipfile.ZipFile(io.BytesIO(content)) as parts:
             members = parts.infolist()
+            _look_at_names("part", [part.filename for part in members])
             for part in members:
                 _look_at_size(part)
             size = sum(part.file_size for part in members)
@@ -101,6 +106,14 @@ def _look_at_parts(content: bytes) -> None:
         raise TableError(f"it is cut short or damaged ({error}): copy it again, or save it as CSV") from error
     except Exception as error:  # zipfile raises whatever its decompressors raise
         raise _unreadable(error) from error
+
+
+def _look_at_names(what: str, names: Sequence[str]) -> None:
+    """TableError is raised if a name is there twice, in any case of its letters: readers differ in which they take."""
+    folded = [name.casefold() for name in names]
+    if len(set(folded)) < len(folded):
+        twice = next(name for place, name in enumerate(names) if name.casefold() in folded[:place])
+        raise TableError(f"it has the {what} {twice[:GREATEST_NAME]} twice: {SHORT_WAY_OUT}")
 
 
 def _look_at_size(part: zipfile.ZipInfo) -> None:
@@ -144,8 +157,11 @@ def _tag(name: bytes, xml: bytes) -> Pattern[bytes]:
     return re.compile(b"<" + prefix + name + rb"(?=[\s/>])")
 
 
-def _rows(sheet: Any) -> Iterator[List[Any]]:
-    """The values of each row of a sheet, also of rows that it skips. TableError is raised for what openpyxl raises."""
+def _rows(sheet: Any, not_calculated: Optional[List[int]] = None) -> Iterator[List[Any]]:
+    """The values of each row of a sheet, also of rows that it skips. TableError is raised for what openpyxl raises.
+
+    `not_calculated` gets the numbers of rows that are empty only because the values of their formulas are not stored.
+    """
     number = 0
     try:
         for row, parse_cell in _elements(sheet):
@@ -155,7 +171,10 @@ def _rows(sheet: Any) -> Iterator[List[Any]]:
                 why = f"it follows row {before} in the workbook, which is damaged: save it again"
                 raise TableError(why, row=number)
             yield from ([] for _ in range(before + 1, number))
-            yield _values(row, number, parse_cell)
+            values = _values(row, number, parse_cell)
+            if not_calculated is not None and not any(values):
+                not_calculated += [number] * any(map(_is_not_calculated, row.iterfind(f"{NAMESPACE}c")))
+            yield values
     except Exception as error:
         raise _unreadable(error, number) from error
 
@@ -166,11 +185,17 @@ def _elements(sheet: Any) -> Iterator[Tuple[Element, ParseCell]]:
 
     book, strings = sheet.parent, _Strings(sheet._shared_strings)
     parser = WorkSheetParser(None, strings, data_only=True, epoch=book.epoch, date_formats=book._date_formats)
+    outside = 0
     with sheet._get_source() as part:
-        for _, row in iterparse(part):
-            if row.tag == f"{NAMESPACE}row":
-                yield row, parser.parse_cell
-                row.clear()
+        for _, element in iterparse(part):
+            if element.tag == f"{NAMESPACE}row":
+                outside -= len(element.findall(f"{NAMESPACE}c"))
+                yield element, parser.parse_cell
+                element.clear()
+            elif element.tag[-2:] in CELL_TAGS:
+                outside += 1
+    if outside:
+        raise TableError(f"{sheet._worksheet_path} in it has cells that are in none of its rows: {SHORT_WAY_OUT}")
 
 
 def _number(text: str) -> int:
@@ -196,7 +221,22 @@ def _value(cell: Element, parse_cell: ParseCell) -> Any:
     """The value of a cell. A plain text is read without the objects of openpyxl, which take three times as long."""
     child = cell.find(f"{NAMESPACE}is") if cell.get("t") == "inlineStr" else None
     text = child.findtext(f"{NAMESPACE}t") if child is not None and len(child) == 1 else None
-    return parse_cell(cell)["value"] if text is None else text
+    value = parse_cell(cell)["value"] if text is None else text
+    if value is None and len(cell) and any(_texts(cell)):
+        raise TableError(f"its cell {cell.get('r', '')} has a text that is not its value: save the workbook again")
+    return value
+
+
+def _texts(cell: Element) -> Iterator[str]:
+    """The texts in the element of a cell, except its formula."""
+    return ((part.text or "").strip() for part in cell.iter() if part.tag != f"{NAMESPACE}f")
+
+
+def _is_not_calculated(cell: Element) -> bool:
+    """Whether a cell has a formula whose value is not stored. That of an empty text is stored as an empty one."""
+    value = cell.find(f"{NAMESPACE}v")
+    is_empty_text = value is not None and cell.get("t") == "str"
+    return cell.find(f"{NAMESPACE}f") is not None and not is_empty_text and not (value is not None and value.text)
 
 
 class _Strings(List[str]):
