@@ -144,13 +144,13 @@ check_tables() (
         echo "check_tables: $folder is not empty, or cannot be written" >&2
         exit 3
     fi
-    options="${options[*]}"
-    export folder options check_tables_hook
+    words="${options[*]}" # (bash exports no array)
+    export folder words check_tables_hook
     # Without the test a file that cannot be written would end with 1, as a table with findings does.
     # shellcheck disable=SC2016
     printf '%s\0' "${tables[@]}" |
         parallel -0 --joblog "$folder/jobs" 'file=$folder/{#}-{/.}.txt; true >"$file" || exit 3
-            "$check_tables_hook" $options -- {} >"$file" 2>&1 </dev/null'
+            "$check_tables_hook" $words -- {} >"$file" 2>&1 </dev/null'
     [ $? -le 101 ] && summary_of_tables "$folder" "${tables[@]}"
 )
 
