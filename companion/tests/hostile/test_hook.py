@@ -109,6 +109,13 @@ def test_accepted_findings_alone(tmp_path: Path, tmp_path_factory: pytest.TempPa
     ]
 
 
+def test_endings_in_either_case() -> None:
+    """As spreadsheets of other systems write them: pre-commit passes over a file that does not match."""
+    found = re.search(r"(?m)^  files: (.*)$", HOOKS.read_text("utf-8"))
+    assert found and all(re.search(found[1], name) for name in ("a.csv", "LINE.CSV", "x/Line.Xlsx"))
+    assert not any(re.search(found[1], name) for name in ("a.csv.bak", "csv", "a.xlsx.txt"))
+
+
 @pytest.mark.parametrize("words", [(), ("--",), ("--by-position", "--")])
 def test_no_table(words: Sequence[str], tmp_path: Path) -> None:
     """Nothing was checked, so this is no answer."""
