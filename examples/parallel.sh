@@ -130,6 +130,11 @@ shared_identities() (
         END { exit shared + 0 }' "$room/sorted" || exit $(($? == 1 ? 1 : 3))
 )
 
+# is_accepted FILE: whether it has accepted findings, by its name and its headings. A table has others.
+is_accepted() {
+    [[ $1 == *.accepted.csv ]] && { [ ! -e "$1" ] || head -n 1 "${1/#-/./-}" | grep -aqi rule; }
+}
+
 # check_tables FOLDER [OPTION.. --] TABLE..: a file of the FOLDER for each table, and the summary.
 check_tables() (
     options=() tables=() place=0
@@ -138,19 +143,19 @@ check_tables() (
         [ "$word" != -- ] || { options=("${@:1:place}") && shift $((place + 1)) && break; }
         place=$((place + 1))
     done
-    for word; do [[ $word == *.accepted.csv ]] || tables+=("$word"); done
+    for word; do is_accepted "$word" || tables+=("$word"); done
     [ ${#tables[@]} -gt 0 ] || { echo 'check_tables FOLDER [OPTION.. --] TABLE..' >&2; exit 3; }
     if ! mkdir -p "$folder" || ! folder=$(cd "$folder" && pwd) || [ -n "$(ls -A "$folder")" ]; then
         echo "check_tables: $folder is not empty, or cannot be written" >&2
         exit 3
     fi
-    options="${options[*]}"
-    export folder options check_tables_hook
+    words="${options[*]}" # (bash exports no array)
+    export folder words check_tables_hook
     # Without the test a file that cannot be written would end with 1, as a table with findings does.
     # shellcheck disable=SC2016
     printf '%s\0' "${tables[@]}" |
         parallel -0 --joblog "$folder/jobs" 'file=$folder/{#}-{/.}.txt; true >"$file" || exit 3
-            "$check_tables_hook" $options -- {} >"$file" 2>&1 </dev/null'
+            "$check_tables_hook" $words -- {} >"$file" 2>&1 </dev/null'
     [ $? -le 101 ] && summary_of_tables "$folder" "${tables[@]}"
 )
 

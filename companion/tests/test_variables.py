@@ -157,6 +157,11 @@ def test_same() -> None:
         (["group,variable", "A,1"], "row 1: no column raw or value: it needs one of them"),
         (["group,variable,value", "A,,1"], "row 2, column variable: no variable"),
         (["group,variable,value", "A,D_LINK,#N/A"], "row 2, column value: #N/A is an error of the spreadsheet"),
+        (
+            ["group,variable,value", "A,NID_BG,1", "A,D_LINK, "],
+            "row 3: neither raw nor value: there is nothing to compare",
+        ),
+        (["group,variable,raw,value", "A,NID_BG"], "row 2: neither raw nor value: there is nothing to compare"),
         (["group,variable,value"], "the sheet has no row below its heading"),
     ],
 )

@@ -96,6 +96,32 @@ def test_accepted_findings_beside_a_name(tmp_path: Path, tmp_path_factory: pytes
     ]
 
 
+def test_accepted_findings_alone(tmp_path: Path, tmp_path_factory: pytest.TempPathFactory) -> None:
+    """They stand for the tables beside them, and each table is checked once. Without one they are a table."""
+    for name in ("a.csv", "a.xlsx", "a.accepted.csv", "b", "b.accepted.csv", "c.accepted.csv"):
+        put(tmp_path, name, SOUND)
+    words = (*arguments(), "a.accepted.csv", "b.accepted.csv", "c.accepted.csv", "a.csv")
+    assert calls(tmp_path_factory.mktemp("hook"), tmp_path, *words) == [
+        ["check", "--accepted", "./a.accepted.csv", "--", "./a.csv"],
+        ["check", "--accepted", "./a.accepted.csv", "--", "./a.xlsx"],
+        ["check", "--accepted", "./b.accepted.csv", "--", "./b"],
+        ["check", "--", "./c.accepted.csv"],
+    ]
+
+
+def test_endings_in_either_case() -> None:
+    """As spreadsheets of other systems write them: pre-commit passes over a file that does not match."""
+    found = re.search(r"(?m)^  files: (.*)$", HOOKS.read_text("utf-8"))
+    assert found and all(re.search(found[1], name) for name in ("a.csv", "LINE.CSV", "x/Line.Xlsx"))
+    assert not any(re.search(found[1], name) for name in ("a.csv.bak", "csv", "a.xlsx.txt"))
+
+
+@pytest.mark.parametrize("words", [(), ("--",), ("--by-position", "--")])
+def test_no_table(words: Sequence[str], tmp_path: Path) -> None:
+    """Nothing was checked, so this is no answer."""
+    assert hook(tmp_path, *words) == (3, "", "check-tables: no table is named\n")
+
+
 @pytest.mark.parametrize("words", [("--program=x/evil.csv",), ("--", "--", "--program=x/evil.csv")])
 def test_without_the_end_of_options(words: Sequence[str], tmp_path: Path) -> None:
     """A user who overrides `args` without `--` gets a refusal with the reason, and no option from a name."""

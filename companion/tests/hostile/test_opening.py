@@ -114,6 +114,13 @@ def test_a_file_that_changes_nothing_is_named(line: Path, capsys: pytest.Capture
     assert f"settings: {wanted}" in said(capsys, "check", "t.csv", "--tolerance", "0", "--only", "F,L")[1]
 
 
+def test_a_column_that_is_skipped_is_a_setting(line: Path, capsys: pytest.CaptureFixture[str]) -> None:
+    """Without its kilometres the fault is not found, and no line says that all settings have their defaults."""
+    Path("balisekit.toml").unlink()
+    status, lines = said(capsys, "check", "t.csv", "--skip-column", "km", "--skip-column", "old text")
+    assert (status, lines[2]) == (0, 'settings: --skip-column km, --skip-column "old text"')
+
+
 def test_settings_in_outputs_for_others(line: Path, run: Run, tmp_path: Path, monkeypatch: pytest.MonkeyPatch) -> None:
     """JSON, JUnit, SARIF and the page have program and settings, with paths from the folder of the table."""
     pytest.importorskip("jinja2")

@@ -1,6 +1,7 @@
 """Files of settings whose values have a wrong type, or are beyond what makes sense: refused with key and file."""
 from __future__ import annotations
 
+import os
 from pathlib import Path
 
 import pytest
@@ -10,6 +11,7 @@ from conftest import Run
 LINE = TOP / "examples" / "table" / "line.csv"
 LINES = Path(__file__).with_name("settings.txt").read_text("utf-8").split("\n")
 CASES = [line.split(" => ") for line in LINES if line and line[0] != "#"]
+NO_FILE = {"link": "No such file or directory", "pipe": "it is a device or pipe, no file", "folder": "it is a folder"}
 LONG = {"{5000}": "1" * 5000, "{f}": "f" * 5000, r"\n": "\n"}
 
 
@@ -39,3 +41,12 @@ def test_a_file_that_is_too_long(run: Run, tmp_path: Path) -> None:
     path = _beside(tmp_path, "#" * 1_000_001)
     why = "it has 1,000,001 bytes, more than 1,000,000: is it a file of settings?"
     assert run("check", path) == (2, [], [f"balisekit: {tmp_path / 'balisekit.toml'}: {why}"])
+
+
+@pytest.mark.parametrize("kind, why", list(NO_FILE.items()))
+def test_what_is_no_file(kind: str, why: str, run: Run, tmp_path: Path) -> None:
+    """It may state the line, so it is not passed over without a word."""
+    path, place = _beside(tmp_path, ""), tmp_path / "balisekit.toml"
+    place.unlink()
+    {"link": lambda: place.symlink_to("gone"), "pipe": lambda: os.mkfifo(place), "folder": place.mkdir}[kind]()
+    assert run("check", path) == (2, [], [f"balisekit: {place}: {why}"])

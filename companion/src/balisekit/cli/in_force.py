@@ -13,7 +13,8 @@ from balisekit.rules.rule import RELEASE_SPEED
 from balisekit.tables import own_headings
 from balisekit.tables.settings import Setting, Settings, Source
 
-GIVEN = ("sheet", "by_position", "fill_merged", "all", "only", "group", "aspect", "full", *settings.KINDS)
+_READING = ("sheet", "skip_column", "by_position", "fill_merged")
+GIVEN = (*_READING, "all", "only", "group", "aspect", "full", *settings.KINDS)
 """The options that change what is judged or shown. Inputs and outputs are named elsewhere."""
 DEFAULT = ("release_speed", RELEASE_SPEED)
 """The only setting that is as if it were not given if it has this value."""

@@ -15,6 +15,7 @@ from balisekit.tables.reader import head_of
 
 ONE_OF = (("group", "identity"), ("raw", "value"))
 """A sheet needs one of each of these."""
+NO_VALUE = "neither raw nor value: there is nothing to compare"
 OTHER_KINDS = ("date", "truth value")
 Cells = Mapping[str, str]
 """The cells of a row by the names of the columns."""
@@ -47,6 +48,11 @@ class Expected:
             if number > self.heading and any(map(str.strip, row)):
                 yield number, row
 
+    def _has_value(self, row: List[str]) -> bool:
+        """Whether there is anything that a variable can be compared with."""
+        places = [self.places[name] for name in ONE_OF[1] if name in self.places]
+        return any(kind_and_text(row[place])[1].strip() for place in places if place < len(row))
+
     def look_at(self) -> None:
         """TableErrors is raised for cells that cannot be compared, and TableError if there is no row."""
         faults: List[TableError] = []
@@ -55,6 +61,7 @@ class Expected:
             for name, place in self.places.items():
                 why = _fault(name, row[place] if place < len(row) else "")
                 faults += [TableError(why, number, name)] if why else []
+            faults += [] if self._has_value(row) else [TableError(NO_VALUE, number)]
         if faults:
             raise TableErrors(faults)
         if not row:

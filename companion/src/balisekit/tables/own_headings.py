@@ -88,9 +88,12 @@ def not_read(path: str, named: Optional[str]) -> List[str]:
 
 
 def beside(path: str) -> str:
-    """The path of balisekit.toml in the folder of this file, or nothing if there is none."""
+    """The path of balisekit.toml in the folder of this file, or nothing if there is none.
+
+    A link that leads nowhere, a pipe and a folder of that name are found too, and refused when they are read.
+    """
     file = os.path.join(os.path.dirname(path), BESIDE)
-    return file if os.path.isfile(file) else ""
+    return file if os.path.lexists(file) else ""
 
 
 def _read(path: str) -> Dict[str, Dict[str, Any]]:
