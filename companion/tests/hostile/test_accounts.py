@@ -13,6 +13,7 @@ from conftest import Run
 from telegrams import ALONE, MESSAGE, OTHER
 
 from balisekit.rules import checking
+from balisekit.tables import messages
 
 Write = Callable[..., Path]
 Case = Dict[str, Any]
@@ -170,11 +171,19 @@ def test_a_heading_that_is_not_there(run: Run, table: Write) -> None:
     assert status == 2 and "note: --skip-column odl: there is no such column" in said
 
 
-def test_a_message_as_a_name(run: Run, table: Write) -> None:
+@pytest.mark.parametrize("name", [MESSAGE * 2, MESSAGE, f"to train 7;{MESSAGE}", f" 0x{MESSAGE.upper()}h"])
+def test_a_message_as_a_name(name: str, run: Run, table: Write) -> None:
     """A line of a file of messages has one message."""
-    radio = table(f"{MESSAGE};{MESSAGE}{MESSAGE}", name="m.txt")
+    radio = table(f"{MESSAGE};{name}", name="m.txt")
     err = [f"balisekit: {radio}: line 1: after the semicolon is a message: write one per line"]
     assert run("check", table(*OLD), "--messages", radio) == (2, [], err)
+
+
+def test_a_name_of_digits(table: Write) -> None:
+    """A time to the microsecond, or the checksum of something, is no message."""
+    names = ["20261130190405123456", "d41d8cd98f00b204e9800998ecf8427e", MESSAGE[:-1], ""]
+    read = messages.read(str(table(*(f"{MESSAGE};{name}" for name in names), name="m.txt")))
+    assert [one.name for one in read.messages] == names
 
 
 @pytest.mark.skipif(not find_spec("jinja2"), reason="jinja2")

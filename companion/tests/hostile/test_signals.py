@@ -104,3 +104,19 @@ def test_an_interrupt_is_status_130(monkeypatch: pytest.MonkeyPatch, capsys: pyt
 
     monkeypatch.setattr(cli, "parser", interrupted)
     assert cli.main(["check"]) == 130 and capsys.readouterr().err == "balisekit: interrupted\n"
+
+
+@pytest.mark.parametrize("number", SAID, ids=[number.name for number in SAID])
+def test_a_signal_while_a_class_is_made(
+    number: signal.Signals, monkeypatch: pytest.MonkeyPatch, capsys: pytest.CaptureFixture[str]
+) -> None:
+    """Python before 3.12 turns what is raised there into a RuntimeError. Modules make classes while they load."""
+
+    class Named:
+        """An attribute whose name a class tells it."""
+
+        def __set_name__(self, *_: object) -> None:
+            signal.raise_signal(number)
+
+    monkeypatch.setattr(cli, "parser", lambda _: type("Made", (), {"named": Named()}))
+    assert cli.main(["check"]) == 128 + number and capsys.readouterr().err == f"balisekit: {SAID[number]}\n"

@@ -134,13 +134,21 @@ def main(arguments: Optional[List[str]] = None) -> int:
     except KitError as error:
         return _ended(error, options.debug, *error.lines(), status=error.status)
     except KeyboardInterrupt as error:
-        number = error.signal if isinstance(error, Terminated) else signal.SIGINT
-        why = "interrupted" if number == signal.SIGINT else f"ended by {number.name}"
-        return _ended(error, options.debug, why, status=128 + number)
+        return _interrupted(error, options.debug)
     except BrokenPipeError as error:
         return _ended(error, options.debug, *([] if options.command in QUIET else [CLOSED]))
     except Exception as error:
+        if isinstance(error.__cause__, KeyboardInterrupt):
+            # (before Python 3.12 what is raised while a class names its attributes comes out as a RuntimeError)
+            return _interrupted(error.__cause__, options.debug)
         return _ended(error, options.debug, _reason(error))
+
+
+def _interrupted(error: KeyboardInterrupt, debug: bool) -> int:
+    """Reports the signal that has ended the command."""
+    number = error.signal if isinstance(error, Terminated) else signal.SIGINT
+    why = "interrupted" if number == signal.SIGINT else f"ended by {number.name}"
+    return _ended(error, debug, why, status=128 + number)
 
 
 def _script_ahead(arguments: Sequence[str]) -> ContextManager[None]:

@@ -7,9 +7,12 @@ from typing import List
 from balisekit.errors import TableError, TableErrors, faults_of
 from balisekit.io import inputs
 from balisekit.tables.account import of_rows
-from balisekit.tables.cells import digits, has_telegram
+from balisekit.tables.cells import DIGITS, PARTS, digits, has_telegram
 from balisekit.tables.encoding import text_of
 from balisekit.tables.model import Message, Messages
+
+LEAST_DIGITS = 20
+"""How many digits the shortest message has: NID_MESSAGE, L_MESSAGE, T_TRAIN, M_ACK and NID_LRBG."""
 
 
 def read(path: str) -> Messages:
@@ -27,7 +30,7 @@ def _messages(text: str) -> List[Message]:
         if not line.strip():
             continue
         cell, _, name = line.partition(";")
-        if has_telegram(name):
+        if has_telegram(name) or any(map(_is_message, PARTS.split(name))):
             faults.append(TableError("after the semicolon is a message: write one per line", line=number))
         elif digits(cell):
             messages.append(Message(number, digits(cell), cell.strip(), name.strip()))
@@ -38,3 +41,10 @@ def _messages(text: str) -> List[Message]:
     if not messages:
         raise TableError("the file has no message: write one per line in hexadecimal digits, with its name after ;")
     return messages
+
+
+def _is_message(text: str) -> bool:
+    """Whether a text is a whole message by its L_MESSAGE. Many are too short to look like a telegram."""
+    found = digits(text)
+    is_long = len(found) >= LEAST_DIGITS and DIGITS.fullmatch(found)
+    return bool(is_long) and int(found[2:5], 16) >> 2 == len(found) / 2
