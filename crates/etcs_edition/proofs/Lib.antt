@@ -5,8 +5,10 @@ pub mod TelegramLemmas
 pub mod TextLemmas
 pub mod TrainLemmas
 pub mod MessageLemmas
+pub mod EncodingLemmas
 pub mod DocumentLemmas
 pub mod YesLemmas
 pub mod RuleLemmas
 pub mod FindingLemmas
 pub mod ReportLemmas
+pub mod AnswerLemmas
