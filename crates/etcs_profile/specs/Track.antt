@@ -255,9 +255,20 @@ own_rows (packets.Raw p) = raw_packet.rows p
 
 -- ---- what users ask of a packet
 
+-- NID_PACKET of a movement authority: packet 12 has V_MAIN, packet 15 has none
+abbrev pub authority_number : Option ℕ → ℕ
+authority_number (Some main) = 12
+authority_number None = 15
+
 -- NID_PACKET
 abbrev pub track_number : TrackPacket → ℕ
-track_number p = track_numbered.number (track_parts p)
+track_number (packets.Cover p) = 0
+track_number (packets.Linking p) = 5
+track_number (packets.Authority p) = authority_number p.main
+track_number (packets.Gradient p) = 21
+track_number (packets.Speed p) = 27
+track_number (packets.Transition p) = 41
+track_number (packets.Raw p) = p.number
 
 -- a packet whose layout is known
 abbrev pub IsKnown : TrackPacket → Type 0

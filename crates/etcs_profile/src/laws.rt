@@ -1,4 +1,5 @@
-//! The law of how far a profile reaches, for users. It is the contract of a call that does nothing.
+//! Laws for users: how far a profile reaches, and the number of a packet. Each is the contract of a call that
+//! does nothing.
 
 ghost use Rattle.std.specs.Prelude.{◌≡◌, ◌↔◌, ◌*◌, ◌∷◌, ℕ, false};
 ghost use Rattle.std.specs.List.{AllByRecursion};
@@ -6,6 +7,8 @@ ghost use Rattle.etcs_profile.specs.Elements.{elements_reach};
 ghost use Rattle.etcs_profile.specs.Laws.{IsWayToMark};
 ghost use Rattle.etcs_profile.specs.Profile.{Profile};
 ghost use Rattle.etcs_profile.specs.Reach.{scale_factor};
+ghost use Rattle.etcs_profile.specs.Track.{track_number, track_numbered, track_parts};
+ghost use Rattle.etcs_profile.specs.declared.track.TrackPacket.{TrackPacket};
 
 use crate::element::Element;
 use crate::reach::Reach;
@@ -19,4 +22,10 @@ pub fn a_profile_reaches_its_first_mark<T: Element>()
         × (n ≡ scale_factor e.scale * way)) }
     ensures unmarked { (e : Profile T) → (elements_reach T.distance_of T.marked e ≡ Reach.Open)
         ↔ AllByRecursion (λ x. T.marked x ≡ false) (e.first ∷ e.further) }
+{}
+
+/// The number of a packet, NID_PACKET, is the number that decides how the rest of the packet is laid out
+/// (SUBSET-026, 7.4.1).
+pub fn a_packet_has_the_number_of_its_layout()
+    ensures { (p : TrackPacket) → track_number p ≡ track_numbered.number (track_parts p) }
 {}

@@ -1,0 +1,10 @@
+pub mod AgreeLemmas
+pub mod VariableLemmas
+pub mod TrackLemmas
+pub mod TelegramLemmas
+pub mod TextLemmas
+pub mod TrainLemmas
+pub mod MessageLemmas
+pub mod DocumentLemmas
+pub mod YesLemmas
+pub mod FindingLemmas

@@ -1,0 +1,9 @@
+pub mod Wire
+pub mod Variables
+pub mod TrackPackets
+pub mod Telegram
+pub mod TrainPackets
+pub mod Message
+pub mod Document
+pub mod Yes
+pub mod Findings

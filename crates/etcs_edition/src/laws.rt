@@ -1,0 +1,65 @@
+//! Laws that the definitions of the edition and those of other crates say the same. Each law is the contract of
+//! a call that does nothing.
+
+ghost use Rattle.std.specs.Prelude.{◌≡◌, ◌↔◌, ℕ, List, Bool, Ok};
+ghost use Rattle.etcs_telegram.specs.Record.{Telegram};
+ghost use Rattle.etcs_telegram.specs.Telegram.{IsTelegram as IsDecodedTelegram};
+ghost use Rattle.etcs_telegram.specs.Text.{IsTelegramText as IsDecodedTelegramText};
+ghost use Rattle.etcs_radio.specs.declared.message.Message.{Message};
+ghost use Rattle.etcs_radio.specs.Message.{IsMessage as IsDecodedMessage};
+ghost use Rattle.etcs_radio.specs.Text.{IsMessageText as IsDecodedMessageText};
+ghost use Rattle.etcs_group.specs.Group.{Aspects};
+ghost use Rattle.etcs_document.specs.Document.{line_of_text};
+ghost use Rattle.etcs_document.specs.Verdict.{SaysYes as CheckSaysYes};
+ghost use Rattle.etcs_check.specs.Laws.{AreControlled};
+ghost use Rattle.etcs_check.specs.Line.{findings};
+ghost use Rattle.etcs_check.specs.declared.finding.Finding.{Finding};
+ghost use Rattle.etcs_edition.specs.Telegram.{IsTelegram, IsTelegramText};
+ghost use Rattle.etcs_edition.specs.Message.{IsMessage, IsMessageText};
+ghost use Rattle.etcs_edition.specs.Document.{IsLineText};
+ghost use Rattle.etcs_edition.specs.Yes.{SaysYes};
+ghost use Rattle.etcs_edition.specs.Findings.{AreFindings};
+
+/// Bits are a telegram by the edition if and only if they are the one that `etcs_telegram::decode` reads
+/// (SUBSET-026, 7.4 and 8.4.2).
+pub fn telegrams_agree()
+    ensures { (t : Telegram) (bits : List Bool) → IsTelegram t bits ↔ IsDecodedTelegram t bits }
+{}
+
+/// A text is that of a telegram by the edition if and only if it is one that `etcs_telegram::from_hex` reads
+/// (SUBSET-036, 4.3).
+pub fn telegram_texts_agree()
+    ensures { (t : Telegram) (text : List ℕ) → IsTelegramText t text ↔ IsDecodedTelegramText t text }
+{}
+
+/// Bytes are a radio message by the edition if and only if they are the one that `etcs_radio::decode` reads
+/// (SUBSET-026, 8.4.4, 8.6 and 8.7).
+pub fn messages_agree()
+    ensures { (m : Message) (bytes : List ℕ) → IsMessage m bytes ↔ IsDecodedMessage m bytes }
+{}
+
+/// A text is that of a radio message by the edition if and only if it is one that `etcs_radio::from_hex` reads.
+pub fn message_texts_agree()
+    ensures { (m : Message) (text : List ℕ) → IsMessageText m text ↔ IsDecodedMessageText m text }
+{}
+
+/// Bytes are the document of a line by the edition if and only if `etcs_document::read_line` reads them as this
+/// line.
+pub fn lines_agree()
+    ensures { (bytes : List ℕ) (groups : List Aspects) (messages : List Message)
+        → IsLineText bytes groups messages ↔ (line_of_text bytes ≡ Ok (groups, messages)) }
+{}
+
+/// The two parts of a yes by the edition hold if and only if everything holds that a yes of
+/// `etcs_document::check_in_order` states.
+pub fn yes_agrees()
+    ensures { (bytes : List ℕ) (groups : List Aspects) (messages : List Message)
+        → SaysYes bytes groups messages ↔ CheckSaysYes bytes groups messages }
+{}
+
+/// A list is the findings of a line by the edition, which has no tests, if and only if it is the list that
+/// `etcs_check::check` returns. Each group has an aspect, and its aspects have as many balises each.
+pub fn findings_agree()
+    ensures { (groups : List Aspects) (messages : List Message) (found : List Finding) → AreControlled groups
+        → AreFindings groups messages found ↔ (found ≡ findings groups messages) }
+{}
