@@ -84,10 +84,6 @@ def numbers():
                 (PROOFS, r"\({} edits\)", f"{named:,}"), (PROOFS, "the {} in `must-fail/`", sum(edits)),
                 (SAFETY, "the {} of these rows", len(doubts)),
                 *((SAFETY, f"the {{}} rows `{kind}`", kinds.count(kind)) for kind in ("rule", "word")))
-    for path in TOP.glob("crates/*/specs/*.antt"):
-        name = f"{path.parts[-3]}/{path.name}"
-        if f"| `{name}` |" in PAGES[PROOFS]:
-            yield PROOFS, rf"`{name}` \| {{}} \|", path.read_text("utf-8").count("\n")
 
 
 def test_numbers():
