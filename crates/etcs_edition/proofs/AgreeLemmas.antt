@@ -9,7 +9,7 @@ use Rattle.etcs_bits.specs.lemmas.RowLemmas.{allowed_first, allowed_second}
 use Rattle.etcs_bits.specs.layout.Rows.{Variable, Row, alone, AreAllowed, join as row_bits, width}
 use Rattle.etcs_bits.specs.layout.Combined.{option_rows, counted_rows}
 use Rattle.etcs_bits.specs.variables.Variables.{plain}
-use Rattle.etcs_edition.specs.Wire.{Field, num, bits_of_bytes, any_number, allowed_if, bit, IsWritable, bit_count, bits_of_fields, qualified, iterated}
+use Rattle.etcs_edition.specs.Wire.{Field, num, any_number, allowed_if, bit, IsWritable, bit_count, bits_of_fields, qualified, iterated}
 
 pub record Agree (rows : List Row) (fields : List Field) : Type 0 where
   pub fit : AreAllowed rows → AllByRecursion IsWritable fields

@@ -12,6 +12,7 @@ use Rattle.etcs_check.specs.declared.finding.Site.TheVariants as sites
 use Rattle.etcs_check.proofs.CellLemmas.{each_fact_is_listed, findings_are_the_facts_in_order}
 use Rattle.etcs_check.proofs.ViolationLemmas.{findings_are_facts, parts_hold_unless_found}
 use Rattle.etcs_radio.specs.declared.message.Message.{Message}
+use Rattle.etcs_edition.proofs.RuleLemmas.{rules_agree}
 use Rattle.etcs_edition.specs.Findings.{IsViolated, AreFindings}
 
 violation_parts : (groups : List Aspects) (messages : List Message) (f : Finding) (s : Site) → HasSiteParts groups messages f s
@@ -28,7 +29,7 @@ pub fact_against : (groups : List Aspects) (messages : List Message) (f : Findin
     → StatesFact groups messages f → IsViolated groups messages f
 fact_against groups messages f controlled states parts =
     let listed = each_fact_is_listed groups messages f states in
-    violation_parts groups messages f f.site parts
+    violation_parts groups messages f f.site ((rules_agree groups messages f).0 parts)
     ((findings_are_facts groups messages listed.0 f listed.1).1 controlled)
 
 decided : (b : Bool) → (b ≡ false → ⊥) → b ≡ true
@@ -38,8 +39,8 @@ decided false h = absurd (h refl)
 pub against_fact : (groups : List Aspects) (messages : List Message) (f : Finding) → AreControlled groups
     → IsViolated groups messages f → StatesFact groups messages f
 against_fact groups messages f controlled against =
-    decided (is_fact groups messages f) (λ none. against (parts_hold_unless_found groups messages f controlled (λ i here.
-    true≢false (sym (findings_are_facts groups messages i f here).0 ∙ none))))
+    decided (is_fact groups messages f) (λ none. against ((rules_agree groups messages f).1 (parts_hold_unless_found groups messages f controlled (λ i here.
+    true≢false (sym (findings_are_facts groups messages i f here).0 ∙ none)))))
 
 pub read_findings : (groups : List Aspects) (messages : List Message) (found : List Finding) → AreControlled groups
     → found ≡ findings groups messages → AreFindings groups messages found

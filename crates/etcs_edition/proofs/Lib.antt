@@ -7,4 +7,5 @@ pub mod TrainLemmas
 pub mod MessageLemmas
 pub mod DocumentLemmas
 pub mod YesLemmas
+pub mod RuleLemmas
 pub mod FindingLemmas

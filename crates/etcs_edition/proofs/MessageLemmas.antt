@@ -1,20 +1,10 @@
 -- Messages by the short definition are those by the working one.
-use Rattle.std.proofs.Common.{◌≡◌, ℕ, ◌<◌, ◌⊎◌, ◌==◌, Bool, true, false, List, [], ◌∷◌, ◌++◌, length, Option, Some, None, refl, sym, ap, ap₂, ◌∙◌, inl, inr}
-use Rattle.std.specs.Prelude.{◌||◌}
-use Rattle.std.specs.List.{list_any}
-use Rattle.std.proofs.lemmas.Bool.{false≢true, ne_eqb}
+use Rattle.std.proofs.Common.{◌≡◌, ℕ, ◌<◌, ◌⊎◌, Bool, List, ◌++◌, length, refl, sym, ap, ◌∙◌, inl, inr}
 use Rattle.etcs_bits.specs.bits.Number.{num as bits_of}
 use Rattle.etcs_bits.specs.layout.Rows.{alone}
 use Rattle.etcs_bits.specs.lemmas.ChoiceLemmas.{is_itself}
 use Rattle.etcs_bits.specs.variables.Variables.{plain, only}
 use Rattle.etcs_bits.specs.declared.layout.fault.FaultKind.TheVariants.{Length}
-use Rattle.etcs_profile.specs.declared.track.TrackPacket.{TrackPacket}
-use Rattle.etcs_profile.specs.declared.track.TrackPacket.TheVariants as track_packets
-use Rattle.etcs_profile.specs.PacketNumbers.{is_kept_number}
-use Rattle.etcs_profile.specs.Raw.{other_of}
-use Rattle.etcs_profile.specs.Track.{authority_number}
-use Rattle.etcs_radio.specs.declared.train_packet.TrainPacket.{TrainPacket}
-use Rattle.etcs_radio.specs.declared.train_packet.TrainPacket.TheVariants as train_packets
 use Rattle.etcs_radio.specs.declared.message.Message.{Message}
 use Rattle.etcs_radio.specs.declared.message.Message.TheVariants as messages
 use Rattle.etcs_radio.specs.Head.{nid_message}

@@ -16,7 +16,7 @@ use Rattle.etcs_telegram.specs.Telegram.{IsTelegram as IsDecodedTelegram, front_
 use Rattle.etcs_telegram.proofs.TelegramLemmas.{telegram_spelled, spelled_telegram}
 use Rattle.etcs_edition.specs.Wire.{num, any_number, bits_of_fields}
 use Rattle.etcs_edition.specs.TrackPackets.{track_packet_fields}
-use Rattle.etcs_edition.specs.Telegram.{header_fields, telegram_fields, user_bits, IsTelegram}
+use Rattle.etcs_edition.specs.Telegram.{header_fields, user_bits, IsTelegram}
 use Rattle.etcs_edition.proofs.AgreeLemmas.{Agree, same_num, fit_first, fit_second, fit_append, bits_append, agree_both, agree_any, agree_bit, agree_flat}
 use Rattle.etcs_edition.proofs.VariableLemmas.{agree_version, agree_dup, agree_identity}
 use Rattle.etcs_edition.proofs.TrackLemmas.{agree_track_packet}

@@ -11,7 +11,7 @@ use Rattle.etcs_telegram.specs.Sizes.{user_bits as counted_bits, byte_count, pad
 use Rattle.etcs_telegram.specs.Telegram.{IsTelegram as IsDecodedTelegram}
 use Rattle.etcs_telegram.specs.Text.{IsTelegramText as IsDecodedTelegramText}
 use Rattle.etcs_edition.specs.Wire.{bits_of_bytes}
-use Rattle.etcs_edition.specs.Telegram.{user_bits, IsTelegram, IsTelegramText}
+use Rattle.etcs_edition.specs.Telegram.{user_bits, IsTelegramText}
 use Rattle.etcs_edition.proofs.AgreeLemmas.{same_num}
 use Rattle.etcs_edition.proofs.TelegramLemmas.{same_size, read_telegram, telegram_read}
 

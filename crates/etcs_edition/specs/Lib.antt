@@ -6,4 +6,5 @@ pub mod TrainPackets
 pub mod Message
 pub mod Document
 pub mod Yes
+pub mod Rules
 pub mod Findings

@@ -22,8 +22,7 @@ header_fields h =
     ∷ dup_field h.dup  -- M_DUP
     ∷ any_number 8 h.counter  -- M_MCOUNT
     ∷ identity_fields h.identity  -- NID_C, NID_BG
-    ++ bit h.linked  -- Q_LINK
-    ∷ []
+    ++ bit h.linked ∷ []  -- Q_LINK
 
 -- the header, the packets, and packet 255, the end mark (7.4.2)
 abbrev pub telegram_fields : Telegram → List Field

@@ -26,8 +26,7 @@ abbrev pub packet_to_train : ℕ → Dir → List Field → List Field
 packet_to_train n dir body =
     any_number 8 n  -- NID_PACKET
     ∷ dir_field dir  -- Q_DIR
-    ∷ any_number 13 (23 + bit_count body)  -- L_PACKET
-    ∷ body
+    ∷ any_number 13 (23 + bit_count body) ∷ body  -- L_PACKET
 
 -- The body of a packet with one or more elements.
 abbrev pub profile_fields : {X : Type 0} → (X → List Field) → Profile X → List Field
@@ -46,8 +45,7 @@ link_fields l =
     ++ any_number 14 l.group  -- NID_BG
     ∷ bit l.nominal  -- Q_LINKORIENTATION
     ∷ up_to 2 2 l.reaction  -- Q_LINKREACTION
-    ∷ any_number 6 l.accuracy  -- Q_LOCACC
-    ∷ []
+    ∷ any_number 6 l.accuracy ∷ []  -- Q_LOCACC
 
 -- ---- packets 12 and 15, movement authority (3.8 and 7.4.2)
 
@@ -55,8 +53,7 @@ link_fields l =
 abbrev pub section_timer_fields : SectionTimer → List Field
 section_timer_fields t =
     any_number 10 t.time  -- T_SECTIONTIMER
-    ∷ any_number 15 t.stop  -- D_SECTIONTIMERSTOPLOC
-    ∷ []
+    ∷ any_number 15 t.stop ∷ []  -- D_SECTIONTIMERSTOPLOC
 
 -- a section before the end section
 abbrev pub section_fields : Section → List Field
@@ -68,15 +65,13 @@ section_fields s =
 abbrev pub end_timer_fields : EndTimer → List Field
 end_timer_fields t =
     any_number 10 t.time  -- T_ENDTIMER
-    ∷ any_number 15 t.start  -- D_ENDTIMERSTARTLOC
-    ∷ []
+    ∷ any_number 15 t.start ∷ []  -- D_ENDTIMERSTARTLOC
 
 -- the danger point
 abbrev pub danger_point_fields : DangerPoint → List Field
 danger_point_fields d =
     any_number 15 d.distance  -- D_DP
-    ∷ release_speed_field d.release_speed  -- V_RELEASEDP
-    ∷ []
+    ∷ release_speed_field d.release_speed ∷ []  -- V_RELEASEDP
 
 -- the overlap
 abbrev pub overlap_fields : Overlap → List Field
@@ -84,8 +79,7 @@ overlap_fields o =
     any_number 15 o.start  -- D_STARTOL
     ∷ any_number 10 o.time  -- T_OL
     ∷ any_number 15 o.length  -- D_OL
-    ∷ release_speed_field o.release_speed  -- V_RELEASEOL
-    ∷ []
+    ∷ release_speed_field o.release_speed ∷ []  -- V_RELEASEOL
 
 -- what packets 12 and 15 share
 abbrev pub terms_fields : TermsValue → List Field
@@ -118,8 +112,7 @@ abbrev pub gradient_element_fields : GradientElement → List Field
 gradient_element_fields e =
     any_number 15 e.distance  -- D_GRADIENT
     ∷ bit e.uphill  -- Q_GDIR
-    ∷ any_number 8 e.gradient  -- G_A
-    ∷ []
+    ∷ any_number 8 e.gradient ∷ []  -- G_A
 
 -- ---- packet 27, static speed profile (3.11 and 7.4.2)
 
@@ -128,8 +121,7 @@ abbrev pub difference_fields : Difference → List Field
 difference_fields d =
     up_to 2 2 d.kind  -- Q_DIFF
     ∷ any_number 4 d.category  -- NC_CDDIFF or NC_DIFF
-    ∷ up_to 7 120 d.speed  -- V_DIFF
-    ∷ []
+    ∷ up_to 7 120 d.speed ∷ []  -- V_DIFF
 
 -- an element: a speed up to the next element
 abbrev pub speed_element_fields : SpeedElement → List Field
@@ -145,8 +137,7 @@ speed_element_fields e =
 abbrev pub level_order_fields : LevelOrder → List Field
 level_order_fields o =
     level_fields o.level  -- M_LEVELTR, NID_NTC
-    ++ any_number 15 o.acknowledge  -- L_ACKLEVELTR
-    ∷ []
+    ++ any_number 15 o.acknowledge ∷ []  -- L_ACKLEVELTR
 
 -- the body of the packet
 abbrev pub orders_fields : Orders → List Field
@@ -162,8 +153,7 @@ orders_fields o =
 abbrev pub track_packet_fields : TrackPacket → List Field
 track_packet_fields (packets.Cover p) =
     any_number 8 0  -- NID_PACKET
-    ∷ any_number 6 p.marker  -- NID_VBCMK
-    ∷ []
+    ∷ any_number 6 p.marker ∷ []  -- NID_VBCMK
 track_packet_fields (packets.Linking p) = packet_to_train 5 p.0 (profile_fields link_fields p.1)
 track_packet_fields (packets.Authority a) = authority_fields a a.main
 track_packet_fields (packets.Gradient p) = packet_to_train 21 p.0 (profile_fields gradient_element_fields p.1)

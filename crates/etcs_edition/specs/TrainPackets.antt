@@ -14,8 +14,7 @@ use Rattle.etcs_edition.specs.Variables.{scale_field, train3_field, level_fields
 abbrev pub packet_to_track : ℕ → List Field → List Field
 packet_to_track n body =
     any_number 8 n  -- NID_PACKET
-    ∷ any_number 13 (21 + bit_count body)  -- L_PACKET
-    ∷ body
+    ∷ any_number 13 (21 + bit_count body) ∷ body  -- L_PACKET
 
 -- ---- packets 0 and 1, position report (3.6.5 and 7.4.3)
 

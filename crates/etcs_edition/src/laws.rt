@@ -13,12 +13,13 @@ ghost use Rattle.etcs_document.specs.Document.{line_of_text};
 ghost use Rattle.etcs_document.specs.Verdict.{SaysYes as CheckSaysYes};
 ghost use Rattle.etcs_check.specs.Laws.{AreControlled};
 ghost use Rattle.etcs_check.specs.Line.{findings};
+ghost use Rattle.etcs_check.specs.Violation.{HasParts};
 ghost use Rattle.etcs_check.specs.declared.finding.Finding.{Finding};
 ghost use Rattle.etcs_edition.specs.Telegram.{IsTelegram, IsTelegramText};
 ghost use Rattle.etcs_edition.specs.Message.{IsMessage, IsMessageText};
 ghost use Rattle.etcs_edition.specs.Document.{IsLineText};
 ghost use Rattle.etcs_edition.specs.Yes.{SaysYes};
-ghost use Rattle.etcs_edition.specs.Findings.{AreFindings};
+ghost use Rattle.etcs_edition.specs.Findings.{RuleHolds, AreFindings};
 
 /// Bits are a telegram by the edition if and only if they are the one that `etcs_telegram::decode` reads
 /// (SUBSET-026, 7.4 and 8.4.2).
@@ -55,6 +56,13 @@ pub fn lines_agree()
 pub fn yes_agrees()
     ensures { (bytes : List ℕ) (groups : List Aspects) (messages : List Message)
         → SaysYes bytes groups messages ↔ CheckSaysYes bytes groups messages }
+{}
+
+/// The rule of a finding holds at its place by the edition, F1 to F16, if and only if the parts of soundness hold
+/// that findings of `etcs_check::check` are about.
+pub fn rules_agree()
+    ensures { (groups : List Aspects) (messages : List Message) (f : Finding)
+        → RuleHolds groups messages f ↔ HasParts groups messages f }
 {}
 
 /// A list is the findings of a line by the edition, which has no tests, if and only if it is the list that
