@@ -90,17 +90,18 @@ def test_closures():
         assert not re.search(rf"\b{name}\b", others), name
     yes = {it.name for it in closure([key_of("SaysYes", "etcs_edition")])}
     assert {"num", "header_fields", "IsLineText", "IsSoundLine", "is_modelled"} <= yes
-    assert not yes & {"IsViolated", "SaysYes_", "line_of_text", "program_output"}
+    assert not yes & {"IsViolated", "line_of_text", "program_output"}
 
 
 def test_laws_of_the_edition():
-    """Each law of the edition is an equivalence, and has a definition of the edition on one side only."""
+    """Each law of the edition is an equivalence with definitions of the edition on one side only. A yes and the findings
+    rest on less than half of the lines there."""
     for law in laws():
         assert law.short and law.others and not [key for key in law.others if key[0].startswith("etcs_edition.")]
         assert {key[0].partition(".")[0] for key in law.short} == {"etcs_edition"}
         ((_, statement, _),) = clauses_of("etcs_edition", law.name)
         assert statement.count("↔") == 1, law.name
-        assert lines(law.short) < lines(law.others), law.name
+    assert {"yes_agrees", "findings_agree"} <= {law.name for law in laws() if 2 * lines(law.short) < lines(law.others)}
 
 
 def test_pins():
