@@ -70,6 +70,39 @@ def test_edits_of_a_layer(monkeypatch):
         (LOG, f"no edit names twice, which is {STALE}"), (f"sum, {LOG}", ""), (f"next, {LOG}-again", "")]
 
 
+LEMMA = "\n./proofs/Sums.antt:3:1: error: `halves`: as printed, the two types differ"
+FOLLOWS = "\n./proofs/{}.antt:5:1: error: 1 declaration that depends on `halves`, which was rejected, was not checked"
+
+
+@pytest.mark.parametrize("more, why", [
+    (LEMMA, ""), (LEMMA + FOLLOWS.format("Sums") + FOLLOWS.format("next/Answers"), ""),
+    (LEMMA.replace("as printed, the two types differ", "`n` is not in scope"), f"Sums::halves is {STALE}"),
+    (LEMMA.replace("`halves`: ", ""), "Sums::halves is not reported"),
+    (FOLLOWS.format("next/Answers"), "Sums::halves is not reported")])
+def test_edit_of_a_definition(monkeypatch, more, why):
+    """An edit passes if the prover refuses the lemma that it names. What rests on that lemma waits for it."""
+    state = "not proved" if "next/" in more else "proved"
+    assert judged(monkeypatch, ["Sums::halves"], printed(state, more)) == [(f"Sums::halves, {LOG}", why)]
+
+
+def test_lemmas_of_a_layer(monkeypatch):
+    """An edit has to name each lemma that is refused. One whose lemma has no error is judged again by itself."""
+    sums = printed("proved", LEMMA)
+    assert judged(monkeypatch, ["Sums::halves", "Sums::sum"], sums, sums.replace("halves`", "sum`")) == [
+        (f"Sums::halves, {LOG}", ""), (f"Sums::sum, {LOG}-again", "")]
+    assert judged(monkeypatch, ["next"], printed(OPEN, LEMMA)) == [
+        (LOG, f"no edit names Sums::halves, which is {EDITS['REFUSED']}"), (f"next, {LOG}", "")]
+
+
+def test_edits_of_definitions(monkeypatch, tmp_path):
+    """The edits in edits/specs are those of definitions."""
+    write(tmp_path / "crates/tiny/edits/specs/in/Sums.edits", "name: half\nold: 2\nnew: 3\nrefuses: Sums::halves\n")
+    write(tmp_path / "crates/tiny/specs/in/Sums.antt", "half n = n / 2\n")
+    monkeypatch.setitem(EDITS["main"].__globals__, "TOP", tmp_path)
+    edit, = EDITS["edits_of"]("tiny")
+    assert edit == ("tiny", "tiny/half", "crates/tiny/specs/in/Sums.antt", [("2", "3")], ["Sums::halves"])
+
+
 # The proof of `next` names a step that the edit removes. This kit prints GONE, after 13 s; only others are asked.
 RT, KIT = shutil.which("rt"), "rattle-kit-13f logic dac8208d650f15bf"
 SOURCE = """#![tactic(auto)]

@@ -9,3 +9,4 @@ pub mod DocumentLemmas
 pub mod YesLemmas
 pub mod RuleLemmas
 pub mod FindingLemmas
+pub mod ReportLemmas

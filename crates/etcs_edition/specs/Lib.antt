@@ -8,3 +8,4 @@ pub mod Document
 pub mod Yes
 pub mod Rules
 pub mod Findings
+pub mod Report

@@ -18,7 +18,7 @@ packet_to_track n body =
 
 -- ---- packets 0 and 1, position report (3.6.5 and 7.4.3)
 
--- Q_LENGTH, 2 bits: what the train knows about its integrity; with 1 and 2 also L_TRAININT, 15 bits
+-- what the train knows about its integrity: Q_LENGTH, and L_TRAININT after 1 and 2
 abbrev pub integrity_fields : Integrity → List Field
 integrity_fields lengths.Q0 = any_number 2 0 ∷ []
 integrity_fields (lengths.Q1 n) = any_number 2 1 ∷ any_number 15 n ∷ []

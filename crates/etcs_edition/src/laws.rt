@@ -1,7 +1,7 @@
 //! Laws that the definitions of the edition and those of other crates say the same. Each law is the contract of
 //! a call that does nothing.
 
-ghost use Rattle.std.specs.Prelude.{◌≡◌, ◌↔◌, ℕ, List, Bool, Ok};
+ghost use Rattle.std.specs.Prelude.{◌≡◌, ◌↔◌, ℕ, List, Bool, Ok, IsOkAnd};
 ghost use Rattle.etcs_telegram.specs.Record.{Telegram};
 ghost use Rattle.etcs_telegram.specs.Telegram.{IsTelegram as IsDecodedTelegram};
 ghost use Rattle.etcs_telegram.specs.Text.{IsTelegramText as IsDecodedTelegramText};
@@ -10,7 +10,8 @@ ghost use Rattle.etcs_radio.specs.Message.{IsMessage as IsDecodedMessage};
 ghost use Rattle.etcs_radio.specs.Text.{IsMessageText as IsDecodedMessageText};
 ghost use Rattle.etcs_group.specs.Group.{Aspects};
 ghost use Rattle.etcs_document.specs.Document.{line_of_text};
-ghost use Rattle.etcs_document.specs.Verdict.{SaysYes as CheckSaysYes};
+ghost use Rattle.etcs_document.specs.ReportText.{report_words};
+ghost use Rattle.etcs_document.specs.Verdict.{SaysYes as CheckSaysYes, summary_of_text};
 ghost use Rattle.etcs_check.specs.Laws.{AreControlled};
 ghost use Rattle.etcs_check.specs.Line.{findings};
 ghost use Rattle.etcs_check.specs.Violation.{HasParts};
@@ -20,6 +21,7 @@ ghost use Rattle.etcs_edition.specs.Message.{IsMessage, IsMessageText};
 ghost use Rattle.etcs_edition.specs.Document.{IsLineText};
 ghost use Rattle.etcs_edition.specs.Yes.{SaysYes};
 ghost use Rattle.etcs_edition.specs.Findings.{RuleHolds, AreFindings};
+ghost use Rattle.etcs_edition.specs.Report.{IsReport};
 
 /// Bits are a telegram by the edition if and only if they are the one that `etcs_telegram::decode` reads
 /// (SUBSET-026, 7.4 and 8.4.2).
@@ -70,4 +72,11 @@ pub fn rules_agree()
 pub fn findings_agree()
     ensures { (groups : List Aspects) (messages : List Message) (found : List Finding) → AreControlled groups
         → AreFindings groups messages found ↔ (found ≡ findings groups messages) }
+{}
+
+/// A text is the report on bytes by the edition if and only if it is what `check` of the program writes for these
+/// bytes: the report of the groups, messages and findings that the bytes mean.
+pub fn reports_agree()
+    ensures { (bytes text : List ℕ) → IsReport bytes text
+        ↔ IsOkAnd (summary_of_text bytes) (λ s. text ≡ report_words s.0.0 s.0.1 s.1) }
 {}
