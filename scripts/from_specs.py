@@ -6,12 +6,13 @@ from __future__ import annotations
 from pathlib import Path
 from typing import Dict
 
-from edition import proofs
+from edition import page, proofs
+from variables.table import read_rows
 
 
 def made() -> Dict[Path, str]:
     """The text of each page that has something made of the definitions."""
-    return {proofs.PAGE: proofs.proofs_page()}
+    return {proofs.PAGE: proofs.proofs_page(), page.PAGE: page.edition_page(read_rows())}
 
 
 if __name__ == "__main__":

@@ -67,7 +67,12 @@ def names(variable):
     function = NUMBERING.get(variable)
     lines = re.findall(rf"(?m)^{function} \(?\w+\.(\w+).* = (.*)$", "\n".join(SPECS.values())) if function else []
     return {int(number) if number.isdigit() else number.count("inr"):
-            WORDS.get(name, re.sub("(?<=[a-z])(?=[A-Z])", " ", name).lower()) for name, number in lines}
+            word_of(name) for name, number in lines}
+
+
+def word_of(name):
+    """The words of a constructor."""
+    return WORDS.get(name, re.sub("(?<=[a-z])(?=[A-Z])", " ", name).lower())
 
 
 # ---- what is made

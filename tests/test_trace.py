@@ -10,7 +10,7 @@ from hostile import CHECK, DECODE, DECODE_RADIO, Job, shared
 from runner import TOP, blocks
 from balisekit.etcs.layout import bits_of, message_fields, telegram_fields
 from edition.wire import cited, layouts, sections
-from from_trace import FINDINGS, NUMBERING, about, made, names, numbers_in, unit_in
+from from_trace import FINDINGS, NUMBERING, about, made, names, numbers_in, unit_in, word_of
 import records
 from variables.page import raw_rows
 from variables.table import COUNTED, Row, read_rows, rows_of
@@ -150,6 +150,19 @@ def test_numbers_of_the_edition():
     assert [first for first, _, _ in Row(numbers=numbers).spans] == [3, 136]
     telegram = (TOP / "crates/etcs_edition/specs/Telegram.antt").read_text("utf-8")
     assert re.search(r"(?m)^telegram_fields t = .*\+\+ any_number 8 255 ∷ \[\]$", telegram)
+
+
+@pytest.mark.parametrize("variable, function", [
+    ("M_VERSION", "version_field"), ("M_DUP", "dup_field"), ("Q_SCALE", "scale_field"), ("Q_DIR", "dir_field"),
+    ("Q_DIRLRBG", "train3_field"), ("Q_DIRTRAIN", "train3_field"), ("M_LEVELTR", "level_fields"), ("M_LEVEL", "level_fields")])
+def test_names_of_numbers_of_the_edition(variable, function):
+    """The names that the edition gives to numbers are the meanings in the table."""
+    text = (TOP / "crates/etcs_edition/specs/Variables.antt").read_text("utf-8")
+    found = re.findall(rf"(?m)^{function} \(?\w+\.(\w+).*? = any_number \d (\d+)", text)
+    (row,) = {(it.variable, it.numbers): it for it in VARIABLES if it.variable == variable}.values()
+    assert [int(number) for _, number in found] == [first for first, _, _ in row.spans]
+    for (name, _), (_, _, meaning) in zip(found, row.spans):
+        assert re.search(rf"\b{re.escape(word_of(name))}\b", meaning), (name, meaning)
 
 
 def test_words_of_the_edition():
