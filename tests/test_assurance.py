@@ -121,9 +121,13 @@ def test_yes():
     assert re.findall(r"(?m)^> Where the answer is yes, (.*)$", YES) == [sentence]
     begin = YES.partition("\n## ")[0].partition("If the answer is yes")[2].strip()
     assert begin and begin in (TOP / "README.md").read_text("utf-8")
-    record = re.search(r"(?ms)^pub record SaysYes .*?(?=\n\n)", source("etcs_document/specs/Verdict.antt"))
+    records = [key_of("SaysYes", crate) for crate in ("etcs_edition", "etcs_document")]
+    fields = [re.findall(r"(?m)^  pub (\w+) :", definitions()[key].text) for key in records]
     listed = re.findall(r"(?m)^- ((?:`\w+`(?:, )?)+): ", YES.partition("## The sentence")[2].partition("\n## ")[0])
-    assert re.findall(r"`(\w+)`", " ".join(listed)) == re.findall(r"(?m)^  pub (\w+) :", record[0])
+    assert re.findall(r"`(\w+)`", " ".join(listed)) == [*fields[0], *fields[1]]
+    (law,) = [it for it in laws() if f"law `{it.name}` of `etcs_edition`" in YES]
+    assert [*law.short, *law.others] == records
+    assert all(f"`{definitions()[key].path.relative_to(TOP)}`" in YES for key in records)
 
 
 def test_premises():
@@ -134,6 +138,7 @@ def test_premises():
     wanted = {"The definitions": "definitions", "The toolchain": "toolchain", "The contracts of libraries": "libraries",
               "The C library, the operating system and the machine": "c library, system and machine", "`main`": "`main`",
               "Whoever wrote the clone": "whoever made your clone"}
+    assert "memory" in premises and "memory" in PROOFS.partition("## What is proved")[2].partition("\n## ")[0].lower()
     assert heads == [*wanted] and all(words in premises for words in wanted.values()), heads
 
 
