@@ -1,9 +1,10 @@
 #!/usr/bin/env python3
 """Measures balisekit on tables of bench/table.py: bench/kit.py [--runs N] [--refused PART] [ROWS..]
 
-For each number of rows and each command there is a line: seconds of the processor, by balisekit and all that it starts,
-the least of N runs, and how many seconds for 1,000 rows; the peak of memory, of the largest process, in MiB. The load of
-the machine changes these seconds less than those of a clock. With `--refused 0.1` the program refuses a tenth of the rows.
+For each number of rows and each command there is a line: seconds of the processor, by balisekit and all that it
+starts, the least of N runs, and how many seconds for 1,000 rows; the peak of memory, of the largest process, in MiB.
+The load of the machine changes these seconds less than those of a clock. With `--refused 0.1` the program refuses a
+tenth of the rows.
 """
 import argparse
 import os

@@ -45,6 +45,7 @@ install -m 644 "$top/companion/start.py" "$top/companion/pyproject.toml" "$kit/c
 cp -r "$top/companion/src/balisekit" "$kit/companion/src"
 find "$kit" -name __pycache__ -prune -exec rm -r {} +
 install -m 644 "$about" "$kit/dist/x86_64-linux/ABOUT"
+install -m 644 "$top/dist/RELEASES" "$kit/dist/RELEASES"
 rm -rf "$library"
 if grep -q '^library ' "$about"; then
     mkdir -p "$library"

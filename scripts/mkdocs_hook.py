@@ -74,13 +74,17 @@ def rules() -> str:
     """The page of each rule, as `balisekit check --explain` has them."""
     sys.dont_write_bytecode = True
     sys.path.insert(0, str(TOP / "companion" / "src"))
-    from balisekit.present.explanations import pages
+    from balisekit.present.explanations import pages, with_assumptions
     from balisekit.rules.families import FAMILIES
 
     parts = ["# Every rule in full\n", "For engineers who look for the cause of a finding or remark.\n"]
     for family in FAMILIES.values():
         for name, page in pages(family):
-            parts += [f"## {name}: {page.title}\n", *(f"**{head}.** {text}\n" for head, text in page.parts.items())]
+            parts.append(f"## {name}: {page.title}\n")
+            for head, text in page.parts.items():
+                first, *assumptions = with_assumptions(head, text)
+                parts.append(first.replace(f"{head}.", f"**{head}.**", 1) + "\n")
+                parts += ["".join(f"- {each}\n" for each in assumptions)] if assumptions else []
     return "\n".join(parts)
 
 

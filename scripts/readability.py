@@ -5,7 +5,8 @@
 
 It prints for each page, and for each rule, the number of sentences, the share of those with fewer than five words, the
 share of those with more than 28, and the median number of words. Without a page it looks at all pages of the
-repository. Tables, code, quotes and headings are no sentences, nor is what ends without a full stop. A code span or quote is one word.
+repository. Tables, code, quotes and headings are no sentences, nor is what ends without a full stop. A code span or
+quote is one word.
 """
 from __future__ import annotations
 

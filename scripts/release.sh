@@ -23,8 +23,9 @@
 # `store` takes what the gate, or scripts/build and then scripts/library, have built from these sources in out/, and runs
 # tests/dist. A program that differs from the stored one needs a new version number. A release needs the output of
 # `.ci/run` in out/gate.log, of `tests/edits --all` in out/edits.log and of `tests/plants` in out/plants.log. Two runs on
-# one commit with the same tools, and the same key, give the same bytes. They need git, python3-hatchling, help2man,
-# dpkg-deb, and ssh-keygen to sign.
+# one commit with the same tools, and the same key, give the same bytes. Debian 12 and 13 give the same tarball, .deb and
+# SPDX, but their wheels name different versions of hatchling. They need git, python3-hatchling, help2man, dpkg-deb, and
+# ssh-keygen to sign.
 set -euo pipefail
 
 cd "$(dirname "${BASH_SOURCE[0]}")/.."
@@ -172,13 +173,14 @@ pack() {
     [ -z "$(ls -A "$1")" ] || fail "$1 is not empty"
     tree "$room/$name" "$2" "$3"
     tar -c -C "$room" --sort=name --mtime="@$SOURCE_DATE_EPOCH" --owner=0 --group=0 --numeric-owner --mode=u=rwX,go=rX \
-        --format=ustar "$name" | gzip -9n >"$1/$name.tar.gz"
+        --format=gnu "$name" | gzip -9n >"$1/$name.tar.gz"
     (cd "$1" && sha256sum "$name.tar.gz" >"$name.tar.gz.sha256")
     dist/pack/wheel "$room/$name" "$1" "$4"
     dist/pack/deb "$room/$name" "$1" "$4"
     dist/pack/spdx.py "$room/$name" >"$1/balisecheck-$version$4.spdx.json"
     sed "${4:+s/^@UNTESTED@//}; /^@UNTESTED@/d; ${key:+s/^@SIGNED@//; /^@UNSIGNED@/d}; /^@SIGNED@/d; s/^@UNSIGNED@//
-        s/@VERSION@/$version/g; s/@MARK@/$4/g; s/@BUILD@/${4:+-0untested}/g" dist/pack/release.md >"$1/README.md"
+        s/@VERSION@/$version/g; s/@MARK@/$4/g; s/@BUILD@/${4:+-0untested}/g
+        s/@PROGRAM@/$(said program "$room/$name/$dist")/" dist/pack/release.md >"$1/README.md"
 }
 
 # sums DIR: checksums of all files there, and their signature.

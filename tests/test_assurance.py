@@ -136,15 +136,27 @@ def test_premises():
     heads = re.findall(r"(?m)^- \*\*(.+?)[.:,]?\*\*", trusted)
     premises = YES.partition("## Premises")[2].partition("\n## ")[0].lower()
     wanted = {"The definitions": "definitions", "The toolchain": "toolchain", "The contracts of libraries": "libraries",
-              "The C library, the operating system and the machine": "c library, system and machine", "`main`": "`main`",
-              "Whoever wrote the clone": "whoever made your clone"}
+              "The C library, the operating system and the machine": "c library, system and machine",
+              "`main`": "`main`", "Whoever wrote the clone": "whoever made your clone"}
     assert "memory" in premises and "memory" in PROOFS.partition("## What is proved")[2].partition("\n## ")[0].lower()
     assert heads == [*wanted] and all(words in premises for words in wanted.values()), heads
 
 
+def test_axioms():
+    """The page on proofs lists as many C functions as it counts, for the kit and the version of the stored program."""
+    stated = (r"The program ([\d.]+) rests on the contracts of (\d+) C functions, which .*? \(kit (\w+), [\d-]+\)\. "
+              r"(.*?) The gate")
+    version, count, kit, names = re.search(stated, PROOFS).groups()
+    listed = re.findall(r"\b(?:rattle_\w+|chdir|getcwd|lseek|read|write)\b", names)
+    assert len({*listed}) == len(listed) == int(count) and f"`axioms={count}`" in PROOFS
+    about = (TOP / "dist/x86_64-linux/ABOUT").read_text("utf-8")
+    assert re.search(rf"(?m)^version .*\b{re.escape(version)}$", about) and re.search(rf"(?m)^kit .*\b{kit}\b", about)
+
+
 def test_errata():
     """The list of wrong answers is that of this version."""
-    (version,) = re.findall(r"any version up to ([\d.]+\d) \(20\d\d-\d\d-\d\d\)", (TOP / "ERRATA.md").read_text("utf-8"))
+    errata = (TOP / "ERRATA.md").read_text("utf-8")
+    (version,) = re.findall(r"any version up to ([\d.]+\d) \(20\d\d-\d\d-\d\d\)", errata)
     assert version == (TOP / "VERSION").read_text("utf-8").strip()
 
 

@@ -13,7 +13,7 @@ from variables.table import read_rows
 
 LONGEST = 30
 # Pages with too many short or long sentences. Rewrite one and remove it here: no page is added.
-TO_REWRITE = {"CHANGELOG.md"}
+TO_REWRITE = frozenset()
 # A list of licences, and a table that scripts/from_trace.py makes.
 NOT_COUNTED = ("THIRD-PARTY.md", "docs/variables.md")
 PAGES = {name: path.read_text("utf-8") for pattern in ("*.md", "dist/**/*.md", "docs/**/*.md", "examples/**/*.md")

@@ -21,7 +21,7 @@ VERSION, STORED = (TOP / "VERSION").read_text("utf-8").strip(), "dist/x86_64-lin
 NEEDS = {"git": "git", "help2man": "help2man", "dpkg-deb": "dpkg",
          "hatchling": "python3-hatchling", "pip": "python3-pip", "jinja2": "python3-jinja2"}
 # A clone's manual page of balisekit has no help of single commands here, which would take long.
-TOOLS = {"help": '[ $# != 2 ] || exec /usr/bin/python3 "$@"\n'}
+TOOLS = {"help": 'case $* in *.py" --"*) exec /usr/bin/python3 "$@" ;; esac\n'}
 INSTALL = "-m pip install -q --no-index --no-deps --no-compile --disable-pip-version-check *.whl"
 # It counts how many processes a check starts.
 COUNT = """import contextlib, io, sys
@@ -173,10 +173,11 @@ def package_of(venv):
 
 
 def test_wheel(made, venv):
-    """The wheel has the sources of balisekit as they are, with ABOUT and the library."""
+    """The wheel has the sources of balisekit as they are, with ABOUT, RELEASES and the library."""
     tree, package = made.with_name("tree"), package_of(venv)
-    added = {it for it in ("ABOUT", "libbalisecheck.so") if (tree / STORED / it).exists()}
-    assert "ABOUT" in added and all(sum_of(package / it) == sum_of(tree / STORED / it) for it in added)
+    files = {"RELEASES": tree / "dist/RELEASES", **{it: tree / STORED / it for it in ("ABOUT", "libbalisecheck.so")}}
+    added = {it for it, path in files.items() if path.exists()}
+    assert {"ABOUT", "RELEASES"} <= added and all(sum_of(package / it) == sum_of(files[it]) for it in added)
     differ = sh(tree, f"diff -r -x __pycache__ companion/src/balisekit '{package}' || true").splitlines()
     assert {*differ} == {f"Only in {package}: {it}" for it in added}
     assert (package / "py.typed").exists()
@@ -267,7 +268,8 @@ def test_recipes_of_the_deb(tool, root, tmp_path):
     tried = 0
     for page in [*docs.rglob("*.md"), *docs.rglob("*.sh")]:
         for commands, wanted in shown(page):
-            if commands and (tool == "parallel") == bool(re.search(r"check_\w+ |shared_|run_in_", commands)):
+            # (the page of the library has other commands for the .deb)
+            if commands and "crates/" not in commands and (tool == "parallel") == bool(re.search(r"check_\w+ |shared_|run_in_", commands)):
                 assert attempt(tmp_path, f"{installed}{sources}{{ {commands}\n}} 2>/dev/null")[1] == wanted, page
                 tried += 1
     assert tried > (20 if tool == "jq" else 1)
@@ -293,7 +295,7 @@ def test_python_of_the_deb(root, tmp_path):
     said = sh(tmp_path, f"PATH='{root}/usr/bin':$PATH PYTHONPATH='{root}{path}' python3 script.py")
     assert said.split("\n")[:-1] == [it.strip() for it in re.findall(r"(?m)print\(.*\) *# (.*)$", code)]
     hook = f"PATH='{root}/usr/bin':$PATH examples/hooks/check-tables examples/links/line.csv"
-    assert attempt(tmp_path, hook) == (0, sh(tmp_path, f"'{root}/usr/bin/balisekit' check examples/links/line.csv"))
+    assert attempt(tmp_path, hook) == (0, sh(tmp_path, f"'{root}/usr/bin/balisekit' check ./examples/links/line.csv"))
 
 
 def test_components(made):

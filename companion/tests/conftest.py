@@ -3,11 +3,13 @@ from __future__ import annotations
 
 import gc
 import os
+import re
 import sys
 import tempfile
+from datetime import datetime, timezone
 from importlib.util import find_spec
 from pathlib import Path
-from typing import Callable, Iterator, List, Tuple
+from typing import Callable, Iterator, List, Sequence, Tuple
 
 import pytest
 from covered import COVERAGE
@@ -15,6 +17,8 @@ from covered import COVERAGE
 from balisekit.cli import main as cli
 from balisekit.engine import find_program
 from balisekit.engine.program import Program
+from balisekit.io import clock
+from balisekit.present.opening import program_words
 
 try:
     from hypothesis import settings
@@ -67,14 +71,30 @@ def pytest_sessionfinish(session: pytest.Session) -> None:
 
 @pytest.fixture(scope="session", autouse=True)
 def known() -> Iterator[None]:
-    """The program under test stays the same: within this process its checksum and its handshake are made once."""
+    """The program under test stays the same: within this process its checksum and its handshake are made once.
+
+    It need not be stored, as in the gate: it is taken for one that was built from the sources of this clone.
+    """
     path, checksum, greet = find_program.find(None), find_program.checksum, Program._shake_hands
     sha256 = checksum(path)
     Program(path, sha256)._shake_hands()
     with pytest.MonkeyPatch.context() as patch:
         patch.setattr(find_program, "checksum", lambda other: sha256 if other == path else checksum(other))
+        patch.setattr(find_program, "built_here", lambda other: other == sha256)
         patch.setattr(Program, "_shake_hands", lambda self: None if self.path == path else greet(self))
         yield
+
+
+def set_day(monkeypatch: pytest.MonkeyPatch, seconds: int) -> None:
+    """The clock has the day of this second since 1970, and outputs have its time."""
+    time = datetime.fromtimestamp(seconds, timezone.utc)
+    monkeypatch.setattr(clock, "today", time.date)
+    monkeypatch.setenv("SOURCE_DATE_EPOCH", str(seconds))
+
+
+def without_program(text: str) -> str:
+    """An answer without version and checksum of the program: stored answers need not be of the program under test."""
+    return re.sub("(?m)^balisecheck( [0-9.]+)?, SHA-256 [0-9a-f]{64}: .+$", "balisecheck", text)
 
 
 @pytest.fixture
@@ -89,9 +109,16 @@ def program() -> Program:
     return Program.find()
 
 
+def without_usual_opening(lines: Sequence[str]) -> List[str]:
+    """The lines of an answer without those on the program under test, and on settings if they name no file."""
+    program = program_words(Program.find())
+    rest = [line for line in lines if line != program and (line[:10] != "settings: " or "SHA-256" in line)]
+    return rest[1:] if rest[:1] == [""] and len(rest) < len(lines) else rest  # (`show` has a blank line after them)
+
+
 @pytest.fixture
 def run(capsys: pytest.CaptureFixture[str]) -> Run:
-    """Runs words of the command line."""
+    """Runs words of the command line. How an answer usually begins is left out: test_opening.py has that."""
 
     def one(*words: object) -> Answer:
         try:
@@ -99,7 +126,8 @@ def run(capsys: pytest.CaptureFixture[str]) -> Run:
         except SystemExit as ended:
             status = int(ended.code or 0)
         said = capsys.readouterr()
-        return status, said.out.splitlines(), said.err.splitlines()
+        out, err = map(without_usual_opening, (said.out.splitlines(), said.err.splitlines()))
+        return status, out, err
 
     return one
 

@@ -148,11 +148,11 @@ MISTAKES: Dict[str, Mistake] = {
 
 
 def answer(name: str) -> str:
-    """What `check` writes about the table with this mistake, after its first line."""
+    """What `check` writes about the table with this mistake, after the lines on table, program and settings."""
     out = io.StringIO()
     with contextlib.redirect_stdout(out):
         cli.main(["check", str(MISTAKES_FOLDER / f"{name}.csv"), "--only", "E", "--rules", "all"])
-    return out.getvalue().split("\n", 1)[1]
+    return out.getvalue().split("\n", 3)[3]
 
 
 if __name__ == "__main__":

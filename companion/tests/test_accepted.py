@@ -5,12 +5,13 @@ import csv
 import io
 import json
 import re
+from hashlib import sha256
 from pathlib import Path
 from typing import Any, Callable, Dict, List
 
 import pytest
 from cases_of_program import TOP
-from conftest import Run
+from conftest import Run, set_day
 from telegrams import ALONE, MESSAGE, OTHER, SPARE, account, digest
 
 from balisekit.engine.program import Program, Text
@@ -25,14 +26,14 @@ Write = Callable[..., Path]
 LINE = TOP / "examples" / "table" / "line.csv"
 HEADING = ",".join(COLUMNS)
 NO_RULE = "none of F1 to F16, L1 to L9, E1 to E23 and X1 to X5"
-DAY = "1780000000"
+DAY = 1780000000
 """2026-05-28."""
 
 
 @pytest.fixture(autouse=True)
 def day(monkeypatch: pytest.MonkeyPatch) -> None:
     """A day that does not move."""
-    monkeypatch.setenv("SOURCE_DATE_EPOCH", DAY)
+    set_day(monkeypatch, DAY)
 
 
 def twice(table: Write, *first: str) -> Path:
@@ -72,7 +73,9 @@ def test_entries_and_schemas_know_each_rule() -> None:
 def test_nothing_open(run: Run, table: Write) -> None:
     path, file = twice(table), table(HEADING, entry(), name="accepted.csv")
     status, out, _ = run("check", "--only", "F", path, "--accepted", file)
+    of_file = f"1 entry of {file} (SHA-256 {sha256(file.read_bytes()).hexdigest()})"
     assert status == 0 and out[1:] == [
+        f"entries: {of_file}, judged on 2026-05-28 by the clock",
         "accepted:",
         "row 3  B: the identity 1/1 (NID_C/NID_BG) is also that of A, row 2",
         "    program: F14 group 1: identity used before",
@@ -98,7 +101,7 @@ def test_one_is_open(run: Run, table: Write) -> None:
         ({"reason": ""}, "no reason"),
         ({"who": ""}, "no who"),
         ({"date": ""}, "no date"),
-        ({"until": "2026-05-27"}, "until 2026-05-27 is past"),
+        ({"until": "2026-05-27"}, "expired: until 2026-05-27 is past"),
         (
             {"reason": "", "who": "", "until": "2020-01-01"},
             "no reason, no who, until 2020-01-01 is before date 2026-01-02",

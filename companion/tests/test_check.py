@@ -14,7 +14,7 @@ from typing import Callable, Iterator, List, Union
 
 import line_table
 import pytest
-from conftest import Run
+from conftest import Run, without_program
 from telegrams import ALONE, FAULTY, FIRST, MESSAGE, OTHER, SECOND, SPARE, account
 
 from balisekit.cli import check
@@ -36,7 +36,11 @@ STARTED = [str(TOP / "balisekit")]
 
 def test_yes(run: Run, table: Write) -> None:
     path = table(*SOUND)
-    assert run("check", "--only", "F", path) == (0, [f"{path}: 3 telegrams of 2 groups", ASPECTS.format(2), account(3), YES], [])
+    assert run("check", "--only", "F", path) == (
+        0,
+        [f"{path}: 3 telegrams of 2 groups", ASPECTS.format(2), account(3), YES],
+        [],
+    )
 
 
 def test_findings(run: Run, table: Write) -> None:
@@ -374,7 +378,7 @@ def test_explain_of_a_rule(run: Run, tmp_path: Path, monkeypatch: pytest.MonkeyP
         assert status == 0 and out[0].startswith(f"{name}: ") and sum(each.startswith(name) for each in out) == 1
     status, out, _ = run("check", "--explain", "E9")
     heads = [*explain.WHOLE]
-    assert [head for line in out for head in heads if line.startswith(f"    {head}. ")] == heads
+    assert [head for line in out for head in heads if line.startswith(f"    {head}.")] == heads
     assert run("check", "--explain", "E24")[0] == run("check", "E9")[0] == 2
     unused = ["balisekit: --json is not used with the page of a rule"]
     assert run("check", "--explain", "E9", "--json", "j.json") == (2, [], unused)
@@ -516,7 +520,8 @@ def test_wrong_words(run: Run) -> None:
 def test_example(run: Run, monkeypatch: pytest.MonkeyPatch, program: Program) -> None:
     monkeypatch.chdir(TOP)
     status, out, _ = run("check", "examples/table/line.csv")
-    assert status == 2 and out == (TOP / "examples/table/line.txt").read_text("utf-8").splitlines()
+    stored = (TOP / "examples/table/line.txt").read_text("utf-8").splitlines()
+    assert status == 2 and out == [stored[0], *stored[3:]] and without_program(stored[1]) == "balisecheck"
     assert line_table.table(program) == line_table.LINE.read_text("utf-8")
 
 

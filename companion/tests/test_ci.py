@@ -96,7 +96,8 @@ def test_the_output_tells_a_lost_aspect(run: Run, table: Write, tmp_path: Path) 
     path = table("group,aspect,telegram", *[f"A,{one},{ALONE}" for one in "xyz"], *[f"B,{one},{OTHER}" for one in "xy"])
     assert run("check", path, "--junit", tmp_path / "out.xml")[0] == 0
     said = ElementTree.parse(tmp_path / "out.xml").findtext(".//system-out") or ""
-    assert said.splitlines()[:5] == [
+    assert said.splitlines()[1:7] == [
+        "settings: all have their defaults",
         'look: B has 2 aspects, 1 other group has 3: it lacks "z"',
         "aspects found: 3 in 1 group (A), 2 in 1 (B)",
         "no kilometres: rules over the line are not applied",
@@ -143,6 +144,9 @@ def release(tmp_path_factory: pytest.TempPathFactory, program: Program) -> Path:
             (path.parent / "__pycache__").mkdir(exist_ok=True)
             shutil.copy(compiled, path.parent / "__pycache__" / compiled.name)
     shutil.copy(program.path, top / "balisecheck")
+    about = top / "dist" / "x86_64-linux" / "ABOUT"
+    about.parent.mkdir(parents=True)
+    about.write_text(f"version 0.0.0\nprogram {program.sha256}\n", "utf-8")
     tools = room / "tools"
     tools.mkdir()
     with tarfile.open(tools / f"{NAME}.tar.gz", "w:gz", compresslevel=1) as tar:

@@ -20,10 +20,11 @@ from balisekit.engine.program import Program
 
 LINE = "examples/table/line.csv"
 STARTED = [sys.executable, "-m", "balisekit"]
-CLAIMED = """import runpy, sys
+CLAIMED = """import sys
+from balisekit.cli.main import main
 for name in sys.argv.pop(1).split():
     getattr(sys, name).isatty = lambda: True
-runpy.run_module("balisekit", run_name="__main__", alter_sys=True)
+sys.exit(main())
 """
 """It starts balisekit with streams that claim to be terminals."""
 OURS = {"PYTHONPATH": str(TOP / "companion" / "src"), "TERM": "xterm", "NO_COLOR": ""}

@@ -11,7 +11,7 @@ from typing import Any, Callable, Dict, List
 import link_tables
 import pytest
 from cases_of_program import TOP
-from conftest import Run
+from conftest import Run, set_day
 from link_tables import authority, telegram
 from telegrams import ALONE, OTHER, SPARE, account, digest
 from test_links import FOLDER
@@ -35,7 +35,7 @@ MEANT = "remarks on what the data mean, by balisekit's own rules, not proved:"
 @pytest.fixture(autouse=True)
 def day(monkeypatch: pytest.MonkeyPatch) -> None:
     """2026-05-28."""
-    monkeypatch.setenv("SOURCE_DATE_EPOCH", "1780000000")
+    set_day(monkeypatch, 1780000000)
 
 
 def line(program: Program, path: Path, *changes: Callable[[List[Any]], None]) -> Path:

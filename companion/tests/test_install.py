@@ -35,10 +35,8 @@ def test_install(tmp_path: Path, program: Program) -> None:
     table = tmp_path / "line.csv"
     shutil.copyfile(TOP / "examples" / "table" / "line.csv", table)
     command = str(tmp_path / "room" / "bin" / "balisekit")
-    known = {**os.environ, "BALISECHECK": program.path}
-    done = subprocess.run(
-        [command, "check", str(table), "--explain"], env=known, cwd=tmp_path, check=False, stdout=subprocess.PIPE
-    )
+    words = [command, "check", str(table), "--explain", "--program", program.path]
+    done = subprocess.run(words, cwd=tmp_path, check=False, stdout=subprocess.PIPE)
     assert (done.returncode, done.stdout.decode().splitlines()[-1][:10]) == (2, "INCOMPLETE")
     bare = {key: value for key, value in os.environ.items() if key != "BALISECHECK"}
     done = subprocess.run(

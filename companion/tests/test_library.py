@@ -93,11 +93,11 @@ def stand(*answers: Any) -> Library:
     """A library whose calls have these statuses and texts."""
     following: Iterator[Any] = iter(answers)
 
-    def call(_: bytes, __: Any, buffer: Any, capacity: Any, length: Any) -> int:
+    def call(_: bytes, __: int, buffer: Any, capacity: int, length: Any) -> int:
         status, text = next(following)
         length._obj.value = len(text) if isinstance(text, bytes) else text
         ctypes.memmove(buffer, text, len(text)) if isinstance(text, bytes) else None
-        assert not isinstance(text, bytes) or capacity.value >= len(text)
+        assert not isinstance(text, bytes) or capacity >= len(text)
         return int(status)
 
     library = Library.__new__(Library)

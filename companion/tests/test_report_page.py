@@ -264,7 +264,9 @@ def test_remarks_alone_are_no_findings(run: Run, tmp_path: Path) -> None:
     assert '<p class="word">Remarks</p>\n<p class="sentence">no findings; 1 remark (L 1)</p>' in text
 
 
-def test_the_commands_repeat_the_verdict(run: Run, line: Path, program: Program, tmp_path: Path) -> None:
+def test_the_commands_repeat_the_verdict(
+    run: Run, line: Path, program: Program, tmp_path: Path, monkeypatch: pytest.MonkeyPatch
+) -> None:
     """The document of these commands has the checksum of the page, and the program answers as the page quotes it."""
     messages = tmp_path / "the messages.txt"
     messages.write_text((TOP / "examples" / "radio-position-report.txt").read_text())
@@ -274,7 +276,8 @@ def test_the_commands_repeat_the_verdict(run: Run, line: Path, program: Program,
     first, second, third = commands.splitlines()
     words = shlex.split(first)
     document = tmp_path / words[-1]
-    assert words[:2] == ["balisekit", "check"] and run(*words[1:-1], document)[0] == 2
+    monkeypatch.chdir(line.parent)
+    assert words[:3] == ["balisekit", "check", line.name] and run(*words[1:-1], document)[0] == 2
     assert second == f"sha256sum {words[-1]}" and third == f"balisecheck check < {words[-1]}"
     assert f'<span class="program">{hashlib.sha256(document.read_bytes()).hexdigest()}</span>' in evidence
     with open(document, "rb") as file:
@@ -293,13 +296,14 @@ def test_the_heading_is_that_of_the_project(run: Run, line: Path) -> None:
     """Texts of [report] in balisekit.toml. What it does not state has no box."""
     text = report(run, line)
     facts = re.compile('<tr><th scope="row">([a-z]+)</th><td><bdi>(.*?)</bdi></td></tr>')
-    assert [name for name, _ in facts.findall(text)] == ["table", "date"] and 'class="signatures"' not in text
+    assert [name for name, _ in facts.findall(text)] == ["table", "date", "program", "settings"]
+    assert 'class="signatures"' not in text
     (line.parent / "balisekit.toml").write_text(
         '[report]\nproject = "Line <b>"\nrevision = "C"\nauthor = "J. Doe"\nsignatures = ["prepared", "verified"]\n'
     )
     text = report(run, line)
     found = facts.findall(text)
-    assert [name for name, _ in found] == ["project", "table", "revision", "date", "author"]
+    assert [name for name, _ in found] == ["project", "table", "revision", "date", "author", "program", "settings"]
     assert found[0][1] == "Line &lt;b&gt;" and "<title>Report of balisecheck: Line &lt;b&gt;</title>" in text
     assert re.findall('<th scope="row"><bdi>(.*?)</bdi></th><td></td><td></td>', text) == ["prepared", "verified"]
 

@@ -11,10 +11,11 @@ import pytest
 from cases_of_program import TOP
 from meaning_mistakes_of_groups import MISTAKES_FOLDER
 
+from balisekit.present.explanations import page_of, with_assumptions
 from balisekit.rules.accepted import RULES
 from balisekit.rules.links import RULES as LINKS
 from balisekit.rules.meaning import RULES as REMARKS
-from balisekit.rules.rule import Rule, Urgency
+from balisekit.rules.rule import FALSE_ALARM, Rule, Urgency
 
 sys.path.insert(0, str(TOP / "scripts"))
 import readability  # type: ignore[import]  # noqa: E402  (the path comes first)
@@ -80,6 +81,18 @@ def test_a_page_says_what_is_a_false_alarm() -> None:
     assert {rule.name for rule in LINKS if not rule.has_correct_data} == {"L3", "L4", "L5", "L6", "L7"}
     assert {rule.name for rule in OWN if not rule.has_correct_data and rule not in LINKS} == {"E1", "E6"}
     assert not [rule.name for rule in OWN if re.search(r": not if\b|usual cases follow|Nor if\b", rule.page)]
+
+
+def test_assumptions_are_a_list() -> None:
+    """Each assumption of a rule that makes its remark a false alarm is an item of its own; no word is lost."""
+    for rule in OWN:
+        text = rule.parts[FALSE_ALARM]
+        first, *items = with_assumptions(FALSE_ALARM, text)
+        assert " ".join([first, *items]) == f"{FALSE_ALARM}. {text}"
+        assert len(items) == 0 or all(len(item.split()) > 8 for item in items)
+    lines = [*page_of("E12")]
+    at = lines.index(f"    {FALSE_ALARM}.")
+    assert lines[at + 1].startswith("    - The rule assumes that all authorities to one group end at one place. ")
 
 
 def test_the_order_of_urgencies_is_that_of_the_page() -> None:

@@ -42,7 +42,8 @@ def test_a_name_that_is_none(run: Run, tmp_path: Path) -> None:
     why = f'balisekit: there is no group "signal e" in {LINE} (did you mean "Signal E", '
     for words in (["show", LINE, "--group", "signal e"], ["draw", LINE, "--group", "signal e"]):
         status, out, err = run(*words)
-        assert (status, out, len(err)) == (2, [], 1) and err[0].startswith(why)
+        assert (status, out, len(err)) == (2, [], 1), (out, err)
+        assert err[0].startswith(why)
     why = f'balisekit: there is no aspect "gren" in {LINE} (did you mean "green"?)'
     for words in (["report", LINE, "--html", tmp_path / "x.html"], ["draw", LINE, "--track"]):
         assert run(*words, "--aspect", "gren") == (2, [], [why])

@@ -34,9 +34,9 @@ def test_a_project_states_its_line_once(run: Run, program: Program, tmp_path: Pa
     [
         ("[check]\nspeed = 1", "[check] has an unknown key speed: the keys are line_speed, release_speed, "),
         ("[check]\nline_sped = 1", '[check] has an unknown key line_sped: did you mean "line_speed"?'),
-        ("[check]\nline_speed = 900", "[check] line_speed: 900 is no speed in km/h from 1 to 600"),
-        ("[check]\nline_speed = true", "[check] line_speed: True is no speed in km/h from 1 to 600"),
-        ("[check]\ntolerance = 'x'", "[check] tolerance: x is no number of metres: write 5 or 2.5"),
+        ("[check]\nline_speed = 900", "[check] line_speed: 900 is no speed in km/h from 1 to 500"),
+        ("[check]\nline_speed = true", "[check] line_speed is true or false: write line_speed = 160"),
+        ("[check]\ntolerance = 'x'", "[check] tolerance is a text: write tolerance = 2.5"),
         ("[check]\nrules = ['E99']", "[check] rules: E99 is no rule: write all or E7,E11; the rules are E"),
         ("check = 3", "check is no table: write [check], and a line for each key below it"),
     ],
@@ -51,8 +51,8 @@ def test_bad_values(run: Run, program: Program, tmp_path: Path, toml: str, why: 
 @pytest.mark.parametrize(
     "words, why",
     [
-        (["--line-speed", "0"], "0 is no speed in km/h from 1 to 600"),
-        (["--release-speed", "4.5"], "4.5 is no speed in km/h from 1 to 600"),
+        (["--line-speed", "0"], "0 is no speed in km/h from 1 to 500"),
+        (["--release-speed", "4.5"], "4.5 is no speed in km/h from 1 to 100"),
         (["--rules", "E7,"], "nothing is no rule: write all or E7,E11"),
         (["--rules", "L1"], "L1 is no rule"),
         (["--only", "F,L", "--rules", "all"], "--rules is not used with --only F,L"),
@@ -69,20 +69,20 @@ def test_links_finds_what_check_finds(run: Run, program: Program, tmp_path: Path
 
     def shifted(rows: List[Row]) -> None:
         for row in rows:
-            row.place += 50 if row.place > 14_000 else 0
+            row.place += 20 if row.place > 14_000 else 0
 
     path = written(program, tmp_path / "t.csv", Line(5), shifted)
-    (tmp_path / "j.csv").write_text("km,km_after\n14.0,14.050\n", "utf-8")
-    (tmp_path / "p.csv").write_text("kind,km,km_to,value\njump,14.0,14.050,\nspeed,10,,80\n", "utf-8")
+    (tmp_path / "j.csv").write_text("km,km_after\n14.0,14.020\n", "utf-8")
+    (tmp_path / "p.csv").write_text("kind,km,km_to,value\njump,14.0,14.020,\nspeed,10,,80\n", "utf-8")
     file = tmp_path / "balisekit.toml"
-    jumps, metres = ["--jumps", tmp_path / "j.csv"], ["--tolerance", "50"]
+    jumps, metres = ["--jumps", tmp_path / "j.csv"], ["--tolerance", "20"]
     stated: Sequence[Tuple[str, Sequence[object]]] = [
         ("", []),
         ("", jumps),
         ("", metres),
         ("jumps = 'j.csv'", []),
         ("plan = 'p.csv'", []),
-        ("tolerance = 50", []),
+        ("tolerance = 20", []),
         ("jumps = 'j.csv'", ["--tolerance", "0"]),
     ]
     for text, words in stated:
@@ -91,7 +91,7 @@ def test_links_finds_what_check_finds(run: Run, program: Program, tmp_path: Path
         assert status == int(not text and not words), (text, words, out)
         assert run("check", path, "--only", "L", *words)[0] == status
     file.write_text("[check]\ntolerance = 'x'\n", "utf-8")
-    assert run("links", path)[2] == [f"balisekit: {file}: [check] tolerance: x is no number of metres: write 5 or 2.5"]
+    assert run("links", path)[2] == [f"balisekit: {file}: [check] tolerance is a text: write tolerance = 2.5"]
     file.unlink()
     unused = ["balisekit: --jumps is not used with --only F"]
     assert run("check", path, "--only", "F", *jumps)[2] == unused

@@ -194,7 +194,7 @@ def test_messages_are_shown_without_a_table(tmp_path: Path, capsys: pytest.Captu
     messages.write_text((TOP / "examples" / "radio-position-report.txt").read_text().strip() + ";from the train\n")
     assert cli.main(["show", "--messages", str(messages)]) == 0
     said = capsys.readouterr().out
-    assert said.startswith("message of line 1  from the train\n") and "D_LRBG 500 m [500]" in said
+    assert "\n\nmessage of line 1  from the train\n" in said and "D_LRBG 500 m [500]" in said
 
 
 @pytest.mark.parametrize("line", ["{}", " 0x{}", '"{}"', "{}h", "'{}", "\u00a0{}H\t"])
@@ -208,7 +208,7 @@ def test_standard_input_is_cleaned_as_cells_are(
     _input(monkeypatch, "\n".join([digits, *texts]).encode())
     assert cli.main(["show"]) == 0
     said = capsys.readouterr().out.split("\n\n")
-    assert len({one.split("\n", 1)[1] for one in said[:5]}) == 1
+    assert len({one.split("\n", 1)[1] for one in said[1:6]}) == 1
 
 
 def test_an_empty_body_has_no_bits() -> None:

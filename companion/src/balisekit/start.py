@@ -5,7 +5,7 @@ Python, and of the interpreter's own packages and balisekit's folder after them,
 """
 from __future__ import annotations
 
-import _signal as signal  # (built in: no file takes its place)
+import _signal as signal  # type: ignore[import]  # (built in: no file takes its place)
 import os
 import sys
 

@@ -7,7 +7,7 @@ from pathlib import Path
 from typing import Any, Callable, Dict, List
 
 import pytest
-from conftest import Run
+from conftest import Run, set_day
 from link_tables import authority, telegram
 from telegrams import ALONE, DEFAULT, MESSAGE, OTHER, digest
 
@@ -21,7 +21,7 @@ SIGNED = {"reason": "harmless at the buffer stop", "who": "J. Doe", "date": "202
 @pytest.fixture(autouse=True)
 def day(monkeypatch: pytest.MonkeyPatch) -> None:
     """2026-05-28."""
-    monkeypatch.setenv("SOURCE_DATE_EPOCH", "1780000000")
+    set_day(monkeypatch, 1780000000)
 
 
 def signed(run: Run, path: Path, *words: object, **fields: str) -> Path:

@@ -114,8 +114,7 @@ def test_pre_commit_itself(tmp_path: Path) -> None:
     known = {**os.environ, "PRE_COMMIT_HOME": str(tmp_path / "cache"), "BALISEKIT_PYTHON": sys.executable}
     for name in ("balisekit", "companion/start.py", "companion/src", "examples/hooks", HOOKS.name):
         (clone / name).parent.mkdir(parents=True, exist_ok=True)
-        copy = shutil.copytree if (TOP / name).is_dir() else shutil.copy2
-        copy(TOP / name, clone / name)
+        subprocess.run(["cp", "-r", str(TOP / name), str(clone / name)], check=True)
     for name in names():
         put(room, name, EVIL)
     for folder in (clone, room):

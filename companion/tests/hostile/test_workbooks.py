@@ -2,10 +2,12 @@
 
 from __future__ import annotations
 
+import io
 import random
 import sys
 import time
 import tracemalloc
+import zipfile
 from pathlib import Path
 from typing import Any, Callable, Dict, Iterator, List
 
@@ -143,6 +145,33 @@ def test_disorder_in_another_sheet(table: Write) -> None:
     """Only the sheet that is read has to be in order, and narrow."""
     other = sheet(row("x", number="2"), row("y", number="1"), row(*"x" * 300))
     assert len(tables.read(str(table(content=workbook(other, sheet(HEADING, GOOD))))).rows) == 1
+
+
+def test_a_sheet_that_cannot_be_found(table: Write) -> None:
+    """A spreadsheet may find a part whose name differs in case, and openpyxl passes it over: nothing may be lost."""
+    content = workbook(sheet(HEADING, GOOD), sheet(row("x", OTHER)))
+    with zipfile.ZipFile(io.BytesIO(content)) as file:
+        parts = {name.replace("sheet2", "Sheet2"): file.read(name) for name in file.namelist()}
+    out = io.BytesIO()
+    with zipfile.ZipFile(out, "w") as file:
+        for name, part in parts.items():
+            file.writestr(name, part)
+    with pytest.raises(KitError) as raised:
+        tables.read(str(table(content=out.getvalue())))
+    assert "1 of its 2 sheets cannot be found in it: " + SAVE in raised.value.lines()[0]
+
+
+def test_sheets_of_one_name(table: Write) -> None:
+    """The one that is not read is named as well."""
+    content = workbook(sheet(HEADING, GOOD), sheet(row("x", OTHER)))
+    with zipfile.ZipFile(io.BytesIO(content)) as file:
+        parts = {name: file.read(name).replace(b"'S2'", b"'S1'") for name in file.namelist()}
+    out = io.BytesIO()
+    with zipfile.ZipFile(out, "w") as file:
+        for name, part in parts.items():
+            file.writestr(name, part)
+    account = tables.read(str(table(content=out.getvalue()))).account
+    assert (account.telegrams, account.overlooked, account.sheets_not_read) == (2, 1, ("S1",))
 
 
 KM = "<row>" + "".join(map(text, ["group", "telegram", "km"])) + "</row>"

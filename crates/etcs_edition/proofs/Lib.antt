@@ -5,6 +5,7 @@ pub mod TelegramLemmas
 pub mod TextLemmas
 pub mod TrainLemmas
 pub mod MessageLemmas
+pub mod EncodingLemmas
 pub mod DocumentLemmas
 pub mod YesLemmas
 pub mod RuleLemmas

@@ -1,5 +1,5 @@
 -- Texts of telegrams by the short definition are those by the working one.
-use Rattle.std.proofs.Common.{◌≡◌, ℕ, ◌+◌, ◌-◌, ◌*◌, ◌<◌, ◌≤◌, Bool, false, List, [], ◌∷◌, ◌++◌, length, take, drop, replicate, refl, sym, ap, subst, ◌∙◌, arith}
+use Rattle.std.proofs.Common.{◌≡◌, ℕ, ◌+◌, ◌-◌, ◌*◌, ◌<◌, Bool, false, List, [], ◌∷◌, ◌++◌, length, take, drop, replicate, refl, sym, ap, subst, ◌∙◌, arith}
 use Rattle.std.proofs.lemmas.List.{length-append, length-replicate, take-append-drop}
 use Rattle.std.proofs.Math.Seq.{take-append_seam, drop-append_seam}
 use Rattle.etcs_bits.specs.bits.Number.{bits_of_bytes as working_bits}
@@ -20,22 +20,18 @@ unfolding working_bits
 same_bytes [] = refl
 same_bytes (b ∷ bytes) = rw (same_num 8 b, same_bytes bytes) refl
 
-byte_number : (size : Size) (n : ℕ) → 8 * n ≡ user_bits size + (n * 8 - user_bits size) → n * 8 < user_bits size + 8
+pub byte_number : (size : Size) (n : ℕ) → 8 * n ≡ user_bits size + (n * 8 - user_bits size) → n * 8 < user_bits size + 8
     → n ≡ byte_count size
 byte_number Short n all few = omega (arith, all, few)
 byte_number Long n all few = omega (arith, all, few)
 
-pad_number : (size : Size) → byte_count size * 8 - user_bits size ≡ pad_count size
+pub pad_number : (size : Size) → byte_count size * 8 - user_bits size ≡ pad_count size
 pad_number Short = refl
 pad_number Long = refl
 
-few_bits : (size : Size) → byte_count size * 8 < user_bits size + 8
+pub few_bits : (size : Size) → byte_count size * 8 < user_bits size + 8
 few_bits Short = omega arith
 few_bits Long = omega arith
-
-enough : (size : Size) → counted_bits size ≤ 8 * byte_count size
-enough Short = omega arith
-enough Long = omega arith
 
 -- a list of n elements, and others after it
 first_of : (n : ℕ) (xs ys : List Bool) → length xs ≡ n → take n (xs ++ ys) ≡ xs

@@ -4,6 +4,7 @@ pub mod TrackPackets
 pub mod Telegram
 pub mod TrainPackets
 pub mod Message
+pub mod Encoding
 pub mod Document
 pub mod Yes
 pub mod Rules

@@ -4,10 +4,10 @@
 ghost use Rattle.std.specs.Prelude.{◌≡◌, ◌↔◌, ℕ, List, Bool, Ok, IsOkAnd};
 ghost use Rattle.etcs_telegram.specs.Record.{Telegram};
 ghost use Rattle.etcs_telegram.specs.Telegram.{IsTelegram as IsDecodedTelegram};
-ghost use Rattle.etcs_telegram.specs.Text.{IsTelegramText as IsDecodedTelegramText};
+ghost use Rattle.etcs_telegram.specs.Text.{IsTelegramText as IsDecodedTelegramText, IsCanonicalText as IsEncodedTelegram};
 ghost use Rattle.etcs_radio.specs.declared.message.Message.{Message};
 ghost use Rattle.etcs_radio.specs.Message.{IsMessage as IsDecodedMessage};
-ghost use Rattle.etcs_radio.specs.Text.{IsMessageText as IsDecodedMessageText};
+ghost use Rattle.etcs_radio.specs.Text.{IsMessageText as IsDecodedMessageText, IsCanonicalText as IsEncodedMessage};
 ghost use Rattle.etcs_group.specs.Group.{Aspects};
 ghost use Rattle.etcs_document.specs.Document.{line_of_text};
 ghost use Rattle.etcs_document.specs.ReportText.{report_words};
@@ -18,6 +18,7 @@ ghost use Rattle.etcs_check.specs.Violation.{HasParts};
 ghost use Rattle.etcs_check.specs.declared.finding.Finding.{Finding};
 ghost use Rattle.etcs_edition.specs.Telegram.{IsTelegram, IsTelegramText};
 ghost use Rattle.etcs_edition.specs.Message.{IsMessage, IsMessageText};
+ghost use Rattle.etcs_edition.specs.Encoding.{IsWrittenTelegram, IsWrittenMessage};
 ghost use Rattle.etcs_edition.specs.Document.{IsLineText};
 ghost use Rattle.etcs_edition.specs.Yes.{SaysYes};
 ghost use Rattle.etcs_edition.specs.Findings.{RuleHolds, AreFindings};
@@ -44,6 +45,26 @@ pub fn messages_agree()
 /// A text is that of a radio message by the edition if and only if it is one that `etcs_radio::from_hex` reads.
 pub fn message_texts_agree()
     ensures { (m : Message) (text : List ℕ) → IsMessageText m text ↔ IsDecodedMessageText m text }
+{}
+
+/// A text is the one that is written for a telegram or a radio message by the edition if and only if it is the one
+/// that `etcs_telegram::to_hex` or `etcs_radio::to_hex` writes.
+pub fn written_texts_agree()
+    ensures telegrams { (t : Telegram) (text : List ℕ) → IsWrittenTelegram t text ↔ IsEncodedTelegram t text }
+    ensures messages { (m : Message) (text : List ℕ) → IsWrittenMessage m text ↔ IsEncodedMessage m text }
+{}
+
+/// There and back: what is written for a telegram or a radio message is a text of this telegram or message.
+pub fn what_is_written_is_read()
+    ensures telegrams { (t : Telegram) (text : List ℕ) → IsWrittenTelegram t text → IsTelegramText t text }
+    ensures messages { (m : Message) (text : List ℕ) → IsWrittenMessage m text → IsMessageText m text }
+{}
+
+/// A text is that of one telegram at most, and of one radio message at most. So no two of them are written as the
+/// same text.
+pub fn a_text_has_one_record()
+    ensures telegrams { (t u : Telegram) (text : List ℕ) → IsTelegramText t text → IsTelegramText u text → t ≡ u }
+    ensures messages { (m k : Message) (text : List ℕ) → IsMessageText m text → IsMessageText k text → m ≡ k }
 {}
 
 /// Bytes are the document of a line by the edition if and only if `etcs_document::read_line` reads them as this
@@ -74,8 +95,8 @@ pub fn findings_agree()
         → AreFindings groups messages found ↔ (found ≡ findings groups messages) }
 {}
 
-/// A text is the report on bytes by the edition if and only if it is what `check` of the program writes for these
-/// bytes: the report of the groups, messages and findings that the bytes mean.
+/// A text is the report on bytes by the edition if and only if the bytes are a line, and the text is the report on
+/// the counts and findings that `etcs_document::check_in_order` takes of them.
 pub fn reports_agree()
     ensures { (bytes text : List ℕ) → IsReport bytes text
         ↔ IsOkAnd (summary_of_text bytes) (λ s. text ≡ report_words s.0.0 s.0.1 s.1) }

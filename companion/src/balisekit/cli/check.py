@@ -43,7 +43,8 @@ def run(options: argparse.Namespace) -> int:
         shared.refuse_unused(options, "with the page of a rule", *FILES)
         shared.say(page)
         return 0
-    outcome = outcome_of(options, stated(options), clock.now())
+    clock.now()  # (a SOURCE_DATE_EPOCH that is none is refused before any work)
+    outcome = outcome_of(options, stated(options))
     checked = outcome.checked
     if options.propose:
         options.propose.write([accepted_text.proposal(outcome)])

@@ -2,9 +2,11 @@
 from __future__ import annotations
 
 import argparse
+from dataclasses import replace
 from typing import Any, Dict, Optional, Tuple
 
 from balisekit.cli import options as shared
+from balisekit.cli.in_force import in_force
 from balisekit.compare.releases import by_place, compare
 from balisekit.engine.grammar import Refusal
 from balisekit.engine.program import Program
@@ -44,7 +46,8 @@ def run(options: argparse.Namespace) -> int:
     named = not any(document for _, _, document in sides)
     program = Program.find(options.program, options.timeout)
     old, new = (_checked(program, *side, named) for side in sides)
-    found = compare(old, new, named)
+    tables = [path for path, side in zip((options.old, options.new), sides) if side[2] is None]
+    found = compare(old, replace(new, settings=in_force(options, tables)), named)
     if options.html:
         options.html.write(page(found, now))
     if options.json:

@@ -7,6 +7,7 @@ from dataclasses import replace
 from typing import Optional, Sequence, Tuple
 
 from balisekit.cli import draw_all, options as shared, settings
+from balisekit.cli.in_force import in_force
 from balisekit.cli.outcome import links_of
 from balisekit.cli.selection import check_aspect, check_aspect_of, groups_named, meant, with_directions_of
 from balisekit.drawing.group import picture_of
@@ -17,6 +18,7 @@ from balisekit.errors import TableError
 from balisekit.io.output_folder import OutputFolder
 from balisekit.io.outputs import Output
 from balisekit.present.account_text import overlooked_lines
+from balisekit.present.opening import opening, opening_of
 from balisekit.present.pictures import message_picture, picture_page, track_page, written
 from balisekit.present.refusals import not_looked_at, refused
 from balisekit.rules import checking
@@ -55,6 +57,8 @@ def run(options: argparse.Namespace) -> int:
     options.svg = options.svg or Output("-")
     program, table, messages = shared.inputs(options)
     notes: Sequence[str] = ()
+    keys = tuple(settings.KINDS) if options.group is None and options.message is None else ()
+    in_use = in_force(options, [options.table], keys)
     if options.group is not None:
         picture, notes = _group(options, program, table)
     elif options.message is not None:
@@ -62,11 +66,11 @@ def run(options: argparse.Namespace) -> int:
     else:
         check_aspect(table, options.aspect)
         of_line = settings.of_line(options)
-        checked = checking.check(program, table, messages, options.by_position)
+        checked = replace(checking.check(program, table, messages, options.by_position), settings=in_use)
         return draw_all.run(options, checked, of_line) if options.all else _track(options, checked, of_line)
     options.svg.write(picture_page(picture))
-    of_picture = [*(f"note: {note}" for note in notes), f"written: {clean(str(options.svg))}"]
-    shared.say([*overlooked_lines(table), *of_picture], options.svg)
+    head = [*opening_of(program, in_use), *(f"note: {note}" for note in notes)]
+    shared.say([*head, *overlooked_lines(table), f"written: {clean(str(options.svg))}"], options.svg)
     return 0
 
 
@@ -104,7 +108,8 @@ def _track(options: argparse.Namespace, checked: Checked, of_line: Options) -> i
     options.svg.write(track_page(outcome, links, track, options.aspect))
     for item in [*refused(checked), *not_looked_at(checked)]:
         print(f"balisekit: {item}", file=sys.stderr)
-    lines = [*notes_on(table), *overlooked_lines(table), *written(line, track, options.aspect, clean(str(options.svg)))]
+    lines = [*opening(checked), *notes_on(table), *overlooked_lines(table)]
+    lines += written(line, track, options.aspect, clean(str(options.svg)))
     count = len(checked.accepted_messages)
     lines += [f"left out: {count} message{'s' * (count > 1)}, which --message draws"] if count else []
     shared.say(lines, options.svg)

@@ -11,6 +11,7 @@ from balisekit.drawing.group import pictures_of
 from balisekit.drawing.track import tracks_of
 from balisekit.io.output_folder import OutputFolder
 from balisekit.present.account_text import overlooked_lines
+from balisekit.present.opening import opening
 from balisekit.present.pictures import MARK_ALONE, FileNames, message_picture, picture_page, track_page, written
 from balisekit.present.refusals import not_looked_at, refused
 from balisekit.rules.checking import Checked
@@ -25,8 +26,8 @@ def run(options: argparse.Namespace, checked: Checked, of_line: Options) -> int:
     """Writes the pictures and reports each file. What is refused is reported too, and the rest is drawn."""
     for item in [*refused(checked), *not_looked_at(checked)]:
         print(f"balisekit: {item}", file=sys.stderr)
-    for note in (*notes_on(checked.table), *overlooked_lines(checked.table)):
-        print(note)
+    for line in (*opening(checked), *notes_on(checked.table), *overlooked_lines(checked.table)):
+        print(line)
     outcome, folder, names = apply(checked, tuple(FAMILIES), of_line), options.all, FileNames()
     links = links_of(outcome, of_line)
     for lines in (

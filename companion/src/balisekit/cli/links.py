@@ -2,8 +2,10 @@
 from __future__ import annotations
 
 import argparse
+from dataclasses import replace
 
 from balisekit.cli import options as shared, settings
+from balisekit.cli.in_force import in_force
 from balisekit.io.outputs import write_json
 from balisekit.present.check_json import entries_json
 from balisekit.present.links_text import as_json, lines, status_of
@@ -27,6 +29,7 @@ def run(options: argparse.Namespace) -> int:
     program, table, messages = shared.inputs(options)
     shared.refuse_without_kilometres(table)
     checked = checking.check(program, table, messages, options.by_position)
+    checked = replace(checked, settings=in_force(options, [options.table], ("tolerance", "jumps", "plan")))
     outcome = apply(checked, LETTERS, line, in_copy=False)
     links = next(part.applied for part in outcome.parts if part.applied)
     if options.json:

@@ -25,6 +25,8 @@ SKIP = "the heading of a column that is not to be read, even if it has telegrams
 EXPLAIN = "show cause and remedy of each rule that has found something"
 EXACT = Decimal()
 """The tolerance without --tolerance."""
+GREATEST_TOLERANCE = 20
+"""In metres. With a greater one no distance to a neighbouring balise or stop location would be compared."""
 
 
 def name(text: str) -> str:
@@ -42,10 +44,13 @@ def _seconds(text: str) -> float:
 
 
 def tolerance(text: str) -> Decimal:
-    """A number of metres."""
-    if not re.fullmatch(r"[0-9]{1,5}([.,][0-9])?", text):
-        raise argparse.ArgumentTypeError(f"{text[:40]} is no number of metres: write 5 or 2.5")
-    return Decimal(text.replace(",", "."))
+    """A number of metres that places may differ by."""
+    is_number = re.fullmatch(r"[0-9]{1,5}([.,][0-9])?", text)
+    metres = Decimal(text.replace(",", ".")) if is_number else None
+    if metres is None or metres > GREATEST_TOLERANCE:
+        why = f"{text[:40]} is no number of metres from 0 to {GREATEST_TOLERANCE}: write 5 or 2.5"
+        raise argparse.ArgumentTypeError(why)
+    return metres
 
 
 def value(metavar: str, kind: Callable[[str], Any], text: str) -> Dict[str, Any]:

@@ -3,11 +3,13 @@ from __future__ import annotations
 
 import argparse
 import time
-from datetime import datetime
+from dataclasses import replace
 from typing import Sequence, Tuple
 
 from balisekit.cli import options as shared, settings
+from balisekit.cli.in_force import in_force
 from balisekit.errors import TableError
+from balisekit.io import clock
 from balisekit.rules import accepted, checking
 from balisekit.rules.families import FAMILIES, PLAN, Outcome, apply
 from balisekit.rules.line import Line
@@ -45,10 +47,11 @@ def stated(options: argparse.Namespace) -> Options:
     return line
 
 
-def outcome(options: argparse.Namespace, line: Options, now: datetime, keep: bool = False) -> Outcome:
-    """What the rules find in such a line, and what was accepted on this day if there is a file of entries.
+def outcome(options: argparse.Namespace, line: Options, keep: bool = False) -> Outcome:
+    """What the rules find in such a line, and what was accepted by today if there is a file of entries.
 
-    With `keep` the records of all telegrams are kept, and other data are not, for callers that draw pictures of them.
+    With `keep` the records of all telegrams are kept, and other data are not, for a report: it draws pictures of them,
+    and has the heading that the file of settings states.
     """
     began = time.perf_counter()
     entries = accepted.read(options.accepted) if options.accepted else None
@@ -57,9 +60,10 @@ def outcome(options: argparse.Namespace, line: Options, now: datetime, keep: boo
     if all(FAMILIES[letter].needs_kilometres for letter in asked if letter != PLAN or line.plan):
         shared.refuse_without_kilometres(table)
     checked = checking.check(program, table, messages, options.by_position, options.all)
+    checked = replace(checked, settings=in_force(options, [options.table], tuple(settings.KINDS), headed=keep))
     if keep:
         checked.accepted.keep()
-    signed = (entries, now.date()) if entries else None
+    signed = (entries, clock.today()) if entries else None
     return apply(checked, asked, line, signed, began, in_copy=keep)
 
 

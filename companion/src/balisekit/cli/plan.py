@@ -3,13 +3,16 @@ from __future__ import annotations
 
 import argparse
 from collections import Counter
+from dataclasses import replace
 from typing import List
 
 from balisekit.cli import options as shared, settings
+from balisekit.cli.in_force import in_force
 from balisekit.io import csv_writing
 from balisekit.io.outputs import Output
 from balisekit.present.account_text import overlooked_lines
 from balisekit.present.check_text import head_line
+from balisekit.present.opening import opening
 from balisekit.present.refusals import lacking, refused_lines
 from balisekit.rules import checking
 from balisekit.rules.checking import Checked
@@ -33,6 +36,7 @@ def run(options: argparse.Namespace) -> int:
     """Does it. The answer is the exit status."""
     jumps = settings.jumps(options)
     checked = checking.check(*shared.inputs(options), options.by_position, options.all)
+    checked = replace(checked, settings=in_force(options, [options.table], ("jumps", "plan")))
     made = implied(Line.of(checked, jumps, in_full=True), Options(jumps=jumps))
     options.csv.write(csv_writing.pieces(COLUMNS, map(cells, made.rows)))
     shared.say(_lines(options, checked, made), options.csv)
@@ -46,6 +50,7 @@ def _lines(options: argparse.Namespace, checked: Checked, made: Made) -> List[st
     last = f"written: {clean(str(options.csv))}: {written}"
     return [
         head_line(checked.table),
+        *opening(checked),
         *notes_on(checked.table),
         *(f"note: {clean(note)}" for note in made.notes),
         *refused_lines(checked),

@@ -2,6 +2,7 @@
 from __future__ import annotations
 
 import argparse
+import os
 import shlex
 from typing import Iterator
 
@@ -9,6 +10,8 @@ from balisekit.cli import options as shared, settings
 from balisekit.cli.outcome import add_only, links_of, outcome as outcome_of, stated
 from balisekit.cli.selection import check_aspect
 from balisekit.io import clock
+from balisekit.io.inputs import InputPath
+from balisekit.present.opening import from_table, opening
 from balisekit.present.outcome_text import closing_lines
 from balisekit.present.report_page import report_page
 from balisekit.tables.names import clean
@@ -31,22 +34,24 @@ def add_options(parser: argparse.ArgumentParser) -> None:
 def run(options: argparse.Namespace) -> int:
     """Does it. The answer is the exit status."""
     now, of_line, heading = clock.now(), stated(options), settings.heading(options)
-    outcome = outcome_of(options, of_line, now, keep=True)
+    outcome = outcome_of(options, of_line, keep=True)
     check_aspect(outcome.checked.table, options.aspect)
     command = clean(shlex.join(_command(options)))
     links = links_of(outcome, of_line)
     links.line.for_pictures()
     page = report_page(outcome, links, heading, command, now, options.aspect, options.full)
     options.html.write(page)
-    shared.say([f"written: {clean(str(options.html))}", *closing_lines(outcome)], options.html)
+    written = f"written: {clean(str(options.html))}"
+    shared.say([*opening(outcome.checked, outcome.judged), written, *closing_lines(outcome)], options.html)
     return outcome.status
 
 
 def _command(options: argparse.Namespace) -> Iterator[str]:
-    """The words of a command that hands the same document to the program."""
-    yield from ("balisekit", "check", str(options.table))
+    """The words of a command that hands the same document to the program, in the folder of the table."""
+    yield from ("balisekit", "check", os.path.basename(options.table))
     for name in OF_THE_DOCUMENT:
         given = getattr(options, name)
         for value in given if isinstance(given, list) else [given] if given else []:
             yield f"--{name.replace('_', '-')}"
-            yield from () if value is True else (str(value),)
+            is_path = isinstance(value, InputPath)
+            yield from () if value is True else (from_table(options.table, value) if is_path else str(value),)

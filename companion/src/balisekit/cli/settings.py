@@ -7,7 +7,8 @@ from __future__ import annotations
 import argparse
 import os
 import re
-from typing import Any, Callable, Dict, FrozenSet, Mapping, Optional, Sequence, Tuple
+from functools import partial
+from typing import Any, Callable, Dict, FrozenSet, Mapping, NamedTuple, Optional, Sequence, Tuple
 
 from balisekit.cli import options as shared
 from balisekit.errors import TableError, faults_of
@@ -15,20 +16,24 @@ from balisekit.rules import meaning
 from balisekit.rules.chainage import Jump, read_jumps
 from balisekit.rules.rule import ALL, LINE_SPEED, RELEASE_SPEED, Options
 from balisekit.tables import own_headings, plan as plan_file
+from balisekit.tables.cells import GREATEST_NAME
 
-GREATEST = 600
-"""The greatest speed in km/h that a variable of ETCS has."""
+GREATEST_LINE_SPEED, GREATEST_RELEASE_SPEED = 500, 100
+"""In km/h. ETCS has speeds up to 600 km/h, but no line is that fast, and trains are released at 40 km/h or less."""
 NAMES = [rule.name for rule in meaning.RULES]
 JUMPS = "a CSV file with km, km_after and track: the places at which the kilometres jump"
 PLAN = "a CSV file that describes the track: the rules X compare the telegrams with it"
 RULES = "rules E to apply too, with their parts that are off by default: E2,E20 or all"
 
 
-def _speed(text: str) -> int:
+def _speed(greatest: int, text: str) -> int:
     """A speed in km/h."""
-    if not re.fullmatch("[0-9]{1,3}", text) or not 0 < int(text) <= GREATEST:
-        raise argparse.ArgumentTypeError(f"{text[:40]} is no speed in km/h from 1 to {GREATEST}")
+    if not re.fullmatch("[0-9]{1,3}", text) or not 0 < int(text) <= greatest:
+        raise argparse.ArgumentTypeError(f"{text[:40]} is no speed in km/h from 1 to {greatest}")
     return int(text)
+
+
+_line_speed, _release_speed = partial(_speed, GREATEST_LINE_SPEED), partial(_speed, GREATEST_RELEASE_SPEED)
 
 
 def _rules(text: str) -> FrozenSet[str]:
@@ -43,15 +48,30 @@ def _rules(text: str) -> FrozenSet[str]:
     return frozenset(name.upper() for name in names)
 
 
-KINDS: Mapping[str, Callable[[str], Any]] = {
-    "line_speed": _speed,
-    "release_speed": _speed,
-    "tolerance": shared.tolerance,
-    "jumps": str,
-    "plan": str,
-    "rules": _rules,
+class Kind(NamedTuple):
+    """What the value of a key of [check] can be."""
+
+    read: Callable[[str], Any]
+    """Reads it as an option has it."""
+    types: Tuple[type, ...]
+    """Its types in a file. The items of a list are texts."""
+    example: str
+
+
+KINDS: Mapping[str, Kind] = {
+    "line_speed": Kind(_line_speed, (int,), "160"),
+    "release_speed": Kind(_release_speed, (int,), "40"),
+    "tolerance": Kind(shared.tolerance, (int, float), "2.5"),
+    "jumps": Kind(str, (str,), '"jumps.csv"'),
+    "plan": Kind(str, (str,), '"plan.csv"'),
+    "rules": Kind(_rules, (str, list), '["E2", "E20"]'),
 }
-"""What reads the value of each key of [check]."""
+"""The keys of [check]."""
+GREATEST_SIGNATURES = 20
+LONGEST = 60
+"""The bits of the longest whole number that is shown: it has at most 18 digits."""
+TYPES: Mapping[type, str] = {str: "a text", list: "a list", dict: "a table", bool: "true or false", float: "a fraction"}
+"""The words for what a file has instead. Anything else but a whole number is a date or a time."""
 
 
 def add_options(parser: argparse.ArgumentParser) -> None:
@@ -59,8 +79,8 @@ def add_options(parser: argparse.ArgumentParser) -> None:
     shared.add(parser, "--tolerance", help=f"{shared.TOLERANCE}, and 1 for E, X1 and X2")
     speed = f"the greatest speed of the line, for E2 (else {LINE_SPEED}) and E11"
     release = f"the greatest release speed of the line, for E2; {RELEASE_SPEED} by default"
-    parser.add_argument("--line-speed", **shared.value("KM/H", _speed, speed))
-    parser.add_argument("--release-speed", **shared.value("KM/H", _speed, release))
+    parser.add_argument("--line-speed", **shared.value("KM/H", _line_speed, speed))
+    parser.add_argument("--release-speed", **shared.value("KM/H", _release_speed, release))
     parser.add_argument("--jumps", **shared.input_file(JUMPS))
     parser.add_argument("--plan", **shared.input_file(PLAN))
     parser.add_argument("--rules", **shared.value("RULES", _rules, RULES))
@@ -79,7 +99,7 @@ def refuse_unused(options: argparse.Namespace, letters: Sequence[str]) -> None:
 
 def of_line(options: argparse.Namespace) -> Options:
     """What the options and balisekit.toml state. TableError is raised for a value of the file that is none."""
-    stated = {**_of_file(options), **_given(options)}
+    stated = {**_of_file(options), **given(options)}
     more: Dict[str, Any] = {}
     if "tolerance" in stated:
         more["tolerance"] = more["tolerance_of_places"] = stated["tolerance"]
@@ -96,7 +116,7 @@ def of_line(options: argparse.Namespace) -> Options:
 
 def jumps(options: argparse.Namespace) -> Tuple[Jump, ...]:
     """Where the kilometres jump, by the option, by balisekit.toml and by its plan, which need not be written yet."""
-    stated = {**_of_file(options), **_given(options)}
+    stated = {**_of_file(options), **given(options)}
     is_written = os.path.exists(stated.get("plan", ""))
     return _jumps(stated, plan_file.read(stated["plan"]) if is_written else None)
 
@@ -107,7 +127,7 @@ def _jumps(stated: Mapping[str, Any], plan: Optional[plan_file.Plan]) -> Tuple[J
     return tuple(dict.fromkeys([*own, *(Jump(*each) for each in (plan.jumps if plan else ()))]))
 
 
-def _given(options: argparse.Namespace) -> Dict[str, Any]:
+def given(options: argparse.Namespace) -> Dict[str, Any]:
     """The options that were given, of those that the command has."""
     values = {name: getattr(options, name, None) for name in KINDS}
     return {name: value for name, value in values.items() if value is not None and value is not shared.EXACT}
@@ -121,11 +141,25 @@ def _of_file(options: argparse.Namespace) -> Dict[str, Any]:
 
 
 def _value(name: str, value: object) -> Any:
-    """A value of the file, read as an option is."""
+    """A value of the file, read as an option is if it has the type that is wanted."""
+    kind = KINDS[name]
+    has_type = type(value) in kind.types  # (true and false are whole numbers for isinstance)
+    if not has_type or isinstance(value, list) and not all(isinstance(item, str) for item in value):
+        raise TableError(f"[check] {name} is {_type_words(value, kind)}: write {name} = {kind.example}")
+    if isinstance(value, int) and value.bit_length() > LONGEST:
+        raise TableError(f"[check] {name} is a number of more than 18 digits: write {name} = {kind.example}")
     try:
-        return KINDS[name](own_headings.words(value))
+        return kind.read(",".join(value) if isinstance(value, list) else str(value))
     except argparse.ArgumentTypeError as error:
         raise TableError(f"[check] {name}: {error}") from error
+
+
+def _type_words(value: object, kind: Kind) -> str:
+    """What a value is that has not the type that is wanted."""
+    if type(value) is int:
+        return "a number"
+    words = TYPES.get(type(value), "a date or a time")
+    return f"{words} of other things than texts" if type(value) in kind.types else words
 
 
 def heading(options: argparse.Namespace) -> own_headings.ReportHeading:
@@ -144,4 +178,7 @@ def _texts(name: str, value: object) -> Tuple[str, ...]:
     if several != (name == "signatures") or not all(isinstance(text, str) and text.strip() for text in texts):
         example = '["prepared", "verified"]' if name == "signatures" else '"..."'
         raise TableError(f"[report] {name} is no text: write {name} = {example}")
+    if len(texts) > GREATEST_SIGNATURES or any(len(text) > GREATEST_NAME for text in texts):
+        most = f"more than {GREATEST_NAME:,} characters or {GREATEST_SIGNATURES} texts"
+        raise TableError(f"[report] {name} has {most}")
     return tuple(texts)

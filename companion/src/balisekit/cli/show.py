@@ -7,6 +7,7 @@ from collections import Counter, deque
 from typing import Callable, Deque, Dict, Generator, Iterable, Iterator, List, Mapping, Optional, Sequence, Tuple, Union
 
 from balisekit.cli import options as shared
+from balisekit.cli.in_force import in_force
 from balisekit.cli.selection import groups_named, with_directions_of
 from balisekit.engine.grammar import Refusal
 from balisekit.engine.program import Program, Record
@@ -15,6 +16,7 @@ from balisekit.etcs.places import Here, Identities, here_alone, places_of_rows
 from balisekit.etcs.variables import Form
 from balisekit.present.account_text import overlooked_lines
 from balisekit.present.bit_table import bit_lines
+from balisekit.present.opening import opening_of
 from balisekit.present.refusals import message_refused, overlooked, telegram_refused
 from balisekit.present.telegram_text import LEGEND, WIDTH, text
 from balisekit.rules.checking import greatest_refused, until_too_many
@@ -87,15 +89,17 @@ class _Shown:
             self.not_read = overlooked(table)
             yield from ([line] for line in overlooked_lines(table))
             chosen = groups_named(table, options.group) if options.group else table
+            yield opening_of(program, in_force(options, [options.table]))
             groups = Identities(chosen.groups, (yield from self._table(program, table, chosen)))
         else:
             messages = messages_file.read(options.messages) if options.messages else None
             program, groups = Program.find(options.program, options.timeout), Identities((), {})
-            yield from self._standard_input(program) if messages is None else ()
+            opening = opening_of(program, in_force(options, []))
+            yield from [opening] if messages else self._standard_input(program, opening)
         yield from self._messages(program, messages, groups)
 
-    def _standard_input(self, program: Program) -> Iterator[List[str]]:
-        """The telegrams of standard input, which are decoded as they come."""
+    def _standard_input(self, program: Program, opening: List[str]) -> Iterator[List[str]]:
+        """The telegrams of standard input, which are decoded as they come. Before the first one nothing is written."""
         batches = standard_input.batches()
         waiting: Deque[Tuple[int, str]] = deque()
 
@@ -107,7 +111,10 @@ class _Shown:
 
         for answer in self._tried("telegrams", answers()):
             number, telegram = waiting.popleft()
+            yield from [opening] if opening else []
+            opening = []
             yield self._block(f"line {number}", telegram, answer, telegram_refused, here_alone)
+        yield from [opening] if opening else []
         self.total["telegrams"] += sum(map(len, batches))
 
     def _table(self, program: Program, whole: Table, table: Table) -> Generator[List[str], None, Dict[int, Form]]:

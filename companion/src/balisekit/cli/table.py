@@ -2,14 +2,17 @@
 from __future__ import annotations
 
 import argparse
+from dataclasses import replace
 from typing import List, Sequence
 
 from balisekit.cli import options as shared
+from balisekit.cli.in_force import in_force
 from balisekit.compare.sheet import Sheet, compare
 from balisekit.errors import TableError
 from balisekit.present import sheets
 from balisekit.present.account_text import overlooked_lines
 from balisekit.present.check_text import head_line
+from balisekit.present.opening import opening
 from balisekit.present.refusals import lacking, refused_lines
 from balisekit.rules import checking
 from balisekit.rules.checking import Checked
@@ -35,6 +38,8 @@ def run(options: argparse.Namespace) -> int:
         raise TableError("name what to do: --csv FILE or --xlsx FILE writes the sheet, --expect FILE compares one")
     wanted = expected.read(options.expect, options.columns) if options.expect else None
     checked = checking.check(*shared.inputs(options), options.by_position, options.all)
+    tables = [options.table, *([options.expect] if options.expect else [])]
+    checked = replace(checked, settings=in_force(options, tables))
     sheet = Sheet(checked)
     if options.csv:
         options.csv.write(sheets.csv_pieces(sheet))
@@ -57,4 +62,5 @@ def _lines(options: argparse.Namespace, checked: Checked, directions: Sequence[s
     table = checked.table
     written = [f"written: {clean(str(output))}" for output in (options.csv, options.xlsx) if output]
     notes = [*notes_on(table), *(f"note: {clean(note)}" for note in directions)]
-    return [head_line(table), *notes, *refused_lines(checked), *overlooked_lines(table), *written]
+    begin = [head_line(table), *opening(checked)]
+    return [*begin, *notes, *refused_lines(checked), *overlooked_lines(table), *written]

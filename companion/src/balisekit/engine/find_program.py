@@ -1,4 +1,4 @@
-"""Where the program's file is, and the metadata of released programs: ABOUT in a clone, a release or a wheel."""
+"""Where the program's file is, and who knows its checksum: ABOUT and RELEASES of a clone, a release or a wheel."""
 from __future__ import annotations
 
 import glob
@@ -6,8 +6,8 @@ import hashlib
 import os
 import shutil
 import sys
-from contextlib import contextmanager
-from typing import TYPE_CHECKING, Dict, Iterator, List, Optional, Tuple
+from contextlib import contextmanager, suppress
+from typing import TYPE_CHECKING, Dict, Iterator, List, Mapping, NamedTuple, Optional, Tuple
 
 from balisekit.errors import NoAnswer
 
@@ -19,6 +19,11 @@ TOP = os.path.normpath(os.path.join(os.path.realpath(__file__), *[os.pardir] * 5
 """The top of the repository or of the release. For a wheel it is neither, and the package has the file."""
 SECONDS = 60
 """How long the start script of a clone may take to compute the checksum of its sources."""
+ABOUT, RELEASES, SOURCES = "ABOUT", "RELEASES", "sources"
+"""What a checksum is known by: the program that was stored with this balisekit, one that was stored before, or one that
+was built from the sources of this clone and not stored."""
+RELEASE = ("version", "commit", "sources", "program", "day")
+"""What a line of RELEASES has."""
 _STARTED: List[Popen[bytes]] = []
 """The start script that runs ahead."""
 
@@ -114,9 +119,62 @@ def checksum(path: str) -> str:
     return digest.hexdigest()
 
 
+class Known(NamedTuple):
+    """What is known of a program."""
+
+    by: str = ""
+    """ABOUT, RELEASES or SOURCES. Nothing for any other program."""
+    papers: Mapping[str, str] = {}
+
+
+def known(named: Optional[str], path: str, sha256: str) -> Known:
+    """What is known of the program at this path.
+
+    NoAnswer is raised for a program that nobody knows, unless it is `named` by an option: the environment and the path
+    can change unnoticed.
+    """
+    about, listed = papers(sha256), release(sha256)
+    if about or listed:
+        return Known(ABOUT if about else RELEASES, about or listed)
+    if not named and built_here(sha256):
+        return Known(SOURCES)
+    if named:
+        return Known()
+    who = "BALISECHECK names" if os.environ.get("BALISECHECK") else "found"
+    raise NoAnswer(
+        f"{who} {path}, which is not a released program: neither ABOUT nor RELEASES has its SHA-256, {sha256}; "
+        f"if you want this one, name it by --program"
+    )
+
+
+def built_here(sha256: str) -> bool:
+    """Whether the start script of the clone would run this program, since it was built from exactly its sources."""
+    if not _is_clone() or _is_program(_script()):
+        return False
+    if not os.environ.get("BALISECHECK"):  # (then it is the one that the start script has named)
+        return True
+    with suppress(NoAnswer):
+        return checksum(_stored(_script())) == sha256
+    return False
+
+
 def papers(sha256: str) -> Dict[str, str]:
     """The lines of ABOUT that name the program with this checksum."""
-    return next((papers for papers in all_papers() if sha256 in papers.get("program", "")), {})
+    return next((papers for papers in all_papers() if sha256 == papers.get("program")), {})
+
+
+def release(sha256: str) -> Dict[str, str]:
+    """The last line of RELEASES that names the program with this checksum."""
+    for folder in (os.path.join(TOP, "dist"), PACKAGE):
+        try:
+            with open(os.path.join(folder, RELEASES), encoding="utf-8") as file:
+                lines = [dict(zip(RELEASE, line.split())) for line in file if line[0] != "#"]
+        except (OSError, UnicodeDecodeError):
+            continue
+        for line in reversed(lines):
+            if line.get("program") == sha256:
+                return line
+    return {}
 
 
 def all_papers() -> Iterator[Dict[str, str]]:

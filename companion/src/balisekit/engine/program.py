@@ -92,17 +92,21 @@ class Program:
     """The metadata of a stored program. Empty for any other program."""
     timeout: Optional[float] = None
     """How many seconds an answer may take. None is a limit by the size of the input."""
+    known_by: str = ""
+    """What its checksum is known by: ABOUT, RELEASES or sources. Nothing for any other program."""
     _stop: Event = field(default_factory=Event, compare=False, repr=False)
 
     @classmethod
     def find(cls, named: Optional[str] = None, timeout: Optional[float] = None) -> Program:
         """The program of this path, else of BALISECHECK, else that of the clone, else that on the path.
 
-        NoAnswer is raised if there is none, or if it fails a trial run.
+        NoAnswer is raised if there is none, if it is not `named` and its checksum is not known, or if it fails a trial
+        run.
         """
         path = find_program.find(named)
         sha256 = find_program.checksum(path)
-        program = cls(path, sha256, find_program.papers(sha256), timeout)
+        known = find_program.known(named, path, sha256)
+        program = cls(path, sha256, known.papers, timeout, known.by)
         program._shake_hands()
         return program
 

@@ -1,9 +1,13 @@
-"""The time of the run, which SOURCE_DATE_EPOCH fixes (https://reproducible-builds.org/specs/source-date-epoch/)."""
+"""The time of the run, and the time that outputs have, which SOURCE_DATE_EPOCH fixes.
+
+https://reproducible-builds.org/specs/source-date-epoch/: it dates what is written, and decides nothing.
+"""
 from __future__ import annotations
 
 import os
 import re
-from datetime import datetime, timezone
+from datetime import date, datetime, timezone
+from typing import Optional
 
 from balisekit.errors import TableError
 
@@ -11,8 +15,18 @@ LATEST = 253_402_300_799
 """The last second of the year 9999, after which Python and other tools have no date."""
 
 
+def today() -> date:
+    """The day in UTC by the clock, whatever SOURCE_DATE_EPOCH is. Accepted entries are judged on this day."""
+    return datetime.now(timezone.utc).date()
+
+
+def dated() -> Optional[date]:
+    """The day of SOURCE_DATE_EPOCH, if it is set."""
+    return None if os.environ.get("SOURCE_DATE_EPOCH") is None else now().date()
+
+
 def now() -> datetime:
-    """The time in UTC. TableError is raised for a SOURCE_DATE_EPOCH that is no number of seconds."""
+    """The time in UTC for outputs. TableError is raised for a SOURCE_DATE_EPOCH that is no number of seconds."""
     fixed = os.environ.get("SOURCE_DATE_EPOCH")
     if fixed is None:
         return datetime.now(timezone.utc)

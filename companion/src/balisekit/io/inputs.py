@@ -23,6 +23,8 @@ class ReplacedInput(KitError):
 
 GREATEST = 2_000_000_000
 """The most bytes that a file to read can have."""
+_read_before: Optional[Dict[str, str]] = None
+"""Within `guarded`, the checksums of the files that are read several times, by their paths."""
 _outputs: Dict[Optional[Tuple[int, int]], str] = {}
 """The names of outputs by the identity of the file that each would replace."""
 
@@ -38,7 +40,9 @@ def _identity(file: Union[str, int]) -> Optional[Tuple[int, int]]:
 
 @contextmanager
 def guarded(outputs: Iterable[str]) -> Iterator[None]:
-    """Within this, neither these outputs nor standard output replace an input."""
+    """Within this, neither these outputs nor standard output replace an input, and no file of settings changes."""
+    global _read_before
+    _read_before = {}
     _outputs.update((_identity(it), path) for path in outputs for it in (path, os.path.realpath(path)))
     with suppress(OSError, ValueError):  # (a caller in Python may have another stream)
         _outputs[_identity(sys.stdout.fileno())] = "standard output"
@@ -47,6 +51,7 @@ def guarded(outputs: Iterable[str]) -> Iterator[None]:
         yield
     finally:
         _outputs.clear()
+        _read_before = None
 
 
 def claimed(path: str) -> str:
@@ -88,3 +93,12 @@ def read(path: str) -> Input:
         if (before.st_size, before.st_mtime_ns) != (after.st_size, after.st_mtime_ns) or len(content) != after.st_size:
             raise TableError("the file is being written")
     return Input(claimed(path), content)
+
+
+def read_settings(path: str) -> Input:
+    """A file that states settings, which a command reads several times. TableError is raised if it has changed."""
+    file = read(path)
+    if _read_before is not None and _read_before.setdefault(path, file.sha256) != file.sha256:
+        with faults_of(path):
+            raise TableError("the file has changed while the command ran")
+    return file

@@ -6,6 +6,7 @@ from itertools import repeat
 from typing import Any, Dict, Iterator, List, Optional, Sequence, Tuple
 
 from balisekit.io import csv_writing
+from balisekit.present.opening import Shown, paths_from
 from balisekit.rules import findings_on_correct_data
 from balisekit.rules.accepted import COLUMNS, UNNAMED, Acceptance, Item, Judged, Key, checksum, keys
 from balisekit.rules.checking import Checked, Place
@@ -24,9 +25,9 @@ def with_entries(checked: Checked, judged: Optional[Judged]) -> Iterator[Tuple[P
     return zip(checked.findings, map(judged.of, checked.findings) if judged else repeat(None))
 
 
-def fault_lines(judged: Judged) -> Iterator[str]:
+def fault_lines(judged: Judged, shown: Shown = str) -> Iterator[str]:
     """The entries at fault, and notes on entries without a sha256 and on those for rules that were not applied."""
-    path = clean(judged.entries.path)
+    path = clean(shown(judged.entries.path))
     yield from (f"{path}: row {entry.row}: {why}" for entry, why in judged.faults)
     unsigned = sum(not entry.sha256 for entry in judged.entries.entries)
     if unsigned:
@@ -81,8 +82,9 @@ def as_json(judged: Judged, outcome: Outcome) -> Dict[str, Any]:
     """The effect of all entries, for other tools."""
     by_finding = (entry for _, entry in with_entries(outcome.checked, judged if "F" in outcome.letters else None))
     return {
-        "path": judged.entries.path,
+        "path": paths_from(outcome.checked)(judged.entries.path),
         "sha256": judged.entries.sha256,
+        "day": str(judged.day),
         "status": outcome.status,
         "counts": counts(judged, outcome.letters),
         "findings": [None if entry is None else entry_json(entry) for entry in by_finding],

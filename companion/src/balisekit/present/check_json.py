@@ -10,6 +10,7 @@ from balisekit.present.account_text import account_json
 from balisekit.present.check_text import groups_by_aspects
 from balisekit.present.headings import finding_words, not_decoded
 from balisekit.present.links_text import FORMAT, rules_json
+from balisekit.present.opening import paths_from, program_json, settings_json
 from balisekit.present.outcome_text import not_applied, verdict
 from balisekit.present.refusals import message_refused, telegram_refused
 from balisekit.rules.checking import Checked, LeftOut, Place, Refused, RefusedMessage
@@ -85,17 +86,18 @@ def _place_of(entry: Entry) -> Dict[str, Any]:
 
 def _inputs(checked: Checked) -> Dict[str, Any]:
     """The program and the files that were read."""
-    program, table, messages = checked.program, checked.table, checked.messages
+    program, table, messages, shown = checked.program, checked.table, checked.messages, paths_from(checked)
     return {
-        "program": {"path": program.path, "sha256": program.sha256, **dict(program.about)},
+        "program": program_json(program),
+        "settings": settings_json(checked.settings, shown),
         "table": {
-            "path": table.path,
+            "path": shown(table.path),
             "sha256": table.sha256,
             "encoding": table.encoding,
             "passed_over": table.passed_over,
             "notes": table.notes,
         },
-        "messages": {"path": messages.path, "sha256": messages.sha256} if messages else None,
+        "messages": {"path": shown(messages.path), "sha256": messages.sha256} if messages else None,
     }
 
 

@@ -14,10 +14,8 @@ NAMED = 3
 
 
 def opening_lines(checked: Checked) -> Iterator[str]:
-    """The first lines of the answer: the table, and what was refused, left out or not looked at."""
-    table = checked.table
-    yield head_line(table)
-    yield from notes_on(table)
+    """How the table was read, and what was refused, left out or not looked at."""
+    yield from notes_on(checked.table)
     yield from refused_lines(checked)
     yield from (f"left out: {describe_group(one.group)}: {one.why}" for one in checked.left_out)
     yield from (f"and {count}: --all continues" for count in not_tried(checked))

@@ -13,6 +13,7 @@ from balisekit.present.accepted_text import fault_lines
 from balisekit.present.account_text import account_lines
 from balisekit.present.check_text import aspects_found
 from balisekit.present.links_text import empty_rules
+from balisekit.present.opening import KNOWN, entries_words, paths_from, program_words, settings_words
 from balisekit.present.outcome_text import last_lines, not_looked_at, unnamed_lines
 from balisekit.present.refusals import RefusedInput, lacking, not_looked_at as not_tried, refused
 from balisekit.rules.accepted import Judged
@@ -77,11 +78,14 @@ class Cover(NamedTuple):
 def cover(outcome: Outcome, heading: ReportHeading, command: str, now: datetime) -> Cover:
     """The cover of a report on an outcome. `command` begins the command that writes the document again."""
     checked, judged, table = outcome.checked, outcome.judged, outcome.checked.table
-    rows = [("project", heading.project), ("table", table.path), ("revision", heading.revision)]
-    rows += [("date", clock.stamp(now)), ("author", heading.author)]
-    faults = list(fault_lines(judged)) if judged else []
+    shown = paths_from(checked)
+    rows = [("project", heading.project), ("table", shown(table.path)), ("revision", heading.revision)]
+    rows += [("date", clock.stamp(now)), ("author", heading.author), ("program", program_words(checked.program))]
+    rows += [("settings", settings_words(checked.settings, shown))]
+    rows += [("entries", entries_words(judged, shown))] if judged else []
+    faults = list(fault_lines(judged, shown)) if judged else []
     return Cover(
-        clean(heading.project or table.path),
+        clean(heading.project or shown(table.path)),
         [(name, clean(value)) for name, value in rows if value],
         list(map(clean, heading.signatures)),
         [*not_tried(checked), *not_looked_at(outcome)],
@@ -182,12 +186,13 @@ def _evidence(checked: Checked, command: str) -> Optional[Evidence]:
 def _inputs(checked: Checked, judged: Optional[Judged]) -> Iterator[Tuple[str, str, str]]:
     """Name, SHA-256 and content of each input."""
     table, messages, entries = checked.table, checked.messages, judged.entries if judged else None
+    shown = paths_from(checked)
     content = f"{counted(len(table.rows), 'telegram')} of {counted(len(table.groups), 'group')}; {table.encoding}"
-    yield clean(table.path), table.sha256, content
+    yield clean(shown(table.path)), table.sha256, content
     if messages:
-        yield clean(messages.path), messages.sha256, f"{len(messages.messages)} radio messages"
+        yield clean(shown(messages.path)), messages.sha256, f"{len(messages.messages)} radio messages"
     if entries:
-        yield clean(entries.path), entries.sha256, f"{len(entries.entries)} entries of accepted findings"
+        yield clean(shown(entries.path)), entries.sha256, f"{len(entries.entries)} entries of accepted findings"
 
 
 def _program(checked: Checked) -> List[Tuple[str, str]]:
@@ -195,4 +200,4 @@ def _program(checked: Checked) -> List[Tuple[str, str]]:
     program = checked.program
     about = [("file", clean(program.path)), ("SHA-256", program.sha256)]
     about += [(key, value) for key, value in program.about.items() if key != "program"]
-    return about + ([] if program.about else [("version", "not a released program")])
+    return about + [("known by", KNOWN[program.known_by])]

@@ -11,6 +11,15 @@ from balisekit.present import NOT_PROVED
 from balisekit.present.account_text import overlooked_lines
 from balisekit.present.check_text import head_line
 from balisekit.present.headings import finding_lines, finding_words
+from balisekit.present.opening import (
+    Shown,
+    opening,
+    paths_from,
+    program_json,
+    program_words,
+    settings_json,
+    settings_words,
+)
 from balisekit.present.pages import pieces
 from balisekit.present.refusals import not_looked_at, overlooked, refused, refused_lines
 from balisekit.rules.checking import Checked
@@ -22,6 +31,7 @@ def lines(found: Difference) -> Iterator[str]:
     """The answer in words."""
     for word, side in (("old", found.old), ("new", found.new)):
         yield f"{word}: {head_line(side.checked.table)}"
+    yield from opening(found.new.checked)
     yield ABOUT
     yield from (f"note: {note}" for note in found.notes)
     yield from not_compared(found)
@@ -86,8 +96,10 @@ def as_json(found: Difference) -> Dict[str, Any]:
         "status": found.status,
         "last_line": last_line(found),
         "not_proved": ABOUT,
-        "old": _side_json(found.old.checked),
-        "new": _side_json(found.new.checked),
+        "program": program_json(found.new.checked.program),
+        "settings": settings_json(found.new.checked.settings, paths_from(found.new.checked)),
+        "old": _side_json(found.old.checked, paths_from(found.new.checked)),
+        "new": _side_json(found.new.checked, paths_from(found.new.checked)),
         "notes": found.notes,
         "refused": not_compared(found),
         "groups_added": found.groups_added,
@@ -104,9 +116,9 @@ def as_json(found: Difference) -> Dict[str, Any]:
     }
 
 
-def _side_json(checked: Checked) -> Dict[str, Any]:
+def _side_json(checked: Checked, shown: Shown) -> Dict[str, Any]:
     verdict = checked.verdict.line if checked.verdict and checked.whole else None
-    return {"path": checked.table.path, "sha256": checked.table.sha256, "verdict": verdict}
+    return {"path": shown(checked.table.path), "sha256": checked.table.sha256, "verdict": verdict}
 
 
 def _renumbered_json(each: Renumbered) -> Dict[str, Any]:
@@ -125,6 +137,7 @@ def _changed_json(changed: Changed) -> Dict[str, Any]:
 
 def page(found: Difference, now: datetime) -> Iterator[str]:
     """The answer as a page in the style of the report."""
+    checked = found.new.checked
     return pieces(
         "diff.html",
         ["palette.css", "page.css"],
@@ -136,6 +149,9 @@ def page(found: Difference, now: datetime) -> Iterator[str]:
         overlooked_lines=overlooked_lines,
         finding_words=finding_words,
         verdict=verdict,
+        shown=paths_from(checked),
+        program=program_words(checked.program),
+        settings=settings_words(checked.settings, paths_from(checked)),
         where=where,
         last_line=last_line(found),
         not_proved=ABOUT,

@@ -27,6 +27,10 @@ WHOLE = (
 """All paragraphs of a page. Only rules of balisekit's remarks state how sure they are."""
 EXPLAINED = tuple(head for head in WHOLE if head != "Example")
 """The paragraphs that `--explain` shows beside the findings of a table."""
+ASSUMPTION = re.compile(
+    r"(?<=\.) (?=(?:The rule|It|Finally, it)(?: also)? (?:assumes|takes|relies)\b|On a track for one direction)"
+)
+"""Where the next assumption of a rule begins."""
 KEYS = ("says", "matters", "example", "false_alarm", "cause", "remedy", "acceptance")
 """The keys in `findings.json` of the paragraphs that each finding has, in the order of WHOLE."""
 
@@ -67,7 +71,16 @@ def page_lines(named: Iterable[Tuple[str, Page]], heads: Sequence[str] = EXPLAIN
     for name, page in named:
         yield f"{name}: {page.title}"
         for head, text in ((head, page.parts[head]) for head in heads if head in page.parts):
-            yield from textwrap.wrap(f"{head}. {text}", WIDTH, initial_indent="    ", subsequent_indent="    ")
+            first, *assumptions = with_assumptions(head, text)
+            yield from textwrap.wrap(first, WIDTH, initial_indent="    ", subsequent_indent="    ")
+            for each in assumptions:
+                yield from textwrap.wrap(each, WIDTH, initial_indent="    - ", subsequent_indent="      ")
+
+
+def with_assumptions(head: str, text: str) -> Sequence[str]:
+    """A paragraph of a page with its head, and then each assumption of the rule that makes it a false alarm."""
+    whole = f"{head}. {text}"
+    return ASSUMPTION.split(whole) if head == FALSE_ALARM else [whole]
 
 
 def _plain(text: str) -> str:

@@ -1,8 +1,9 @@
 """The answer of `check` as JUnit writes the results of tests: a suite for each family of rules.
 
 A suite has a case for each group and message, and for each rule that compared nothing. The first suite also has a case
-for each refused message, each entry at fault, and each column or sheet whose telegrams are not judged. Cases have no time, because the program and the rules look at all
-groups in one run. Python's own XML library writes the file, so its form does not depend on installed packages.
+for each refused message, each entry at fault, and each column or sheet whose telegrams are not judged. Cases have no
+time, because the program and the rules look at all groups in one run. Python's own XML library writes the file, so its
+form does not depend on installed packages.
 """
 from __future__ import annotations
 
@@ -16,6 +17,7 @@ from balisekit.present.account_text import account_lines, not_judged_lines
 from balisekit.present.check_text import before_last
 from balisekit.present.headings import finding_lines
 from balisekit.present.links_text import empty_rules
+from balisekit.present.opening import Shown, opening, paths_from
 from balisekit.present.outcome_text import item_words, last_lines, not_applied
 from balisekit.present.refusals import message_refused, refused
 from balisekit.rules.accepted import Item, Judged
@@ -37,13 +39,14 @@ class Case(NamedTuple):
 
 
 def document(outcome: Outcome) -> bytes:
-    """The file. The output of its first suite has the remarks on the table, and the last line of `check`."""
+    """The file. The output of its first suite has how `check` begins, its remarks on the table, and its last line."""
     suites = [(part, list(_cases(outcome, part))) for part in outcome.parts]
+    shown = paths_from(outcome.checked)
     top = ElementTree.Element("testsuites", _numbers([case for _, cases in suites for case in cases]))
     top.set("time", _seconds(sum(part.seconds for part in outcome.parts)))
     for part, cases in suites:
         program = "balisecheck" if part.family.letter == PROVED else f"balisekit {part.family.things}"
-        name = f"{program} {clean(outcome.checked.table.path)}"
+        name = f"{program} {clean(shown(outcome.checked.table.path))}"
         suite = ElementTree.SubElement(top, "testsuite", {"name": name, **_numbers(cases)})
         suite.set("time", _seconds(part.seconds))
         for case in cases:
@@ -52,7 +55,8 @@ def document(outcome: Outcome) -> bytes:
                 ElementTree.SubElement(
                     element, case.result, {"message": case.why, "type": case.result}
                 ).text = case.text
-    out = [*before_last(outcome.checked.table), *not_applied(outcome), *account_lines(outcome)]
+    begin = opening(outcome.checked, outcome.judged, shown)
+    out = [*begin, *before_last(outcome.checked.table), *not_applied(outcome), *account_lines(outcome)]
     out.append(last_lines(outcome)[-1])
     ElementTree.SubElement(top[0], "system-out").text = "\n".join([*map(clean, out), NOT_PROVED])
     written: bytes = ElementTree.tostring(top, "utf-8", xml_declaration=True)
@@ -86,7 +90,7 @@ def _cases(outcome: Outcome, part: Part) -> Iterator[Case]:
     if is_first:
         yield from _not_read(checked)
         yield from _bad_messages(checked)
-        yield from _at_fault(judged) if judged else ()
+        yield from _at_fault(judged, paths_from(checked)) if judged else ()
 
 
 def _about(item: Item) -> object:
@@ -122,9 +126,9 @@ def _bad_messages(checked: Checked) -> Iterator[Case]:
         yield Case("message", describe_message(bad.message), "error", why, f"program: {bad.refusal.text}")
 
 
-def _at_fault(judged: Judged) -> Iterator[Case]:
+def _at_fault(judged: Judged, shown: Shown) -> Iterator[Case]:
     for fault, why in judged.faults:
-        yield Case("accepted", f"row {fault.row}", "failure", why, f"{clean(judged.entries.path)}: {why}")
+        yield Case("accepted", f"row {fault.row}", "failure", why, f"{clean(shown(judged.entries.path))}: {why}")
 
 
 def _case(kind: str, name: str, items: Sequence[Item], judged: Optional[Judged]) -> Case:

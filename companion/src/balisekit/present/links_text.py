@@ -10,6 +10,7 @@ from balisekit.present.account_text import overlooked_lines
 from balisekit.present.check_text import head_line
 from balisekit.present.explanations import page_lines, pages
 from balisekit.present.headings import words
+from balisekit.present.opening import opening, paths_from, program_json, settings_json
 from balisekit.present.refusals import lacking, refused_lines
 from balisekit.rules.checking import Checked
 from balisekit.rules.families import FAMILIES, entry_of_remark
@@ -35,6 +36,7 @@ def lines(checked: Checked, links: Links, explained: bool = False) -> Iterator[s
     """The answer in words."""
     table = checked.table
     yield head_line(table)
+    yield from opening(checked)
     yield from passed_over(table)
     yield ABOUT
     yield from (f"note: {clean(note)}" for note in (*table.notes, *links.notes))
@@ -136,8 +138,9 @@ def as_json(checked: Checked, links: Links) -> Dict[str, Any]:
         "status": status_of(checked, links),
         "last_line": last_line(checked, links),
         "not_proved": ABOUT,
-        "program": {"path": checked.program.path, "sha256": checked.program.sha256},
-        "table": {"path": table.path, "sha256": table.sha256, "passed_over": table.passed_over},
+        "program": program_json(checked.program),
+        "settings": settings_json(checked.settings, paths_from(checked)),
+        "table": {"path": paths_from(checked)(table.path), "sha256": table.sha256, "passed_over": table.passed_over},
         "counts": {
             "telegrams": len(table.rows),
             "groups": len(table.groups),

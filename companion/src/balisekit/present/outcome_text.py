@@ -6,9 +6,10 @@ from typing import Iterator, List, Sequence, Tuple
 from balisekit.present import headings
 from balisekit.present.account_text import account_lines
 from balisekit.present.accepted_text import accepted_words, fault_lines, verdict_lines
-from balisekit.present.check_text import before_last, last_line as last_line_of_program, opening_lines
+from balisekit.present.check_text import before_last, head_line, last_line as last_line_of_program, opening_lines
 from balisekit.present.explanations import Page, page_lines, pages
 from balisekit.present.links_text import compared, empty_rules, found, how_many_compared, not_compared
+from balisekit.present.opening import Shown, opening
 from balisekit.present.refusals import lacking
 from balisekit.rules.accepted import UNNAMED, Item, keys
 from balisekit.rules.applied import Applied
@@ -30,6 +31,8 @@ def lines(
 
     `notes` are on what else was written.
     """
+    yield head_line(outcome.checked.table)
+    yield from opening(outcome.checked, outcome.judged)
     yield from opening_lines(outcome.checked)
     for part in outcome.parts:
         if outcome.letters != PROVED:
@@ -127,9 +130,9 @@ def _why_unnamed(item: Item) -> str:
     return "its message has no name of its own" if message else "the identity of its group is not known"
 
 
-def closing_lines(outcome: Outcome) -> List[str]:
+def closing_lines(outcome: Outcome, shown: Shown = str) -> List[str]:
     """What ends the answer: entries at fault, the account, how much is open, and the verdict."""
-    faults = fault_lines(outcome.judged) if outcome.judged else ()
+    faults = fault_lines(outcome.judged, shown) if outcome.judged else ()
     return [*faults, *account_lines(outcome), *last_lines(outcome)]
 
 

@@ -20,6 +20,7 @@ from balisekit.present.accepted_text import accepted_words
 from balisekit.present.account_text import account_json, not_judged_lines
 from balisekit.present.explanations import Page, pages
 from balisekit.present.headings import entry_lines
+from balisekit.present.opening import opening, paths_from, settings_json
 from balisekit.present.outcome_text import closing_lines, not_applied, not_decoded
 from balisekit.present.refusals import message_refused, refused
 from balisekit.rules.accepted import keys
@@ -62,7 +63,12 @@ def document(outcome: Outcome) -> Object:
         seen[fingerprint] += 1
         result["partialFingerprints"][FINGERPRINT] += f":{seen[fingerprint]}"
     checked = outcome.checked
-    about = {"program": checked.program.version, "programSha256": checked.program.sha256}
+    about = {
+        "program": checked.program.version,
+        "programSha256": checked.program.sha256,
+        "programKnownBy": checked.program.known_by,
+        "settings": settings_json(checked.settings, paths_from(checked)),
+    }
     driver = {"name": "balisekit", "version": __version__, "fullName": f"balisecheck and balisekit; {NOT_PROVED}"}
     run = {
         "tool": {"driver": {**driver, "rules": rules, "properties": about}},
@@ -76,11 +82,12 @@ def document(outcome: Outcome) -> Object:
 
 
 def _invocation(outcome: Outcome) -> Object:
-    """How the run has ended. What was not looked at and the closing lines are notifications."""
-    closing = closing_lines(outcome)
+    """How the run has ended. How the answer begins, what was not looked at and how it ends are notifications."""
+    shown = paths_from(outcome.checked)
+    begin, closing = opening(outcome.checked, outcome.judged, shown), closing_lines(outcome, shown)
     notes = [
         {"level": "note", "message": {"text": note}}
-        for note in [*not_decoded(outcome), *not_applied(outcome), *closing]
+        for note in [*begin, *not_decoded(outcome), *not_applied(outcome), *closing]
     ]
     return {
         "executionSuccessful": True,
@@ -166,6 +173,8 @@ def _location(path: str, rows: Sequence[int], lines: Lines = (), group: str = ""
     first, last = min(rows, default=1), max(rows, default=1)
     if lines:
         first, last = lines[first - 1][0], lines[last - 1][1]
+    inside = os.path.relpath(path)  # (code hosts need a path from the top of the repository, where jobs run)
+    path = path if inside.startswith(os.pardir) else inside
     is_relative = not os.path.isabs(path)
     uri = {"uri": quote(path), "uriBaseId": "%SRCROOT%"} if is_relative else {"uri": Path(path).as_uri()}
     region = {"startLine": first, "endLine": last}

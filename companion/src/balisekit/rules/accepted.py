@@ -109,7 +109,7 @@ class Acceptance(NamedTuple):
         if self.date and self.until and self.until < self.date:
             faults.append(f"until {self.until} is before date {self.date}")
         elif self.until and self.until < day:
-            faults.append(f"until {self.until} is past")
+            faults.append(f"expired: until {self.until} is past")
         return faults
 
     def changed(self, items: Sequence[Item]) -> List[str]:
@@ -149,6 +149,8 @@ class Judged:
     """For each item the first entry that fits it only, whether or not it accepts it."""
     passed_over: Tuple[Acceptance, ...] = ()
     """The entries for rules that were not applied: nobody knows whether they fit."""
+    day: datetime.date = EARLIEST
+    """By which day the entries were judged."""
 
     @cached_property
     def _by_id(self) -> Dict[int, Optional[Acceptance]]:
@@ -372,7 +374,7 @@ def judge(
     former = [next((entry for entry in fits if not entry.is_wide), None) for fits in about]
     at_fault = [(entry, ", ".join(faults[entry.row])) for entry in applied if faults[entry.row]]
     others = tuple(entry for entry in entries.entries if entry.rule[0] not in families)
-    return Judged(entries, tuple(items), tuple(by_item), tuple(at_fault), tuple(former), others)
+    return Judged(entries, tuple(items), tuple(by_item), tuple(at_fault), tuple(former), others, day)
 
 
 def _entries_about(wanted: Iterable[Key], entries: Iterable[Acceptance]) -> Iterator[List[Acceptance]]:

@@ -82,7 +82,7 @@ class Chainage(NamedTuple):
 def read_jumps(path: str) -> Tuple[Jump, ...]:
     """The jumps of this file. TableError is raised if it cannot be read."""
     with faults_of(path):
-        return tuple(_jumps(csv_file.read(inputs.read(path).content, Headings(COLUMNS, NEEDED)).rows))
+        return tuple(_jumps(csv_file.read(inputs.read_settings(path).content, Headings(COLUMNS, NEEDED)).rows))
 
 
 def _jumps(rows: List[List[str]]) -> Iterator[Jump]:

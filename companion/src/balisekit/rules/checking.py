@@ -22,6 +22,7 @@ from balisekit.rules.statements.scene import Balise, BaliseName, Scene, Statemen
 from balisekit.tables.account import Account
 from balisekit.tables.grouping import by_position
 from balisekit.tables.model import Aspect, Group, Message, Messages, Row, Table
+from balisekit.tables.settings import Settings
 
 GREATEST_REFUSED = 10_000
 """After this many refused telegrams the others are not tried."""
@@ -195,6 +196,8 @@ class Checked:
     verdict: Optional[Verdict] = None
     """The program's first line, if it was asked."""
     findings: Tuple[Place, ...] = ()
+    settings: Settings = Settings()
+    """Which settings of the command differ from their defaults."""
 
     @property
     def not_looked_at(self) -> int:
@@ -232,7 +235,8 @@ class Checked:
         """What became of the messages, if there is a file of them."""
         if self.messages is None:
             return None
-        tried = {each.message.number for each in (*self.accepted_messages, *self.refused_messages)}
+        tried = {each.message.number for each in self.accepted_messages}
+        tried |= {each.message.number for each in self.refused_messages}
         lines = {message.number for message in self.messages.messages}
         return self.messages.account.refusing(len(self.refused_messages)).without(NOT_TRIED, lines - tried)
 

@@ -3,7 +3,7 @@ from __future__ import annotations
 
 import shlex
 from itertools import islice
-from typing import Dict, Iterator, List, Mapping, Sequence, Tuple
+from typing import Dict, Iterable, Iterator, List, Mapping, Sequence, Tuple
 
 from balisekit.errors import TableError, TableErrors
 from balisekit.tables.account import Account, NotJudged, elsewhere
@@ -46,14 +46,16 @@ def telegrams(sheet: Sheet, begin: int, column: int) -> Dict[int, List[int]]:
     found: Dict[int, List[int]] = {}
     heads = enumerate(islice(sheet.rows, begin), 1)
     faults = [TableError(ABOVE, number) for number, row in heads if any(map(has_telegram, row))]
-    is_long = LEAST_DIGITS.__le__
     for number, row in enumerate(islice(sheet.rows, begin, None), begin + 1):
-        if sum(map(is_long, map(len, row))) == (column < len(row) and is_long(len(row[column]))):
-            continue  # (no other cell is long enough)
+        own = len(row[column]) if column < len(row) else 0
+        if len("".join(row)) - own < LEAST_DIGITS:
+            continue  # (this takes a tenth of the time of the cells one by one)
         for at, cell in enumerate(row):
-            if at != column and LINE_END.search(cell.strip()) and has_telegram(cell):
+            if at == column or len(cell) < LEAST_DIGITS:
+                continue
+            if LINE_END.search(cell.strip()) and has_telegram(cell):
                 faults.append(TableError(f"cell {at + 1} has line ends and a telegram in it: {SWALLOWED}", number))
-            elif at != column and is_telegram(cell):
+            elif is_telegram(cell):
                 found.setdefault(at, []).append(number)
     if faults:
         raise TableErrors(faults)
@@ -61,15 +63,10 @@ def telegrams(sheet: Sheet, begin: int, column: int) -> Dict[int, List[int]]:
 
 
 def account(
-    sheet: Sheet,
-    place: int,
-    numbers: Sequence[int],
-    passed_over: Tuple[str, ...],
-    in_columns: Mapping[int, Sequence[int]],
-    skipped: Sequence[str],
+    sheet: Sheet, numbers: Sequence[int], passed_over: Tuple[str, ...], of_columns: Iterable[NotJudged]
 ) -> Account:
-    """The account of a sheet with headings in row `place`, counted from 0, of which the rows `numbers` were read."""
-    left_out = (*_of_columns(sheet, place, in_columns, skipped), *_of_sheets(sheet))
+    """The account of a sheet of which these rows were read."""
+    left_out = (*of_columns, *_of_sheets(sheet))
     return Account(
         len(numbers) + sum(each.telegrams for each in left_out),
         (numbers[0], numbers[-1]),
@@ -80,14 +77,14 @@ def account(
     )
 
 
-def _of_columns(
-    sheet: Sheet, place: int, in_columns: Mapping[int, Sequence[int]], skipped: Sequence[str]
+def of_columns(
+    sheet: Sheet, place: int, places: Mapping[str, int], in_columns: Mapping[int, Sequence[int]], skipped: Sequence[str]
 ) -> Iterator[NotJudged]:
-    """The telegrams in other columns than the one that is read."""
+    """The telegrams in other columns than the one that is read. `place` is the row of the headings, counted from 0."""
     names, asked_for = _names(sheet.rows[place]), compared(skipped)
     for at, numbers in sorted(in_columns.items()):
         option, asked = f"--skip-column {shlex.quote(names[at])}", names[at].lower() in asked_for
-        remedy = "" if names[at].lower() in NEEDED else f": give {option} if they are not to be judged"
+        remedy = "" if at == places["group"] else f": give {option} if they are not to be judged"
         why = f"{option} leaves them out" if asked else f"{NOT_READ}{remedy}"
         yield elsewhere(why, numbers, asked, names[at], sheet.name or None)
 

@@ -82,7 +82,7 @@ def is_telegram(cell: str) -> bool:
     """Whether a cell looks like a telegram, perhaps with some wrong characters."""
     if len(cell) < LEAST_DIGITS:
         return False
-    text = digits(kind_and_text(cell)[1])
+    text = digits("".join(kind_and_text(cell)[1].split()))
     return len(text) >= LEAST_DIGITS and 10 * len(NO_DIGIT.sub("", text)) >= 9 * len(text)
 
 

@@ -36,9 +36,9 @@ def read(file: Input) -> Tuple[Table, Messages]:
                 raise TableError(f"it has the keys {', '.join(form)[:100]}, and a document has groups and messages")
         except (ValueError, RecursionError) as error:
             raise TableError(f"it is no document that can be read: {str(error)[:100]}") from error
-    accounts = [of_rows([each.number for each in some]) for some in (rows, messages)]
-    table = Table(file.path, file.sha256, encoding, "", (), tuple(rows), tuple(groups), accounts[0])
-    return table, Messages(file.path, file.sha256, encoding, tuple(messages), accounts[1])
+    account, of_messages = of_rows([row.number for row in rows]), of_rows([each.number for each in messages])
+    table = Table(file.path, file.sha256, encoding, "", (), tuple(rows), tuple(groups), account)
+    return table, Messages(file.path, file.sha256, encoding, tuple(messages), of_messages)
 
 
 def _object(members: List[Tuple[str, Any]]) -> Dict[str, Any]:

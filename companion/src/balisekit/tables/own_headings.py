@@ -2,12 +2,13 @@
 from __future__ import annotations
 
 import os
+import re
 import sys
 from typing import Any, Dict, List, Mapping, NamedTuple, Optional, Sequence, Tuple
 
 from balisekit.errors import TableError, faults_of, needed
 from balisekit.io import inputs
-from balisekit.tables.cells import COLUMNS
+from balisekit.tables.cells import COLUMNS, GREATEST_NAME
 from balisekit.tables.headings import Headings, alike
 
 BESIDE = "balisekit.toml"
@@ -28,11 +29,24 @@ class ReportHeading(NamedTuple):
     """Who signs: there is a box for each of these."""
 
 
+class Found(NamedTuple):
+    """A file that states something about a table. Without a file all is empty."""
+
+    path: str = ""
+    sha256: str = ""
+    tables: Mapping[str, Mapping[str, Any]] = {}
+    """By their names."""
+
+
 STATED = {
     CHECK_TABLE: ("line_speed", "release_speed", "tolerance", "jumps", "plan", "rules"),
     REPORT_TABLE: ReportHeading._fields,
 }
 """The tables by which a project states something, and the keys of each."""
+GREATEST_FILE = 1_000_000
+"""The most bytes that a file of settings can have."""
+LONG_NUMBER, KEY = re.compile("[0-9](?:_?[0-9]){4000}"), re.compile(r"""\s*([A-Za-z0-9_."' -]{1,100}?)\s*=""")
+"""A number that Python does not read, and the key at the beginning of a line."""
 FILES = {"jumps", "plan"}
 """The keys of [check] whose values are paths, relative to the folder of the file."""
 
@@ -60,6 +74,12 @@ def stated(path: str, named: Optional[str], table: str) -> Tuple[str, Mapping[st
     return file, _read(file)[table] if file else {}
 
 
+def found(path: str, named: Optional[str]) -> Found:
+    """The file that states something about a table."""
+    file = named or beside(path)
+    return Found(file, inputs.read_settings(file).sha256, _read(file)) if file else Found()
+
+
 def not_read(path: str, named: Optional[str]) -> List[str]:
     """A note on balisekit.toml in the folder of this file, if another file is named: it may state the line too."""
     file = beside(path) if named else ""
@@ -76,11 +96,12 @@ def beside(path: str) -> str:
 def _read(path: str) -> Dict[str, Dict[str, Any]]:
     """The tables of a file. Lines at the top are those of [columns]."""
     with faults_of(path):
-        form = _parsed(inputs.read(path).content)
+        form = _parsed(inputs.read_settings(path).content)
         tables = {name: form.pop(name, {}) for name in (COLUMNS_TABLE, EXPECT_TABLE, *STATED)}
         check = tables[CHECK_TABLE]
         for name in FILES.intersection(check if isinstance(check, dict) else ()):
-            check[name] = inputs.claimed(os.path.join(os.path.dirname(path), words(check[name])))
+            if isinstance(check[name], str):
+                check[name] = inputs.claimed(os.path.join(os.path.dirname(path), check[name]))
         if form and tables[COLUMNS_TABLE]:
             raise TableError(f"{next(iter(form))} is outside of [columns]: put all headings of the table there")
         tables[COLUMNS_TABLE] = tables[COLUMNS_TABLE] or form
@@ -91,13 +112,10 @@ def _read(path: str) -> Dict[str, Dict[str, Any]]:
     return tables
 
 
-def words(value: object) -> str:
-    """A value of [check] as an option has it."""
-    return ",".join(map(str, value)) if isinstance(value, list) else str(value)
-
-
 def _parsed(content: bytes) -> Dict[str, Any]:
     """The content of a TOML file."""
+    if len(content) > GREATEST_FILE:
+        raise TableError(f"it has {len(content):,} bytes, more than {GREATEST_FILE:,}: is it a file of settings?")
     if sys.version_info >= (3, 11):
         import tomllib
     else:
@@ -107,7 +125,18 @@ def _parsed(content: bytes) -> Dict[str, Any]:
         form: Dict[str, Any] = tomllib.loads(content.decode("utf-8-sig"))
     except (UnicodeDecodeError, tomllib.TOMLDecodeError, RecursionError) as error:
         raise TableError(f'it is no TOML, with lines such as telegram = "Telegram (hex)": {error}') from error
+    except ValueError as error:  # (Python reads no number of more than 4,300 digits)
+        raise _with_long_number(content.decode("utf-8-sig")) from error
     return form
+
+
+def _with_long_number(text: str) -> TableError:
+    """The error of a file with a number that is too long to be read: its line, and the key if that is in the line."""
+    for number, line in enumerate(text.split("\n"), 1):
+        if LONG_NUMBER.search(line):
+            key = KEY.match(line)
+            return TableError(f"{f'{key[1]} is ' if key else ''}a number of more than 4,000 digits", line=number)
+    return TableError("a number is too long")
 
 
 def _look_at_stated(table: str, stated: Any, keys: Sequence[str]) -> None:
@@ -136,6 +165,8 @@ def _look_at(table: str, headings: Any) -> None:
             raise TableError(f"[{table}] names an unknown column {name}: {hint}")
         if not isinstance(heading, str) or not heading.strip():
             raise TableError(f'the heading of {name} is no text: write {name} = "..."')
+        if len(heading) > GREATEST_NAME:
+            raise TableError(f"the heading of {name} has more than {GREATEST_NAME:,} characters")
         key = " ".join(heading.split()).lower()
         if first.setdefault(key, name) != name:
             raise TableError(f'{first[key]} and {name} have one heading, "{heading}"')

@@ -166,7 +166,7 @@ def aspect_name(group: str, aspect: str) -> str:
 
 def read(path: str) -> Plan:
     """The plan of this file. TableError or TableErrors is raised if it cannot be read."""
-    file = inputs.read(path)
+    file = inputs.read_settings(path)
     with faults_of(path):
         headings = Headings(COLUMNS, NEEDED)
         sheet = csv_file.read(file.content, headings)

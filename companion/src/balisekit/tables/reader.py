@@ -74,11 +74,11 @@ def read(
         except (TableError, TableErrors) as error:
             raise TableErrors([*_hints(passed_over, meant, place, named), *error.faults]) from error
     about = path, file.sha256, cells.encoding, cells.separator
-    account = beside.account(cells, place, [row.number for row in rows], passed_over, in_columns, skip_columns)
+    not_judged = beside.of_columns(cells, place, places, in_columns, skip_columns)
+    account = beside.account(cells, [row.number for row in rows], passed_over, not_judged)
     of_heading = _notes_on_heading(place, headings.used(cells.rows[place]), named)
-    ordered = [BY_POSITION] if by_position else []
     of_file = *cells.notes, *own_headings.not_read(path, columns)
-    notes = (*of_file, *of_heading, *not_there, *ordered, *grouped.notes)
+    notes = (*of_file, *of_heading, *not_there, *([BY_POSITION] if by_position else []), *grouped.notes)
     return Table(*about, passed_over, grouped.rows, grouped.groups, account, notes, meant)
 
 

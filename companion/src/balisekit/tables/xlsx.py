@@ -54,14 +54,20 @@ def read(content: bytes, name: Optional[str], headings: Headings = Headings(), f
     with warnings.catch_warnings():
         warnings.simplefilter("ignore")  # (openpyxl warns of what it would not write again)
         try:
-            book = openpyxl.load_workbook(io.BytesIO(content), read_only=True, data_only=True, keep_links=False)
+            file = io.BytesIO(content)
+            reader = openpyxl.reader.excel.ExcelReader(file, read_only=True, data_only=True, keep_links=False)
+            reader.read()
+            book, named = reader.wb, len(reader.parser.sheets)
         except Exception as error:
             raise _unreadable(error) from error
+        all_sheets = [*book.worksheets, *book.chartsheets]
+        if len(all_sheets) < named:
+            raise TableError(f"{named - len(all_sheets)} of its {named} sheets cannot be found in it: {SHORT_WAY_OUT}")
         sheet, note = _chosen(book, name, headings, fill_merged)
         formulas, merged = _read_as_empty(sheet)
         rows, areas = _cells(_rows(sheet)), _areas(merged) if fill_merged else ()
         notes = (note, *_notes(formulas, FORMULAS), *_notes(merged, FILLED if fill_merged else MERGED))
-        others = tuple(other for other in book.sheetnames if other != sheet.title)
+        others = tuple(other.title for other in all_sheets if other is not sheet)
         found = _telegrams_of_others(book, sheet) if "telegram" in headings.needed else {}
         is_merged, is_chosen = bool(merged) and not fill_merged, name is not None
         return Sheet("xlsx", "", rows, notes, sheet.title, others, areas, is_merged, found, is_chosen)

@@ -1,0 +1,75 @@
+"""Which settings of a command differ from their defaults, and where they are from: one record for all outputs."""
+from __future__ import annotations
+
+import argparse
+import os
+from typing import Iterable, Iterator, List, Sequence
+
+from balisekit.cli import settings
+from balisekit.cli.options import EXACT
+from balisekit.io import inputs
+from balisekit.io.output_folder import OutputFolder
+from balisekit.rules.rule import RELEASE_SPEED
+from balisekit.tables import own_headings
+from balisekit.tables.settings import Setting, Settings, Source
+
+GIVEN = ("sheet", "by_position", "fill_merged", "all", "only", "group", "aspect", "full", *settings.KINDS)
+"""The options that change what is judged or shown. Inputs and outputs are named elsewhere."""
+DEFAULT = ("release_speed", RELEASE_SPEED)
+"""The only setting that is as if it were not given if it has this value."""
+
+
+def in_force(
+    options: argparse.Namespace, tables: Sequence[str], keys: Sequence[str] = (), headed: bool = False
+) -> Settings:
+    """Which settings of a command differ from their defaults, by the command line and by the files of these tables.
+
+    `keys` are those of [check] that the command uses. With `headed` it also uses [report].
+    """
+    files = [_source(file, options, keys, headed) for file in _files(options, tables)]
+    given = tuple(_settings_given(options))
+    return Settings((*([Source(settings=given)] if given else []), *files))
+
+
+def _files(options: argparse.Namespace, tables: Sequence[str]) -> List[own_headings.Found]:
+    """The files that state something about these tables, each once."""
+    found = (own_headings.found(table, options.columns) for table in tables)
+    return list({file.path: file for file in found if file.path}.values())
+
+
+def _settings_given(options: argparse.Namespace) -> Iterator[Setting]:
+    """Those that the command line has, of the options that change what is judged or shown."""
+    for name in GIVEN:
+        value = getattr(options, name, None)
+        if any(value is default for default in (None, False, EXACT)) or (name, value) == DEFAULT:
+            continue
+        if isinstance(value, OutputFolder):  # (--all of `draw` names one)
+            continue
+        option = f"--{name.replace('_', '-')}"
+        for each in value if isinstance(value, list) else [value]:
+            yield _setting(option, each, name in own_headings.FILES)
+
+
+def _source(file: own_headings.Found, options: argparse.Namespace, keys: Iterable[str], headed: bool) -> Source:
+    """What a file states that is used, and differs from the defaults."""
+    check, given = file.tables[own_headings.CHECK_TABLE], settings.given(options)
+    stated = [
+        _setting(f"check.{key}", check[key], key in own_headings.FILES)
+        for key in keys
+        if key in check and key not in given and (key, check[key]) != DEFAULT
+    ]
+    sheets = [own_headings.COLUMNS_TABLE, *([own_headings.EXPECT_TABLE] if getattr(options, "expect", None) else [])]
+    for table in sheets:
+        stated += [_setting(f"{table}.{name}", text) for name, text in file.tables[table].items() if text != name]
+    heading = file.tables[own_headings.REPORT_TABLE] if headed else {}
+    stated += [_setting(f"report.{key}", value) for key, value in heading.items()]
+    return Source(file.path, file.sha256, tuple(stated))
+
+
+def _setting(name: str, value: object, is_path: bool = False) -> Setting:
+    """A setting, with the checksum of the file that it names. A plan need not be written yet."""
+    if isinstance(value, (list, tuple, frozenset)):
+        return Setting(name, ",".join(map(str, sorted(value) if isinstance(value, frozenset) else value)))
+    is_written = is_path and os.path.exists(str(value))
+    sha256 = inputs.read_settings(str(value)).sha256 if is_written else ""
+    return Setting(name, "" if value is True else str(value), is_path, sha256)

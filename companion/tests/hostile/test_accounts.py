@@ -1,0 +1,190 @@
+"""Tables with telegrams that a green could hide: each is judged, refused, or named as not judged (accounts.json)."""
+from __future__ import annotations
+
+import json
+import re
+import xml.etree.ElementTree as ElementTree
+from importlib.util import find_spec
+from pathlib import Path
+from typing import Any, Callable, Dict, List
+
+import pytest
+from conftest import Run
+from telegrams import ALONE, MESSAGE, OTHER
+
+from balisekit.rules import checking
+
+Write = Callable[..., Path]
+Case = Dict[str, Any]
+CASES: List[Case] = json.loads(Path(__file__).with_name("accounts.json").read_text("utf-8"))
+HALF = len(OTHER) // 2
+TEXTS = {
+    "{A}": ALONE,
+    "{B}": OTHER,
+    "{C}": ALONE.replace("2000ff", "2002ff"),
+    "{B:pairs}": re.sub("(..)(?=.)", r"\1:", OTHER),
+    "{B:blanks}": f"{OTHER[:HALF]}\u00a0 {OTHER[HALF:]}",
+    "{40-4}": "a" * 36 + "xxxx",
+    "{40-5}": "a" * 35 + "xxxxx",
+    "{39}": "a" * 39,
+}
+
+
+def filled(text: str) -> str:
+    """The text with the telegrams that it names."""
+    for name, telegram in TEXTS.items():
+        text = text.replace(name, telegram)
+    return text
+
+
+def written(case: Case, folder: Path) -> Path:
+    """The table of a case, as a CSV file or a workbook."""
+    if "csv" in case:
+        path = folder / "t.csv"
+        path.write_text(filled(case["csv"]), "utf-8")
+        return path
+    book = pytest.importorskip("openpyxl").Workbook()
+    book.remove(book.active)
+    for name, rows in case["sheets"].items():
+        sheet = book.create_sheet(name)
+        sheet.sheet_state = "hidden" if name in case.get("hidden", ()) else "visible"
+        for row in rows:
+            sheet.append([filled(cell) if isinstance(cell, str) else cell for cell in row])
+        for area in case.get("merged", ()):
+            sheet.merge_cells(area)
+        for number in case.get("hidden_rows", ()):
+            sheet.row_dimensions[number].hidden = True
+        for letter in case.get("hidden_columns", ()):
+            sheet.column_dimensions[letter].hidden = True
+    book.save(folder / "t.xlsx")
+    return folder / "t.xlsx"
+
+
+@pytest.mark.parametrize("case", CASES, ids=[case["name"] for case in CASES])
+def test_no_telegram_is_lost(run: Run, tmp_path: Path, case: Case) -> None:
+    """The account, the status and the last line; or the fault for which the table is refused."""
+    path, out = written(case, tmp_path), tmp_path / "out.json"
+    status, said, err = run("check", path, *case.get("options", ()), "--json", out)
+    assert status == case["status"]
+    if "error" in case:
+        assert err == [f"balisekit: {path}: {case['error']}"] and said == [] and not out.exists()
+        return
+    account = json.loads(out.read_text("utf-8"))["account"]
+    left_out = [{name: each[name] for name in each if name != "why"} for each in account["not_judged"]]
+    assert (account["telegrams"], account["judged"], account["refused"], left_out) == (
+        case["telegrams"],
+        case["judged"],
+        case.get("refused", 0),
+        case.get("not_judged", []),
+    )
+    assert account["telegrams"] == account["judged"] + account["refused"] + sum(each["telegrams"] for each in left_out)
+    assert account["columns_not_read"] == case.get("columns_not_read", [])
+    assert account["sheets"]["not_read"] == case.get("sheets_not_read", [])
+    last = said.index(next(line for line in said if line.startswith("account: ")))
+    assert said[last + 1 :] == [case["last"]] and said[last].startswith(f"account: {case['telegrams']} telegram")
+    assert sum(line.startswith("not judged: ") for line in said) == len(left_out)
+
+
+OLD = ["group,km,telegram,old", f"A,1.000,{ALONE},{OTHER}", f"B,2.000,{OTHER},"]
+NAMED = 'not judged: 1 telegram in column "old", row 2: only the column telegram is read: give --skip-column old if '
+NOT_READ = "1 telegram in columns or sheets that are not read"
+COMMANDS: Dict[str, str] = {
+    "links": "links TABLE",
+    "diff": "diff TABLE TABLE",
+    "expect": "table TABLE --expect SHEET",
+    "table": "table TABLE --csv OUT",
+    "plan": "plan TABLE --csv OUT",
+    "show": "show TABLE",
+    "report": "report TABLE --html OUT",
+    "track": "draw TABLE --track --svg OUT",
+}
+
+
+@pytest.mark.parametrize("name", COMMANDS)
+def test_no_command_hides_a_column(run: Run, table: Write, tmp_path: Path, name: str) -> None:
+    """Each command names what is not read, and ends with 2, unless --skip-column leaves it out: then with 0."""
+    if name in ("report", "track") and not find_spec("jinja2"):
+        pytest.skip("jinja2")
+    path, sheet = table(*OLD), tmp_path / "sheet.csv"
+    assert run("table", path, "--skip-column", "old", "--csv", sheet)[0] == 0
+    asked: List[str] = ["--skip-column", "old"]
+    for options, status in ((asked[:0], 2), (asked, 0)):
+        files = {"TABLE": path, "SHEET": sheet, "OUT": tmp_path / f"out{status}"}
+        words = [files.get(word, word) for word in COMMANDS[name].split()]
+        got, said, err = run(*words, *options)
+        named = [line for line in said if "not judged: 1 telegram in column" in line]
+        assert got == status and named and (status == 0 or NAMED in named[0]), (said, err)
+        assert any(NOT_READ in line and "INCOMPLETE" in line for line in said) == (status == 2 and name != "track")
+        assert any(NOT_READ in line for line in [*said, *err]) == (status == 2)
+
+
+def test_outputs_for_tools(run: Run, table: Write, tmp_path: Path) -> None:
+    """JUnit has an error, SARIF a result at the rows; both have the account, which has messages as well."""
+    path, radio = table(*OLD), table(MESSAGE, f"{MESSAGE[:-2]};cut", name="m.txt")
+    files = {name: tmp_path / f"out.{name}" for name in ("junit", "sarif", "json")}
+    words = [word for name, file in files.items() for word in (f"--{name}", file)]
+    status, said, _ = run("check", path, "--messages", radio, *words)
+    accounts = [line for line in said if line.startswith("account: ")]
+    assert status == 2 and accounts == [
+        "account: 3 telegrams in the file; 2 judged, 0 refused, 1 not judged; rows 2 to 3; columns not read: old",
+        "account: 2 messages in the file; 1 judged, 1 refused, 0 not judged; lines 1 to 2",
+    ]
+    (case,) = ElementTree.parse(files["junit"]).iterfind(".//testcase[@classname='not judged']")
+    error = case.find("error")
+    assert case.get("name") == "old" and error is not None and (error.text or "").startswith(NAMED)
+    output = (ElementTree.parse(files["junit"]).findtext(".//system-out") or "").splitlines()
+    assert [line for line in output if line.startswith("account: ")] == accounts
+    log = json.loads(files["sarif"].read_text("utf-8"))["runs"][0]
+    (result,) = (each for each in log["results"] if each["ruleId"] == "not-judged")
+    assert result["message"]["text"].startswith(NAMED)
+    assert result["locations"][0]["physicalLocation"]["region"] == {"startLine": 2, "endLine": 2}
+    account = json.loads(files["json"].read_text("utf-8"))["account"]
+    assert log["properties"]["account"] == account and account["messages"] == {
+        "telegrams": 2,
+        "judged": 1,
+        "refused": 1,
+        "not_judged": [],
+        "sheets": {"read": [], "not_read": []},
+        "rows": [1, 2],
+        "columns_not_read": [],
+    }
+
+
+def test_what_is_not_tried(run: Run, table: Write, tmp_path: Path, monkeypatch: pytest.MonkeyPatch) -> None:
+    """After too many refusals the others are named, messages too; the program's findings can be left out as well."""
+    monkeypatch.setattr(checking, "GREATEST_REFUSED", 2)
+    path = table("group,telegram", f"A,{ALONE}", "B,00", "C,00", f"D,{OTHER}", f"D,{OTHER}")
+    radio, out = table(MESSAGE, "00", "00", MESSAGE, name="m.txt"), tmp_path / "out.json"
+    for options, judged in ((["--only", "F"], 1), (["--only", "E"], 0)):
+        assert run("check", path, "--messages", radio, *options, "--json", out, "--force")[0] == 2
+        account = json.loads(out.read_text("utf-8"))["account"]
+        for each, rows in ((account, [5, 6]), (account["messages"], [4])):
+            assert (each["judged"], each["refused"]) == (judged, 2)
+            assert (each["not_judged"][0]["rows"], each["not_judged"][0]["asked"]) == (rows, False)
+            assert [one["asked"] for one in each["not_judged"][1:]] == [True] * (1 - judged)
+
+
+def test_a_heading_that_is_not_there(run: Run, table: Write) -> None:
+    """--skip-column with a mistyped heading leaves nothing out, and is noted."""
+    status, said, _ = run("check", table(*OLD), "--skip-column", "odl")
+    assert status == 2 and "note: --skip-column odl: there is no such column" in said
+
+
+def test_a_message_as_a_name(run: Run, table: Write) -> None:
+    """A line of a file of messages has one message."""
+    radio = table(f"{MESSAGE};{MESSAGE}{MESSAGE}", name="m.txt")
+    err = [f"balisekit: {radio}: line 1: after the semicolon is a message: write one per line"]
+    assert run("check", table(*OLD), "--messages", radio) == (2, [], err)
+
+
+@pytest.mark.skipif(not find_spec("jinja2"), reason="jinja2")
+def test_the_report_names_what_is_not_judged(run: Run, table: Write, tmp_path: Path) -> None:
+    """The account is on the cover, and no sentence says that all was checked. The command repeats --skip-column."""
+    path, page = table(*OLD), tmp_path / "r.html"
+    asked: List[str] = ["--skip-column", "old"]
+    for options in (asked[:0], asked):
+        run("report", path, "--html", page, "--force", *options)
+        text = page.read_text("utf-8")
+        assert "account: 3 telegrams in the file; 2 judged, 0 refused, 1 not judged" in text
+        assert "handed in have been checked" not in text and "names the telegrams and messages" in text
+        assert f"check {path.name}{' '.join(['', *options])} --document" in text

@@ -1,0 +1,41 @@
+"""Files of settings whose values have a wrong type, or are beyond what makes sense: refused with key and file."""
+from __future__ import annotations
+
+from pathlib import Path
+
+import pytest
+from cases_of_program import TOP
+from conftest import Run
+
+LINE = TOP / "examples" / "table" / "line.csv"
+LINES = Path(__file__).with_name("settings.txt").read_text("utf-8").split("\n")
+CASES = [line.split(" => ") for line in LINES if line and line[0] != "#"]
+LONG = {"{5000}": "1" * 5000, "{f}": "f" * 5000, r"\n": "\n"}
+
+
+def _beside(folder: Path, text: str) -> Path:
+    """A copy of the example beside a file of settings."""
+    for word, meaning in LONG.items():
+        text = text.replace(word, meaning)
+    (folder / "balisekit.toml").write_text(text, "utf-8")
+    (folder / "t.csv").write_bytes(LINE.read_bytes())
+    return folder / "t.csv"
+
+
+@pytest.mark.parametrize("text, why", CASES, ids=[text for text, _ in CASES])
+def test_a_value_that_is_refused(text: str, why: str, run: Run, tmp_path: Path) -> None:
+    command = ["report", "--html", tmp_path / "r.html"] if text.startswith("[report]") else ["check"]
+    status, out, err = run(*command[:1], _beside(tmp_path, text), *command[1:])
+    assert (status, out, err) == (2, [], [f"balisekit: {tmp_path / 'balisekit.toml'}: {why}"])
+
+
+@pytest.mark.parametrize("option", ["--tolerance=20.1", "--tolerance=99999", "--line-speed=501", "--release-speed=101"])
+def test_options_have_the_same_limits(option: str, run: Run) -> None:
+    status, out, err = run("check", LINE, option)
+    assert (status, out) == (2, []) and f"argument {option.split('=')[0]}: {option.split('=')[1]} is no " in err[-1]
+
+
+def test_a_file_that_is_too_long(run: Run, tmp_path: Path) -> None:
+    path = _beside(tmp_path, "#" * 1_000_001)
+    why = "it has 1,000,001 bytes, more than 1,000,000: is it a file of settings?"
+    assert run("check", path) == (2, [], [f"balisekit: {tmp_path / 'balisekit.toml'}: {why}"])

@@ -1,0 +1,109 @@
+"""Counts the telegrams of a table in the plainest way: cell by cell, in all sheets. It uses nothing of balisekit."""
+from __future__ import annotations
+
+import csv
+import io
+from typing import Any, Dict, Iterator, List, NamedTuple, Optional, Set, Tuple
+
+HEXADECIMAL = frozenset("0123456789abcdefABCDEF")
+QUOTES = "\"'‘’“”„«»"
+ZERO_WIDTH = "\u200b"
+LEAST = 40
+"""The fewest characters of a telegram."""
+
+
+class Place(NamedTuple):
+    """A cell. A CSV file has no sheet. Rows are counted from 1, as in a spreadsheet, and columns from 0."""
+
+    sheet: Optional[str]
+    row: int
+    column: int
+
+
+Cells = Dict[Place, str]
+
+
+class Known(NamedTuple):
+    """Where a table has its telegrams, known by whoever has made it."""
+
+    sheet: Optional[str]
+    names: int
+    """The row with the headings."""
+    heading: int
+    """The last row that merged headings cover."""
+    column: int
+
+
+def bare(text: str) -> str:
+    """The text without blanks, quotes around it, 0x, a final h, and colons or hyphens between pairs."""
+    rest = "".join(each for each in text if not each.isspace() and each not in ZERO_WIDTH).strip(QUOTES)
+    rest = rest[2:] if rest[:2].lower() == "0x" else rest
+    rest = rest[:-1] if rest[-1:].lower() == "h" else rest
+    for separator, other in ((":", "-"), ("-", ":")):
+        parts = rest.split(separator)
+        if other not in rest and {len(part) for part in parts} == {2}:
+            return "".join(parts)
+    return rest
+
+
+def is_telegram(text: str) -> bool:
+    """Whether a cell has at least 40 characters of which nine of ten are hexadecimal digits."""
+    rest = bare(text)
+    return len(rest) >= LEAST and 10 * sum(each in HEXADECIMAL for each in rest) >= 9 * len(rest)
+
+
+def cells_of_csv(content: bytes, encoding: str, separator: str) -> Cells:
+    """All cells of a CSV file. A first line that names the separator is not a row."""
+    text = content.decode(encoding)
+    begin = io.StringIO(text, newline="")
+    if text[:4].lower() == "sep=":
+        begin.readline()
+    rows = csv.reader(begin, delimiter=separator)
+    return {Place(None, row, at): cell for row, cells in enumerate(rows, 1) for at, cell in enumerate(cells)}
+
+
+def cells_of_workbook(content: bytes) -> Cells:
+    """All cells of all sheets, whatever their state."""
+    import openpyxl
+
+    book = openpyxl.load_workbook(io.BytesIO(content), read_only=True, data_only=True)
+    return {place: text for sheet in book.worksheets for place, text in _cells_of_sheet(sheet)}
+
+
+def _cells_of_sheet(sheet: Any) -> Iterator[Tuple[Place, str]]:
+    sheet.reset_dimensions()  # (the size that a workbook states may be wrong)
+    for number, row in enumerate(sheet.iter_rows(values_only=True), 1):
+        for at, value in enumerate(row):
+            if value is not None:
+                yield Place(sheet.title, number, at), _text(value)
+
+
+def _text(value: object) -> str:
+    """A cell as text. A whole number has all its digits: it may be a telegram that the spreadsheet has changed."""
+    return str(int(value)) if isinstance(value, float) and value.is_integer() else str(value)
+
+
+def telegrams(cells: Cells, known: Known) -> Set[Place]:
+    """The cells that are telegrams: by their text, or in the column of telegrams of a row that is read."""
+    by_text = {place for place, text in cells.items() if is_telegram(text)}
+    return by_text | {Place(known.sheet, row, known.column) for row in rows_read(cells, known)}
+
+
+def rows_read(cells: Cells, known: Known) -> List[int]:
+    """The rows below the heading that are not empty."""
+    filled = {
+        place.row
+        for place, text in cells.items()
+        if place.sheet == known.sheet and place.row > known.heading and text.strip()
+    }
+    return sorted(filled)
+
+
+def swallowed(cells: Cells) -> Set[Place]:
+    """The cells that contain line ends and, beside other things, telegrams: rows that a quote has swallowed."""
+    return {place for place, text in cells.items() if len(text.split("\n")) > 1 and _has_telegram(text)}
+
+
+def _has_telegram(text: str) -> bool:
+    pieces = text.replace("\r", "\n").replace(";", "\n").replace(",", "\n").replace("\t", "\n").split("\n")
+    return any(map(is_telegram, pieces))
