@@ -26,6 +26,7 @@ class Law(NamedTuple):
     """A law of the edition: the definitions of the edition that it names, and those that they agree with."""
 
     name: str
+    clause: str
     short: List[Key]
     others: List[Key]
 
@@ -50,12 +51,14 @@ def clauses_of(crate: str, name: str) -> Iterator[List[str]]:
 
 
 def laws() -> Iterator[Law]:
-    """The laws of the edition that definitions agree, in their order."""
+    """The laws of the edition that definitions agree, in their order. Each such clause of one is a law by itself."""
     text = (TOP / f"crates/{EDITION}/src/laws.rt").read_text("utf-8")
     for law in re.findall(r"(?m)^pub fn (\w+)\(\)", text):
-        ((_, words, source),) = clauses_of(EDITION, law)
-        left, _, right = words.partition("↔")
-        yield Law(law, [it for it in meant_in(left, source) if it[0].startswith(EDITION)], meant_in(right, source))
+        for clause, words, source in clauses_of(EDITION, law):
+            left, is_one, right = words.partition("↔")
+            short = [it for it in meant_in(left, source) if it[0].startswith(EDITION)]
+            if is_one:
+                yield Law(law, clause, short, meant_in(right, source))
 
 
 def roots_of(calls: str, cell: str) -> Set[Key]:
@@ -73,10 +76,10 @@ def laws_part() -> str:
     """A row for each law, and one for a yes together with the findings."""
     every = [*laws()]
     both = [it for it in every if it.name in ("yes_agrees", "findings_agree")]
-    together = Law("both", [key for it in both for key in it.short], [key for it in both for key in it.others])
+    together = Law("both", "", [key for it in both for key in it.short], [key for it in both for key in it.others])
     rows = []
     for law in (*every, together):
-        cited = ", ".join(f"`{it.name}`" for it in (both if law is together else [law]))
+        cited = ", ".join(f"`{it.name}`{f' (`{it.clause}`)' * bool(it.clause)}" for it in (both if law is together else [law]))
         short = ", ".join(f"`{it}`" for _, it in law.short)
         rows.append([short, cited, f"{lines(law.short):,}", f"{lines(law.others):,}"])
     return table(["Definition of the edition", "Law", "Lines", "Lines without it"], rows)
