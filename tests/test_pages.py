@@ -7,6 +7,7 @@ import shutil
 import pytest
 
 import readability
+from edition.definitions import key_of, lines
 from hostile import GROUPS, STACK
 from runner import TOP, Answer, crate_uses, run
 from variables.table import read_rows
@@ -21,6 +22,7 @@ PAGES = {name: path.read_text("utf-8") for pattern in ("*.md", "dist/**/*.md", "
 FENCED = readability.FENCED
 # Parts that scripts/from_specs.py makes have tables and the sentences of other files.
 MADE = re.compile(r"(?s)<!-- (\w+) -->\n.*?<!-- /\1 -->\n")
+YES, FOUND = (key_of(name, "etcs_edition") for name in ("SaysYes", "AreFindings"))
 SAFETY, PROOFS = "docs/assurance/safety.md", "docs/assurance/proofs.md"
 TESTING, ARCHITECTURE = "docs/contributing/testing.md", "docs/contributing/architecture.md"
 
@@ -85,6 +87,7 @@ def numbers():
                 (ARCHITECTURE, "`check` of {} sound groups", f"{GROUPS:,}"), (ARCHITECTURE, "{} KiB of stack", STACK),
                 (PROOFS, r"\({} edits\)", f"{named:,}"), (PROOFS, "the {} in `must-fail/`", sum(edits)),
                 (SAFETY, "the {} of these rows", len(doubts)),
+                (SAFETY, "{} lines for a yes", lines([YES])), (SAFETY, "{} with the findings", lines([YES, FOUND])),
                 *((SAFETY, f"the {{}} rows `{kind}`", kinds.count(kind)) for kind in ("rule", "word")))
 
 
