@@ -1,21 +1,24 @@
 """The definitions in crates/*/specs, and which of them each one rests on.
 
 Imports, definitions and proofs are separated by empty lines. A definition begins with `record`, `data`, `abbrev` or
-`unfoldable`, a proof with its name. What is in specs/lemmas serves proofs only. Records and enums of src, which
-specs/declared presents, and what the toolchain's libraries define, are no definitions here.
+`unfoldable`, a proof with its name. What is in specs/lemmas serves proofs only. Types of src and what the toolchain's
+libraries define are no definitions here. A type can have conditions, in ghost members: `conditions` has their
+definitions, which `closure` leaves out.
 """
 from __future__ import annotations
 
 import functools
 import re
 from pathlib import Path
-from typing import Dict, Iterable, Iterator, List, Mapping, NamedTuple, Sequence, Set, Tuple
+from typing import Dict, FrozenSet, Iterable, Iterator, List, Mapping, NamedTuple, Sequence, Set, Tuple
 
 TOP = Path(__file__).resolve().parents[2]
 Key = Tuple[str, str]
 """A module, such as `etcs_edition.specs.Wire`, and a name in it."""
 USE = re.compile(r"(?m)^(?:pub )?use Rattle\.([\w.]+)\.\{(.*)\}$")
 BLOCK = re.compile(r"(?:.+\n)+")
+TYPE = re.compile(r"(?ms)^pub (?:struct|enum) (\w+)\b[^;]*?\{.*?^\}")
+GHOST_USE = re.compile(r"(?m)^ghost use Rattle\.([\w.]+)\.\{(.*)\};$")
 COMMENT = re.compile(r"(?m)^ *(?:--|unfolding ).*\n")
 HEAD = re.compile(r"(?:pub )?(?:record|data) (\S+)|(?:abbrev |unfoldable )(?:pub )?(\S+) :"
                   r"|(?:abbrev mutual\n)? +(?:pub )?(\S+) :|(?:pub )?(\S+) :\s")
@@ -101,6 +104,37 @@ def names_in(module: str) -> Mapping[str, Key]:
     return {**{name: resolved(*its) for name, its in imports()[module].items()}, **{name: (module, name) for its, name in definitions() if its == module}}
 
 
+def meant_in(words: str, source: str) -> List[Key]:
+    """What words mean in a file of src, by its imports."""
+    found = {}
+    for module, names in GHOST_USE.findall(source):
+        for name, _, other in (it.strip().partition(" as ") for it in names.split(",")):
+            found[other or name] = resolved(module, name)
+    return [found[it] for it in dict.fromkeys(re.findall(r"\w+", words)) if it in found]
+
+
+@functools.lru_cache(None)
+def types() -> Mapping[str, Tuple[str, str]]:
+    """The declaration of each type of src, and its file, by its name."""
+    sources = [path.read_text("utf-8") for path in sorted(TOP.glob("crates/etcs_*/src/**/*.rt"))]
+    return {it[1]: (it[0], text) for text in sources for it in TYPE.finditer(text)}
+
+
+@functools.lru_cache(None)
+def conditions(name: str) -> FrozenSet[Key]:
+    """The definitions in the conditions of a type, and of the types that it contains."""
+    found: Set[Key] = set()
+    seen, rest = {name}, [name]
+    while rest:
+        declaration, source = types().get(rest.pop(), ("", ""))
+        code = re.sub(r"(?m)^ *//.*$", "", declaration)
+        found.update(key for key in meant_in(code, source) if key in definitions())
+        inner = {it for it in re.findall(r"\w+", code) if it in types()} - seen
+        seen |= inner
+        rest += sorted(inner)
+    return frozenset(found)
+
+
 def named(definition: Definition) -> Iterator[Key]:
     """What a definition names. A name with holes is an operator, each of whose parts then occurs."""
     for name, key in names_in(definition.module).items():
@@ -123,6 +157,12 @@ def closure(roots: Iterable[Key]) -> List[Definition]:
 def lines(roots: Iterable[Key]) -> int:
     """How many lines the definitions have on which these rest."""
     return sum(it.lines for it in closure(roots))
+
+
+def conditions_of(roots: Iterable[Key]) -> Set[Key]:
+    """The definitions in the conditions of the types that these name, and that those name on which they rest."""
+    named_types = {key[1] for it in closure(roots) for key in named(it) if ".declared." in key[0]}
+    return {key for name in named_types for key in conditions(name)}
 
 
 def key_of(name: str, crate: str, file: str = "") -> Key:

@@ -9,7 +9,7 @@ from __future__ import annotations
 import re
 from typing import Iterator, List, NamedTuple, Set
 
-from edition.definitions import TOP, Key, closure, definitions, in_order, key_of, lines, resolved
+from edition.definitions import TOP, Key, closure, conditions_of, definitions, in_order, key_of, lines, meant_in
 from variables.page import table
 
 PAGE = TOP / "docs/assurance/proofs.md"
@@ -18,7 +18,6 @@ PART = re.compile(r"(?s)(<!-- (laws|promises|order) -->\n).*?(?=<!-- /\2 -->\n)"
 PROMISE = re.compile(r"(?m)^\| \*\*([\w ]+)\.\*\* .* \| (.*) \| (.*) \|$")
 CALL = re.compile(r"`(\w+)::(?:\w+::)?(\w+)`(?: \(((?:`\w+`(?:, )?)+)\))?")
 DEFINED = re.compile(r"`(\w+)/(\w+\.antt)`: ((?:`\w+`(?:, )?)+)")
-USE = re.compile(r"(?m)^ghost use Rattle\.([\w.]+)\.\{(.*)\};$")
 CLAUSE = re.compile(r"(?s)\bensures (\w*) ?\{(.*?)\}\n")
 
 
@@ -29,16 +28,6 @@ class Law(NamedTuple):
     clause: str
     short: List[Key]
     others: List[Key]
-
-
-def meant_in(words: str, source: str) -> List[Key]:
-    """The definitions that words of a clause mean, by the imports of its source."""
-    found = {}
-    for module, names in USE.findall(source):
-        for name, _, other in (it.strip().partition(" as ") for it in names.split(",")):
-            found[other or name] = resolved(module, name)
-    keys = [found[it] for it in dict.fromkeys(re.findall(r"\w+", words)) if it in found]
-    return [it for it in keys if it in definitions()]
 
 
 def clauses_of(crate: str, name: str) -> Iterator[List[str]]:
@@ -56,9 +45,9 @@ def laws() -> Iterator[Law]:
     for law in re.findall(r"(?m)^pub fn (\w+)\(\)", text):
         for clause, words, source in clauses_of(EDITION, law):
             left, is_one, right = words.partition("↔")
-            short = [it for it in meant_in(left, source) if it[0].startswith(EDITION)]
+            short = [it for it in meant_in(left, source) if it in definitions() and it[0].startswith(EDITION)]
             if is_one:
-                yield Law(law, clause, short, meant_in(right, source))
+                yield Law(law, clause, short, [it for it in meant_in(right, source) if it in definitions()])
 
 
 def roots_of(calls: str, cell: str) -> Set[Key]:
@@ -82,7 +71,12 @@ def laws_part() -> str:
         cited = ", ".join(f"`{it.name}`{f' (`{it.clause}`)' * bool(it.clause)}" for it in (both if law is together else [law]))
         short = ", ".join(f"`{it}`" for _, it in law.short)
         rows.append([short, cited, f"{lines(law.short):,}", f"{lines(law.others):,}"])
-    return table(["Definition of the edition", "Law", "Lines", "Lines without it"], rows)
+    (yes,) = [it.short for it in every if it.name == "yes_agrees"]
+    words = (f"Types of `src` that these definitions name have conditions, which these counts leave out: the number and "
+             f"the size of a packet that is kept as bits (`is_kept` of `etcs_profile` and `etcs_radio`). With the "
+             f"definitions of these conditions a yes rests on {lines([*yes, *conditions_of(yes)]):,} lines.\n\n")
+    assert {name for _, name in conditions_of(yes)} == {"is_kept"}, conditions_of(yes)
+    return table(["Definition of the edition", "Law", "Lines", "Lines without it"], rows) + words
 
 
 def promises_part(text: str) -> str:
