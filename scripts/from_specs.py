@@ -1,6 +1,6 @@
 #!/usr/bin/env -S python3 -B
-"""Makes docs/assurance/edition.md, and parts of docs/assurance/proofs.md, from the definitions in crates/*/specs and the
-table of variables. tests/test_assurance.py compares them."""
+"""Makes docs/assurance/edition.md, and parts of docs/assurance/proofs.md, from the definitions in crates/*/specs and
+the table of variables. tests/test_assurance.py compares them."""
 from __future__ import annotations
 
 from pathlib import Path

@@ -14,8 +14,9 @@ import re
 import statistics
 import subprocess
 import sys
+from functools import lru_cache
 from pathlib import Path
-from typing import Dict, Iterator, List, NamedTuple, Sequence
+from typing import Dict, FrozenSet, Iterator, List, NamedTuple, Sequence, Set
 
 TOP = Path(__file__).resolve().parents[1]
 SHORT, LONG = 5, 28
@@ -26,6 +27,11 @@ FENCED = re.compile(r"(?ms)^ *```.*?^ *```$")
 END = re.compile(r"(?<=[.!?])(?<!e\.g\.)(?<!i\.e\.)[*)\"]*\s+(?=[A-Z`\"*(\d\[])")
 RUN_IN = re.compile(r"^(?:[-*] |\d+\. )?(?:\*\*[^*]{1,40}[.:,]?\*\*:?(?:\s+|$))?")
 """The mark of an item, and a heading in bold letters before its text or instead of it."""
+
+
+DICTIONARIES = [Path("/usr/share/dict", name) for name in ("american-english", "british-english")]
+"""Those of the packages wamerican and wbritish."""
+WORD = re.compile(r"(?<![\w./-])[^\W\d_]{2,}(?:['’-][^\W\d_]+)*(?![\w/]|\.\w)")
 
 
 class Shares(NamedTuple):
@@ -83,12 +89,38 @@ def of_paragraphs(paragraphs: Iterator[str]) -> Shares:
 
 def of_rules() -> Dict[str, Shares]:
     """The sentences of the page of each rule of balisekit, by the rule's name."""
+    return {name: of_paragraphs(map(plain, parts)) for name, parts in paragraphs_of_rules().items()}
+
+
+def paragraphs_of_rules() -> Dict[str, List[str]]:
+    """The paragraphs of the page of each rule of balisekit, by the rule's name."""
     sys.path.insert(0, str(TOP / "companion" / "src"))
     from balisekit.present.explanations import pages
     from balisekit.rules.families import FAMILIES
 
     every = [one for family in FAMILIES.values() for one in pages(family)]
-    return {name: of_paragraphs(map(plain, page.parts.values())) for name, page in every}
+    return {name: [*page.parts.values()] for name, page in every}
+
+
+@lru_cache(maxsize=None)
+def known() -> FrozenSet[str]:
+    """The words of the dictionaries, and in small letters what the glossary explains: before its colons, or in bold."""
+    listed = {word for path in DICTIONARIES for word in path.read_text("utf-8").split()}
+    glossary = (TOP / "docs" / "glossary.md").read_text("utf-8")
+    heads = [*re.findall(r"(?m)^- (\*\*.*?): ", glossary), *re.findall(r"\*\*(.+?)\*\*", glossary)]
+    return frozenset({*listed, *re.findall(r"[^\W\d_]+", " ".join(heads).lower())})
+
+
+def unknown(text: str) -> Set[str]:
+    """The words of a text that neither a dictionary nor the glossary has. Code and words in capitals do not count."""
+    parts = {part for word in WORD.findall(plain(text)) for part in word.split("-")}
+    return {part for part in parts if not _is_known(re.sub(r"['’]s?$", "", part))}
+
+
+def _is_known(word: str) -> bool:
+    """Whether a word is explained, in one of its forms. Names of the standard are in capitals."""
+    small = word.lower()
+    return len(word) < 2 or word.rstrip("s").isupper() or not known().isdisjoint({word, small, small.rstrip("s")})
 
 
 def names() -> List[str]:

@@ -6,7 +6,8 @@ packages='python3 gcc libc6-dev=/usr/include/stdio.h binutils=readelf g++ defaul
     python3-pytest python3-pytest-xdist=python:xdist python3-hypothesis python3-jsonschema python3-coverage
     python3-junitparser python3-jinja2 python3-html5lib python3-openpyxl python3-defusedxml python3-rich python3-pip
     python3-hatchling openssh-client=ssh-keygen shellcheck python3-license-expression=python:license_expression
-    python3-venv=python:ensurepip mypy=python:mypy flake8=python:flake8 black=python:black'
+    python3-venv=python:ensurepip mypy=python:mypy flake8=python:flake8 black=python:black
+    wamerican=/usr/share/dict/american-english wbritish=/usr/share/dict/british-english'
 # Installed separately: it is large, and some distributions lack it.
 browser=chromium
 

@@ -94,8 +94,8 @@ def test_closures():
 
 
 def test_laws_of_the_edition():
-    """Each law of the edition that definitions agree has definitions of the edition on one side only. A yes and the findings
-    rest on less than half of the lines there."""
+    """Each law of the edition that definitions agree has definitions of the edition on one side only. A yes and the
+    findings rest on less than half of the lines there."""
     for law in laws():
         assert law.short and law.others and not [key for key in law.others if key[0].startswith("etcs_edition.")]
         assert {key[0].partition(".")[0] for key in law.short} == {"etcs_edition"}

@@ -15,6 +15,11 @@ from variables.table import read_rows
 LONGEST = 30
 # Pages with too many short or long sentences. Rewrite one and remove it here: no page is added.
 TO_REWRITE = frozenset()
+# Pages with words that neither Debian's lists of English words nor the glossary has. No page is added here either.
+WITH_OTHER_WORDS = {
+    "CHANGELOG.md", "SECURITY.md", "docs/assurance/proofs.md", "docs/contributing/architecture.md",
+    "docs/contributing/decisions.md", "docs/contributing/testing.md", "docs/guide.md", "docs/performance.md",
+    "examples/README.md"}
 # A list of licences, and a table that scripts/from_trace.py makes.
 NOT_COUNTED = ("THIRD-PARTY.md", "docs/variables.md")
 PAGES = {name: path.read_text("utf-8") for pattern in ("*.md", "dist/**/*.md", "docs/**/*.md", "examples/**/*.md")
@@ -47,6 +52,23 @@ def test_lengths_of_sentences(name):
     shares = readability.of_page(MADE.sub("", PAGES[name]))
     odd = [it for it in shares.sentences if not readability.SHORT <= readability.words(it) <= readability.LONG]
     assert shares.is_readable == (name not in TO_REWRITE), odd
+
+
+@pytest.mark.parametrize("name", PAGES)
+def test_words(name):
+    """Each word is English or explained in the glossary, apart from pages that are still to be rewritten."""
+    if not all(path.exists() for path in readability.DICTIONARIES):
+        pytest.skip("the words of pages (wamerican, wbritish)")
+    words = readability.unknown(PAGES[name])
+    assert bool(words) == (name in WITH_OTHER_WORDS), words
+
+
+def test_words_are_found():
+    """Not in code, and in each form that the glossary explains."""
+    if not all(path.exists() for path in readability.DICTIONARIES):
+        pytest.skip("the words of pages (wamerican, wbritish)")
+    text = "The `kode` of M_DUP, two Balises' LEUs, a well-formed group's [coulored](http://xyzzy.qq) frobnicator."
+    assert readability.unknown(text) == {"coulored", "frobnicator"}
 
 
 def test_lengths_are_counted():

@@ -104,7 +104,6 @@ def differences(rows, fields):
         when = [*it.when] if it.when else ["", ()]
         is_end = row.fault == "the end mark" and it.only is None  # (255 is no packet)
         numbers = [*row.spans] if not is_end else [(0, 255, "")]
-        allowed = {number for first, last in it.numbers for number in (first, last)}
         found += [f"{row.variable}: {what}" for what, is_same in (
             ("bits", row.width == it.width), ("counted", (it.counted is not None) == (row.fault == "length")),
             ("its own bits", not it.counted or it.counted == before + it.width),
@@ -140,9 +139,10 @@ def test_edition(name):
 
 def test_numbers_of_the_edition():
     """Other spare numbers and other conditions are noticed, and each number of a packet or message has its layout."""
-    for name, variable, change in (("header", "M_DUP", {"numbers": "0; 1"}), ("packet 27", "V_STATIC", {"numbers": "0 to 120"}),
-                                   ("packet 12", "V_RELEASEDP", {"numbers": "0 to 120; 125 to 127"}),
-                                   ("packet 5", "NID_C", {"when": ""}), ("train packet 1", "L_TRAININT", {"when": "Q_LENGTH 1"})):
+    changes = (("header", "M_DUP", {"numbers": "0; 1"}), ("packet 27", "V_STATIC", {"numbers": "0 to 120"}),
+               ("packet 12", "V_RELEASEDP", {"numbers": "0 to 120; 125 to 127"}), ("packet 5", "NID_C", {"when": ""}),
+               ("train packet 1", "L_TRAININT", {"when": "Q_LENGTH 1"}))
+    for name, variable, change in changes:
         rows = [it._replace(**change) if it.variable == variable else it for it in LAYOUTS[name]]
         assert differences(rows, layouts()[name]) != [], variable
     assert {*layouts()} == {name for name, own in LAYOUTS.items() if own}
@@ -154,7 +154,8 @@ def test_numbers_of_the_edition():
 
 @pytest.mark.parametrize("variable, function", [
     ("M_VERSION", "version_field"), ("M_DUP", "dup_field"), ("Q_SCALE", "scale_field"), ("Q_DIR", "dir_field"),
-    ("Q_DIRLRBG", "train3_field"), ("Q_DIRTRAIN", "train3_field"), ("M_LEVELTR", "level_fields"), ("M_LEVEL", "level_fields")])
+    ("Q_DIRLRBG", "train3_field"), ("Q_DIRTRAIN", "train3_field"), ("M_LEVELTR", "level_fields"),
+    ("M_LEVEL", "level_fields")])
 def test_names_of_numbers_of_the_edition(variable, function):
     """The names that the edition gives to numbers are the meanings in the table."""
     text = (TOP / "crates/etcs_edition/specs/Variables.antt").read_text("utf-8")
@@ -176,7 +177,8 @@ def test_words_of_the_edition():
         assert f"\n{text}\n" in wire
 
 
-@pytest.mark.parametrize("row", [it for it in ROWS if it.layouts in LAYOUTS and not it.variable], ids=lambda it: it.layouts)
+@pytest.mark.parametrize("row", [it for it in ROWS if it.layouts in LAYOUTS and not it.variable],
+                         ids=lambda it: it.layouts)
 def test_sections_of_the_edition(row):
     """The edition cites the sections of the row of each layout, beside the layout or for all layouts of the file."""
     own, others = cited(row.layouts)

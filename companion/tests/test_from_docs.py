@@ -65,7 +65,9 @@ def test_a_page_that_has_changed_is_noticed(page: str, heading: str, word: str, 
 
 
 AT_WORST = {
-    Urgency.WRONG_INFORMATION: r"Wrong information\b|An old profile is used\.|Braking too late\b|Too fast\b",
+    Urgency.WRONG_INFORMATION: (
+        r"Wrong information\b|At worst (?:an old profile is used\.|the train (?:brakes too late|is too fast)\b)"
+    ),
     Urgency.WRONG_PLACE: r"A wrong position of the train\.",
     Urgency.NOT_JUDGED: r"Not judged\.",
     Urgency.BRAKING: r"Braking[.,;]",

@@ -47,6 +47,16 @@ def test_sentences(name: str) -> None:
     assert shares.is_readable, [each for each in shares.sentences if not 5 <= readability.words(each) <= 28]
 
 
+def test_words() -> None:
+    """Each word is English, or the glossary explains it."""
+    if not all(path.exists() for path in readability.DICTIONARIES):
+        pytest.skip("the words of pages (wamerican, wbritish)")
+    paths = re.compile(r"\bexamples/\S+")
+    every = readability.paragraphs_of_rules().items()
+    found = {name: readability.unknown(paths.sub("", " ".join(parts))) for name, parts in every}
+    assert {name: words for name, words in found.items() if words} == {}
+
+
 @pytest.mark.parametrize("rule", OWN, ids=NAMES)
 def test_modules(rule: Rule) -> None:
     """The code of a rule after its page is short."""

@@ -101,7 +101,8 @@ def resolved(module: str, name: str) -> Key:
 @functools.lru_cache(None)
 def names_in(module: str) -> Mapping[str, Key]:
     """What the names in a module mean: those that it imports, also by way of another module, and its own."""
-    return {**{name: resolved(*its) for name, its in imports()[module].items()}, **{name: (module, name) for its, name in definitions() if its == module}}
+    imported = {name: resolved(*its) for name, its in imports()[module].items()}
+    return {**imported, **{name: (its, name) for its, name in definitions() if its == module}}
 
 
 def meant_in(words: str, source: str) -> List[Key]:

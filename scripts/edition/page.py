@@ -65,7 +65,7 @@ def code_of(line: str) -> str:
 
 
 def numbers_part(rows: Sequence[Row]) -> str:
-    """The definitions of variables whose numbers have names or are not all allowed, beside the rows that they are in."""
+    """The definitions of variables whose numbers have names or are not all allowed, beside their rows."""
     used: Dict[str, List[str]] = {}
     for field in (it for own in layouts().values() for it in own):
         used.setdefault(field.term.split()[0], []).extend(field.variable.split(" or "))

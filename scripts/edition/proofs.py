@@ -68,12 +68,13 @@ def laws_part() -> str:
     together = Law("both", "", [key for it in both for key in it.short], [key for it in both for key in it.others])
     rows = []
     for law in (*every, together):
-        cited = ", ".join(f"`{it.name}`{f' (`{it.clause}`)' * bool(it.clause)}" for it in (both if law is together else [law]))
+        stated = both if law is together else [law]
+        cited = ", ".join(f"`{it.name}`{f' (`{it.clause}`)' * bool(it.clause)}" for it in stated)
         short = ", ".join(f"`{it}`" for _, it in law.short)
         rows.append([short, cited, f"{lines(law.short):,}", f"{lines(law.others):,}"])
     (yes,) = [it.short for it in every if it.name == "yes_agrees"]
-    words = (f"Types of `src` that these definitions name have conditions, which these counts leave out: the number and "
-             f"the size of a packet that is kept as bits (`is_kept` of `etcs_profile` and `etcs_radio`). With the "
+    words = (f"Types of `src` that these definitions name have conditions, which these counts leave out: the number "
+             f"and the size of a packet that is kept as bits (`is_kept` of `etcs_profile` and `etcs_radio`). With the "
              f"definitions of these conditions a yes rests on {lines([*yes, *conditions_of(yes)]):,} lines.\n\n")
     assert {name for _, name in conditions_of(yes)} == {"is_kept"}, conditions_of(yes)
     return table(["Definition of the edition", "Law", "Lines", "Lines without it"], rows) + words

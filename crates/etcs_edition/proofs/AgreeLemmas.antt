@@ -75,10 +75,6 @@ agree_one x n ok same = record {
 }
 
 -- a field ahead of others
-pub agree_ahead : (x : Variable) (n : ℕ) {ys : List Row} {f : Field} {gs : List Field}
-    → Agree (alone x n) (f ∷ []) → Agree ys gs → Agree (alone x n ++ ys) (f ∷ gs)
-agree_ahead x n a b = agree_both a b
-
 pub agree_then : (x : Variable) (n : ℕ) (ok : Bool) {ys : List Row} {gs : List Field}
     → (n < 2 ^ x.width → x.allows n ≡ ok) → Agree ys gs → Agree (alone x n ++ ys) (allowed_if x.width n ok ∷ gs)
 agree_then x n ok same b = agree_both (agree_one x n ok same) b

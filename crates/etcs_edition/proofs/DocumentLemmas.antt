@@ -1,4 +1,4 @@
--- Documents by the short definition are those by the working one.
+-- Documents by the edition are those that are read.
 use Rattle.std.proofs.Common.{◌≡◌, ℕ, suc, ◌+◌, Bool, true, false, List, [], ◌∷◌, length, codes, Option, Some, None, Result, Ok, Err, refl, sym, ap, subst, arith, inl, inr, if◌then◌else◌}
 use Rattle.std.specs.Prelude.{◌&&◌, ◌||◌, nat_le, nat_lt, option_map, IsSomeAnd, IsTrue}
 use Rattle.std.specs.Option.{ok_or, is_some}

@@ -1,4 +1,4 @@
--- Findings by the short definition are those by the working one.
+-- Findings by the edition are those of the check.
 use Rattle.std.proofs.Common.{◌≡◌, Bool, true, false, List, refl, sym, ◌∙◌, inl, inr}
 use Rattle.std.proofs.lemmas.Bool.{true≢false}
 use Rattle.etcs_group.specs.Group.{Aspects}

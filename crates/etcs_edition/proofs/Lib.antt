@@ -11,3 +11,4 @@ pub mod YesLemmas
 pub mod RuleLemmas
 pub mod FindingLemmas
 pub mod ReportLemmas
+pub mod AnswerLemmas

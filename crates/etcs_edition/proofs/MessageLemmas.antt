@@ -1,4 +1,4 @@
--- Messages by the short definition are those by the working one.
+-- Messages by the edition are those of the codecs.
 use Rattle.std.proofs.Common.{◌≡◌, ℕ, ◌<◌, ◌⊎◌, Bool, List, ◌++◌, length, refl, sym, ap, ◌∙◌, inl, inr}
 use Rattle.etcs_bits.specs.bits.Number.{num as bits_of}
 use Rattle.etcs_bits.specs.layout.Rows.{alone}

@@ -1,4 +1,4 @@
--- Telegrams by the short definition are those by the working one.
+-- Telegrams by the edition are those of the codecs.
 use Rattle.std.proofs.Common.{◌≡◌, Bool, List, [], ◌∷◌, ◌++◌, refl, sym, ap, ◌∙◌, lit<}
 use Rattle.std.specs.List.{AllByRecursion, flat_map}
 use Rattle.std.proofs.lemmas.List.{append-nil}

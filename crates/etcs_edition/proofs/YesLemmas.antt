@@ -1,4 +1,4 @@
--- A yes by the short definition is one by the working one.
+-- A yes by the edition is one of the check.
 use Rattle.std.proofs.Common.{◌≡◌, ℕ, List, Ok}
 use Rattle.etcs_group.specs.Group.{Aspects}
 use Rattle.etcs_document.specs.Verdict.{SaysYes as CheckSaysYes}

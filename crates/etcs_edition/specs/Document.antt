@@ -1,5 +1,5 @@
--- The document of a railway line: which groups, aspects and radio messages a JSON text gives. The form is this
--- project's own; the telegrams and messages in it are texts (SUBSET-026, 3.4.1, 8.4.2 and 8.4.4).
+-- The document of a railway line: which groups, aspects and radio messages a JSON text gives. The form is
+-- this project's own; the telegrams and messages in it are texts (SUBSET-026, 3.4.1, 8.4.2 and 8.4.4).
 use Rattle.std.specs.Prelude.{◌≡◌, ℕ, ◌<◌, ◌≤◌, ◌⊎◌, IsTrue, codes, List, [], ◌∷◌, length, Some, option_map, IsSomeAnd}
 use Rattle.std.specs.Str.{is_utf8}
 use Rattle.serde_json.specs.Data.{Data}

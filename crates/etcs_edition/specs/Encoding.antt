@@ -1,5 +1,5 @@
--- What `encode` writes for a telegram or a radio message (SUBSET-026, 8.4.2 and 8.4.4; SUBSET-036, 4.3): the digits in
--- lower case. By this project's rule a telegram is filled up with ones, and a message with zeros.
+-- What `encode` writes for a telegram or a radio message (SUBSET-026, 8.4.2 and 8.4.4; SUBSET-036, 4.3): the
+-- digits in lower case. By this project's rule a telegram is filled up with ones, and a message with zeros.
 use Rattle.std.specs.Prelude.{◌≡◌, ℕ, ◌+◌, ◌-◌, ◌*◌, ◌<◌, ◌≤◌, Bool, true, false, List, ◌++◌, length, replicate}
 use Rattle.hex.specs.Hex.{encode_lower, IsBytes}
 use Rattle.etcs_radio.specs.Message.{is_complete}

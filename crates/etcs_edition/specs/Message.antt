@@ -1,5 +1,5 @@
--- A radio message, and the text that gives it (SUBSET-026, 8.4.4, 8.6 and 8.7). Message 3 gives a train its movement
--- authority, message 136 reports where a train is.
+-- A radio message, and the text that gives it (SUBSET-026, 8.4.4, 8.6 and 8.7). Message 3 gives a train its
+-- movement authority, message 136 reports where a train is.
 use Rattle.std.specs.Prelude.{◌≡◌, ℕ, ◌<◌, ◌⊎◌, Bool, true, Ok, List, ◌∷◌, ◌++◌, length}
 use Rattle.std.specs.List.{flat_map}
 use Rattle.hex.specs.Hex.{decode_of}
@@ -27,8 +27,8 @@ message_fields bytes (messages.Position m) =
     ∷ any_number 24 m.engine  -- NID_ENGINE
     ∷ flat_map train_packet_fields m.packets
 
--- The bytes are the bits of the message, and a rest: fewer than eight bits, or packet 255, the end mark, and a
--- fill that carries no information. The required packet is there (this project's rule): packet 15 in
+-- The bytes are the bits of the message, and a rest: fewer than eight bits, or packet 255, the end mark, and
+-- a fill that carries no information. The required packet is there (this project's rule): packet 15 in
 -- message 3, packet 0 or 1 in message 136.
 pub record IsMessage (m : Message) (bytes : List ℕ) : Type 0 where
   pub rest : List Bool

@@ -1,5 +1,5 @@
--- What each of the rules F1 to F16 requires, at a balise, a packet or a running direction. They are this project's
--- rules, after SUBSET-026, mainly 3.4, 3.8, 3.11, 3.16.2 and 7.5.1; places are counted from 0.
+-- What each of the rules F1 to F16 requires, at a balise, a packet or a running direction. They are this
+-- project's rules, after SUBSET-026, mainly 3.4, 3.8, 3.11, 3.16.2 and 7.5.1; places are counted from 0.
 use Rattle.std.specs.Prelude.{◌≡◌, ◌≢◌, ℕ, ◌+◌, ◌<◌, ◌≤◌, List, length, Option, Some, is_some, IsSome, IsTrue, ◌⊎◌}
 use Rattle.etcs_bits.specs.declared.variables.duplicate.Dup.TheVariants as dups
 use Rattle.etcs_profile.specs.declared.run.Run.{Run}
@@ -42,7 +42,7 @@ F5_MarkIsAnswered group b =
 abbrev pub F6_CounterFits : Telegrams → ℕ → Type 0
 F6_CounterFits group b = (t : Telegram) → At group b t → t.header.counter ≢ 254
 
--- F7: if the counter of balise b is below 254, it is the first such counter in the group (3.16.2).
+-- F7: if the counter of balise b is below 254, it equals the first counter below 254 in the group (3.16.2).
 abbrev pub F7_CountersAgree : Telegrams → ℕ → Type 0
 F7_CountersAgree group b =
     (j : ℕ) (t u : Telegram) → At group b t → t.header.counter < 254
@@ -50,7 +50,8 @@ F7_CountersAgree group b =
     × ((i : ℕ) (v : Telegram) → i < j → At group i v → 254 ≤ v.header.counter)
     → t.header.counter ≡ u.header.counter
 
--- F8: if balises b and b + 1 declare each other duplicates, the same packets of both hold in the direction (3.4.2).
+-- F8: if balises b and b + 1 declare each other duplicates, the same packets of both hold in the direction
+-- (3.4.2).
 abbrev pub F8_DuplicatesAreEqual : Telegrams → Run → ℕ → Type 0
 F8_DuplicatesAreEqual group run b =
     (t u : Telegram) → At group b t → At group (b + 1) u
@@ -79,7 +80,8 @@ IsGiven reach packets =
     (i : ℕ) (a : TrackPacket) (limit : ℕ) → At packets i a → packet_limit a ≡ Some limit
     → (j : ℕ) × (p : TrackPacket) × At packets j p × IsTrue (is_some (reach p))
 
--- if the packet is a profile of the kind, it reaches the supervised location of each authority among the packets
+-- if the packet is a profile of the kind, it reaches the supervised location of each authority among the
+-- packets
 abbrev pub ReachesEach : (TrackPacket → Option Reach) → List TrackPacket → TrackPacket → Type 0
 ReachesEach reach packets p = (r : Reach) → reach p ≡ Some r
     → (i : ℕ) (a : TrackPacket) (limit : ℕ) → At packets i a → packet_limit a ≡ Some limit → Reaches r limit

@@ -1,5 +1,5 @@
--- The telegram of a balise, and the text that gives it (SUBSET-026, 7.4 and 8.4.2; SUBSET-036, 4.3). A telegram is
--- a header, packets and the end mark, filled up to the user bits of a short or a long telegram.
+-- The telegram of a balise, and the text that gives it (SUBSET-026, 7.4 and 8.4.2; SUBSET-036, 4.3). A
+-- telegram is a header, packets and the end mark, filled up to the user bits of a short or a long telegram.
 use Rattle.std.specs.Prelude.{◌≡◌, ℕ, ◌+◌, ◌-◌, ◌*◌, ◌<◌, Bool, false, Ok, List, [], ◌∷◌, ◌++◌, length, replicate}
 use Rattle.std.specs.List.{flat_map}
 use Rattle.hex.specs.Hex.{decode_of}

@@ -1,5 +1,6 @@
--- The packets from track to train, each as its table of variables (SUBSET-026, 7.4.1 and 7.4.2). A line has one
--- variable, in the order of the table, with its bits; a part that the standard repeats has a table of its own.
+-- The packets from track to train, each as its table of variables (SUBSET-026, 7.4.1 and 7.4.2). A line has
+-- one variable, in the order of the table, with its bits; a part that the standard repeats has a table of its
+-- own.
 use Rattle.std.specs.Prelude.{ℕ, ◌+◌, List, [], ◌∷◌, ◌++◌, Option, Some, None}
 use Rattle.etcs_bits.specs.declared.variables.direction.Dir.{Dir}
 use Rattle.etcs_profile.specs.declared.track.linking.Link.{Link}

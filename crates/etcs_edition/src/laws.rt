@@ -1,23 +1,29 @@
 //! Laws that the definitions of the edition and those of other crates say the same. Each law is the contract of
 //! a call that does nothing.
 
-ghost use Rattle.std.specs.Prelude.{◌≡◌, ◌↔◌, ℕ, List, Bool, Ok, IsOkAnd};
+ghost use Rattle.std.specs.Prelude.{◌≡◌, ◌↔◌, ℕ, List, [], Bool, length, take, Ok, Err, IsErr, IsOkAnd};
+ghost use Rattle.etcs_bits.specs.declared.layout.fault.Fault.{Fault};
 ghost use Rattle.etcs_telegram.specs.Record.{Telegram};
 ghost use Rattle.etcs_telegram.specs.Telegram.{IsTelegram as IsDecodedTelegram};
 ghost use Rattle.etcs_telegram.specs.Text.{IsTelegramText as IsDecodedTelegramText, IsCanonicalText as IsEncodedTelegram};
+ghost use Rattle.etcs_telegram.specs.Meaning.{read_telegram};
+ghost use Rattle.etcs_telegram.specs.TextMeaning.{telegram_of_text};
 ghost use Rattle.etcs_radio.specs.declared.message.Message.{Message};
 ghost use Rattle.etcs_radio.specs.Message.{IsMessage as IsDecodedMessage};
 ghost use Rattle.etcs_radio.specs.Text.{IsMessageText as IsDecodedMessageText, IsCanonicalText as IsEncodedMessage};
+ghost use Rattle.etcs_radio.specs.Meaning.{read_message};
+ghost use Rattle.etcs_radio.specs.TextMeaning.{message_of_text};
 ghost use Rattle.etcs_group.specs.Group.{Aspects};
-ghost use Rattle.etcs_document.specs.Document.{line_of_text};
-ghost use Rattle.etcs_document.specs.ReportText.{report_words};
-ghost use Rattle.etcs_document.specs.Verdict.{SaysYes as CheckSaysYes, summary_of_text};
 ghost use Rattle.etcs_check.specs.Laws.{AreControlled};
 ghost use Rattle.etcs_check.specs.Line.{findings};
 ghost use Rattle.etcs_check.specs.Violation.{HasParts};
 ghost use Rattle.etcs_check.specs.declared.finding.Finding.{Finding};
+ghost use Rattle.etcs_document.specs.Document.{line_of_text};
+ghost use Rattle.etcs_document.specs.ReportText.{report_words};
+ghost use Rattle.etcs_document.specs.Verdict.{SaysYes as CheckSaysYes, summary_of_text};
 ghost use Rattle.etcs_edition.specs.Telegram.{IsTelegram, IsTelegramText};
 ghost use Rattle.etcs_edition.specs.Message.{IsMessage, IsMessageText};
+ghost use Rattle.etcs_edition.specs.Wire.{bits_of_bytes};
 ghost use Rattle.etcs_edition.specs.Encoding.{IsWrittenTelegram, IsWrittenMessage};
 ghost use Rattle.etcs_edition.specs.Document.{IsLineText};
 ghost use Rattle.etcs_edition.specs.Yes.{SaysYes};
@@ -42,13 +48,14 @@ pub fn messages_agree()
     ensures { (m : Message) (bytes : List ℕ) → IsMessage m bytes ↔ IsDecodedMessage m bytes }
 {}
 
-/// A text is that of a radio message by the edition if and only if it is one that `etcs_radio::from_hex` reads.
+/// A text is that of a radio message by the edition if and only if it is one that `etcs_radio::from_hex`
+/// reads.
 pub fn message_texts_agree()
     ensures { (m : Message) (text : List ℕ) → IsMessageText m text ↔ IsDecodedMessageText m text }
 {}
 
-/// A text is the one that is written for a telegram or a radio message by the edition if and only if it is the one
-/// that `etcs_telegram::to_hex` or `etcs_radio::to_hex` writes.
+/// A text is the one that is written for a telegram or a radio message by the edition if and only if it is
+/// the one that `etcs_telegram::to_hex` or `etcs_radio::to_hex` writes.
 pub fn written_texts_agree()
     ensures telegrams { (t : Telegram) (text : List ℕ) → IsWrittenTelegram t text ↔ IsEncodedTelegram t text }
     ensures messages { (m : Message) (text : List ℕ) → IsWrittenMessage m text ↔ IsEncodedMessage m text }
@@ -60,15 +67,15 @@ pub fn what_is_written_is_read()
     ensures messages { (m : Message) (text : List ℕ) → IsWrittenMessage m text → IsMessageText m text }
 {}
 
-/// A text is that of one telegram at most, and of one radio message at most. So no two of them are written as the
-/// same text.
+/// A text is that of one telegram at most, and of one radio message at most. So no two of them are written as
+/// the same text.
 pub fn a_text_has_one_record()
     ensures telegrams { (t u : Telegram) (text : List ℕ) → IsTelegramText t text → IsTelegramText u text → t ≡ u }
     ensures messages { (m k : Message) (text : List ℕ) → IsMessageText m text → IsMessageText k text → m ≡ k }
 {}
 
-/// Bytes are the document of a line by the edition if and only if `etcs_document::read_line` reads them as this
-/// line.
+/// Bytes are the document of a line by the edition if and only if `etcs_document::read_line` reads them as
+/// this line.
 pub fn lines_agree()
     ensures { (bytes : List ℕ) (groups : List Aspects) (messages : List Message)
         → IsLineText bytes groups messages ↔ (line_of_text bytes ≡ Ok (groups, messages)) }
@@ -81,8 +88,8 @@ pub fn yes_agrees()
         → SaysYes bytes groups messages ↔ CheckSaysYes bytes groups messages }
 {}
 
-/// The rule of a finding holds at its place by the edition, F1 to F16, if and only if the parts of soundness hold
-/// that findings of `etcs_check::check` are about.
+/// The rule of a finding holds at its place by the edition, F1 to F16, if and only if the parts of soundness
+/// hold that findings of `etcs_check::check` are about.
 pub fn rules_agree()
     ensures { (groups : List Aspects) (messages : List Message) (f : Finding)
         → RuleHolds groups messages f ↔ HasParts groups messages f }
@@ -95,9 +102,37 @@ pub fn findings_agree()
         → AreFindings groups messages found ↔ (found ≡ findings groups messages) }
 {}
 
-/// A text is the report on bytes by the edition if and only if the bytes are a line, and the text is the report on
-/// the counts and findings that `etcs_document::check_in_order` takes of them.
+/// A text is the report on bytes by the edition if and only if the bytes are a line, and the text is the
+/// report on the counts and findings that `etcs_document::check_in_order` takes of them.
 pub fn reports_agree()
     ensures { (bytes text : List ℕ) → IsReport bytes text
         ↔ IsOkAnd (summary_of_text bytes) (λ s. text ≡ report_words s.0.0 s.0.1 s.1) }
+{}
+
+/// A line has a yes by the edition if and only if it has no finding by the edition.
+pub fn a_yes_has_no_finding()
+    ensures { (bytes : List ℕ) (groups : List Aspects) (messages : List Message)
+        → SaysYes bytes groups messages ↔ (IsLineText bytes groups messages × AreFindings groups messages []) }
+{}
+
+/// What is a telegram, a radio message or the document of a line by the edition has no reason to be refused,
+/// and everything else has one. `etcs_telegram::from_hex`, `etcs_radio::from_hex` and
+/// `etcs_document::read_line` return this reason, or that memory ran out.
+pub fn refusals_agree()
+    ensures telegrams { (text : List ℕ)
+        → ((t : Telegram) → IsTelegramText t text → ⊥) ↔ IsErr (telegram_of_text text) }
+    ensures messages { (text : List ℕ)
+        → ((m : Message) → IsMessageText m text → ⊥) ↔ IsErr (message_of_text text) }
+    ensures documents { (bytes : List ℕ)
+        → ((line : List Aspects × List Message) → IsLineText bytes line.0 line.1 → ⊥) ↔ IsErr (line_of_text bytes) }
+{}
+
+/// The bits up to the end of a fault decide it: no telegram of as many bits begins with them by the edition,
+/// and no radio message of as many bytes.
+pub fn a_fault_is_decided_by_its_bits()
+    ensures telegrams { (bits others : List Bool) (f : Fault) (t : Telegram) → read_telegram bits ≡ Err f
+        → length others ≡ length bits → take f.end others ≡ take f.end bits → IsTelegram t others → ⊥ }
+    ensures messages { (bytes others : List ℕ) (f : Fault) (m : Message) → read_message bytes ≡ Err f
+        → length others ≡ length bytes → take f.end (bits_of_bytes others) ≡ take f.end (bits_of_bytes bytes)
+        → IsMessage m others → ⊥ }
 {}

@@ -23,7 +23,7 @@ linked group before the missing one, has no kilometre or no direction. A group j
 within Q_LOCACC and `--tolerance` of that end. So is a group beyond the end that has the NID_BG of another group of the
 table. {one way}
 
-Usual cause. The number of the group was mistyped. Or the group got a new number and the link kept the old one. Or
+Usual cause. The number of the group was typed wrongly. Or the group got a new number and the link kept the old one. Or
 Q_NEWCOUNTRY and NID_C were forgotten at a border. If the table has another group at that place, the line names it with
 its identity. If F14 is found for that identity, this group might be the one with the wrong number.
 

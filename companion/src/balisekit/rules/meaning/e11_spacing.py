@@ -1,9 +1,10 @@
 """E11: spacing of balises.
 
-What it says. Neighbouring balises of a group are less than 2.3 m or more than 12 m apart by their kilometres, or the
-column `nominal` contradicts these. With a `--line-speed` above 180 km/h the least spacing is 3.0 m. One unit of the
-last decimal of the kilometres is allowed in either direction. The rule passes over a group whose balises all have the
-same kilometre (SUBSET-036 and SUBSET-040, installation of balise groups).
+What it says. Neighbouring balises of a group are less than 2.3 m or more than 12 m apart by their kilometres, or their
+order contradicts the column `nominal`. This column states whether the kilometres rise or fall in nominal direction.
+With a `--line-speed` above 180 km/h the least spacing is 3.0 m. One unit of the last decimal of the kilometres is
+allowed in either direction. The rule passes over a group whose balises all have the same kilometre (SUBSET-036 and
+SUBSET-040, installation of balise groups).
 
 Why it matters. At worst the train has a wrong position, because distances of the group count from its first balise.
 Balises that are too close disturb each other, so a train might miss one. A balise that is too far away is not taken for
@@ -17,8 +18,8 @@ exception, or if `--line-speed` is that of a faster track. The rule also assumes
 follow the track. They do not if they jump there, if they belong to something else, or if all or some of them are
 rounded coarsely.
 
-Usual cause. A kilometre was mistyped. Or a row belongs to another group. Or the balises were exchanged in the table, or
-the column `nominal` was filled in for the other direction.
+Usual cause. A kilometre was typed wrongly. Or a row belongs to another group. Or the balises were exchanged in the
+table, or the column `nominal` was filled in for the other direction.
 
 How to correct it. Correct the kilometre, the group of the row or the column `nominal`.
 

@@ -21,8 +21,8 @@ at a signal up to 200 m beyond its links. The rule also assumes that each author
 supervision an authority might end elsewhere. The same holds for a buffer stop, a board or a border, if no group of the
 table or of a packet 5 is within 50 m. {leaving} {points} {kilometres} {one way}
 
-Usual cause. A length was mistyped, or has a wrong Q_SCALE. Or a signal was moved, and not all groups in rear of it were
-changed.
+Usual cause. A length was typed wrongly, or has a wrong Q_SCALE. Or a signal was moved, and not all groups in rear of it
+were changed.
 
 How to correct it. Correct the sum of the lengths by the distance to the signal.
 

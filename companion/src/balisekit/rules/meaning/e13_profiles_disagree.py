@@ -1,11 +1,11 @@
 """E13: profiles that disagree.
 
-What it says. All aspects of a group and of the next one ahead state different V_STATIC, or gradients more than 5 ‰
-apart, on a stretch longer than `--tolerance` and rounding. No value of the one group then fits a value of the other.
-The next group ahead is on the same track, for the same way, and has a profile there. Groups with a refused telegram do
-not count. If packets 5 of the group in rear name the group ahead, only the aspects with these packets count.
-`--tolerance` is 1 m if it is not given. If a group differs from its neighbours on both sides, the remark is on this
-group (SUBSET-026, 3.11.3 and 3.11.12).
+What it says. In speeds or gradients no aspect of a group agrees with any aspect of the next group ahead, on a stretch
+longer than `--tolerance` and rounding. Speeds agree if V_STATIC is the same, and gradients agree if they are at most 5
+‰ apart. The next group ahead is on the same track, for the same way, and has a profile there. Groups with a refused
+telegram do not count. If packets 5 of the group in rear name the group ahead, only the aspects with these packets
+count. `--tolerance` is 1 m if it is not given. If a group differs from its neighbours on both sides, the remark is on
+this group (SUBSET-026, 3.11.3 and 3.11.12).
 
 Why it matters. At worst the train gets wrong information: it might go too fast, or brake too late on a slope. It goes
 by the profile that it got last, which might be the wrong one.

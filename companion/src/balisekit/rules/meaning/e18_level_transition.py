@@ -1,20 +1,22 @@
 """E18: level transition.
 
-What it says. Packets 41 for one level transition differ in its place or its levels, or none orders it at its place
-within the table. Packets of one track and way are compared if each is at most 500 m from the next one. Places may
-differ by `--tolerance` (else 1 m) and rounding, and M_LEVELTR and NID_NTC must be the same in the same order. The place
-is that of D_LEVELTR, or of the group if D_LEVELTR is 0 or 32,767 (now). Of several packets for now, the one that most
-others announce counts as right, or else the first along the way. If there is none for now, the most frequent place
-counts. A packet that repeats the order beyond the border agrees with it. A place needs an order only between the first
-and the last group of the track. The rule is silent if a group whose direction or place is unknown, or with a refused
-telegram, might have the order. The same holds if a group on another track, to which the packets 5 of the announcement
-lead, might have it. A packet for both directions with a distance is E5 (SUBSET-026, 5.10 and 7.4.2).
+What it says. The packets 41 for one level transition contradict each other, or no group orders the transition at the
+announced place. A packet 41 with D_LEVELTR 0 or 32,767 (now) is an order, and its place is that of its group. Any other
+one is an announcement, and D_LEVELTR gives the place. Packets for trains that run the same way on the same track belong
+to one transition if each place is at most 500 m from the next one. Places may differ by `--tolerance` (else 1 m) and
+rounding. M_LEVELTR and NID_NTC must be the same in the same order. If there are several orders, the one with the most
+announcements of its place counts as right, or else the first one that a train passes. If there is no order, the most
+frequent place counts. A later order with the same levels is not reported, because it repeats the first one. An order is
+only required between the first and the last group of the track. The rule is silent if the order might be in a group
+whose direction or place is unknown, or which has a refused telegram. It is also silent if the packets 5 of the
+announcement lead to another track, where the order might be. A packet for both directions with a distance is E5
+(SUBSET-026, 5.10 and 7.4.2).
 
 Why it matters. At worst the train gets wrong information. A driver acknowledges at one place, and the train changes its
-level at another. Or it goes on in a level whose trackside equipment has ended.
+level at another. Or it goes on in a level that the track there does not support.
 
-Example. Before (`examples/meaning/mistakes/E18.csv`): Signal 4 announces the level transition at km 16.750 (2250 m),
-and the group Border orders it at km 16.700. After: D_LEVELTR is 2,200 m.
+Example. Before (`examples/meaning/mistakes/E18.csv`): by D_LEVELTR 2,250 m Signal 4 announces the level transition at
+km 16.750, and the group Border orders it at km 16.700. After: D_LEVELTR is 2,200 m.
 
 When it is a false alarm. The rule assumes that all packets 41 within 500 m are for one border. There might be two
 borders, one of them on another route, or orders for trains that start there. It assumes that they have one place. A
@@ -23,7 +25,7 @@ border might differ on purpose. It assumes that a group of the table orders the 
 be the only order. Trains might also leave the track: they can run through a loop, or take a route to another track that
 no packet 5 shows. {kilometres} {missing}
 
-Usual cause. D_LEVELTR is mistyped, or did not follow a moved border. Or the border has no packet 41.
+Usual cause. D_LEVELTR was typed wrongly, or did not follow a moved border. Or the border has no packet 41.
 
 How to correct it. Correct each D_LEVELTR by the kilometre of the border. Put a packet 41 into the group at the border.
 

@@ -1,10 +1,12 @@
 """E19: gradients of both directions.
 
-What it says. On a stretch each gradient of one direction and each of the other add up to more than 1 ‰, or all go down
-by 3 ‰ for 1 km. Gradients are as each train meets them, so what is uphill for one direction is downhill for the other.
-A stretch up to `--tolerance` (else 1 m) and rounding does not count. Of each group without refused telegrams the
-longest profile counts. Of the groups of one way, the profile counts that contradicts the other way least. Groups of one
-way that disagree with each other are E13 only (SUBSET-026, 3.11.12).
+What it says. On a stretch the gradients of the two directions do not fit together: they add up to more than 1 ‰, or all
+go down. Gradients are as each train meets them. What is uphill for one direction is downhill for the other, so they
+should add up to 0. In the first case each gradient of one direction and each of the other add up to more than 1 ‰. This
+stretch is longer than `--tolerance` (else 1 m) and rounding. In the second case all of them go down by at least 3 ‰,
+for at least 1 km. Of each group without refused telegrams the longest profile counts. If several groups give gradients
+for one direction, the profile counts that contradicts the other direction least. If groups of one direction disagree
+with each other, that is E13 only (SUBSET-026, 3.11.12).
 
 Why it matters. At worst the train gets wrong information: it brakes too late, because it believes that it goes uphill.
 The braking curve is wrong by twice the gradient. If both directions go down, the urgency is lowest.

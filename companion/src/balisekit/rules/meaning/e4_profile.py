@@ -22,7 +22,7 @@ assumes that each element and category is needed. A tool might begin an element 
 with end marks.
 
 Usual cause. The elements were sorted wrongly, or one was entered twice. Or a distance was forgotten. Or an end mark is
-left from a shorter profile, or a value of the categories was mistyped.
+left from a shorter profile, or a value of the categories was typed wrongly.
 
 How to correct it. Correct or remove the wrong element by the profile of the track.
 

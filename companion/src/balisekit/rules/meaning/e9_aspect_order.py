@@ -1,17 +1,17 @@
 """E9: aspects in the wrong order.
 
 What it says. At this signal one proceed aspect leads as far as another one or farther, although it leads less far in
-most cases of the table. For example, yellow leads as far as green or farther. Most cases are at least three, and at
-least four of five. Proceed aspects have a V_MAIN above 0, and the two have different packets. A case is a group that
+most cases of the table. For example, yellow leads as far as green or farther. Most cases are at least three cases, and
+at least four of five. Proceed aspects have a V_MAIN above 0, and the two have different packets. A case is a group that
 has both aspects in one direction. The rule also reports an aspect with V_MAIN 0 if this name has a V_MAIN above 0 in
 most cases, and the reverse. Aspects with a refused telegram do not count. Authorities are equal if they differ by no
-more than `--tolerance` and the rounding of lengths (SUBSET-026, 3.8).
+more than `--tolerance` (else 1 m) and the rounding of lengths (SUBSET-026, 3.8).
 
 Why it matters. At worst the train gets wrong information. At yellow it gets the authority of green, and might run
 beyond a signal at danger. A red aspect with V_MAIN above 0 does not stop it. Authorities that are only equal have the
 lowest urgency.
 
-Example. Before (`examples/meaning/mistakes/E9.csv`): at Signal 3 "yellow" ends 3000 m from the group and "green" 1500
+Example. Before (`examples/meaning/mistakes/E9.csv`): at Signal 3 "yellow" ends 3,000 m from the group and "green" 1,500
 m, and in 5 of 6 cases "yellow" ends before "green". After: "yellow" ends 1,500 m from the group, and "green" 3,000 m.
 
 When it is a false alarm. The rule assumes that an aspect name means the same at each signal. That is not so if a signal

@@ -5,7 +5,7 @@ eight balises is shorter.
 
 Why it matters. To be looked at: pictures and sums of distances count from a wrong place.
 
-Usual cause. A kilometre was mistyped, or a row belongs to another group. The kilometres may also jump there.
+Usual cause. A kilometre was typed wrongly, or a row belongs to another group. The kilometres may also jump there.
 
 How to correct it. Correct the kilometre or the group.
 """

@@ -2,9 +2,9 @@
 
 What it says. A speed profile has a V_STATIC that is not the line speed of the plan, on a stretch longer than
 `--tolerance` (else 1 m) and rounding. Speeds for train categories are not compared, nor is what follows a packet 136.
-Beyond a `point` of the plan a train might have left the track, so nothing is compared there, unless a packet 5 shows
-that it stays. This packet must be of the same message. It must name a group of the track at or beyond the point, and
-none on another track before it (SUBSET-026, 7.4.2 and 7.5.1).
+Beyond a `point` of the plan a train might have left the track. The rule compares there only if a packet 5 of the same
+message shows that the train stays. To show this, the packet must name a group of the track at or beyond the point,
+before any group of another track (SUBSET-026, 7.4.2 and 7.5.1).
 
 Why it matters. At worst the train gets wrong information, and might run faster than the track allows. A speed that is
 lower than in the plan only slows trains.

@@ -2,9 +2,9 @@
 
 What it says. A gradient profile has another gradient than the plan, on a stretch longer than `--tolerance` (else 1 m)
 and rounding. Uphill is positive: by Q_GDIR as the train meets it, and in the plan by the way of the row. What follows a
-packet 136 is not compared. Beyond a `point` of the plan a train might have left the track, so nothing is compared
-there, unless a packet 5 shows that it stays. This packet must be of the same message. It must name a group of the track
-at or beyond the point, and none on another track before it (SUBSET-026, 7.4.2 and 7.5.1).
+packet 136 is not compared. Beyond a `point` of the plan a train might have left the track. The rule compares there only
+if a packet 5 of the same message shows that the train stays. To show this, the packet must name a group of the track at
+or beyond the point, before any group of another track (SUBSET-026, 7.4.2 and 7.5.1).
 
 Why it matters. At worst the train gets wrong information: it brakes too late if the gradient is less downhill than the
 track. A gradient that is more downhill makes it brake early.
