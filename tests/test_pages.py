@@ -59,7 +59,7 @@ def test_words(name):
     """Each word is English or explained in the glossary, apart from pages that are still to be rewritten."""
     if not all(path.exists() for path in readability.DICTIONARIES):
         pytest.skip("the words of pages (wamerican, wbritish)")
-    words = readability.unknown(PAGES[name])
+    words = readability.unknown(MADE.sub("", PAGES[name]))
     assert bool(words) == (name in WITH_OTHER_WORDS), words
 
 

@@ -40,14 +40,15 @@ def clauses_of(crate: str, name: str) -> Iterator[List[str]]:
 
 
 def laws() -> Iterator[Law]:
-    """The laws of the edition that definitions agree, in their order. Each such clause of one is a law by itself."""
+    """The laws that definitions of the edition agree with others, in their order. Each such clause is a law by itself."""
     text = (TOP / f"crates/{EDITION}/src/laws.rt").read_text("utf-8")
     for law in re.findall(r"(?m)^pub fn (\w+)\(\)", text):
         for clause, words, source in clauses_of(EDITION, law):
             left, is_one, right = words.partition("↔")
             short = [it for it in meant_in(left, source) if it in definitions() and it[0].startswith(EDITION)]
-            if is_one:
-                yield Law(law, clause, short, [it for it in meant_in(right, source) if it in definitions()])
+            others = [it for it in meant_in(right, source) if it in definitions()]
+            if is_one and not any(it[0].startswith(EDITION) for it in others):
+                yield Law(law, clause, short, others)
 
 
 def roots_of(calls: str, cell: str) -> Set[Key]:
