@@ -47,7 +47,7 @@ def numbers_in(text):
     """The numbers that a comment names: those that are read as spans with their words, and those that are not."""
     read, refused = [], []
     for clause in re.split(r"[;,:.] (?=\d)|; ", text.partition(": ")[2].replace(". At ", "; ").removeprefix("only ")):
-        found = re.match(r"(\d[\d,]*\d|\d)(?: (to|and|or) (\d[\d,]*\d|\d)\b)?,?(.*)", clause)
+        found = re.match(r"(?!\d+ bits\b)(\d[\d,]*\d|\d)(?: (to|and|or) (\d[\d,]*\d|\d)\b)?,?(.*)", clause)
         if found:
             first, last = (int(it.replace(",", "")) for it in (found[1], found[3] or found[1]))
             words = re.sub(r"^ (?:is |are |means )?|, is read$|\.$", "", found[4]) if first == last else ""
@@ -67,7 +67,12 @@ def names(variable):
     function = NUMBERING.get(variable)
     lines = re.findall(rf"(?m)^{function} \(?\w+\.(\w+).* = (.*)$", "\n".join(SPECS.values())) if function else []
     return {int(number) if number.isdigit() else number.count("inr"):
-            WORDS.get(name, re.sub("(?<=[a-z])(?=[A-Z])", " ", name).lower()) for name, number in lines}
+            word_of(name) for name, number in lines}
+
+
+def word_of(name):
+    """The words of a constructor."""
+    return WORDS.get(name, re.sub("(?<=[a-z])(?=[A-Z])", " ", name).lower())
 
 
 # ---- what is made

@@ -1,10 +1,14 @@
 """Compares the pages on assurance with what they name and count, and with what the program does."""
+import difflib
 import functools
 import re
 import sys
 
 import pytest
 
+from edition.definitions import closure, definitions, key_of, lines
+from edition.proofs import clauses_of, laws
+from from_specs import made
 from runner import TOP, crate_uses, program, run
 
 PROOFS, SAFETY, YES = ((TOP / f"docs/assurance/{name}.md").read_text("utf-8") for name in ("proofs", "safety", "yes"))
@@ -69,15 +73,35 @@ def defined(text):
     return "".join(part for part in parts if not re.match(r"(?:pub )?(?:(?:use|mod) |\S+ :\s)", part))
 
 
-def test_definitions():
-    """The page on proofs lists how many lines of definitions each crate has. No other one names those of lemmas."""
-    counts = {crate: defined(source(f"{crate}/specs/**/*.antt", "lemmas")).count("\n") for crate in crate_uses()}
-    counts["all"] = sum(counts.values())
-    listed = re.findall(r"(?m)^\| (\w+) \| ([\d,]+) \|$", PROOFS)
-    assert listed == [(name, f"{count:,}") for name, count in counts.items() if count]
-    others = defined(source("*/specs/**/*.antt", "lemmas")) + source("*/src/**/*.rt")
+@pytest.mark.parametrize("path, text", made().items(), ids=lambda it: getattr(it, "name", ""))
+def test_made(path, text):
+    """What pages take from definitions is what `scripts/from_specs.py` makes now."""
+    there = path.read_text("utf-8").splitlines() if path.exists() else []
+    assert not [*difflib.unified_diff(there, text.splitlines(), "there", "made", lineterm="", n=0)]
+
+
+def test_closures():
+    """Definitions are those that are no imports and no proofs. What one rests on is all that it names, and its own
+    lines. No other definition names those of lemmas."""
+    specs = source("*/specs/**/*.antt", "lemmas")
+    assert sum(it.lines for it in definitions().values() if not it.is_proof) == defined(specs).count("\n") > 3000
+    others = defined(specs) + source("*/src/**/*.rt")
     for name in re.findall(r"(?m)^abbrev (?:pub )?(\w+) :", source("*/specs/lemmas/**/*.antt")):
-        assert counts["all"] > 3000 and not re.search(rf"\b{name}\b", others), name
+        assert not re.search(rf"\b{name}\b", others), name
+    yes = {it.name for it in closure([key_of("SaysYes", "etcs_edition")])}
+    assert {"num", "header_fields", "IsLineText", "IsSoundLine", "is_modelled"} <= yes
+    assert not yes & {"IsViolated", "line_of_text", "program_output"}
+
+
+def test_laws_of_the_edition():
+    """Each law of the edition that definitions agree has definitions of the edition on one side only. A yes and the
+    findings rest on less than half of the lines there."""
+    for law in laws():
+        assert law.short and law.others and not [key for key in law.others if key[0].startswith("etcs_edition.")]
+        assert {key[0].partition(".")[0] for key in law.short} == {"etcs_edition"}
+    stated = [words for law in {law.name: law for law in laws()} for _, words, _ in clauses_of("etcs_edition", law)]
+    assert [words.count("↔") for words in stated] == [1] * len([*laws()])
+    assert {"yes_agrees", "findings_agree"} <= {law.name for law in laws() if 2 * lines(law.short) < lines(law.others)}
 
 
 def test_pins():
@@ -97,9 +121,13 @@ def test_yes():
     assert re.findall(r"(?m)^> Where the answer is yes, (.*)$", YES) == [sentence]
     begin = YES.partition("\n## ")[0].partition("If the answer is yes")[2].strip()
     assert begin and begin in (TOP / "README.md").read_text("utf-8")
-    record = re.search(r"(?ms)^pub record SaysYes .*?(?=\n\n)", source("etcs_document/specs/Verdict.antt"))
+    records = [key_of("SaysYes", crate) for crate in ("etcs_edition", "etcs_document")]
+    fields = [re.findall(r"(?m)^  pub (\w+) :", definitions()[key].text) for key in records]
     listed = re.findall(r"(?m)^- ((?:`\w+`(?:, )?)+): ", YES.partition("## The sentence")[2].partition("\n## ")[0])
-    assert re.findall(r"`(\w+)`", " ".join(listed)) == re.findall(r"(?m)^  pub (\w+) :", record[0])
+    assert re.findall(r"`(\w+)`", " ".join(listed)) == [*fields[0], *fields[1]]
+    (law,) = [it for it in laws() if f"law `{it.name}` of `etcs_edition`" in YES]
+    assert [*law.short, *law.others] == records
+    assert all(f"`{definitions()[key].path.relative_to(TOP)}`" in YES for key in records)
 
 
 def test_premises():
@@ -110,6 +138,7 @@ def test_premises():
     wanted = {"The definitions": "definitions", "The toolchain": "toolchain", "The contracts of libraries": "libraries",
               "The C library, the operating system and the machine": "c library, system and machine",
               "`main`": "`main`", "Whoever wrote the clone": "whoever made your clone"}
+    assert "memory" in premises and "memory" in PROOFS.partition("## What is proved")[2].partition("\n## ")[0].lower()
     assert heads == [*wanted] and all(words in premises for words in wanted.values()), heads
 
 

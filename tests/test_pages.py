@@ -7,6 +7,7 @@ import shutil
 import pytest
 
 import readability
+from edition.definitions import key_of, lines
 from hostile import GROUPS, STACK
 from runner import TOP, Answer, crate_uses, run
 from variables.table import read_rows
@@ -24,6 +25,9 @@ NOT_COUNTED = ("THIRD-PARTY.md", "docs/variables.md")
 PAGES = {name: path.read_text("utf-8") for pattern in ("*.md", "dist/**/*.md", "docs/**/*.md", "examples/**/*.md")
          for path in sorted(TOP.glob(pattern)) if (name := str(path.relative_to(TOP))) not in NOT_COUNTED}
 FENCED = readability.FENCED
+# Parts that scripts/from_specs.py makes have tables and the sentences of other files.
+MADE = re.compile(r"(?s)<!-- (\w+) -->\n.*?<!-- /\1 -->\n")
+YES, FOUND = (key_of(name, "etcs_edition") for name in ("SaysYes", "AreFindings"))
 SAFETY, PROOFS = "docs/assurance/safety.md", "docs/assurance/proofs.md"
 TESTING, ARCHITECTURE = "docs/contributing/testing.md", "docs/contributing/architecture.md"
 
@@ -38,14 +42,14 @@ def prose(text):
 def test_sentences(name):
     """No sentence is too long."""
     ends = r"(?<=[.!?])(?<!e\.g\.)(?<!i\.e\.)[*)]*\s+"
-    sentences = [sentence for part in prose(PAGES[name]) for sentence in re.split(ends, part)]
+    sentences = [sentence for part in prose(MADE.sub("", PAGES[name])) for sentence in re.split(ends, part)]
     assert [sentence for sentence in sentences if len(sentence.split()) > LONGEST] == []
 
 
 @pytest.mark.parametrize("name", PAGES)
 def test_lengths_of_sentences(name):
     """At most one of ten sentences is short and one of 33 long, apart from pages that are still to be rewritten."""
-    shares = readability.of_page(PAGES[name])
+    shares = readability.of_page(MADE.sub("", PAGES[name]))
     odd = [it for it in shares.sentences if not readability.SHORT <= readability.words(it) <= readability.LONG]
     assert shares.is_readable == (name not in TO_REWRITE), odd
 
@@ -55,7 +59,7 @@ def test_words(name):
     """Each word is English or explained in the glossary, apart from pages that are still to be rewritten."""
     if not all(path.exists() for path in readability.DICTIONARIES):
         pytest.skip("the words of pages (wamerican, wbritish)")
-    words = readability.unknown(PAGES[name])
+    words = readability.unknown(MADE.sub("", PAGES[name]))
     assert bool(words) == (name in WITH_OTHER_WORDS), words
 
 
@@ -105,11 +109,8 @@ def numbers():
                 (ARCHITECTURE, "`check` of {} sound groups", f"{GROUPS:,}"), (ARCHITECTURE, "{} KiB of stack", STACK),
                 (PROOFS, r"\({} edits\)", f"{named:,}"), (PROOFS, "the {} in `must-fail/`", sum(edits)),
                 (SAFETY, "the {} of these rows", len(doubts)),
+                (SAFETY, "{} lines for a yes", lines([YES])), (SAFETY, "{} with the findings", lines([YES, FOUND])),
                 *((SAFETY, f"the {{}} rows `{kind}`", kinds.count(kind)) for kind in ("rule", "word")))
-    for path in TOP.glob("crates/*/specs/*.antt"):
-        name = f"{path.parts[-3]}/{path.name}"
-        if f"| `{name}` |" in PAGES[PROOFS]:
-            yield PROOFS, rf"`{name}` \| {{}} \|", path.read_text("utf-8").count("\n")
 
 
 def test_numbers():

@@ -7,9 +7,10 @@ import re
 import pytest
 
 from hostile import CHECK, DECODE, DECODE_RADIO, Job, shared
-from runner import blocks
+from runner import TOP, blocks
 from balisekit.etcs.layout import bits_of, message_fields, telegram_fields
-from from_trace import FINDINGS, NUMBERING, about, made, names, numbers_in, unit_in
+from edition.wire import cited, layouts, sections
+from from_trace import FINDINGS, NUMBERING, about, made, names, numbers_in, unit_in, word_of
 import records
 from variables.page import raw_rows
 from variables.table import COUNTED, Row, read_rows, rows_of
@@ -90,6 +91,100 @@ def test_comments(row):
         assert text.split()[0] == row.bits and unit_in(text) in ("", row.unit) and {*others} <= {*row.refused}
         for first, last, words in read if row.numbers != COUNTED else ():
             assert first in meanings and last in [it[1] for it in row.spans] and words in ("", meanings[first]), text
+
+
+def differences(rows, fields):
+    """What differs between the rows of a layout and the fields that the edition lists for it, in their order."""
+    listed = [it._replace(variable=name) for it in fields for name in it.variable.split(" or ")]
+    if [it.variable for it in rows] != [it.variable for it in listed]:
+        return ["the order of the variables"]
+    either = {name for it in fields for name in it.variable.split(" or ") if " or " in it.variable}
+    found, before = [], 0
+    for row, it in zip(rows, listed):
+        when = [*it.when] if it.when else ["", ()]
+        is_end = row.fault == "the end mark" and it.only is None  # (255 is no packet)
+        numbers = [*row.spans] if not is_end else [(0, 255, "")]
+        found += [f"{row.variable}: {what}" for what, is_same in (
+            ("bits", row.width == it.width), ("counted", (it.counted is not None) == (row.fault == "length")),
+            ("its own bits", not it.counted or it.counted == before + it.width),
+            ("least", row.numbers == COUNTED or it.counted is None or row.spans[0][0] == it.counted),
+            ("condition", row.variable in either or [row.condition[0], tuple(row.condition[1])] == when),
+            ("numbers", it.counted is not None or row.variable == "body" or
+             (", " in row.layouts and it.only is not None and any(low <= it.only <= high for low, high, _ in numbers))
+             or joined(numbers) == it.numbers)) if not is_same]
+        before += it.width
+    return found
+
+
+def joined(found):
+    """The spans of a row without their meanings: neighbours are one."""
+    spans = []
+    for first, last, *_ in found:
+        spans[-1:] = [(spans[-1][0], last)] if spans and spans[-1][1] + 1 == first else [*spans[-1:], (first, last)]
+    return spans
+
+
+@pytest.mark.parametrize("name", [name for name, own in LAYOUTS.items() if own])
+def test_edition(name):
+    """The reading edition has the rows of each layout: variables in their order, widths, numbers and conditions. A row
+    that is changed, moved or missing is noticed."""
+    rows, fields = LAYOUTS[name], layouts()[name]
+    assert differences(rows, fields) == []
+    for at, row in enumerate(rows):
+        assert differences([*rows[:at], *rows[at + 1:]], fields)
+        assert differences([*rows[:at], row._replace(bits=str(row.width + 1)), *rows[at + 1:]], fields)
+        assert differences([*rows[:at], row._replace(variable="N_OTHER"), *rows[at + 1:]], fields)
+    assert differences([*rows[1:], rows[0]], fields)
+
+
+def test_numbers_of_the_edition():
+    """Other spare numbers and other conditions are noticed, and each number of a packet or message has its layout."""
+    changes = (("header", "M_DUP", {"numbers": "0; 1"}), ("packet 27", "V_STATIC", {"numbers": "0 to 120"}),
+               ("packet 12", "V_RELEASEDP", {"numbers": "0 to 120; 125 to 127"}), ("packet 5", "NID_C", {"when": ""}),
+               ("train packet 1", "L_TRAININT", {"when": "Q_LENGTH 1"}))
+    for name, variable, change in changes:
+        rows = [it._replace(**change) if it.variable == variable else it for it in LAYOUTS[name]]
+        assert differences(rows, layouts()[name]) != [], variable
+    assert {*layouts()} == {name for name, own in LAYOUTS.items() if own}
+    (numbers,) = {it.numbers for it in VARIABLES if it.variable == "NID_MESSAGE"}
+    assert [first for first, _, _ in Row(numbers=numbers).spans] == [3, 136]
+    telegram = (TOP / "crates/etcs_edition/specs/Telegram.antt").read_text("utf-8")
+    assert re.search(r"(?m)^telegram_fields t = .*\+\+ any_number 8 255 ∷ \[\]$", telegram)
+
+
+@pytest.mark.parametrize("variable, function", [
+    ("M_VERSION", "version_field"), ("M_DUP", "dup_field"), ("Q_SCALE", "scale_field"), ("Q_DIR", "dir_field"),
+    ("Q_DIRLRBG", "train3_field"), ("Q_DIRTRAIN", "train3_field"), ("M_LEVELTR", "level_fields"),
+    ("M_LEVEL", "level_fields")])
+def test_names_of_numbers_of_the_edition(variable, function):
+    """The names that the edition gives to numbers are the meanings in the table."""
+    text = (TOP / "crates/etcs_edition/specs/Variables.antt").read_text("utf-8")
+    found = re.findall(rf"(?m)^{function} \(?\w+\.(\w+).*? = any_number \d (\d+)", text)
+    (row,) = {(it.variable, it.numbers): it for it in VARIABLES if it.variable == variable}.values()
+    assert [int(number) for _, number in found] == [first for first, _, _ in row.spans]
+    for (name, _), (_, _, meaning) in zip(found, row.spans):
+        assert re.search(rf"\b{re.escape(word_of(name))}\b", meaning), (name, meaning)
+
+
+def test_words_of_the_edition():
+    """The parser of layouts knows what these definitions of the wire mean."""
+    wire = (TOP / "crates/etcs_edition/specs/Wire.antt").read_text("utf-8")
+    for text in ("bit b = any_number 1 (if b then 1 else 0)", "qualified part None = bit false ∷ []",
+                 "qualified part (Some x) = bit true ∷ part x", "up_to w last n = allowed_if w n (nat_le n last)",
+                 "iterated part xs = any_number 5 (length xs) ∷ flat_map part xs",
+                 "any_number w n = record { width = w; number = n; allowed = true }",
+                 "allowed_if w n allowed = record { width = w; number = n; allowed = allowed }"):
+        assert f"\n{text}\n" in wire
+
+
+@pytest.mark.parametrize("row", [it for it in ROWS if it.layouts in LAYOUTS and not it.variable],
+                         ids=lambda it: it.layouts)
+def test_sections_of_the_edition(row):
+    """The edition cites the sections of the row of each layout, beside the layout or for all layouts of the file."""
+    own, others = cited(row.layouts)
+    wanted = sections(row.section)
+    assert own or row.layouts.endswith("other")
+    assert {*wanted} <= {*own, *others} and all(it in wanted or it.rpartition(".")[0] in wanted for it in own)
 
 
 def test_rules_and_words():

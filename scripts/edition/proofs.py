@@ -1,0 +1,112 @@
+"""Parts of docs/assurance/proofs.md that are made of crates/*/specs, each between `<!-- PART -->` and `<!-- /PART -->`:
+
+- `laws`: the laws of the reading edition, with the lines on which each of both sides rests
+- `promises`: the lines on which each promise of the page rests, and those on which none does
+- `order`: the files of the reading edition in the order in which they can be read
+"""
+from __future__ import annotations
+
+import re
+from typing import Iterator, List, NamedTuple, Set
+
+from edition.definitions import TOP, Key, closure, conditions_of, definitions, in_order, key_of, lines, meant_in
+from variables.page import table
+
+PAGE = TOP / "docs/assurance/proofs.md"
+EDITION = "etcs_edition"
+PART = re.compile(r"(?s)(<!-- (laws|promises|order) -->\n).*?(?=<!-- /\2 -->\n)")
+PROMISE = re.compile(r"(?m)^\| \*\*([\w ]+)\.\*\* .* \| (.*) \| (.*) \|$")
+CALL = re.compile(r"`(\w+)::(?:\w+::)?(\w+)`(?: \(((?:`\w+`(?:, )?)+)\))?")
+DEFINED = re.compile(r"`(\w+)/(\w+\.antt)`: ((?:`\w+`(?:, )?)+)")
+CLAUSE = re.compile(r"(?s)\bensures (\w*) ?\{(.*?)\}\n")
+
+
+class Law(NamedTuple):
+    """A law of the edition: the definitions of the edition that it names, and those that they agree with."""
+
+    name: str
+    clause: str
+    short: List[Key]
+    others: List[Key]
+
+
+def clauses_of(crate: str, name: str) -> Iterator[List[str]]:
+    """The name, the words and the source of each clause that a function ensures. A law has one without a name."""
+    for path in sorted(TOP.glob(f"crates/{crate}/src/**/*.rt")):
+        text = path.read_text("utf-8")
+        head = r"^ *(?:pub )?(?:extern \"C\" )?(?:final )?fn"
+        for function in re.findall(rf"(?ms){head} {name}\b.*?(?={head} |\Z)", text):
+            yield from ([clause, words, text] for clause, words in CLAUSE.findall(function))
+
+
+def laws() -> Iterator[Law]:
+    """The laws that definitions of the edition agree with others, in their order. Each such clause is a law by itself."""
+    text = (TOP / f"crates/{EDITION}/src/laws.rt").read_text("utf-8")
+    for law in re.findall(r"(?m)^pub fn (\w+)\(\)", text):
+        for clause, words, source in clauses_of(EDITION, law):
+            left, is_one, right = words.partition("↔")
+            short = [it for it in meant_in(left, source) if it in definitions() and it[0].startswith(EDITION)]
+            others = [it for it in meant_in(right, source) if it in definitions()]
+            if is_one and not any(it[0].startswith(EDITION) for it in others):
+                yield Law(law, clause, short, others)
+
+
+def roots_of(calls: str, cell: str) -> Set[Key]:
+    """The definitions that a promise names, and those that the clauses and laws name which it cites."""
+    found = {key_of(name, crate, file) for crate, file, names in DEFINED.findall(cell)
+             for name in re.findall(r"\w+", names)}
+    for crate, name, cited in CALL.findall(calls):
+        wanted = re.findall(r"\w+", cited) or [""]
+        found.update(key for clause, words, source in clauses_of(crate, name) if clause in wanted
+                     for key in meant_in(words, source))
+    return found
+
+
+def laws_part() -> str:
+    """A row for each law, and one for a yes together with the findings."""
+    every = [*laws()]
+    both = [it for it in every if it.name in ("yes_agrees", "findings_agree")]
+    together = Law("both", "", [key for it in both for key in it.short], [key for it in both for key in it.others])
+    rows = []
+    for law in (*every, together):
+        stated = both if law is together else [law]
+        cited = ", ".join(f"`{it.name}`{f' (`{it.clause}`)' * bool(it.clause)}" for it in stated)
+        short = ", ".join(f"`{it}`" for _, it in law.short)
+        rows.append([short, cited, f"{lines(law.short):,}", f"{lines(law.others):,}"])
+    (yes,) = [it.short for it in every if it.name == "yes_agrees"]
+    words = (f"Types of `src` that these definitions name have conditions, which these counts leave out: the number "
+             f"and the size of a packet that is kept as bits (`is_kept` of `etcs_profile` and `etcs_radio`). With the "
+             f"definitions of these conditions a yes rests on {lines([*yes, *conditions_of(yes)]):,} lines.\n\n")
+    assert {name for _, name in conditions_of(yes)} == {"is_kept"}, conditions_of(yes)
+    return table(["Definition of the edition", "Law", "Lines", "Lines without it"], rows) + words
+
+
+def promises_part(text: str) -> str:
+    """A row for each promise of the page, and how many lines serve none of them."""
+    roots = {title: roots_of(calls, cell) for title, calls, cell in PROMISE.findall(text)}
+    reached = {it.key for keys in (*roots.values(), *(law.short for law in laws())) for it in closure(keys)}
+    every = [it for it in definitions().values() if not it.is_proof]
+    inner = [it for it in every if it.key not in reached]
+    rows = [[title, f"{lines(keys):,}"] for title, keys in roots.items()]
+    return table(["Promise", "Lines"], rows) + (
+        f"All `specs` together have {sum(it.lines for it in every):,} lines of definitions. No promise of this page "
+        f"rests on {sum(it.lines for it in inner):,} of these lines.\n\n")
+
+
+def order_part() -> str:
+    """A row for each file of the reading order."""
+    rows, count = [], 0
+    for path, own in in_order([key for law in laws() for key in law.short]):
+        size = sum(it.lines for it in own)
+        count += size
+        link = f"[{path.parts[-3]}/{path.name}](../../{path.relative_to(TOP)})"
+        rows.append([link, str(size), f"`{', '.join(f'{it.name} {it.line}' for it in own)}`"])
+    return table(["File", "Lines", "Definitions, each with its line of the file"], [*rows, ["all", f"{count:,}", ""]])
+
+
+def proofs_page() -> str:
+    """The page with its parts as they are made now."""
+    text = PAGE.read_text("utf-8")
+    parts = {"laws": laws_part(), "promises": promises_part(text), "order": order_part()}
+    assert {name for _, name in PART.findall(text)} == {*parts}, "the page lacks a part"
+    return PART.sub(lambda it: f"{it[1]}\n{parts[it[2]]}", text)
