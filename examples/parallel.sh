@@ -138,7 +138,10 @@ check_tables() (
         [ "$word" != -- ] || { options=("${@:1:place}") && shift $((place + 1)) && break; }
         place=$((place + 1))
     done
-    for word; do [[ $word == *.accepted.csv ]] || tables+=("$word"); done
+    for word; do
+        stem=${word%.accepted.csv}
+        [[ $word != *.accepted.csv || -f $word && ! ( -f $stem || -f $stem.csv || -f $stem.xlsx ) ]] && tables+=("$word")
+    done
     [ ${#tables[@]} -gt 0 ] || { echo 'check_tables FOLDER [OPTION.. --] TABLE..' >&2; exit 3; }
     if ! mkdir -p "$folder" || ! folder=$(cd "$folder" && pwd) || [ -n "$(ls -A "$folder")" ]; then
         echo "check_tables: $folder is not empty, or cannot be written" >&2

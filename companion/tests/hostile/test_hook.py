@@ -96,6 +96,22 @@ def test_accepted_findings_beside_a_name(tmp_path: Path, tmp_path_factory: pytes
     ]
 
 
+def test_accepted_findings_without_a_table(tmp_path: Path, tmp_path_factory: pytest.TempPathFactory) -> None:
+    """A table can have such a name. Files of accepted findings are passed over if their table is there."""
+    for name in ("a.accepted.csv", "b.csv", "b.accepted.csv", "c.xlsx", "c.accepted.csv", "d", "d.accepted.csv"):
+        put(tmp_path, name, SOUND)
+    words = (*arguments(), *(f"{name}.accepted.csv" for name in "abcd"))
+    assert calls(tmp_path_factory.mktemp("hook"), tmp_path, *words) == [["check", "--", "./a.accepted.csv"]]
+
+
+def test_names_of_tables_in_capitals() -> None:
+    """Other systems write `LINE.CSV`, and pre-commit compares a name with the expression as it is."""
+    found = re.search(r"(?m)^  files: (.*)$", HOOKS.read_text("utf-8"))
+    assert found
+    assert all(re.search(found[1], name) for name in ("a.csv", "x/LINE.CSV", "Line.Xlsx"))
+    assert not any(re.search(found[1], name) for name in ("csv", "a.csv.txt", "a.xls"))
+
+
 @pytest.mark.parametrize("words", [("--program=x/evil.csv",), ("--", "--", "--program=x/evil.csv")])
 def test_without_the_end_of_options(words: Sequence[str], tmp_path: Path) -> None:
     """A user who overrides `args` without `--` gets a refusal with the reason, and no option from a name."""
