@@ -70,6 +70,28 @@ def test_at_fifty_moments(number: signal.Signals, tmp_path: Path) -> None:
     assert seen[0] == -number
 
 
+ENDED_IMPORT = """
+import os, signal, sys
+from balisekit.cli.main import main
+
+class Finder:
+    def find_spec(self, name, *_):
+        if name == "numbers":  # (which decimal imports while it is imported itself)
+            os.kill(os.getpid(), signal.SIGTERM)
+
+assert "numbers" not in sys.modules
+sys.meta_path.insert(0, Finder())
+sys.exit(main(["check", "t.csv"]))
+"""
+
+
+def test_a_signal_while_modules_are_imported() -> None:
+    """It waits for them. The library of decimal writes a warning if it is begun, left and begun again."""
+    environment = {**os.environ, "PYTHONPATH": str(TOP / "companion" / "src")}
+    ended = subprocess.run([sys.executable, "-c", ENDED_IMPORT], env=environment, capture_output=True)
+    assert (ended.returncode, ended.stderr) == (128 + signal.SIGTERM, b"balisekit: ended by SIGTERM\n")
+
+
 def test_a_signal_in_a_destructor(capsys: pytest.CaptureFixture[str]) -> None:
     """Python raises nothing from there, and would write a traceback. The command ends by it before its outputs."""
     with pytest.raises(Terminated), Signals(False) as signals:

@@ -14,7 +14,7 @@ from typing import Any, ContextManager, Iterator, List, NoReturn, Optional, Sequ
 
 from balisekit import __version__
 from balisekit.cli.signals import Signals
-from balisekit.errors import KitError, NoAnswer, TableError, Terminated
+from balisekit.errors import KitError, NoAnswer, TableError, Terminated, held
 
 COMMANDS = {
     "check": "check the telegrams, groups and messages of a table",
@@ -105,7 +105,8 @@ def parser(arguments: Sequence[str]) -> argparse.ArgumentParser:
     for name in [named] if named in COMMANDS and named == arguments[0] else COMMANDS:
         command = commands.add_parser(name, help=COMMANDS[name], description=COMMANDS[name])
         if name == named:
-            module = import_module(f"balisekit.cli.{name}")
+            with held():  # (if its import is interrupted and begun again, decimal writes a warning)
+                module = import_module(f"balisekit.cli.{name}")
             module.add_options(command)
             _add_debug(command)
             command.set_defaults(run=module.run)
