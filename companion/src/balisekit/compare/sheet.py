@@ -13,7 +13,7 @@ from balisekit.etcs.places import places_of_rows
 from balisekit.etcs.variables import Form
 from balisekit.rules.checking import Checked
 from balisekit.rules.line import with_directions
-from balisekit.tables.expected import CONTENTS, Expected
+from balisekit.tables.expected import Expected
 from balisekit.tables.model import Group, Row
 from balisekit.tables.names import NAMED, kilometre, listed
 
@@ -96,8 +96,6 @@ class Compared:
     """The rows of the sheet."""
     refused: int = 0
     """Those about telegrams that the program has refused."""
-    without: int = 0
-    """Those without raw and value, of which only other cells can be compared."""
     variables: int = 0
     """The variables of the table."""
     seen: int = 0
@@ -151,7 +149,6 @@ def compare(checked: Checked, expected: Expected) -> Compared:
     telegrams = _Telegrams(sheet, list(expected.places))
     for number, cells in expected.rows():
         compared.rows += 1
-        compared.without += not any(cells.get(name) for name in CONTENTS)
         compared.differences += _compare_row(telegrams, compared, number, cells)
     compared.seen = sum(map(len, telegrams.seen.values()))
     compared.variables = sum(1 for _ in sheet.all())

@@ -9,7 +9,7 @@ from balisekit.present.refusals import lacking
 from balisekit.rules.checking import Checked
 from balisekit.rules.entries import Entry
 from balisekit.rules.families import Outcome
-from balisekit.tables.names import clean, counted, describe_balise, quoted
+from balisekit.tables.names import clean, describe_balise, quoted
 
 NUMBERS = ("balise", "raw", "value")
 """The columns whose numbers are stored as numbers in an .xlsx."""
@@ -55,7 +55,6 @@ def last_line(checked: Checked, compared: Compared) -> str:
     parts = lacking(checked)
     parts += [f"{compared.refused} rows of the sheet about them not compared"] if compared.refused else []
     said = f"differences {count}; compared: {compared.rows - compared.refused} rows of {path}"
-    said += f"; {counted(compared.without, 'row')} of the sheet without raw and value" if compared.without else ""
     left = compared.variables - compared.seen
     said += f"; not in the sheet: {left} of {compared.variables} variables" if left else ""
     return f"INCOMPLETE: {', '.join(parts)}; {said}" if parts else said

@@ -13,8 +13,7 @@ from balisekit.tables.cells import ERROR, Sheet, kind_and_text
 from balisekit.tables.headings import Headings
 from balisekit.tables.reader import head_of
 
-CONTENTS = ("raw", "value")
-ONE_OF = (("group", "identity"), CONTENTS)
+ONE_OF = (("group", "identity"), ("raw", "value"))
 """A sheet needs one of each of these."""
 NO_VALUE = "neither raw nor value: there is nothing to compare"
 OTHER_KINDS = ("date", "truth value")
@@ -55,12 +54,10 @@ class Expected:
         return any(kind_and_text(row[place])[1].strip() for place in places if place < len(row))
 
     def look_at(self) -> None:
-        """TableErrors is raised for cells that cannot be compared, and TableError if there is no row or no content."""
+        """TableErrors is raised for cells that cannot be compared, and TableError if there is no row."""
         faults: List[TableError] = []
         row: List[str] = []
-        contents, has_content = [self.places[name] for name in CONTENTS if name in self.places], False
         for number, row in self._filled():
-            has_content = has_content or any(row[place].strip() for place in contents if place < len(row))
             for name, place in self.places.items():
                 why = _fault(name, row[place] if place < len(row) else "")
                 faults += [TableError(why, number, name)] if why else []
@@ -69,8 +66,6 @@ class Expected:
             raise TableErrors(faults)
         if not row:
             raise TableError("the sheet has no row below its heading")
-        if not has_content:
-            raise TableError(f"no row has something in the column {' or '.join(CONTENTS)}: there is nothing to compare")
 
 
 def read(path: str, columns: Optional[str] = None) -> Expected:
