@@ -94,7 +94,10 @@ check_documents() (
     # shellcheck disable=SC2016
     printf '%s\0' "$@" |
         parallel -0 -k --tag --joblog "$log" '[ -r {} ] || exit 3; "$BALISECHECK" check <{}' | cat
-    status_of_parts "$log" 0 $# "${PIPESTATUS[@]:1}"
+    ended=("${PIPESTATUS[@]:1}")
+    # A report has a line at least, so a program that writes none has not answered.
+    awk -F '\t' 'NR > 1 && $6 == 0 && $7 == 0 { exit 3 }' "$log" || exit
+    status_of_parts "$log" 0 $# "${ended[@]}"
 )
 
 # run_in_blocks SIZE FILE COMMAND WORD..: what the command writes for each block of whole lines of the file, in the order
