@@ -51,9 +51,8 @@ def read(
 ) -> Table:
     """The table of this file. TableError or TableErrors is raised if it cannot be read.
 
-    `sheet` names the sheet of an .xlsx, and `columns` a file with headings of the user's own. With `fill_merged` all
-    cells of a merged area have the value of its first cell. `skip_columns` are the headings of columns that are not to
-    be read, even if they have telegrams.
+    `sheet` is one of an .xlsx, `columns` a file with headings of the user's own. With `fill_merged` all cells of a
+    merged area have the value of its first cell. `skip_columns` are headings of columns that are not to be read.
     """
     headings = own_headings.of_table(path, columns)
     file = inputs.read(path)
@@ -74,13 +73,13 @@ def read(
             grouped = groups_of(rows, by_position, place + 1)
         except (TableError, TableErrors) as error:
             raise TableErrors([*_hints(passed_over, meant, place, named), *error.faults]) from error
-    about = path, file.sha256, cells.encoding, cells.separator
     not_judged = beside.of_columns(cells, place, places, in_columns, skip_columns)
     account = beside.account(cells, [row.number for row in rows], passed_over, not_judged)
-    of_heading = _notes_on_heading(place, headings.used(cells.rows[place]), named)
+    of_heading = *_notes_on_heading(place, headings.used(cells.rows[place]), named), *not_there
     of_file = *cells.notes, *own_headings.not_read(path, columns)
-    notes = (*of_file, *of_heading, *not_there, *([BY_POSITION] if by_position else []), *grouped.notes)
-    return Table(*about, passed_over, grouped.rows, grouped.groups, account, notes, meant)
+    notes = (*of_file, *of_heading, *([BY_POSITION] if by_position else []), *grouped.notes)
+    about = path, file.sha256, cells.encoding, cells.separator, passed_over
+    return Table(*about, grouped.rows, grouped.groups, account, notes, meant)
 
 
 def _hints(passed_over: Sequence[str], meant: Sequence[str], place: int, named: bool) -> List[TableError]:
