@@ -48,5 +48,10 @@ def test_what_is_no_file(kind: str, why: str, run: Run, tmp_path: Path) -> None:
     """It may state the line, so it is not passed over without a word."""
     path, place = _beside(tmp_path, ""), tmp_path / "balisekit.toml"
     place.unlink()
-    {"link": lambda: place.symlink_to("gone"), "pipe": lambda: os.mkfifo(place), "folder": place.mkdir}[kind]()
+    if kind == "link":
+        place.symlink_to("gone")
+    elif kind == "pipe":
+        os.mkfifo(place)
+    else:
+        place.mkdir()
     assert run("check", path) == (2, [], [f"balisekit: {place}: {why}"])

@@ -4,7 +4,6 @@ from __future__ import annotations
 import signal
 import sys
 import threading
-from importlib import import_module
 from typing import Any, Dict, Optional
 
 from balisekit.errors import Terminated
@@ -27,8 +26,6 @@ class Signals:
 
     def __enter__(self) -> Signals:
         if threading.current_thread() is threading.main_thread():
-            # (if a signal ends the import of this module, its library writes a message to standard error)
-            import_module("decimal")
             self._before = {number: signal.getsignal(number) for number in NUMBERS}
             sys.unraisablehook = self._unraisable
             self._handle(self._terminate)

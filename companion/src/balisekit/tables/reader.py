@@ -51,8 +51,9 @@ def read(
 ) -> Table:
     """The table of this file. TableError or TableErrors is raised if it cannot be read.
 
-    `sheet` is one of an .xlsx, `columns` a file with headings of the user's own. With `fill_merged` all cells of a
-    merged area have the value of its first cell. `skip_columns` are headings of columns that are not to be read.
+    `sheet` names the sheet of an .xlsx, and `columns` a file with headings of the user's own. With `fill_merged` all
+    cells of a merged area have the value of its first cell. `skip_columns` are the headings of columns that are not to
+    be read, even if they have telegrams.
     """
     headings = own_headings.of_table(path, columns)
     file = inputs.read(path)
@@ -61,9 +62,7 @@ def read(
         place, places = head_of(cells, headings)
         not_there = beside.skip(cells.rows[place], places, skip_columns, place + 1)
         begin = end_of_heading(place + 1, cells.merged, places.values())
-        named = _has_names(cells, place, places)
-        if named:
-            places["name"] = places.pop("balise")
+        named = _take_names(cells, place, places)
         passed_over = _passed_over(cells, place, places)
         meant = tuple(_meant(name, places) for name in passed_over[:COMPARED])
         try:
@@ -73,13 +72,13 @@ def read(
             grouped = groups_of(rows, by_position, place + 1)
         except (TableError, TableErrors) as error:
             raise TableErrors([*_hints(passed_over, meant, place, named), *error.faults]) from error
+    about = path, file.sha256, cells.encoding, cells.separator
     not_judged = beside.of_columns(cells, place, places, in_columns, skip_columns)
     account = beside.account(cells, [row.number for row in rows], passed_over, not_judged)
-    of_heading = *_notes_on_heading(place, headings.used(cells.rows[place]), named), *not_there
-    of_file = *cells.notes, *own_headings.not_read(path, columns)
-    notes = (*of_file, *of_heading, *([BY_POSITION] if by_position else []), *grouped.notes)
-    about = path, file.sha256, cells.encoding, cells.separator, passed_over
-    return Table(*about, grouped.rows, grouped.groups, account, notes, meant)
+    of_heading = _notes_on_heading(place, headings.used(cells.rows[place]), named)
+    of_file, ordered = (*cells.notes, *own_headings.not_read(path, columns)), [BY_POSITION] if by_position else []
+    notes = (*of_file, *of_heading, *not_there, *ordered, *grouped.notes)
+    return Table(*about, passed_over, grouped.rows, grouped.groups, account, notes, meant)
 
 
 def _hints(passed_over: Sequence[str], meant: Sequence[str], place: int, named: bool) -> List[TableError]:
@@ -129,6 +128,14 @@ def _notes_on_heading(place: int, own: List[str], named: bool) -> List[str]:
     above = f"the {place} rows above it are" if place > 1 else "row 1 is"
     passed_over = [f"the headings are in row {place + 1}: {above} passed over"] if place else []
     return [*own, *passed_over, *([NAMES] if named else [])]
+
+
+def _take_names(sheet: Sheet, place: int, places: Dict[str, int]) -> bool:
+    """Whether the column `balise` has names. Then it is the column `name`."""
+    named = _has_names(sheet, place, places)
+    if named:
+        places["name"] = places.pop("balise")
+    return named
 
 
 def _has_names(sheet: Sheet, place: int, places: Mapping[str, int]) -> bool:
