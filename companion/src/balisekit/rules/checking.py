@@ -110,6 +110,8 @@ class Telegrams(Mapping[int, Form]):
         return self._records[number].line
 
     def __getitem__(self, number: int) -> Form:
+        if number not in self._rows:
+            raise KeyError(number)
         return self._records[number].shared
 
     def __iter__(self) -> Iterator[int]:
