@@ -48,6 +48,8 @@ RECORD = re.compile(
 """The record of a telegram: the keys of its header, and NID_C with the packets as one text."""
 AT_ONCE = 500
 """How many telegrams are decoded together: their keys then share memory."""
+METRES = 3
+"""How many decimals a kilometre has that is written to the metre."""
 KEPT = 1 << 12
 """How many texts of packets are kept with their objects: many telegrams have the same packets."""
 
@@ -272,7 +274,7 @@ class Decoded:
     chainages: Mapping[str, Chainage]
     """Of each track."""
     resolution: int
-    """One unit of the last decimal of the table's kilometres, in decimetres, rounded up."""
+    """One unit of the last decimal of the table's kilometres, at most 1 m, in decimetres, rounded up."""
     worked_out: Dict[object, Any] = field(default_factory=dict)
     """What several rules need, by who works it out."""
 
@@ -476,9 +478,12 @@ def _with_fields(packet: Form) -> Form:
 
 
 def resolution_of(groups: Sequence[BaliseGroup]) -> int:
-    """One unit of the last decimal that a kilometre of the table has."""
+    """One unit of the last decimal that a kilometre of the table has, and at most 1 m.
+
+    A spreadsheet stores 11.100 as 11.1, so fewer decimals than three do not show that the kilometres are rounded.
+    """
     decimals = max((_decimals(row.km) for each in groups for row in each.group.rows() if row.km is not None), default=3)
-    return int(Decimal(10_000).scaleb(-decimals).to_integral_value(ROUND_CEILING))
+    return int(Decimal(10_000).scaleb(-max(decimals, METRES)).to_integral_value(ROUND_CEILING))
 
 
 def _decimals(km: Decimal) -> int:

@@ -2,9 +2,9 @@
 
 What it says. Neighbouring balises of a group are less than 2.3 m or more than 12 m apart by their kilometres, or their
 order contradicts the column `nominal`. This column states whether the kilometres rise or fall in nominal direction.
-With a `--line-speed` above 180 km/h the least spacing is 3.0 m. One unit of the last decimal of the kilometres is
-allowed in either direction. The rule passes over a group whose balises all have the same kilometre (SUBSET-036 and
-SUBSET-040, installation of balise groups).
+With a `--line-speed` above 180 km/h the least spacing is 3.0 m. One unit of the last decimal of the kilometres, at
+most 1 m, is allowed in either direction. The rule passes over a group whose balises all have the same kilometre
+(SUBSET-036 and SUBSET-040, installation of balise groups).
 
 Why it matters. At worst the train has a wrong position, because distances of the group count from its first balise.
 Balises that are too close disturb each other, so a train might miss one. A balise that is too far away is not taken for
@@ -76,8 +76,7 @@ def _spacing(
         limit = f"less than {least}" if metres < least else f"more than {GREATEST}"
         sentence = (
             f"the balise is at km {kilometre(km)}, {_number(metres)} m from the one before it in the group, row "
-            f"{before.number}: that is {limit} m, and one unit of the last decimal of the kilometres is "
-            f"{_number(unit)} m"
+            f"{before.number}: that is {limit} m, and {_number(unit)} m is allowed for the rounding of the kilometres"
         )
         yield Remark("E11", Location(group, row), sentence, values={"spacing_m": metres}, others=(before.number,))
 
