@@ -35,7 +35,7 @@ from balisekit.etcs.geometry import DIRECTIONS, ELEMENT_KEYS, INFILL, NOMINAL, S
 from balisekit.etcs.raw_packets import fields_of
 from balisekit.etcs.variables import UNITS, Form
 from balisekit.rules.chainage import Chainage, Jump
-from balisekit.rules.location import BaliseGroup, Identity, Location
+from balisekit.rules.location import NO_DIRECTION, NO_KILOMETRE, NOT_IN_TABLE, BaliseGroup, Identity, Location
 from balisekit.rules.passages import DUPLICATE, HOLDING, SAYS_NOTHING, Content, Said, packets_of
 from balisekit.tables.model import Message, Row
 
@@ -184,6 +184,15 @@ class Passage:
         return self.group.group.along(self.direction) if self.group else None
 
     @property
+    def lacks(self) -> str:
+        """Why the places ahead of it are not known, or nothing."""
+        if self.group is None:
+            return NOT_IN_TABLE
+        if self.group.place is None:
+            return NO_KILOMETRE
+        return NO_DIRECTION if self.way is None else ""
+
+    @property
     def speaks(self) -> bool:
         """Whether a packet before a packet 136 says anything of the track."""
         return any(packet.number not in SAYS_NOTHING for packet in self.said)
@@ -282,6 +291,11 @@ class Decoded:
     def passages(self) -> Sequence[Passage]:
         """All passages, those of groups in the order of the table, then the messages."""
         return [*(passage for group in self.groups for passage in group.passages), *self.messages]
+
+    @cached_property
+    def unplaced(self) -> Sequence[Passage]:
+        """The passages that lack a place, or a direction along the kilometres."""
+        return [passage for passage in self.passages if passage.lacks]
 
     @cached_property
     def sent(self) -> Mapping[int, Sequence[Tuple[Union[GroupData, Passage], Packet]]]:

@@ -2,8 +2,9 @@
 from __future__ import annotations
 
 from bisect import bisect_left
+from collections import Counter
 from decimal import Decimal
-from typing import Dict, Iterator, List, Mapping, NamedTuple, Optional, Sequence, Set, Tuple
+from typing import Callable, Dict, Iterator, List, Mapping, NamedTuple, Optional, Sequence, Set, Tuple
 
 from balisekit.rules.decoded import LINKING, Decoded, GroupData, Packet, Passage, allowance
 from balisekit.rules.line import Line
@@ -61,7 +62,7 @@ def _ends(decoded: Decoded) -> Iterator[End]:
     known: Set[Tuple[int, str]] = set()
     for passage in decoded.passages:
         for packet in passage.said:
-            if (packet.number == 12 and packet.form["v_main"] or packet.number == 15) and passage.way is not None:
+            if passage.way is not None and is_authority(packet):
                 key = id(packet), passage.direction
                 place = passage.place(packet.end) if key not in known else None
                 if place is not None:
@@ -97,6 +98,17 @@ def is_named(decoded: Decoded, options: Options, end: End, within: int) -> bool:
     within += decoded.tolerance(options.tolerance_of_places, allowance(end.packet, end.packet.lengths))
     near = (each for at, each in names_of(decoded, end.passage) if abs(at - end.distance) <= within)
     return any(each is None or each.place is None or each.group.track != end.passage.track for each in near)
+
+
+def passed_over(decoded: Decoded, is_meant: Callable[[Packet], bool]) -> Counter[str]:
+    """How many packets have no known place, each once in each direction, by the reason."""
+    unplaced = ((packet, passage) for passage in decoded.unplaced for packet in passage.said if is_meant(packet))
+    return Counter({(id(packet), passage.direction): passage.lacks for packet, passage in unplaced}.values())
+
+
+def is_authority(packet: Packet) -> bool:
+    """Whether it is a packet 12 with a V_MAIN above 0, or a packet 15."""
+    return packet.number == 15 or packet.number == 12 and bool(packet.form["v_main"])
 
 
 def lane_of(passage: Passage) -> Lane:

@@ -39,7 +39,19 @@ from typing import Dict, Iterator, List, Optional, Sequence, Tuple
 from balisekit.etcs.variables import metres
 from balisekit.rules.decoded import Decoded, GroupData, allowance
 from balisekit.rules.line import Line
-from balisekit.rules.meaning.along import End, Lane, ends_of, extents_of, is_named, lane_of, leaves, names_of
+from balisekit.rules.location import BEHIND_POINT
+from balisekit.rules.meaning.along import (
+    End,
+    Lane,
+    ends_of,
+    extents_of,
+    is_authority,
+    is_named,
+    lane_of,
+    leaves,
+    names_of,
+    passed_over,
+)
 from balisekit.rules.meaning.words import at_place, merged, source
 from balisekit.rules.rule import Options, Remark, Result, Rule, Urgency
 
@@ -54,8 +66,10 @@ def find(line: Line, options: Options) -> Result:
     linked: Dict[Tuple[Lane, GroupData], List[End]] = {}
     unlinked: Dict[Lane, List[End]] = {}
     ends: List[Tuple[Lane, End]] = []  # (those that are not at the group to which they lead)
+    beyond: Counter[str] = Counter()
     for end in ends_of(decoded):
         if leaves(options, decoded, end.passage, end.place):
+            beyond[BEHIND_POINT] += 1
             continue
         lane, looked_at = lane_of(end.passage), looked_at + 1
         target = _target(decoded, end)
@@ -77,7 +91,7 @@ def find(line: Line, options: Options) -> Result:
         low, high = extents.get(lane, NOWHERE)
         if end.key not in found and low <= end.place <= high:
             found.update((end.key, remark) for remark in _between(decoded, options, end))
-    return Result(merged(found.values()), looked_at)
+    return Result.of_places(merged(found.values()), looked_at, passed_over(decoded, is_authority), beyond)
 
 
 def _target(decoded: Decoded, end: End) -> Optional[GroupData]:

@@ -26,6 +26,7 @@ How sure. 87 %, by practice and memory of the standard.
 """
 from __future__ import annotations
 
+from collections import Counter
 from dataclasses import dataclass
 from decimal import Decimal
 from typing import Dict, Iterator, List, Sequence, Tuple
@@ -33,10 +34,22 @@ from typing import Dict, Iterator, List, Sequence, Tuple
 from balisekit.rules.decoded import GRADIENTS, SPEEDS, Decoded, Packet, allowance
 from balisekit.rules.line import Line
 from balisekit.rules.meaning.along import leaves
-from balisekit.rules.meaning.profiles import Piece, Profiles, lanes_of, longest_difference, pairs, pieces_of
+from balisekit.rules.meaning.profiles import (
+    Piece,
+    Profiles,
+    lanes_of,
+    longest_difference,
+    pairs,
+    pieces_of,
+    unplaced_of,
+)
 from balisekit.rules.meaning.sent import field_at
 from balisekit.rules.meaning.words import more_stretches, source
 from balisekit.rules.rule import Options, Remark, Result, Rule, Urgency
+
+
+ALONE = "the only group of its track"
+"""Why profiles are compared with no others."""
 
 
 @dataclass(frozen=True)
@@ -52,12 +65,16 @@ class Difference:
 def find(line: Line, options: Options) -> Result:
     """Compares the profiles of each group with those of the groups ahead."""
     decoded, found, looked_at = line.decoded, [], 0
+    alone: Counter[str] = Counter()
     for number in (SPEEDS, GRADIENTS):
-        for lane in lanes_of(decoded, number).values():
+        for (track, _), lane in lanes_of(decoded, number).items():
+            if len(decoded.along[track]) == 1 < len(decoded.along):
+                alone[ALONE] += len(lane)
+                continue
             differences = [each for one in pairs(lane) for each in _difference(decoded, options, *one)]
             looked_at += len(lane)
             found += list(_remarks(decoded, differences))
-    return Result(found, looked_at)
+    return Result.of_places(found, looked_at, Counter(unplaced_of(decoded, SPEEDS, GRADIENTS).values()), alone)
 
 
 def _difference(decoded: Decoded, options: Options, rear: Profiles, ahead: Profiles, low: int) -> Iterator[Difference]:

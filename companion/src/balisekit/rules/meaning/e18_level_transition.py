@@ -41,8 +41,9 @@ from typing import Iterator, List, Optional, Sequence, Tuple
 from balisekit.etcs.variables import metres
 from balisekit.rules.decoded import Decoded
 from balisekit.rules.line import Line
+from balisekit.rules.location import ANOTHER_TRACK
 from balisekit.rules.meaning.along import unread_of
-from balisekit.rules.meaning.orders import NEAR, Order, orders_of, without_direction
+from balisekit.rules.meaning.orders import NEAR, Order, orders_of, unplaced_orders, without_direction
 from balisekit.rules.meaning.words import at_place, merged, source
 from balisekit.rules.rule import Options, Remark, Result, Rule, Urgency
 
@@ -53,15 +54,17 @@ Unknown = Sequence[Tuple[str, Optional[int]]]
 def find(line: Line, options: Options) -> Result:
     """Compares the orders for one place."""
     decoded, found, looked_at = line.decoded, [], 0
+    leaving: Counter[str] = Counter()
     unknown = [*without_direction(decoded), *unread_of(decoded)]
     for orders in orders_of(decoded).values():
         staying = [order for order in orders if not _leaves(decoded, order)]
         looked_at += len(staying)
+        leaving[ANOTHER_TRACK] += len(orders) - len(staying)
         for part in _parts(staying):
             usual = _usual(part)
             found += list(_compare(decoded, options, part, usual, unknown))
             found += [] if usual.is_now else list(_unordered(decoded, usual, unknown))
-    return Result(merged(found), looked_at)
+    return Result.of_places(merged(found), looked_at, unplaced_orders(decoded), leaving)
 
 
 def _parts(orders: Sequence[Order]) -> Iterator[List[Order]]:

@@ -148,6 +148,13 @@ def lanes_of(decoded: Decoded, number: int) -> Lanes:
     return found[number]
 
 
+def unplaced_of(decoded: Decoded, *numbers: int) -> Mapping[Tuple[int, GroupData, str], str]:
+    """Why profiles of groups are in no lane: by NID_PACKET, group and direction."""
+    own = ((number, passage) for passage in decoded.unplaced for number in numbers if passage.of(number))
+    groups = ((number, passage.group, passage) for number, passage in own if not passage.message)
+    return {(number, data, passage.direction): passage.lacks for number, data, passage in groups if data}
+
+
 def _of_group(data: GroupData) -> Iterator[Tuple[int, Profiles]]:
     """The profiles of a group with their NID_PACKET."""
     sayings: Dict[Tuple[int, int], List[Tuple[Passage, Packet]]] = {}
