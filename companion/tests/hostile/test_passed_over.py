@@ -74,7 +74,7 @@ def test_a_page_names_them(run: Run, table: Write, tmp_path: Path) -> None:
 
 LINKS: Sequence[Tuple[Dict[str, str], str]] = (
     ({"column": "km", "rows": "Signal 3", "value": ""}, "it has no kilometre: L2 and L9 do not look at it"),
-    ({"column": "km", "rows": "second balises", "value": ""}, "its direction along the kilometres is not known: L3 does"),
+    ({"column": "km", "rows": "second balises", "value": ""}, "its direction along the kilometres is not known: L3"),
 )
 
 
@@ -106,6 +106,7 @@ def test_the_last_line_is_that_of_the_text(run: Run, table: Write, monkeypatch: 
     set_day(monkeypatch, 1780000000)
     path = table("group,km,nominal,telegram", f"A,1.000,rising,{ALONE}", f"B,2.000,rising,{OTHER}")
     entries = table("rule,nid_c,nid_bg,message,aspect,balise,packet,direction,reason,who,date,until", name="a.csv")
-    for words in ([], ["--accepted", entries], ["--accepted", entries, "--only", "F"]):
+    choices: Sequence[Sequence[object]] = ([], ["--accepted", entries], ["--accepted", entries, "--only", "F"])
+    for words in choices:
         out, answer = outputs(run, path, "--force", *words)[1:3]
         assert answer["last_line"] == out[-1]

@@ -35,7 +35,7 @@ from balisekit.etcs.geometry import DIRECTIONS, ELEMENT_KEYS, INFILL, NOMINAL, S
 from balisekit.etcs.raw_packets import fields_of
 from balisekit.etcs.variables import UNITS, Form
 from balisekit.rules.chainage import Chainage, Jump
-from balisekit.rules.location import NO_DIRECTION, NO_KILOMETRE, NOT_IN_TABLE, BaliseGroup, Identity, Location
+from balisekit.rules.location import IN_JUMP, NO_DIRECTION, NO_KILOMETRE, NOT_IN_TABLE, BaliseGroup, Identity, Location
 from balisekit.rules.passages import DUPLICATE, HOLDING, SAYS_NOTHING, Content, Said, packets_of
 from balisekit.tables.model import Message, Row
 
@@ -189,7 +189,7 @@ class Passage:
         if self.group is None:
             return NOT_IN_TABLE
         if self.group.place is None:
-            return NO_KILOMETRE
+            return NO_KILOMETRE if self.group.group.km is None else IN_JUMP
         return NO_DIRECTION if self.way is None else ""
 
     @property

@@ -4,7 +4,7 @@ from __future__ import annotations
 from typing import Callable, Dict, Iterable, Iterator, List, NamedTuple, Union
 
 from balisekit.rules.line import Line
-from balisekit.rules.location import BaliseGroup
+from balisekit.rules.location import IN_JUMP, BaliseGroup
 from balisekit.tables.model import Group, Message
 from balisekit.tables.names import clean, describe_message, listed
 
@@ -42,7 +42,8 @@ class Rules(NamedTuple):
         for message, form in line.messages if line.along else ():
             if form["nid_message"] == 3:
                 named = line.passages.by_identity.get((form["nid_c"], form["nid_bg"]))
-                why = self._lacks(named) if named else f"its group is not in the table, so {self.place} do not place it"
+                not_there = f"its group is not in the table, so {self.place} do not place it"
+                why = self._lacks(line, named) if named else not_there
                 if why:
                     yield PassedOver(message, why)
 
@@ -51,15 +52,16 @@ class Rules(NamedTuple):
         return notes_of(self.find(line))
 
     def _of_group(self, line: Line, group: BaliseGroup) -> str:
-        why = self._lacks(group)
+        why = self._lacks(line, group)
         is_alone = self.others and any(group.says) and len(line.along.get(group.track, ())) == 1 < len(line.along)
         if why or not is_alone:
             return why
         return f"the only group with a kilometre on its track, so {self.others} compare it with no other group"
 
-    def _lacks(self, group: BaliseGroup) -> str:
-        if group.km is None:
-            return f"no kilometre, so {self.place} compare no place of the group"
+    def _lacks(self, line: Line, group: BaliseGroup) -> str:
+        if line.places[group.number] is None:
+            why = "no kilometre" if group.km is None else IN_JUMP
+            return f"{why}, so {self.place} compare no place of the group"
         if group.rising is None and any(group.says):
             return (
                 f"direction along the kilometres not known, so {self.direction} compare no place ahead of the group: "

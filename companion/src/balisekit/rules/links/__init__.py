@@ -15,7 +15,7 @@ from balisekit.rules.links.l6_unknown_identity import RULE as L6
 from balisekit.rules.links.l7_open_profile import RULE as L7
 from balisekit.rules.links.l8_late_profile import RULE as L8
 from balisekit.rules.links.l9_passed_over import RULE as L9
-from balisekit.rules.location import BaliseGroup
+from balisekit.rules.location import IN_JUMP, BaliseGroup
 from balisekit.rules.passed_over import PassedOver
 from balisekit.rules.rule import Options, Rule
 from balisekit.tables.names import clean, describe_group
@@ -51,17 +51,17 @@ def notes_on(line: Line) -> Iterator[str]:
 
 def passed_over(line: Line) -> Iterator[PassedOver]:
     """The groups and messages that some of these rules do not look at."""
-    yield from (PassedOver(group.group, _lacks(group)) for group in line.groups if _lacks(group))
+    yield from (PassedOver(group.group, _lacks(line, group)) for group in line.groups if _lacks(line, group))
     chains = {chain.location.message.number: chain for chain in line.chains if chain.location.message}
     for chain in chains.values():
-        why = _lacks(chain.sender) if chain.sender else NOT_THERE
+        why = _lacks(line, chain.sender) if chain.sender else NOT_THERE
         if why and chain.location.message:
             yield PassedOver(chain.location.message, why)
 
 
 def _all(line: Line) -> Iterator[Note]:
     for group in line.groups:
-        why = _lacks(group) or (BY_LINKS if group.by_links else "")
+        why = _lacks(line, group) or (BY_LINKS if group.by_links else "")
         if why:
             yield describe_group(group.group), why
         first = line.passages.by_identity.get(group.identity) if group.identity else None
@@ -74,11 +74,11 @@ def _all(line: Line) -> Iterator[Note]:
             yield str(chain.location), NOT_THERE
 
 
-def _lacks(group: BaliseGroup) -> str:
+def _lacks(line: Line, group: BaliseGroup) -> str:
     if group.identity is None:
         return "no telegram of it could be read, so its identity is not known: L1 counts links that may be to it"
-    if group.km is None:
-        return "it has no kilometre: L2 and L9 do not look at it"
+    if line.places[group.number] is None:
+        return f"it has {'no kilometre' if group.km is None else IN_JUMP}: L2 and L9 do not look at it"
     if group.rising is None:
         differ = ", because the links that name it disagree" if group.links_differ else ""
         return (

@@ -19,8 +19,8 @@ A rule is added so:
 6. Give it a mistake in companion/tests/meaning_mistakes.py, which writes its example in examples/meaning/mistakes.
 7. Test a hit, no hit, and the correct data that the page names, by one change of `meaning_line.py`.
 
-`Result.not_looked_at` counts only what the user could supply, such as a kilometre: a rule that has looked at nothing
-but has such a count makes the answer incomplete.
+`Result.not_looked_at` counts what a rule passes over, by the reason. A rule that has looked at nothing but has such a
+count makes the answer incomplete. `Result.of_places` has counts beside it of what the user could not supply.
 """
 from __future__ import annotations
 

@@ -31,13 +31,14 @@ How sure. 95 %, by practice and memory of the standard.
 """
 from __future__ import annotations
 
+from collections import Counter
 from decimal import Decimal
 from typing import Dict, Iterator, Optional, Tuple
 
 from balisekit.etcs.geometry import DIRECTIONS
 from balisekit.rules.decoded import GroupData, Packet
 from balisekit.rules.line import Line
-from balisekit.rules.location import NO_KILOMETRE, BaliseGroup, Location
+from balisekit.rules.location import IN_JUMP, NO_KILOMETRE, BaliseGroup, Location
 from balisekit.rules.meaning.along import FAR, Passed, rear
 from balisekit.rules.passages import WITHOUT_DIRECTION, Chain, Link
 from balisekit.rules.rule import Options, Remark, Result, Rule, Urgency
@@ -51,7 +52,7 @@ Named = Dict[int, Dict[int, Tuple[Chain, Link]]]
 
 def find(line: Line, options: Options) -> Result:
     """Looks at each single balise."""
-    passed, found, lacks = Passed(line), [], 0
+    passed, found, lacks = Passed(line), [], Counter[str]()
     single = [data for data in line.decoded.groups if data.group.balises == 1]
     named = _named(line) if single else {}
     all_named = {link.identity for chain in (*line.chains, *line.passages.infill_chains) for link in chain.links}
@@ -60,8 +61,8 @@ def find(line: Line, options: Options) -> Result:
         found += list(_directions(data.group, links))
         if data.group.linked and data.group.identity not in all_named and _of_one_direction(data):
             found += list(_unnamed(line, passed, data))
-            lacks += data.place is None
-    return Result.of_places(found, len(single) - lacks, {NO_KILOMETRE: lacks})
+            lacks[NO_KILOMETRE if data.group.km is None else IN_JUMP] += data.place is None
+    return Result(found, len(single) - sum(lacks.values()), lacks)
 
 
 def _named(line: Line) -> Named:
