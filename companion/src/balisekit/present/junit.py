@@ -2,9 +2,9 @@
 
 A suite has a case for each group and message, and for each rule that compared nothing. A group or message that some
 rules passed over is skipped, with the reason. The first suite also has a case for each refused message, each entry at
-fault, and each column or sheet whose telegrams are not judged. Cases have no
-time, because the program and the rules look at all groups in one run. Python's own XML library writes the file, so its
-form does not depend on installed packages.
+fault, and each column or sheet whose telegrams are not judged. Cases have no time, because the program and the rules
+look at all groups in one run. Python's own XML library writes the file, so its form does not depend on installed
+packages.
 """
 from __future__ import annotations
 

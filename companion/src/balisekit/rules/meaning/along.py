@@ -4,7 +4,21 @@ from __future__ import annotations
 from bisect import bisect_left
 from collections import Counter
 from decimal import Decimal
-from typing import Callable, Dict, Iterator, List, Mapping, NamedTuple, Optional, Sequence, Set, Tuple
+from typing import (
+    Callable,
+    Dict,
+    Iterable,
+    Iterator,
+    List,
+    Mapping,
+    NamedTuple,
+    Optional,
+    Protocol,
+    Sequence,
+    Set,
+    Tuple,
+    TypeVar,
+)
 
 from balisekit.rules.decoded import LINKING, Decoded, GroupData, Packet, Passage, allowance
 from balisekit.rules.line import Line
@@ -22,6 +36,17 @@ FAR = 100_000
 """In decimetres: how far in rear a refused packet 5 may be that leads to a place."""
 REPOSITIONED = 5000
 """In decimetres: how near to its link a balise with repositioning information is."""
+
+
+class HasPlace(Protocol):
+    """What is at a place of the track."""
+
+    @property
+    def place(self) -> int:
+        """In decimetres."""
+
+
+Thing = TypeVar("Thing", bound=HasPlace)
 
 
 class End(NamedTuple):
@@ -162,6 +187,18 @@ def _lasts_and_signals(decoded: Decoded) -> Dict[Lane, Tuple[int, List[int]]]:
 def unread_of(decoded: Decoded) -> Iterator[Tuple[str, Optional[int]]]:
     """Tracks and places of groups with a refused telegram."""
     return ((data.group.track, data.place) for data in decoded.groups if data.group.unread)
+
+
+def parts(some: Iterable[Thing], apart: int) -> Iterator[List[Thing]]:
+    """Things in the order of their places, those together that are at most so far apart."""
+    part: List[Thing] = []
+    for each in some:
+        if part and each.place - part[-1].place > apart:
+            yield part
+            part = []
+        part.append(each)
+    if part:
+        yield part
 
 
 def rear(place: int, way: int, length: int) -> Extent:

@@ -50,6 +50,7 @@ from balisekit.rules.meaning.along import (
     lane_of,
     leaves,
     names_of,
+    parts,
     passed_over,
 )
 from balisekit.rules.meaning.words import at_place, merged, source
@@ -84,7 +85,7 @@ def find(line: Line, options: Options) -> Result:
     for (_, target), some in linked.items():
         found.update((end.key, remark) for end, remark in _compare(decoded, options, some, target))
     for some in unlinked.values():
-        for part in _parts(some):
+        for part in parts(sorted(some, key=lambda each: each.place), ALONE):
             found.update((end.key, remark) for end, remark in _compare(decoded, options, part))
     extents = extents_of(decoded) if ends else {}
     for lane, end in ends:
@@ -110,17 +111,6 @@ def _target(decoded: Decoded, end: End) -> Optional[GroupData]:
     if target is None or target.place is None or by_links is None or abs(by_links - target.place) > NEAR:
         return None
     return target
-
-
-def _parts(ends: List[End]) -> Iterator[List[End]]:
-    """Ends without packets 5 that are near each other, together."""
-    part: List[End] = []
-    for end in sorted(ends, key=lambda each: each.place):
-        if part and end.place - part[-1].place > ALONE:
-            yield part
-            part = []
-        part.append(end)
-    yield part
 
 
 def _compare(

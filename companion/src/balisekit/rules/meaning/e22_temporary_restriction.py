@@ -33,7 +33,7 @@ from typing import Dict, Iterator, List, NamedTuple, Sequence, Tuple
 from balisekit.etcs.variables import Values, metres
 from balisekit.rules.decoded import Decoded, Packet, Passage, tolerance_of_lengths
 from balisekit.rules.line import Line
-from balisekit.rules.meaning.along import lane_of, passed_over
+from balisekit.rules.meaning.along import lane_of, parts, passed_over
 from balisekit.rules.meaning.words import at_place, merged, source
 from balisekit.rules.rule import Options, Remark, Result, Rule, Urgency
 
@@ -77,7 +77,7 @@ def find(line: Line, options: Options) -> Result:
     decoded, found, looked_at = line.decoded, [], 0
     for some in _restrictions(decoded).values():
         looked_at += len(some)
-        for part in _parts(some):
+        for part in parts(some, NEAR):
             found += list(_compare(decoded, options, part))
     return Result(merged(found), looked_at, passed_over(decoded, _is_restriction))
 
@@ -101,17 +101,6 @@ def _restrictions(decoded: Decoded) -> Dict[Tuple[str, int, int], List[Restricti
                     restriction = Restriction(place, form["l_tsr"] * packet.unit, form["v_tsr"] * 5, passage, packet)
                     own[id(packet), passage.direction] = restriction
     return {lane: sorted(own.values(), key=lambda each: each.place) for lane, own in found.items()}
-
-
-def _parts(some: Sequence[Restriction]) -> Iterator[List[Restriction]]:
-    """Those near each other, together."""
-    part: List[Restriction] = []
-    for each in some:
-        if part and each.place - part[-1].place > NEAR:
-            yield part
-            part = []
-        part.append(each)
-    yield part
 
 
 def _is_rest(one: Restriction, other: Restriction, tolerance: int) -> bool:

@@ -250,6 +250,18 @@ def _continues(before: Piece, piece: Piece) -> bool:
     )
 
 
+def cause_of(own: Profiles, other: Profiles, piece: Piece, is_rear: bool) -> str:
+    """What looks like the cause, if the first group is the wrong one."""
+    aspects = (piece.rear, piece.ahead) if is_rear else (piece.ahead, piece.rear)
+    value, other_value = (each.value_at(piece.low) for each in aspects)
+    if aspects[0].packet.number == SPEEDS and value == 5 * other_value:
+        return ": is V_STATIC in km/h instead of steps of 5 km/h?"
+    if aspects[0].packet.number == GRADIENTS and value == -other_value:
+        return ": is Q_GDIR wrong?"
+    factor = own.longest.scale_of(other.longest)
+    return f": are its distances {factor}, by Q_SCALE?" if factor else ""
+
+
 def _names(decoded: Decoded, passage: Passage, data: GroupData) -> bool:
     """Whether a packet 5 of a passage names a group."""
     return any(each.target is data for each in decoded.reached(passage))
