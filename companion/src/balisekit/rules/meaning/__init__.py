@@ -19,8 +19,8 @@ A rule is added so:
 6. Give it a mistake in companion/tests/meaning_mistakes.py, which writes its example in examples/meaning/mistakes.
 7. Test a hit, no hit, and the correct data that the page names, by one change of `meaning_line.py`.
 
-`Result.not_looked_at` counts only what the user could supply, such as a kilometre: a rule that has looked at nothing
-but has such a count makes the answer incomplete.
+`Result.not_looked_at` counts what a rule passes over, by the reason. A rule that has looked at nothing but has such a
+count makes the answer incomplete. `Result.of_places` has counts beside it of what the user could not supply.
 """
 from __future__ import annotations
 
@@ -47,6 +47,9 @@ from balisekit.rules.meaning.e20_one_description import RULE as E20
 from balisekit.rules.meaning.e21_session_for_level_2 import RULE as E21
 from balisekit.rules.meaning.e22_temporary_restriction import RULE as E22
 from balisekit.rules.meaning.e23_one_header import RULE as E23
+from balisekit.rules.passed_over import Rules
 
 RULES = (E1, E2, E3, E4, E5, E6, E7, E8, E9, E10, E11, E12, E13, E14, E15, E16, E17, E18, E19, E20, E21, E22, E23)
-__all__ = ["RULES"]
+OF_PLACES = Rules("E12 to E19 and E22", "E12, E13, E15, E17 to E19 and E22", "E12 to E19 and E22")
+"""What needs the kilometre of a group, its direction and other groups of its track."""
+__all__ = ["OF_PLACES", "RULES"]

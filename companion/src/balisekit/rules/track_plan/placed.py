@@ -13,15 +13,16 @@ from typing import Dict, Iterable, Iterator, Mapping, NamedTuple, Optional, Sequ
 from balisekit.rules.chainage import Chainage
 from balisekit.rules.decoded import Packet, Passage
 from balisekit.rules.line import Line
+from balisekit.rules.location import BEHIND_POINT
 from balisekit.rules.rule import Options, Remark, Result, Urgency
 from balisekit.tables.names import kilometre, rows_words
 from balisekit.tables.plan import Lane, Plan, PlanRow
 
+__all__ = ["BEHIND_POINT", "Placed", "Saying", "Spot", "nearest", "plan_words", "remark"]
 COMPARED = ("speed", "gradient", "signal", "aspect", "level", "rbc")
 """The kinds of rows that rules compare."""
 SAYS_NOTHING = "the plan says nothing"
 NO_PLACE = "no kilometre or direction"
-BEHIND_POINT = "behind a point of the plan"
 Values = Mapping[str, Decimal]
 Counts = Dict[str, int]
 """How many things were compared, by no reason, and how many were not, by the reason."""
