@@ -55,10 +55,10 @@ def telegrams(sheet: Sheet, begin: int, column: int) -> Dict[int, List[int]]:
         for at, cell in enumerate(row):
             if at == column or len(cell) < LEAST_DIGITS:
                 continue
-            if LINE_END.search(cell.strip()) and in_part(cell):
-                faults.append(TableError(f"cell {at + 1} has line ends and a telegram in it: {SWALLOWED}", number))
-            elif is_telegram(cell):
+            if is_telegram(cell) and not LINE_END.search(cell.strip()):
                 found.setdefault(at, []).append(number)
+            elif LINE_END.search(cell) and in_part(cell):
+                faults.append(TableError(f"cell {at + 1} has line ends and a telegram in it: {SWALLOWED}", number))
     if faults:
         raise TableErrors(faults)
     return found
