@@ -32,7 +32,7 @@ from typing import Callable, Dict, Iterator, List, Mapping, NamedTuple, Optional
 from balisekit.errors import TableError, TableErrors, faults_of
 from balisekit.io import inputs
 from balisekit.io.csv_writing import plain
-from balisekit.tables import csv as csv_file, plan_values as values
+from balisekit.tables import csv as csv_file, decimal_commas, plan_values as values
 from balisekit.tables.cells import ERROR, GREATEST_NAME, Sheet
 from balisekit.tables.headings import Headings, alike, compared
 from balisekit.tables.names import kilometre
@@ -226,6 +226,8 @@ def _rows(sheet: Sheet, place: int, places: Mapping[str, int]) -> Tuple[PlanRow,
             except TableError as fault:
                 fault.row = number
                 faults.append(fault)
+    for name in ("km", "km_to"):
+        faults += decimal_commas.faults(sheet, place + 1, width, places, name)
     faults += _clashes(rows)
     if faults:
         raise TableErrors(faults)
