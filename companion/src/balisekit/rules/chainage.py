@@ -16,6 +16,7 @@ from balisekit.tables import csv as csv_file, decimal_commas, reader
 from balisekit.tables.beside import SWALLOWED
 from balisekit.tables.cells import LINE_END, Sheet
 from balisekit.tables.headings import Headings, alike, compared
+from balisekit.tables.names import clean
 
 DECIMETRES = Decimal(10_000)
 """In a kilometre."""
@@ -46,7 +47,7 @@ class Chainage(NamedTuple):
     @classmethod
     def of(cls, jumps: Sequence[Jump], track: str) -> Chainage:
         """The kilometres of a track with those of the jumps that are on it, each once if the plan states it too."""
-        own = {(decimetres(jump.before), decimetres(jump.after)) for jump in jumps if jump.track == track}
+        own = {(decimetres(jump.before), decimetres(jump.after)) for jump in jumps if clean(jump.track) == clean(track)}
         return cls(tuple(sorted(own)))
 
     def place(self, km: Optional[Decimal]) -> Optional[int]:
