@@ -10,6 +10,7 @@ QUOTES = "\"'‘’“”„«»"
 ZERO_WIDTH = "\u200b"
 LEAST = 40
 """The fewest characters of a telegram."""
+LINE_ENDS = frozenset("\n\r\v\f\x1c\x1d\x1e\x85\u2028\u2029")
 
 
 class Place(NamedTuple):
@@ -84,8 +85,12 @@ def _text(value: object) -> str:
 
 
 def telegrams(cells: Cells, known: Known) -> Set[Place]:
-    """The cells that are telegrams: by their text, or in the column of telegrams of a row that is read."""
+    """The cells that are telegrams by their text, or in the column of telegrams of a row that is read.
+
+    In other sheets they may be among words, in a cell with line ends.
+    """
     by_text = {place for place, text in cells.items() if is_telegram(text)}
+    by_text |= {place for place in swallowed(cells) if place.sheet != known.sheet}
     return by_text | {Place(known.sheet, row, known.column) for row in rows_read(cells, known)}
 
 
@@ -101,9 +106,12 @@ def rows_read(cells: Cells, known: Known) -> List[int]:
 
 def swallowed(cells: Cells) -> Set[Place]:
     """The cells that contain line ends and, beside other things, telegrams: rows that a quote has swallowed."""
-    return {place for place, text in cells.items() if len(text.split("\n")) > 1 and _has_telegram(text)}
+    with_ends = ((place, text) for place, text in cells.items() if not LINE_ENDS.isdisjoint(text))
+    return {place for place, text in with_ends if any(map(_has_telegram, text.replace(",", ";").split(";")))}
 
 
 def _has_telegram(text: str) -> bool:
-    pieces = text.replace("\r", "\n").replace(";", "\n").replace(",", "\n").replace("\t", "\n").split("\n")
-    return any(map(is_telegram, pieces))
+    """Whether 36 of 40 letters and digits in a row are hexadecimal, whatever is between them."""
+    letters = [each for each in text if each.isalnum()]
+    parts = (letters[begin : begin + LEAST] for begin in range(len(letters) - LEAST + 1))
+    return any(sum(each in HEXADECIMAL for each in part) >= 36 for part in parts)

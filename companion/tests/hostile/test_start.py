@@ -9,10 +9,12 @@ from typing import Dict, Tuple
 
 import pytest
 from cases_of_program import TOP
+from telegrams import ALONE
 
 from balisekit.errors import NoAnswer, needed
 
 LINE = shlex.quote(str(TOP / "examples" / "table" / "line.csv"))
+LINK = shlex.quote(str(TOP / "examples" / "links" / "line.csv"))
 DRAW = f"draw {LINE} --track --aspect green"
 DEBIAN = Path("/usr/bin/python3")
 BARE = f'#!/bin/sh\nexec {DEBIAN} -S "$@"\n'
@@ -143,3 +145,19 @@ def test_too_few_files_or_processes(limit: str, tmp_path: Path) -> None:
     done = subprocess.run([*user, *words], env=known, cwd=tmp_path, capture_output=True, check=False)
     assert done.returncode in ((3,) if limit == "-u 1" else (0, 3)), done
     assert done.returncode == 0 or done.stderr and not done.stdout
+
+
+@needs_debian
+@pytest.mark.parametrize("name", ["line.csv", "line", "line.xlsm", "line.xls"])
+def test_a_workbook_with_another_name(name: str, tmp_path: Path) -> None:
+    """An interpreter that can read it is taken, as for an .xlsx."""
+    openpyxl = pytest.importorskip("openpyxl")
+    book, path = openpyxl.Workbook(), tmp_path / name
+    for row in (["group", "telegram"], ["A", ALONE]):
+        book.active.append(row)
+    with open(path, "wb") as file:
+        book.save(file)
+    python(tmp_path, BARE)
+    for words in (f"check {path}", f"table {LINK} --expect={path}"):
+        status, out, err = start(words, tmp_path)
+        assert status == (0 if words.startswith("check") else 2) and "openpyxl" not in err, (out, err)

@@ -20,12 +20,12 @@ WIDTHS = (6, 18, 12, 24, 12, 32, 80, 16, 10, 40)
 
 def csv_pieces(sheet: Sheet) -> Iterator[str]:
     """The CSV file."""
-    return csv_writing.pieces(COLUMNS, (found.cells for found in sheet.all()))
+    return csv_writing.pieces(COLUMNS, (list(map(clean, found.cells)) for found in sheet.all()))
 
 
 def xlsx_pieces(sheet: Sheet) -> Iterator[bytes]:
     """The workbook."""
-    rows = ([_cell(*pair) for pair in zip(COLUMNS, found.cells)] for found in sheet.all())
+    rows = ([_cell(column, clean(text)) for column, text in zip(COLUMNS, found.cells)] for found in sheet.all())
     return xlsx_writing.pieces("variables", COLUMNS, rows)
 
 

@@ -23,7 +23,7 @@ def skip(headings: Headings, places: Dict[str, int], skipped: Sequence[str], row
 
     TableError is raised for a column that is needed.
     """
-    names, notes = _names(headings), []
+    names, notes = names_of(headings), []
     for heading, name in zip(skipped, compared(skipped)):
         for known in [known for known, at in places.items() if names[at].lower() == name]:
             if known in NEEDED:
@@ -33,7 +33,7 @@ def skip(headings: Headings, places: Dict[str, int], skipped: Sequence[str], row
     return notes
 
 
-def _names(headings: Headings) -> List[str]:
+def names_of(headings: Headings) -> List[str]:
     """The headings in one line each. A column without one has its number."""
     return [shown(cell)[:GREATEST_NAME] or f"column {number}" for number, cell in enumerate(headings, 1)]
 
@@ -55,10 +55,10 @@ def telegrams(sheet: Sheet, begin: int, column: int) -> Dict[int, List[int]]:
         for at, cell in enumerate(row):
             if at == column or len(cell) < LEAST_DIGITS:
                 continue
-            if LINE_END.search(cell.strip()) and in_part(cell):
-                faults.append(TableError(f"cell {at + 1} has line ends and a telegram in it: {SWALLOWED}", number))
-            elif is_telegram(cell):
+            if is_telegram(cell) and not LINE_END.search(cell.strip()):
                 found.setdefault(at, []).append(number)
+            elif LINE_END.search(cell) and in_part(cell):
+                faults.append(TableError(f"cell {at + 1} has line ends and a telegram in it: {SWALLOWED}", number))
     if faults:
         raise TableErrors(faults)
     return found
@@ -83,7 +83,7 @@ def of_columns(
     sheet: Sheet, place: int, places: Mapping[str, int], in_columns: Mapping[int, Sequence[int]], skipped: Sequence[str]
 ) -> Iterator[NotJudged]:
     """The telegrams in other columns than the one that is read. `place` is the row of the headings, counted from 0."""
-    names, asked_for = _names(sheet.rows[place]), compared(skipped)
+    names, asked_for = names_of(sheet.rows[place]), compared(skipped)
     for at, numbers in sorted(in_columns.items()):
         option, asked = f"--skip-column {shlex.quote(names[at])}", names[at].lower() in asked_for
         remedy = "" if at == places["group"] else f": give {option} if they are not to be judged"

@@ -2,7 +2,10 @@
 from __future__ import annotations
 
 import re
-from typing import Collection, List, Mapping, NamedTuple, Sequence, Tuple
+import unicodedata
+from itertools import accumulate
+from operator import le
+from typing import Collection, Iterable, List, Mapping, NamedTuple, Sequence, Tuple
 
 from balisekit.errors import TableError, TableErrors
 
@@ -19,9 +22,18 @@ ERROR = re.compile("#[A-Z/0]+[!?]|#N/A|#NV")
 PAIRS = re.compile(r"[^:-]{2}(?:([:-])[^:-]{2})(?:\1[^:-]{2})*")
 LEAST_DIGITS = 40
 """How many characters a cell has at least that looks like a telegram. The shortest telegrams have 54."""
+RUN = re.compile("[0-9A-Fa-f]{8}")
+"""What is in each text that looks like a telegram, because at most one of ten characters is no digit."""
 LINE_END = re.compile("[\r\n\v\f\x1c-\x1e\x85\u2028\u2029]")
 PARTS = re.compile("[,;\t\r\n\v\f\x1c-\x1e\x85\u2028\u2029]")
 """What separates cells and rows that a quote has put into one cell."""
+BETWEEN = re.compile(rf"[\s{BLANKS}\u00ad\u2060\ufeff]+|(?<![0-9A-Za-z])0[xX]")
+"""What may be between digits or in front of them: blanks, line ends, characters without ink, 0x."""
+GROUPS_WITHIN = [
+    re.compile(f"[0-9A-Fa-f]{{{size}}}([^0-9A-Za-z])[0-9A-Fa-f]{{{size}}}(?:\\1[0-9A-Fa-f]{{{size}}}){{2,}}")
+    for size in (2, 4, 8)
+]
+"""At least four groups of equally many digits, which are no date and no time."""
 
 NOT_CALCULATED = "the values of its formulas are not stored: open the workbook in a spreadsheet, and save it"
 
@@ -99,12 +111,33 @@ def is_telegram(cell: str) -> bool:
 def has_telegram(cell: str, separator: str = "") -> bool:
     """Whether a cell looks like a telegram, or has one between separators or line ends.
 
-    `separator` is that of the file, which may be another one than those of spreadsheets.
+    With line ends it may have any words beside the telegram: rows that a quote has swallowed are in it. `separator` is
+    that of the file, which may be another one than those of spreadsheets.
     """
     if len(cell) < LEAST_DIGITS:
         return False
     parts = PARTS.split(cell.replace(separator, "\n") if separator else cell)
-    return is_telegram(cell) or any(map(is_telegram, parts))
+    return is_telegram(cell) or any(map(is_telegram, parts)) or has_swallowed(cell)
+
+
+def has_swallowed(cell: str) -> bool:
+    """Whether a cell has line ends, and a telegram among other things."""
+    return len(cell) >= LEAST_DIGITS and bool(LINE_END.search(cell)) and _is_within(cell)
+
+
+def _is_within(text: str) -> bool:
+    """Whether something like a telegram is between any words of a text."""
+    bare = BETWEEN.sub("", unicodedata.normalize("NFKC", text))
+    for groups in GROUPS_WITHIN:
+        bare = groups.sub(lambda found: found[0].replace(found[1], ""), bare)
+    return any(RUN.search(part) and _has_stretch(part) for part in re.split("[,;]", bare))
+
+
+def _has_stretch(text: str) -> bool:
+    """Whether it has a stretch of at least 40 characters of which nine of ten are digits."""
+    sums = [0, *accumulate(1 if DIGITS.match(each) else -9 for each in text)]
+    least: Iterable[int] = accumulate(sums, min)
+    return any(map(le, least, sums[LEAST_DIGITS:]))
 
 
 def fill_heads(rows: List[List[str]], areas: Sequence[Area]) -> None:

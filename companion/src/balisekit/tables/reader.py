@@ -9,7 +9,7 @@ from typing import Any, Callable, Dict, Iterator, List, Mapping, Optional, Seque
 
 from balisekit.errors import TableError, TableErrors, faults_of
 from balisekit.io import inputs
-from balisekit.tables import beside, csv as csv_file, own_headings
+from balisekit.tables import beside, csv as csv_file, decimal_commas, own_headings
 from balisekit.tables.cells import (
     COLUMNS,
     DIGITS,
@@ -183,7 +183,8 @@ def _rows(sheet: Sheet, places: Dict[str, int], begin: int, width: int) -> Tuple
         values: List[Any] = list(map(getitem, others, others_of(cells)))
         rows.append(Row(number, values[0], telegram, cell.strip(), *values[1:]))
         wide = wide or len(cells) > width + 1
-    faults = list(_faults(sheet, columns, begin, width)) if wide or any(column.faults for column in columns) else []
+    faults = decimal_commas.faults(sheet, begin, width, places)
+    faults += _faults(sheet, columns, begin, width) if wide or any(column.faults for column in columns) else []
     if faults:
         raise TableErrors(faults)
     if not rows:

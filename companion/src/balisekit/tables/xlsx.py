@@ -13,7 +13,7 @@ from typing import Any, Callable, Dict, Iterable, Iterator, List, Optional, Patt
 from xml.etree.ElementTree import Element, ParseError, iterparse
 
 from balisekit.errors import KitError, TableError, needed
-from balisekit.tables.cells import GREATEST_NAME, Area, Sheet, fill_heads, is_telegram, of_kind
+from balisekit.tables.cells import GREATEST_NAME, Area, Sheet, fill_heads, has_swallowed, is_telegram, of_kind
 from balisekit.tables.encoding import OLD_WORKBOOK
 from balisekit.tables.headings import SEARCHED, Headings, is_data
 
@@ -282,12 +282,13 @@ def _telegrams_of_others(book: Any, chosen: Any) -> Dict[str, Sequence[int]]:
 
 
 def _telegrams(sheet: Any) -> Iterator[int]:
-    """The row of each cell that looks like a telegram, in a sheet whose rows and cells may be in any order."""
+    """The row of each cell that looks like a telegram or has one in its lines. Rows and cells may be in any order."""
     number = 0
     for row, parse_cell in _elements(sheet):
         number = _number(row.get("r", "")) or number + 1
         for cell in row.iterfind(f"{NAMESPACE}c"):
-            if is_telegram(_text(_value(cell, parse_cell))):
+            text = _text(_value(cell, parse_cell))
+            if is_telegram(text) or has_swallowed(text):
                 yield number
 
 
