@@ -17,7 +17,7 @@ from telegrams import ALONE, OTHER
 
 from balisekit.errors import KitError
 from balisekit.tables import expected, reader as tables
-from balisekit.tables.cells import NOT_CALCULATED
+from balisekit.tables.cells import COVERED, NOT_CALCULATED
 
 pytest.importorskip("openpyxl")
 sys.path.insert(0, str(Path(__file__).parent))
@@ -241,8 +241,8 @@ def cell(body: str, place: str = "C2") -> str:
             [cell("<v>7</v>"), cell("", "C3")],
             "<mergeCells count='2'><mergeCell ref='C2:C3'/><mergeCell ref='D1:E1'/></mergeCells>",
             [
-                "merged ranges, of which only the first cell is not empty: 2, the first C2:C3; --fill-merged takes its "
-                "value for all cells"
+                "merged ranges, whose empty cells are read as empty: 2, the first C2:C3; --fill-merged takes the value "
+                "of the first cell for them"
             ],
         ),
     ],
@@ -251,6 +251,50 @@ def test_cells_that_are_read_as_empty(table: Write, rows: List[str], behind: str
     """Formulas that nobody has worked out, as pandas writes them, and merged cells."""
     read = tables.read(str(table(content=workbook(sheet(KM, *rows, behind=behind)))))
     assert read.notes == ("the sheet is S1; hidden and filtered rows are read as well", *notes)
+
+
+def merged(*ranges: str) -> str:
+    """The part of a sheet that names these merged ranges."""
+    return f"<mergeCells>{''.join(f'<mergeCell ref={each!r}/>' for each in ranges)}</mergeCells>"
+
+
+@pytest.mark.parametrize("fill", [False, True])
+@pytest.mark.parametrize(
+    "rows, ranges, wanted",
+    [
+        ([row("group", "telegram"), GOOD, row("B", OTHER)], ["A2:A3"], "row 3, column group: "),
+        ([row("group", "telegram"), GOOD, row("A", OTHER)], ["B2:B3"], "row 3, column telegram: "),
+        ([row("group", "telegram"), GOOD, row("A", ALONE), row("A", OTHER)], ["B2:B4"], "row 4, column telegram: "),
+        ([row("group", "telegram"), GOOD, row("", OTHER)], ["A3:B3"], "row 3, column telegram: "),
+        ([row("group", "telegram"), GOOD, row("A", "ignored")], ["A1:B1"], "row 1, column telegram: "),
+        ([row("group", "x", "telegram"), row("A", "", ALONE)], ["B2:C2"], "row 2, column telegram: "),
+    ],
+)
+def test_contents_below_a_merged_cell(
+    rows: List[str], ranges: List[str], wanted: str, fill: bool, table: Write
+) -> None:
+    """LibreOffice can keep them, and shows only the first cell: nobody sees what would be judged."""
+    path = table(content=workbook(sheet(*rows, behind=merged(*ranges))))
+    with pytest.raises(KitError) as raised:
+        tables.read(str(path), fill_merged=fill)
+    assert raised.value.status == 2 and raised.value.lines() == [f"{path}: {wanted}{COVERED}"]
+
+
+@pytest.mark.parametrize("fill", [False, True])
+def test_equal_contents_below_a_merged_cell(fill: bool, table: Write) -> None:
+    """They are what is seen. In a column that is not read, other words are not needed."""
+    rows = row("group", "telegram", "x"), row("A", ALONE, "y"), row(" A", ALONE, "z")
+    path = table(content=workbook(sheet(*rows, behind=merged("A2:A3", "B2:B3", "C2:C3"))))
+    assert [(each.group, each.telegram) for each in tables.read(str(path), fill_merged=fill).rows] == [("A", ALONE)] * 2
+
+
+def test_expected_contents_below_a_merged_cell(table: Write) -> None:
+    """They would be compared."""
+    rows = row("group", "variable", "raw"), row("A", "N_PIG", "0"), row("A", "N_TOTAL", "1")
+    path = table(content=workbook(sheet(*rows, behind=merged("C2:C3"))))
+    with pytest.raises(KitError) as raised:
+        expected.read(str(path))
+    assert raised.value.lines() == [f"{path}: row 3, column raw: {COVERED}"]
 
 
 @pytest.mark.parametrize("state", ["hidden", "veryHidden"])

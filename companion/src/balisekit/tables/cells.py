@@ -23,6 +23,7 @@ LINE_END = re.compile("[\r\n\v\f\x1c-\x1e\x85\u2028\u2029]")
 PARTS = re.compile("[,;\t\r\n\v\f\x1c-\x1e\x85\u2028\u2029]")
 """What separates cells and rows that a quote has put into one cell."""
 
+COVERED = "a merged cell covers contents of its own, which a spreadsheet does not show: unmerge the cells"
 NOT_CALCULATED = "the values of its formulas are not stored: open the workbook in a spreadsheet, and save it"
 
 
@@ -39,15 +40,43 @@ class Sheet(NamedTuple):
     others: Tuple[str, ...] = ()
     """The names of the workbook's other sheets."""
     merged: Sequence[Area] = ()
-    """The merged areas, if their cells are to be filled."""
-    is_merged: bool = False
-    """Whether there are merged areas whose cells are not filled."""
+    """The merged areas."""
+    is_filled: bool = False
+    """Whether empty cells of a merged area are to have the value of its first cell."""
     telegrams_of_others: Mapping[str, Sequence[int]] = {}
     """The rows of cells that look like telegrams in the other sheets, by the names of these."""
     is_chosen: bool = False
     """Whether the user has named the sheet."""
     not_calculated: Sequence[int] = ()
     """Of a workbook: the rows that are empty only because the values of their formulas are not stored."""
+
+    @property
+    def filled(self) -> Sequence[Area]:
+        """The merged areas whose cells are to be filled."""
+        return self.merged if self.is_filled else ()
+
+    def look_at_covered(self, heading: int, places: Mapping[str, int]) -> None:
+        """TableErrors is raised for contents that a merged cell covers, from the heading on in these columns.
+
+        Spreadsheets show only the first cell of a merged area. LibreOffice can keep what is in the others.
+        """
+        looked_at, faults = 0, []
+        for left, top, right, bottom in self.merged:
+            within = [(name, at) for name, at in places.items() if left <= at + 1 <= right]
+            part = self.rows[max(top, heading) - 1 : bottom] if within else []
+            looked_at += len(part) * len(within)
+            if looked_at > len(self.rows) * len(places):
+                raise TableError("its merged ranges overlap: save the workbook again")
+            shown = ("", kind_and_text(_value(self.rows, left, top))[1].strip())
+            for number, row in enumerate(part, max(top, heading)):
+                hidden = [
+                    name
+                    for name, at in within
+                    if kind_and_text(row[at] if at < len(row) else "")[1].strip() not in shown
+                ]
+                faults += [TableError(COVERED, number, name) for name in hidden]
+        if faults:
+            raise TableErrors(faults)
 
     def look_at_calculated(self, heading: int) -> None:
         """TableErrors is raised for rows below the heading that are not calculated."""
@@ -121,18 +150,13 @@ def end_of_heading(row: int, areas: Sequence[Area], columns: Collection[int]) ->
 
 
 def fill(rows: List[List[str]], areas: Sequence[Area], heading: int, columns: Collection[int]) -> None:
-    """Fills the areas below the heading in these columns. A row that is empty stays so."""
-    filled, most = 0, len(rows) * len(columns)
+    """Fills the areas below the heading in these columns. A row that is empty stays so. No areas overlap."""
     for left, top, right, bottom in areas:
         value = _value(rows, left, top)
         within = [column + 1 for column in columns if left <= column + 1 <= right]
         if not value or not within or top <= heading:
             continue
-        part = rows[top - 1 : bottom]
-        filled += len(part) * len(within)
-        if filled > most:
-            raise TableError("its merged ranges overlap: save the workbook again")
-        for row in part:
+        for row in rows[top - 1 : bottom]:
             for column in within if any(map(str.strip, row)) else ():
                 _put(row, column, value)
 

@@ -61,7 +61,7 @@ def read(
         cells = sheet_of(file.content, headings, sheet, fill_merged)
         place, places = head_of(cells, headings)
         not_there = beside.skip(cells.rows[place], places, skip_columns, place + 1)
-        begin = end_of_heading(place + 1, cells.merged, places.values())
+        begin = end_of_heading(place + 1, cells.filled, places.values())
         named = _take_names(cells, place, places)
         passed_over = _passed_over(cells, place, places)
         meant = tuple(_meant(name, places) for name in passed_over[:COMPARED])
@@ -107,7 +107,7 @@ def head_of(sheet: Sheet, headings: Headings) -> Tuple[int, Dict[str, int]]:
     if not any(any(map(str.strip, row)) for row in sheet.rows):
         raise TableError(f"the table is empty: it needs a row with the headings {' and '.join(headings.needed)}")
     heads = [list(row) for row in sheet.rows[: SEARCHED + 1]]
-    fill_heads(heads, sheet.merged)
+    fill_heads(heads, sheet.filled)
     found = headings.row_of(heads)
     place = headings.likely(heads) if found is None else found
     try:
@@ -119,7 +119,8 @@ def head_of(sheet: Sheet, headings: Headings) -> Tuple[int, Dict[str, int]]:
         why = f"sheet {sheet.name}: {error.why}; --sheet names another sheet: {others}"
         raise TableError(why, error.row) from error
     sheet.rows[place] = heads[place]
-    fill(sheet.rows, sheet.merged, place + 1, places.values())
+    sheet.look_at_covered(place + 1, places)
+    fill(sheet.rows, sheet.filled, place + 1, places.values())
     return place, places
 
 
@@ -143,7 +144,7 @@ def _has_names(sheet: Sheet, place: int, places: Mapping[str, int]) -> bool:
     at = places.get("balise")
     if at is None or "name" in places:
         return False
-    rows = islice(sheet.rows, end_of_heading(place + 1, sheet.merged, places.values()), None)
+    rows = islice(sheet.rows, end_of_heading(place + 1, sheet.filled, places.values()), None)
     filled = filter(str.strip, (row[at] for row in rows if at < len(row)))
     first = next(filled, None)
     return first is not None and _is_name(first) and all(map(_is_name, filled))
@@ -234,7 +235,7 @@ def _faults(sheet: Sheet, columns: Sequence[_Column], begin: int, width: int) ->
         for column in columns:
             if cells[column.place] in column.faults:
                 why = column.faults[cells[column.place]]
-                why += ": give --fill-merged" if why == NO_GROUP and sheet.is_merged else ""
+                why += ": give --fill-merged" if why == NO_GROUP and sheet.merged and not sheet.is_filled else ""
                 yield TableError(why, number, column.name)
 
 

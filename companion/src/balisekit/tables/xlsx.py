@@ -37,10 +37,10 @@ PLACES = 6
 """Numbers are rounded to as many decimal places as a kilometre can have: later digits of sums are wrong."""
 FORMULAS = "formulas without a stored value, read as empty: {count}, the first {first}"
 MERGED = (
-    "merged ranges, of which only the first cell is not empty: {count}, the first {first}; --fill-merged takes its "
-    "value for all cells"
+    "merged ranges, whose empty cells are read as empty: {count}, the first {first}; --fill-merged takes the value of "
+    "the first cell for them"
 )
-FILLED = "merged ranges, whose cells all have the value of the first one: {count}, the first {first}"
+FILLED = "merged ranges, whose empty cells are read with the value of the first one: {count}, the first {first}"
 CELL_TAGS = ("}c", "c")
 """How the name of the element of a cell ends, whatever its namespace."""
 DATES = (datetime.date, datetime.time, datetime.timedelta)
@@ -69,12 +69,12 @@ def read(content: bytes, name: Optional[str], headings: Headings = Headings(), f
         sheet, note = _chosen(book, name, headings, fill_merged)
         formulas, merged = _read_as_empty(sheet)
         not_calculated: List[int] = []
-        rows, areas = _cells(_rows(sheet, not_calculated)), _areas(merged) if fill_merged else ()
+        rows, areas = _cells(_rows(sheet, not_calculated)), _areas(merged)
         notes = (note, *_notes(formulas, FORMULAS), *_notes(merged, FILLED if fill_merged else MERGED))
         others = tuple(other.title for other in all_sheets if other is not sheet)
         found = _telegrams_of_others(book, sheet) if "telegram" in headings.needed else {}
-        is_merged, is_chosen = bool(merged) and not fill_merged, name is not None
-        return Sheet("xlsx", "", rows, notes, sheet.title, others, areas, is_merged, found, is_chosen, not_calculated)
+        is_chosen = name is not None
+        return Sheet("xlsx", "", rows, notes, sheet.title, others, areas, fill_merged, found, is_chosen, not_calculated)
 
 
 def _unreadable(error: Exception, row: Optional[int] = None) -> Exception:
