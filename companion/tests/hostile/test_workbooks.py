@@ -228,13 +228,6 @@ def cell(body: str, place: str = "C2") -> str:
 @pytest.mark.parametrize(
     "rows, behind, notes",
     [
-        ([cell("<f>A1</f>")], "", ["formulas without a stored value, read as empty: 1, the first C2"]),
-        ([cell("<f>A1</f><v/>")], "", ["formulas without a stored value, read as empty: 1, the first C2"]),
-        (
-            [cell("<f t='x'/><v></v>"), cell("<f>1</f>", "C3")],
-            "",
-            ["formulas without a stored value, read as empty: 2, the first C2"],
-        ),
         ([cell("<f>A1</f><v>7</v>")], "", []),
         ([cell("<v>7</v>"), cell("<f>C2</f><v>7</v>", "C3")], "", []),
         (
@@ -248,9 +241,60 @@ def cell(body: str, place: str = "C2") -> str:
     ],
 )
 def test_cells_that_are_read_as_empty(table: Write, rows: List[str], behind: str, notes: List[str]) -> None:
-    """Formulas that nobody has worked out, as pandas writes them, and merged cells."""
+    """Merged cells. Formulas that have a value are not read as empty."""
     read = tables.read(str(table(content=workbook(sheet(KM, *rows, behind=behind)))))
     assert read.notes == ("the sheet is S1; hidden and filtered rows are read as well", *notes)
+
+
+@pytest.mark.parametrize("body", ["<f>A1</f>", "<f>A1</f><v/>", "<f t='x'/><v></v>"])
+def test_formulas_that_nobody_has_worked_out(body: str, run: Run, table: Write) -> None:
+    """Libraries write them without values. In a column that is read they are refused, unless it is skipped."""
+    path = table(content=workbook(sheet(KM, cell(body))))
+    assert run("check", path)[2] == [f"balisekit: {path}: row 2, column km: {NOT_CALCULATED}"]
+    status, out, _ = run("check", path, "--skip-column", "km")
+    assert status == 0 and 'not judged: 1 formula in sheet "S1", column "km", row 2: --skip-column km' in "\n".join(out)
+
+
+FORMULA = "<c><f>Other!B2</f></c>"
+X = row("group", "telegram", "x")
+SAVED = "their values are not stored, and may be telegrams: open the workbook in a spreadsheet, and save it"
+
+
+@pytest.mark.parametrize(
+    "sheets, where, more, asked",
+    [
+        ([sheet(X, f"<row>{text('A')}{text(ALONE)}{FORMULA}</row>")], 'column "x", row 2', "--skip-column x", "x"),
+        ([sheet(HEADING, GOOD), sheet(f"<row>{FORMULA}</row>")], "row 1", "--sheet", ""),
+        ([sheet(f"<row>{FORMULA}</row>", HEADING, GOOD)], "row 1", "", ""),
+    ],
+)
+def test_formulas_that_may_be_telegrams(
+    sheets: List[str], where: str, more: str, asked: str, run: Run, table: Write
+) -> None:
+    """They are not counted as telegrams, and the answer is INCOMPLETE unless an option leaves them out."""
+    path, name = table(content=workbook(*sheets)), f"S{len(sheets)}"
+    status, out, _ = run("check", path)
+    remedy = f", or give {more}" if more else ""
+    assert status == 2 and f'not judged: 1 formula in sheet "{name}", {where}: {SAVED}{remedy}' in out
+    counts = "account: 1 telegram in the file; 1 judged, 0 refused, 0 not judged; 1 formula without a stored value; "
+    assert any(line.startswith(counts) for line in out)
+    assert out[-1].startswith("INCOMPLETE: 1 formula without a stored value")
+    option = ["--skip-column", asked] if asked else ["--sheet", "S1"]
+    assert run("check", path, *option)[0] == (0 if more else 2)
+
+
+def test_lines_of_a_csv_in_one_column(run: Run, table: Write) -> None:
+    """Somebody has pasted them into a sheet or a column. Each telegram counts."""
+    lines = f"B;{OTHER};12.3", f"B|{OTHER}|{ALONE}"
+    path = table(content=workbook(sheet(HEADING, GOOD), sheet(*map(row, lines))))
+    status, out, _ = run("check", path)
+    assert status == 2 and out[-1].startswith("INCOMPLETE: 3 telegrams in columns or sheets that are not read")
+    assert any(line.startswith('not judged: 3 telegrams in sheet "S2", rows 1 to 2: ') for line in out)
+    path = table(content=workbook(sheet(X, row("A", ALONE, lines[0]))))
+    status, out, _ = run("check", path)
+    assert status == 2 and any(
+        line.startswith('not judged: 1 telegram in sheet "S1", column "x", row 2') for line in out
+    )
 
 
 def merged(*ranges: str) -> str:

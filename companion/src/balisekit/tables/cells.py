@@ -20,7 +20,7 @@ PAIRS = re.compile(r"[^:-]{2}(?:([:-])[^:-]{2})(?:\1[^:-]{2})*")
 LEAST_DIGITS = 40
 """How many characters a cell has at least that looks like a telegram. The shortest telegrams have 54."""
 LINE_END = re.compile("[\r\n\v\f\x1c-\x1e\x85\u2028\u2029]")
-PARTS = re.compile("[,;\t\r\n\v\f\x1c-\x1e\x85\u2028\u2029]")
+PARTS = re.compile("[,;|\t\r\n\v\f\x1c-\x1e\x85\u2028\u2029]")
 """What separates cells and rows that a quote has put into one cell."""
 
 COVERED = "a merged cell covers contents of its own, which a spreadsheet does not show: unmerge the cells"
@@ -43,12 +43,12 @@ class Sheet(NamedTuple):
     """The merged areas."""
     is_filled: bool = False
     """Whether empty cells of a merged area are to have the value of its first cell."""
-    telegrams_of_others: Mapping[str, Sequence[int]] = {}
-    """The rows of cells that look like telegrams in the other sheets, by the names of these."""
+    in_others: Mapping[str, Found] = {}
+    """What is found in the other sheets, by the names of these."""
     is_chosen: bool = False
     """Whether the user has named the sheet."""
-    not_calculated: Sequence[int] = ()
-    """Of a workbook: the rows that are empty only because the values of their formulas are not stored."""
+    not_calculated: Sequence[Place] = ()
+    """Of a workbook: the cells that are empty only because the values of their formulas are not stored."""
 
     @property
     def filled(self) -> Sequence[Area]:
@@ -78,13 +78,31 @@ class Sheet(NamedTuple):
         if faults:
             raise TableErrors(faults)
 
-    def look_at_calculated(self, heading: int) -> None:
-        """TableErrors is raised for rows below the heading that are not calculated."""
-        faults = [TableError(NOT_CALCULATED, number) for number in self.not_calculated if number > heading]
+    def look_at_calculated(self, heading: int, width: int, places: Mapping[str, int]) -> None:
+        """TableErrors is raised for formulas below the heading whose values are not stored and needed.
+
+        They are in these columns, beyond those that the heading has, or in a row that has nothing else.
+        """
+        names, faults = {at: name for name, at in places.items()}, []
+        for number, at in self.not_calculated:
+            is_empty = not any(map(str.strip, self.rows[number - 1]))
+            if number > heading and (is_empty or at in names or at >= width):
+                faults.append(TableError(NOT_CALCULATED, number, "" if is_empty else names.get(at, "")))
         if faults:
-            raise TableErrors(faults)
+            raise TableErrors(list({str(fault): fault for fault in faults}.values()))
 
 
+class Found(NamedTuple):
+    """What is found in a sheet that is not read."""
+
+    telegrams: List[int]
+    """The row of each telegram."""
+    formulas: List[int]
+    """The row of each formula whose value is not stored."""
+
+
+Place = Tuple[int, int]
+"""The row of a cell, counted from 1, and its column, counted from 0."""
 Area = Tuple[int, int, int, int]
 """The first column, the first row, the last column and the last row of an area, counted from 1."""
 
@@ -125,15 +143,20 @@ def is_telegram(cell: str) -> bool:
     return len(text) >= LEAST_DIGITS and 10 * len(NO_DIGIT.sub("", text)) >= 9 * len(text)
 
 
-def has_telegram(cell: str, separator: str = "") -> bool:
-    """Whether a cell looks like a telegram, or has one between separators or line ends.
+def telegrams_in(cell: str, separator: str = "") -> int:
+    """How many telegrams a cell has: it looks like one, or has some between separators or line ends.
 
     `separator` is that of the file, which may be another one than those of spreadsheets.
     """
     if len(cell) < LEAST_DIGITS:
-        return False
+        return 0
     parts = PARTS.split(cell.replace(separator, "\n") if separator else cell)
-    return is_telegram(cell) or any(map(is_telegram, parts))
+    return sum(map(is_telegram, parts)) or is_telegram(cell)
+
+
+def has_telegram(cell: str, separator: str = "") -> bool:
+    """Whether a cell has a telegram."""
+    return telegrams_in(cell, separator) > 0
 
 
 def fill_heads(rows: List[List[str]], areas: Sequence[Area]) -> None:

@@ -75,7 +75,7 @@ def read(path: str, columns: Optional[str] = None) -> Expected:
     with faults_of(path):
         sheet, source = _opened(file.content, headings)
         place, places = head_of(sheet, headings)
-        sheet.look_at_calculated(place + 1)
+        sheet.look_at_calculated(place + 1, len(sheet.rows[place]), places)
         for names in ONE_OF:
             if not places.keys() & set(names):
                 raise TableError(f"no column {' or '.join(names)}: it needs one of them", place + 1)

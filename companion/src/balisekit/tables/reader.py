@@ -66,14 +66,14 @@ def read(
         passed_over = _passed_over(cells, place, places)
         meant = tuple(_meant(name, places) for name in passed_over[:COMPARED])
         try:
-            cells.look_at_calculated(begin)
+            cells.look_at_calculated(begin, len(cells.rows[place]), places)
             in_columns = beside.telegrams(cells, begin, places["telegram"])
             rows = _rows(cells, places, begin, len(cells.rows[place]))
             grouped = groups_of(rows, by_position, place + 1)
         except (TableError, TableErrors) as error:
             raise TableErrors([*_hints(passed_over, meant, place, named), *error.faults]) from error
     about = path, file.sha256, cells.encoding, cells.separator
-    not_judged = beside.of_columns(cells, place, places, in_columns, skip_columns)
+    not_judged = beside.of_columns(cells, cells.rows[place], begin, places, in_columns, skip_columns)
     account = beside.account(cells, [row.number for row in rows], passed_over, not_judged)
     of_heading = _notes_on_heading(place, headings.used(cells.rows[place]), named)
     of_file, ordered = (*cells.notes, *own_headings.not_read(path, columns)), [BY_POSITION] if by_position else []
@@ -246,7 +246,7 @@ def _telegram(cell: str, kind: str) -> str:
             "and export again"
         )
     if not digits(cell):
-        raise TableError("empty, or a formula whose value is not stored")
+        raise TableError("it is empty")
     return digits(cell)
 
 
