@@ -38,8 +38,7 @@ def run(options: argparse.Namespace) -> int:
         raise TableError("name what to do: --csv FILE or --xlsx FILE writes the sheet, --expect FILE compares one")
     wanted = expected.read(options.expect, options.columns) if options.expect else None
     checked = checking.check(*shared.inputs(options), options.by_position, options.all)
-    tables = [options.table, *([options.expect] if options.expect else [])]
-    checked = replace(checked, settings=in_force(options, tables))
+    checked = replace(checked, settings=in_force(options, [checked.table, *([wanted] if wanted else [])]))
     sheet = Sheet(checked)
     if options.csv:
         options.csv.write(sheets.csv_pieces(sheet))

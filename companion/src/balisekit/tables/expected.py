@@ -31,6 +31,8 @@ class Expected:
     """Where each column is."""
     heading: int
     """The row of the headings, counted from 1."""
+    own: Tuple[str, ...]
+    """The headings that are in it because a file of settings states them."""
     is_text: bool
     source: Callable[[], Iterator[List[str]]]
 
@@ -80,7 +82,8 @@ def read(path: str, columns: Optional[str] = None) -> Expected:
             if not places.keys() & set(names):
                 raise TableError(f"no column {' or '.join(names)}: it needs one of them", place + 1)
         notes = (*sheet.notes, *headings.used(sheet.rows[place]))
-        expected = Expected(path, notes, places, place + 1, sheet.encoding != "xlsx", source)
+        own = tuple(headings.of_row(sheet.rows[place]).values())
+        expected = Expected(path, notes, places, place + 1, own, sheet.encoding != "xlsx", source)
         expected.look_at()
     return expected
 

@@ -78,7 +78,8 @@ def read(
     of_heading = _notes_on_heading(place, headings.used(cells.rows[place]), named)
     of_file, ordered = (*cells.notes, *own_headings.not_read(path, columns)), [BY_POSITION] if by_position else []
     notes = (*of_file, *of_heading, *not_there, *ordered, *grouped.notes)
-    return Table(*about, passed_over, grouped.rows, grouped.groups, account, notes, meant)
+    own = tuple(headings.of_row(cells.rows[place]).values())
+    return Table(*about, passed_over, grouped.rows, grouped.groups, account, notes, own, meant)
 
 
 def _hints(passed_over: Sequence[str], meant: Sequence[str], place: int, named: bool) -> List[TableError]:
