@@ -13,7 +13,7 @@ from balisekit.present import sheets
 from balisekit.present.account_text import overlooked_lines
 from balisekit.present.check_text import head_line
 from balisekit.present.opening import opening
-from balisekit.present.refusals import lacking, refused_lines
+from balisekit.present.refusals import refused_lines
 from balisekit.rules import checking
 from balisekit.rules.checking import Checked
 from balisekit.tables import expected
@@ -43,15 +43,15 @@ def run(options: argparse.Namespace) -> int:
     if options.csv:
         options.csv.write(sheets.csv_pieces(sheet))
     if options.xlsx:
-        options.xlsx.write(sheets.xlsx_pieces(sheet))
+        options.xlsx.write(sheets.xlsx_pieces(sheet, checked))
     said = _lines(options, checked, sheet.notes)
     status = 0 if checked.whole else 2
     if wanted:
         compared = compare(checked, wanted)
         said += sheets.lines(checked, compared)
         status = status or (1 if compared.differences else 0)
-    elif not checked.whole:
-        said.append(f"INCOMPLETE: {', '.join(lacking(checked))}")
+    else:
+        said += sheets.incomplete(checked)
     shared.say(said, options.csv, options.xlsx)
     return status
 
