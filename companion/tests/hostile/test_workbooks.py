@@ -297,6 +297,15 @@ def test_lines_of_a_csv_in_one_column(run: Run, table: Write) -> None:
     )
 
 
+def test_telegrams_in_comments(table: Write) -> None:
+    """Only cells are read, so telegrams in a comment of a cell are named."""
+    comments = f"<comments xmlns='{MAIN}'><comment ref='B2'><text><t>{OTHER}</t></text></comment></comments>"
+    part = ("xl/comments1.xml", "comments", comments)
+    notes = tables.read(str(table(content=workbook(sheet(HEADING, GOOD), more=[part])))).notes
+    said = "telegrams in comments, text boxes and other parts that are not read: 1, the first in xl/comments1.xml"
+    assert said in notes
+
+
 def merged(*ranges: str) -> str:
     """The part of a sheet that names these merged ranges."""
     return f"<mergeCells>{''.join(f'<mergeCell ref={each!r}/>' for each in ranges)}</mergeCells>"

@@ -38,6 +38,10 @@ MERGED = (
     "the first cell for them"
 )
 FILLED = "merged ranges, whose empty cells are read with the value of the first one: {count}, the first {first}"
+BESIDE = "telegrams in comments, text boxes and other parts that are not read: {count}, the first in {first}"
+CELLS = re.compile(r"xl/(worksheets/[^/]*|sharedStrings)\.xml", re.IGNORECASE)
+"""The parts of a workbook that have cells."""
+TEXT = re.compile(""">([^<]{40,})<|"([^"<]{40,})"|'([^'<]{40,})'""")
 CELL_TAGS = ("}c", "c")
 """How the name of the element of a cell ends, whatever its namespace."""
 DATES = (datetime.date, datetime.time, datetime.timedelta)
@@ -67,7 +71,8 @@ def read(content: bytes, name: Optional[str], headings: Headings = Headings(), f
         merged = _merged(sheet)
         not_calculated: List[Place] = []
         rows, areas = _cells(_rows(sheet, not_calculated)), _areas(merged)
-        notes = (note, *_notes(merged, FILLED if fill_merged else MERGED))
+        beside = _telegrams_beside_cells(content) if "telegram" in headings.needed else []
+        notes = (note, *_notes(beside, BESIDE), *_notes(merged, FILLED if fill_merged else MERGED))
         others = tuple(other.title for other in all_sheets if other is not sheet)
         found = _found_in_others(book, sheet) if "telegram" in headings.needed else {}
         is_chosen = name is not None
@@ -309,6 +314,17 @@ def _cells(values_of_rows: Iterable[List[Any]], widest: Optional[int] = GREATEST
             raise TableError(f"it has more than {widest} columns: {SHORT_WAY_OUT}", row=number)
         rows.append([value if type(value) is str else _text(value) for value in values])
     return rows
+
+
+def _telegrams_beside_cells(content: bytes) -> List[str]:
+    """The part of each telegram that is in no cell, but in a comment or a text box, for example."""
+    found: List[str] = []
+    with zipfile.ZipFile(io.BytesIO(content)) as parts:
+        for name in parts.namelist():
+            if name.endswith(".xml") and not CELLS.fullmatch(name):
+                texts = TEXT.findall(parts.read(name).decode("utf-8", "replace"))
+                found += [name] * sum(telegrams_in("".join(text)) for text in texts)
+    return found
 
 
 def _merged(sheet: Any) -> List[str]:
