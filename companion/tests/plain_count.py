@@ -3,6 +3,7 @@ from __future__ import annotations
 
 import csv
 import io
+import re
 from typing import Any, Dict, Iterator, List, NamedTuple, Optional, Set, Tuple
 
 HEXADECIMAL = frozenset("0123456789abcdefABCDEF")
@@ -53,6 +54,11 @@ def is_telegram(text: str) -> bool:
     return len(rest) >= LEAST and 10 * sum(each in HEXADECIMAL for each in rest) >= 9 * len(rest)
 
 
+def how_many(text: str) -> int:
+    """How many telegrams a cell has: those between commas, semicolons, bars, tabs and line ends, or the whole of it."""
+    return sum(map(is_telegram, re.split("[,;|\t\r\n\v\f\x1c-\x1e\x85\u2028\u2029]", text))) or int(is_telegram(text))
+
+
 def cells_of_csv(content: bytes, encoding: str, separator: str) -> Cells:
     """All cells of a CSV file. A first line that names the separator is not a row."""
     text = content.decode(encoding)
@@ -69,6 +75,16 @@ def cells_of_workbook(content: bytes) -> Cells:
 
     book = openpyxl.load_workbook(io.BytesIO(content), read_only=True, data_only=True)
     return {place: text for sheet in book.worksheets for place, text in _cells_of_sheet(sheet)}
+
+
+def unknown_formulas(content: bytes) -> Set[Place]:
+    """The formulas of a workbook whose values are not stored."""
+    import openpyxl
+
+    book = openpyxl.load_workbook(io.BytesIO(content), read_only=True)
+    cells = {place: text for sheet in book.worksheets for place, text in _cells_of_sheet(sheet)}
+    known = cells_of_workbook(content)
+    return {place for place, text in cells.items() if text.startswith("=") and place not in known}
 
 
 def _cells_of_sheet(sheet: Any) -> Iterator[Tuple[Place, str]]:
@@ -89,7 +105,7 @@ def telegrams(cells: Cells, known: Known) -> Set[Place]:
 
     In other sheets they may be among words, in a cell with line ends.
     """
-    by_text = {place for place, text in cells.items() if is_telegram(text)}
+    by_text = {place for place, text in cells.items() if how_many(text)}
     by_text |= {place for place in swallowed(cells) if place.sheet != known.sheet}
     return by_text | {Place(known.sheet, row, known.column) for row in rows_read(cells, known)}
 

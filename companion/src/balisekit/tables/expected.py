@@ -41,6 +41,8 @@ class Expected:
     width: int
     """How many cells the row of the headings has."""
     separator: str
+    own: Tuple[str, ...]
+    """The headings that are in it because a file of settings states them."""
     is_text: bool
     source: Callable[[], Iterator[List[str]]]
 
@@ -103,14 +105,15 @@ def read(path: str, columns: Optional[str] = None) -> Expected:
     with faults_of(path):
         sheet, source = _opened(file.content, headings)
         place, places = head_of(sheet, headings)
-        sheet.look_at_calculated(place + 1)
+        sheet.look_at_calculated(place + 1, len(sheet.rows[place]), places)
         for names in ONE_OF:
             if not places.keys() & set(names):
                 raise TableError(f"no column {' or '.join(names)}: it needs one of them", place + 1)
         _look_at_stated(own_headings.found(path, columns), places, place + 1)
         _look_above(sheet.rows[: place + 1], sheet.separator)
         width, is_text = len(sheet.rows[place]), sheet.encoding != "xlsx"
-        expected = Expected(path, (), places, place + 1, width, sheet.separator, is_text, source)
+        own = tuple(headings.of_row(sheet.rows[place]).values())
+        expected = Expected(path, (), places, place + 1, width, sheet.separator, own, is_text, source)
         used = expected.look_at()
         notes = (*sheet.notes, *headings.used(sheet.rows[place]), *_notes(sheet, place, places, used))
     return replace(expected, notes=notes)
