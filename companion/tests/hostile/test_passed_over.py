@@ -110,3 +110,14 @@ def test_the_last_line_is_that_of_the_text(run: Run, table: Write, monkeypatch: 
     for words in choices:
         out, answer = outputs(run, path, "--force", *words)[1:3]
         assert answer["last_line"] == out[-1]
+
+
+def test_a_kilometre_in_a_jump(run: Run, table: Write) -> None:
+    """The group has a kilometre, but the jump shows that no place of the track has it."""
+    path = table(*EXAMPLE.read_text("utf-8").splitlines())
+    jumps = table("km,km_after", "12.900,13.100", name="jumps.csv")
+    out, answer = outputs(run, path, "--only", "L,E", "--jumps", jumps)[1:3]
+    why = "a kilometre that a jump leaves out or repeats"
+    assert f"note: Signal 3: {why}, so E12 to E19 and E22 compare no place of the group" in out
+    assert [(each["family"], each["group"]) for each in answer["passed_over"]] == [("L", "Signal 3"), ("E", "Signal 3")]
+    assert f"not compared by E12: 2 of 12 ends of authority ({why}: 2)" in out
