@@ -90,6 +90,14 @@ def test_calls(tree):
     assert decode(tree, *USER, "bash", "-c", 'ulimit -u 1; exec sh "$@"', "-")[0] >= 3
 
 
+@pytest.mark.parametrize("words", [("check",), ("decode",), ("encode",), ("--help",), ("check", "more"), ("",)])
+def test_a_path_is_no_answer(words, tree):
+    """With a word the program answers, also if the variable that asks for its path has stayed in the environment."""
+    sh(tree, """program $stored '[ $# != 1 ] || [ "$1" != decode ] || exit 0; echo "it was $*"; exit 1'""")
+    answers = [run(tree, tree / "balisecheck", *words, **known) for known in ({}, {"BALISECHECK_PATH": "1"})]
+    assert answers[0] == answers[1] == ((0, "", "") if words == ("decode",) else (1, f"it was {' '.join(words)}\n", ""))
+
+
 def build(tree, command=":"):
     """Status and last line of scripts/build with a toolchain that runs this. Its process is in the file `build`."""
     write(tree.parent / "tools/rt", TOOLCHAIN)
