@@ -110,9 +110,9 @@ check_documents() (
     [ $# -gt 0 ] || { echo 'check_documents DOCUMENT..' >&2; exit 3; }
     log=$(mktemp) && trap 'rm -f "$log"' EXIT || exit 3
     BALISECHECK=$(the_program)
-    export BALISECHECK PARALLEL_SHELL=$BASH
+    export BALISECHECK
     export -f report_of
-    printf '%s\0' "$@" | parallel -0 -k --tag --joblog "$log" report_of {} | cat
+    printf '%s\0' "$@" | PARALLEL_SHELL=$BASH parallel -0 -k --tag --joblog "$log" report_of {} | cat
     status_of_parts "$log" 0 $# "${PIPESTATUS[@]:1}"
 )
 
@@ -124,9 +124,8 @@ run_in_blocks() (
     shift 2
     [ $# -eq 1 ] || set -- "${*@Q}"
     bytes=$(wc -c <"$file") && log=$(mktemp) && trap 'rm -f "$log"' EXIT || exit 3
-    export PARALLEL_SHELL=$BASH
     # What a refused block leaves is read too. Else parallel cannot hand it over, and logs a signal instead of status 2.
-    parallel --pipe --block "$size" -k --joblog "$log" "$1; ended=\$?; cat >/dev/null; exit \$ended" <"$file" | cat
+    PARALLEL_SHELL=$BASH parallel --pipe --block "$size" -k --joblog "$log" "$1; ended=\$?; cat >/dev/null; exit \$ended" <"$file" | cat
     status_of_parts "$log" 5 "$bytes" "${PIPESTATUS[@]}"
 )
 
@@ -178,11 +177,11 @@ check_tables() (
         exit 3
     fi
     words="${options[*]}" # (bash exports no array)
-    export folder words check_tables_hook PARALLEL_SHELL=$BASH
+    export folder words check_tables_hook
     # Without the test a file that cannot be written would end with 1, as a table with findings does.
     # shellcheck disable=SC2016
     printf '%s\0' "${tables[@]}" |
-        parallel -0 --joblog "$folder/jobs" 'file=$folder/{#}-{/.}.txt; true >"$file" || exit 3
+        PARALLEL_SHELL=$BASH parallel -0 --joblog "$folder/jobs" 'file=$folder/{#}-{/.}.txt; true >"$file" || exit 3
             "$check_tables_hook" $words -- {} >"$file" 2>&1 </dev/null'
     [ $? -le 101 ] || exit 3
     summary_of_tables "$folder" "${tables[@]}"
