@@ -75,4 +75,10 @@ def start():
     return main_of_clone()
 
 
-sys.exit(start())
+try:
+    status = start()
+except Exception as error:
+    # (a traceback would end with status 1, as for findings: memory is short, or a module is damaged)
+    sys.stderr.write("balisekit: it does not start: " + type(error).__name__ + ": " + str(error) + "\n")
+    status = 3
+sys.exit(status)
