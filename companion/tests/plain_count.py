@@ -4,6 +4,7 @@ from __future__ import annotations
 import csv
 import io
 import re
+from decimal import Decimal
 from typing import Any, Dict, Iterator, List, NamedTuple, Optional, Set, Tuple
 
 HEXADECIMAL = frozenset("0123456789abcdefABCDEF")
@@ -55,7 +56,12 @@ def is_telegram(text: str) -> bool:
 
 
 def how_many(text: str) -> int:
-    """How many telegrams a cell has: those between commas, semicolons, bars, tabs and line ends, or the whole of it."""
+    """How many telegrams a cell has: those between commas, semicolons, bars, tabs and line ends, or the whole of it.
+
+    A number of at least 40 digits counts too: a spreadsheet may have shortened a telegram to it.
+    """
+    if re.fullmatch("[0-9.,]+[eE][+][0-9]{2,3}", text.strip()):
+        return int(Decimal(text.strip().replace(",", ".")) >= 10**39)
     return sum(map(is_telegram, re.split("[,;|\t\r\n\v\f\x1c-\x1e\x85\u2028\u2029]", text))) or int(is_telegram(text))
 
 

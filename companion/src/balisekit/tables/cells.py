@@ -24,6 +24,8 @@ LEAST_DIGITS = 40
 """How many characters a cell has at least that looks like a telegram. The shortest telegrams have 54."""
 RUN = re.compile("[0-9A-Fa-f]{8}")
 """What is in each text that looks like a telegram, because at most one of ten characters is no digit."""
+LARGE = re.compile(r"\s*[0-9](?:[.,][0-9]+)?[eE]\+(?:39|[4-9][0-9]|[1-9][0-9]{2})\s*")
+"""A number of at least 40 digits, to which a spreadsheet has shortened a telegram."""
 LINE_END = re.compile("[\r\n\v\f\x1c-\x1e\x85\u2028\u2029]")
 PARTS = re.compile("[,;|\t\r\n\v\f\x1c-\x1e\x85\u2028\u2029]")
 """What separates cells and rows that a quote has put into one cell."""
@@ -162,7 +164,7 @@ def telegrams_in(cell: str, separator: str = "") -> int:
     that of the file, which may be another one than those of spreadsheets.
     """
     if len(cell) < LEAST_DIGITS:
-        return 0
+        return int(bool(LARGE.fullmatch(cell)))
     parts = PARTS.split(cell.replace(separator, "\n") if separator else cell)
     return sum(map(is_telegram, parts)) or int(is_telegram(cell) or has_swallowed(cell))
 
