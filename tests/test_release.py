@@ -183,6 +183,9 @@ def test_wheel(made, venv):
     assert (package / "py.typed").exists()
     assert all([*venv.rglob(name)] for name in ("LICENSE-MIT", "THIRD-PARTY.md"))
     has_live_pages(venv)
+    (metadata,) = map(text_of, venv.rglob("balisekit-*.dist-info/METADATA"))
+    # An expression of licences would need version 2.4: twine of Debian 13 refuses it here, that of Debian 12 does not.
+    assert metadata.startswith("Metadata-Version: 2.1\n") and "\nLicense: MIT OR Apache-2.0\n" in metadata
     serves(made, venv)
 
 
