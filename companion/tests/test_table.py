@@ -297,6 +297,10 @@ BAD: Sequence[Any] = [
     ),
     (["group,aspect,telegram", f"#BEZUG!,,{ALONE}"], "row 2, column group: #BEZUG! is an error of the spreadsheet"),
     (["group,aspect,telegram", f"A,#N/A,{ALONE}"], "row 2, column aspect: #N/A is an error of the spreadsheet"),
+    *(
+        (["group,track,telegram", f"A,{error},{ALONE}"], f"row 2, column track: {error} is an error of the spreadsheet")
+        for error in ("#N/D", "#¡REF!", "Err:502", "Fehler:502", "####", "#ÜBERLAUF!", "#GETTING_DATA", "Loading...")
+    ),
     ([H, f'"A\nB",{ALONE}'], "row 2, column group: the cell contains a line end"),
     ([H, f'A,"{ALONE}'], "row 2: a quote is not closed"),
     ([H, f'A,"{ALONE}"x'], "row 2: a cell contains a quote"),

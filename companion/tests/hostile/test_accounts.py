@@ -12,6 +12,7 @@ import pytest
 from conftest import Run
 from telegrams import ALONE, MESSAGE, OTHER
 
+from balisekit.errors import TableErrors
 from balisekit.rules import checking
 from balisekit.tables import messages
 
@@ -177,6 +178,13 @@ def test_a_message_as_a_name(name: str, run: Run, table: Write) -> None:
     radio = table(f"{MESSAGE};{name}", name="m.txt")
     err = [f"balisekit: {radio}: line 1: after the semicolon is a message: write one per line"]
     assert run("check", table(*OLD), "--messages", radio) == (2, [], err)
+
+
+@pytest.mark.parametrize("name", ["report 1{};authority 2", "1{}", "x {} y", "a:{}", "b={}", "c({})", "of 4711 {};2"])
+def test_a_message_in_a_name(table: Write, name: str) -> None:
+    """A lost line end puts a message behind the name of another one."""
+    with pytest.raises(TableErrors, match="line 1: after the semicolon is a message: write one per line"):
+        messages.read(str(table(f"{MESSAGE};{name.format(MESSAGE)}", name="m.txt")))
 
 
 def test_a_name_of_digits(table: Write) -> None:

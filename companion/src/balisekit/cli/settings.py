@@ -13,7 +13,7 @@ from typing import Any, Callable, Dict, FrozenSet, Mapping, NamedTuple, Optional
 from balisekit.cli import options as shared
 from balisekit.errors import TableError, faults_of
 from balisekit.rules import meaning
-from balisekit.rules.chainage import Jump, read_jumps
+from balisekit.rules.chainage import Jump, look_at, read_jumps
 from balisekit.rules.rule import ALL, LINE_SPEED, RELEASE_SPEED, Options
 from balisekit.tables import own_headings, plan as plan_file
 from balisekit.tables.cells import GREATEST_NAME
@@ -128,7 +128,10 @@ def jumps(options: argparse.Namespace) -> Tuple[Jump, ...]:
 def _jumps(stated: Mapping[str, Any], plan: Optional[plan_file.Plan]) -> Tuple[Jump, ...]:
     """Those of the file of jumps, and those of the plan, each once."""
     own = read_jumps(stated["jumps"]) if "jumps" in stated else ()
-    return tuple(dict.fromkeys([*own, *(Jump(*each) for each in (plan.jumps if plan else ()))]))
+    found = tuple(dict.fromkeys([*own, *(Jump(*each) for each in (plan.jumps if plan else ()))]))
+    with faults_of(" and ".join(stated[name] for name in ("jumps", "plan") if name in stated)):
+        look_at(found)
+    return found
 
 
 def given(options: argparse.Namespace) -> Dict[str, Any]:

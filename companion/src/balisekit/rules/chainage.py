@@ -6,7 +6,7 @@ are finer than a decimetre are rounded.
 from __future__ import annotations
 
 from decimal import ROUND_HALF_EVEN, Decimal
-from typing import Dict, Iterator, Mapping, NamedTuple, Optional, Sequence, Tuple
+from typing import Dict, Iterator, List, Mapping, NamedTuple, Optional, Sequence, Tuple
 
 from balisekit.errors import TableError, TableErrors, faults_of
 from balisekit.etcs.geometry import kilometre_of
@@ -32,6 +32,21 @@ class Jump(NamedTuple):
     after: Decimal
     track: str = ""
 
+    def __str__(self) -> str:
+        of_track = f" of track {clean(self.track)}" if self.track else " without a track"
+        return f"the jump from km {self.before} to km {self.after}{of_track}"
+
+
+def look_at(jumps: Sequence[Jump]) -> None:
+    """Raises TableError for two jumps of a track that leave out or repeat the same kilometres: they contradict."""
+    known: Dict[str, List[Jump]] = {}
+    for jump in sorted(jumps, key=lambda each: min(each.before, each.after)):
+        known.setdefault(clean(jump.track), []).append(jump)
+    for own in known.values():
+        for one, other in zip(own, own[1:]):
+            if min(other.before, other.after) < max(one.before, one.after) or one.before == other.before:
+                raise TableError(f"{one} and {other} contradict each other")
+
 
 def decimetres(km: Decimal) -> int:
     """A kilometre in whole decimetres."""
@@ -56,7 +71,7 @@ class Chainage(NamedTuple):
             return None
         at, shift = decimetres(km), 0
         for before, after in self.jumps:
-            if min(before, after) < at < max(before, after):
+            if before < at < after or after <= at <= before:
                 return None
             shift += before - after if at >= max(before, after) else 0
         return at + shift

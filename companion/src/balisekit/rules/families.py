@@ -5,7 +5,7 @@ F are the findings of the program, which are proved. The other families are rule
 from __future__ import annotations
 
 import time
-from dataclasses import dataclass
+from dataclasses import dataclass, replace
 from datetime import date
 from functools import cached_property, partial
 from typing import Iterator, Mapping, NamedTuple, Optional, Sequence, Tuple
@@ -243,9 +243,11 @@ def _looked_at(
             if family.letter == PROVED:
                 yield Part(family, checked.findings, time.perf_counter() - begin)
                 continue
+            is_first = line is None
             line = line or Line.of(checked, options.jumps, bool(in_full) and not count)
             known = known or (read(line, found_in_full) if family.in_full and count else {})
             found = look_for(line, options, family.rules, family.notes, known, family.passed_over)
+            found = replace(found, notes=(*line.not_applied, *found.notes)) if is_first else found
             yield Part(family, found.remarks, time.perf_counter() - begin, found)
 
 

@@ -243,6 +243,13 @@ class Line:
         return {track: Chainage.of(self.jumps, track) for track in {group.track for group in self.groups}}
 
     @cached_property
+    def not_applied(self) -> Sequence[str]:
+        """A note on each jump of a track that the table does not have: it moves no place."""
+        tracks = {clean(group.track) for group in self.groups}
+        strange = [jump for jump in self.jumps if clean(jump.track) not in tracks]
+        return [f"{jump}: the table has no such track, so the jump is not applied" for jump in strange]
+
+    @cached_property
     def placed(self) -> Mapping[str, Sequence[Placed]]:
         """Of each track: its groups that have a place, in the order of the places."""
         placed: Dict[str, List[Placed]] = {}

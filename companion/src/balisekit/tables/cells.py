@@ -17,7 +17,9 @@ GREATEST_NAME = 1000
 BLANKS = " \t\u00a0\u2000-\u200b\u202f\u3000"
 QUOTES = "\"'\u2018\u2019\u201c\u201d\u201e\u00ab\u00bb"
 DIGITS, NO_DIGIT = re.compile("[0-9A-Fa-f]+"), re.compile("[^0-9A-Fa-f]+")
-ERROR = re.compile("#[A-Z/0]+[!?]|#N/A|#NV")
+ERROR = re.compile(
+    r"#[¡¿]?[^\W\d][\w/ ]*[!?]|#N/?[ADV]|##+|#GETTING_DATA|Loading\.\.\.|(?:Err|Error|Erreur|Errore|Fehler):5[0-9]{2}"
+)
 """What a spreadsheet has in a cell whose formula failed, in one language or another."""
 PAIRS = re.compile(r"[^:-]{2}(?:([:-])[^:-]{2})(?:\1[^:-]{2})*")
 LEAST_DIGITS = 40

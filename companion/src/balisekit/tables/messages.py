@@ -2,7 +2,7 @@
 from __future__ import annotations
 
 import re
-from typing import List
+from typing import Iterator, List
 
 from balisekit.errors import TableError, TableErrors, faults_of
 from balisekit.io import inputs
@@ -13,6 +13,7 @@ from balisekit.tables.model import Message, Messages
 
 LEAST_DIGITS = 20
 """How many digits the shortest message has: NID_MESSAGE, L_MESSAGE, T_TRAIN, M_ACK and NID_LRBG."""
+RUNS = re.compile(rf"[0-9A-Fa-f]{{{LEAST_DIGITS},}}")
 
 
 def read(path: str) -> Messages:
@@ -30,7 +31,7 @@ def _messages(text: str) -> List[Message]:
         if not line.strip():
             continue
         cell, _, name = line.partition(";")
-        if has_telegram(name) or any(map(_is_message, PARTS.split(name))):
+        if has_telegram(name) or any(map(_is_message, [*PARTS.split(name), *_ends(name)])):
             faults.append(TableError("after the semicolon is a message: write one per line", line=number))
         elif digits(cell):
             messages.append(Message(number, digits(cell), cell.strip(), name.strip()))
@@ -41,6 +42,12 @@ def _messages(text: str) -> List[Message]:
     if not messages:
         raise TableError("the file has no message: write one per line in hexadecimal digits, with its name after ;")
     return messages
+
+
+def _ends(name: str) -> Iterator[str]:
+    """The ends of long runs of digits. A lost line end puts a message behind the end of a name, such as `report 1`."""
+    for run in RUNS.findall(name):
+        yield from (run[begin:] for begin in range(len(run) - LEAST_DIGITS + 1))
 
 
 def _is_message(text: str) -> bool:

@@ -37,7 +37,7 @@ ABSENT = -1
 NO_GROUP = "no group; fill merged cells"
 NUMBER = re.compile(r"[-+]?[0-9]+([.,][0-9]*)?")
 NAMES = "the column balise has names and no number: it is read as the column name, and the order of the rows counts"
-PLAIN = re.compile(r"[^\0\r\n#]{0,1000}")
+PLAIN = re.compile(r"(?! *(?:Err|Fehler|Loading))[^\0\r\n#]{0,1000}")
 """A text without anything that needs to be looked for."""
 
 

@@ -2,6 +2,7 @@
 from __future__ import annotations
 
 from collections import Counter
+from dataclasses import replace
 from typing import Iterator, Sequence, Tuple
 
 from balisekit.rules.applied import Applied, look_for
@@ -29,7 +30,8 @@ Links = Applied
 
 def compare(line: Line, options: Options = Options(), rules: Sequence[Rule] = RULES) -> Links:
     """Looks for these rules in a line."""
-    return look_for(line, options, rules, notes_on)
+    found = look_for(line, options, rules, notes_on)
+    return replace(found, notes=(*line.not_applied, *found.notes))
 
 
 def notes_on(line: Line) -> Iterator[str]:
