@@ -7,7 +7,7 @@
 from __future__ import annotations
 
 import re
-from typing import Iterator, List, NamedTuple, Set
+from typing import Iterator, List, NamedTuple, Set, Tuple
 
 from edition.definitions import TOP, Key, closure, conditions_of, definitions, in_order, key_of, lines, meant_in
 from variables.page import table
@@ -19,6 +19,15 @@ PROMISE = re.compile(r"(?m)^\| \*\*([\w ]+)\.\*\* .* \| (.*) \| (.*) \|$")
 CALL = re.compile(r"`(\w+)::(?:\w+::)?(\w+)`(?: \(((?:`\w+`(?:, )?)+)\))?")
 DEFINED = re.compile(r"`(\w+)/(\w+\.antt)`: ((?:`\w+`(?:, )?)+)")
 CLAUSE = re.compile(r"(?s)\bensures (\w*) ?\{(.*?)\}\n")
+STATED = {
+    "Output": "outputs_agree", "Yes": "yes_agrees, a_yes_has_no_finding", "Meaning of a yes": "yes_agrees",
+    "Findings": "findings_agree", "Groups by themselves": "findings_name_what_is_not_sound",
+    "Telegrams": "telegrams_agree, a_text_has_one_record (telegrams)",
+    "Texts": "telegram_texts_agree, reasons_agree (telegrams)",
+    "There and back": "written_texts_agree, what_is_written_is_read, a_text_has_one_record",
+    "Radio messages": "messages_agree, message_texts_agree, written_texts_agree (messages), reasons_agree (messages)",
+    "JSON": "forms_agree", "Documents": "lines_agree, reasons_agree (documents)"}
+"""The laws of the edition that state a promise, each perhaps with one of its clauses."""
 
 
 class Law(NamedTuple):
@@ -62,6 +71,19 @@ def roots_of(calls: str, cell: str) -> Set[Key]:
     return found
 
 
+def stating(title: str) -> Tuple[str, Set[Key]]:
+    """The laws of the edition that state a promise, and the definitions that they name on the edition's side."""
+    found, cited = set(), []
+    for law in filter(None, STATED.get(title, "").split(", ")):
+        name, clause = re.fullmatch(r"(\w+)(?: \((\w+)\))?", law).groups()
+        own = [(words.partition("↔")[0], source) for its, words, source in clauses_of(EDITION, name)
+               if clause in (None, its)]
+        assert own, law
+        found.update(key for words, source in own for key in meant_in(words, source) if key in definitions())
+        cited.append(f"`{name}`{f' (`{clause}`)' if clause else ''}")
+    return ", ".join(cited), found
+
+
 def laws_part() -> str:
     """A row for each law, and one for a yes together with the findings."""
     every = [*laws()]
@@ -87,8 +109,11 @@ def promises_part(text: str) -> str:
     reached = {it.key for keys in (*roots.values(), *(law.short for law in laws())) for it in closure(keys)}
     every = [it for it in definitions().values() if not it.is_proof]
     inner = [it for it in every if it.key not in reached]
-    rows = [[title, f"{lines(keys):,}"] for title, keys in roots.items()]
-    return table(["Promise", "Lines"], rows) + (
+    stated = {title: stating(title) for title in roots}
+    assert {*STATED} <= {*roots}, "the page lacks a promise"
+    rows = [[title, f"{lines(keys):,}", stated[title][0], f"{lines(stated[title][1]):,}" if stated[title][1] else ""]
+            for title, keys in roots.items()]
+    return table(["Promise", "Lines", "Laws of the edition", "Lines with them"], rows) + (
         f"All `specs` together have {sum(it.lines for it in every):,} lines of definitions. No promise of this page "
         f"rests on {sum(it.lines for it in inner):,} of these lines.\n\n")
 

@@ -69,7 +69,7 @@ is_message i v m is =
 
 -- ---- lists
 
-each_is : {X : Type 0} (Is : Data → X → Type 0) (read : ℕ → Data → Result X DocumentFault)
+pub each_is : {X : Type 0} (Is : Data → X → Type 0) (read : ℕ → Data → Result X DocumentFault)
     → ((n : ℕ) (d : Data) (x : X) → read n d ≡ Ok x → Is d x)
     → (n : ℕ) (ds : List Data) (xs : List X) → read_indexed read n ds ≡ Ok xs → Each Is ds xs
 each_is Is read to n [] [] is = tt
@@ -87,7 +87,7 @@ is_each Is read to n [] (x ∷ xs) are = absurd are
 is_each Is read to n (d ∷ ds) [] are = absurd are
 is_each Is read to n (d ∷ ds) (x ∷ xs) are = rw (to n d x are.0, is_each Is read to (n + 1) ds xs are.1) refl
 
-same_count : {X : Type 0} (Is : Data → X → Type 0) (ds : List Data) (xs : List X) → Each Is ds xs → length ds ≡ length xs
+pub same_count : {X : Type 0} (Is : Data → X → Type 0) (ds : List Data) (xs : List X) → Each Is ds xs → length ds ≡ length xs
 same_count Is [] [] are = refl
 same_count Is [] (x ∷ xs) are = absurd are
 same_count Is (d ∷ ds) [] are = absurd are

@@ -12,3 +12,8 @@ pub mod RuleLemmas
 pub mod FindingLemmas
 pub mod ReportLemmas
 pub mod AnswerLemmas
+pub mod ReasonLemmas
+pub mod RefusalLemmas
+pub mod FormLemmas
+pub mod OutputLemmas
+pub mod CheckLemmas

@@ -10,3 +10,6 @@ pub mod Yes
 pub mod Rules
 pub mod Findings
 pub mod Report
+pub mod Forms
+pub mod Refusals
+pub mod Output
