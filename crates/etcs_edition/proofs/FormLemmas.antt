@@ -1,5 +1,5 @@
 -- The forms of the edition are those that the codecs write.
-use Rattle.std.proofs.Common.{◌≡◌, ℕ, Bool, true, false, List, [], ◌∷◌, codes, length, Option, Some, None, refl, sym, ap}
+use Rattle.std.proofs.Common.{◌≡◌, ℕ, Bool, true, false, List, [], ◌∷◌, codes, Option, Some, None, refl, sym, ap}
 use Rattle.serde_json.specs.Data.{Data}
 use Rattle.etcs_bits.specs.bits.Number.{worth}
 use Rattle.etcs_bits.specs.declared.variables.version.Version.{Version}
@@ -60,7 +60,7 @@ use Rattle.etcs_telegram.specs.Record.{Telegram}
 use Rattle.etcs_edition.specs.Wire.{bit}
 use Rattle.etcs_edition.specs.Variables.{version_field, dup_field, scale_field, dir_field, train3_field, level_fields}
 use Rattle.etcs_edition.specs.TrainPackets.{integrity_fields}
-use Rattle.etcs_edition.specs.Forms.{number, numbers, link_form, section_timer_form, section_form, end_timer_form, danger_point_form, overlap_form, gradient_element_form, difference_form, speed_element_form, level_order_form, authority_form, track_packet_form, telegram_form, report_form, train_packet_form, message_form}
+use Rattle.etcs_edition.specs.Forms.{numbers, link_form, section_timer_form, section_form, end_timer_form, danger_point_form, overlap_form, gradient_element_form, difference_form, speed_element_form, level_order_form, authority_form, track_packet_form, telegram_form, report_form, train_packet_form, message_form}
 use Rattle.etcs_edition.proofs.TelegramLemmas.{same_size}
 
 -- ---- numbers with names

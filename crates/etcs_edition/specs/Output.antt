@@ -1,6 +1,6 @@
 -- What the program writes for an input, and the status with which it ends. Lines of the input count from 1,
 -- everything else from 0. The words are this project's.
-use Rattle.std.specs.Prelude.{◌≡◌, ℕ, ◌+◌, ◌⊎◌, codes, decimal, List, [], ◌∷◌, ◌++◌, length, Result, Ok, Err}
+use Rattle.std.specs.Prelude.{◌≡◌, ℕ, ◌+◌, ◌⊎◌, codes, decimal, List, [], ◌∷◌, ◌++◌, Result, Ok, Err}
 use Rattle.hex.specs.Hex.{decode_of}
 use Rattle.hex.specs.declared.error.FromHexError.{FromHexError}
 use Rattle.serde_json.specs.Data.{Data}
@@ -16,7 +16,6 @@ use Rattle.etcs_radio.specs.declared.splitter.State.{State}
 use Rattle.etcs_radio.specs.declared.splitter.State.TheVariants.{Failed}
 use Rattle.etcs_document.specs.DocumentFault.{DocumentFault}
 use Rattle.etcs_document.specs.Refusal.{text_words}
-use Rattle.etcs_json.specs.AnyMessage.{message}
 use Rattle.etcs_run.specs.Checking.{check_status}
 use Rattle.etcs_run.specs.Output.{Output, each_text_line, line_by_line, prepend}
 use Rattle.etcs_run.specs.TextLineMeaning.{Meaning, line_refusal}
