@@ -96,9 +96,12 @@ def laws_part() -> str:
         short = ", ".join(f"`{it}`" for _, it in law.short)
         rows.append([short, cited, f"{lines(law.short):,}", f"{lines(law.others):,}"])
     (yes,) = [it.short for it in every if it.name == "yes_agrees"]
+    kept = {key: it.short for it in every if it.name == "kept_packets_agree" for key in it.others}
+    stated = [key for it in sorted(conditions_of(yes)) for key in kept[it]]
     words = (f"Types of `src` that these definitions name have conditions, which these counts leave out: the number "
-             f"and the size of a packet that is kept as bits (`is_kept` of `etcs_profile` and `etcs_radio`). With the "
-             f"definitions of these conditions a yes rests on {lines([*yes, *conditions_of(yes)]):,} lines.\n\n")
+             f"and the size of a packet that is kept as bits (`is_kept` of `etcs_profile` and `etcs_radio`). The law "
+             f"`kept_packets_agree` is about these conditions. With the edition's definitions of them a yes rests on "
+             f"{lines([*yes, *stated]):,} lines.\n\n")
     assert {name for _, name in conditions_of(yes)} == {"is_kept"}, conditions_of(yes)
     return table(["Definition of the edition", "Law", "Lines", "Lines without it"], rows) + words
 
@@ -124,7 +127,7 @@ def order_part() -> str:
     for path, own in in_order([key for law in laws() for key in law.short]):
         size = sum(it.lines for it in own)
         count += size
-        link = f"[{path.parts[-3]}/{path.name}](../../{path.relative_to(TOP)})"
+        link = f"[{path.relative_to(TOP).parts[1]}/{path.name}](../../{path.relative_to(TOP)})"
         rows.append([link, str(size), f"`{', '.join(f'{it.name} {it.line}' for it in own)}`"])
     return table(["File", "Lines", "Definitions, each with its line of the file"], [*rows, ["all", f"{count:,}", ""]])
 

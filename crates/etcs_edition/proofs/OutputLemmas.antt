@@ -27,6 +27,7 @@ use Rattle.etcs_run.specs.TextLineMeaning.{Meaning}
 use Rattle.etcs_run.specs.TextLines.{split_lines, trimmed}
 use Rattle.etcs_edition.specs.Forms.{telegram_form, message_form}
 use Rattle.etcs_edition.specs.Output.{json_line, IsTelegramLine, IsMessageLine, IsEachLine, IsStream, after_message, messages_output, unless_failed, after_bytes, stream_output}
+use Rattle.etcs_edition.proofs.FaultLemmas.{message_fault_is_read}
 use Rattle.etcs_edition.proofs.FormLemmas.{same_telegram, same_message}
 use Rattle.etcs_edition.proofs.ReasonLemmas.{telegram_reason}
 use Rattle.etcs_edition.proofs.TextLemmas.{text_read, read_text}
@@ -91,7 +92,7 @@ decoded_message bytes = in_words (message_json (read_message bytes))
 message_by : (bytes : List ℕ) (meaning : Result RadioMessage Fault) → read_message bytes ≡ meaning
     → IsMessageLine bytes (in_words (message_json meaning))
 message_by bytes (Ok m) is = (m, message_is m bytes (means_message m bytes is), message_same m)
-message_by bytes (Err f) is = (f, is, refl)
+message_by bytes (Err f) is = (f, (message_fault_is_read bytes f).1 is, refl)
 
 pub is_decoded_message : (bytes : List ℕ) → IsMessageLine bytes (decoded_message bytes)
 is_decoded_message bytes = message_by bytes (read_message bytes) refl
@@ -100,7 +101,9 @@ pub decoded_message_is : (bytes : List ℕ) (r : Result (List ℕ) (List ℕ)) �
 decoded_message_is bytes (Ok line) x =
     let is = message_meant x.0 bytes (message_read x.0 bytes x.1) in
     rw is (ap Ok (x.2 ∙ sym (message_same x.0)))
-decoded_message_is bytes (Err words) x = rw x.1 (ap Err x.2)
+decoded_message_is bytes (Err words) x =
+    let is = (message_fault_is_read bytes x.0).0 x.1 in
+    rw is (ap Err x.2)
 
 after_same : (n : ℕ) (r : Result (List ℕ) Fault) (rest : Output) → after_message n (in_words r) rest ≡ message_output n r rest
 unfolding refusal_words stream_words

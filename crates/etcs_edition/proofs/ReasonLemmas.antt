@@ -27,6 +27,7 @@ use Rattle.etcs_radio.specs.declared.message.Message.{Message}
 use Rattle.etcs_radio.specs.TextMeaning.{message_of_text, of_bytes as message_of_bytes, of_decoded as message_of_decoded}
 use Rattle.etcs_edition.specs.Telegram.{user_bits}
 use Rattle.etcs_edition.specs.Refusals.{IsSized, IsTelegramReason, IsMessageReason}
+use Rattle.etcs_edition.proofs.FaultLemmas.{telegram_fault_is_read, message_fault_is_read}
 use Rattle.etcs_edition.proofs.TelegramLemmas.{same_size}
 use Rattle.etcs_edition.proofs.TextLemmas.{same_bytes, first_of, others_of}
 
@@ -126,7 +127,7 @@ reason_means text (errors.Fault f) (x, zeros, fault) =
     } in
     decoded_means text x.bytes x.decoded
     ∙ padded_means x.size x.bytes (decode_of-ok text x.bytes x.decoded).3 padded
-    ∙ ap of_bits (ap read_telegram (first_bits text x) ∙ fault)
+    ∙ ap of_bits (ap read_telegram (first_bits text x) ∙ (telegram_fault_is_read x.bits f).0 fault)
 
 -- no text is refused because memory ran out
 never : (text : List ℕ) → telegram_of_text text ≡ Err errors.Memory → ⊥
@@ -166,7 +167,8 @@ means_reason text (errors.Fault f) is =
     let y = sized text x.bytes x.reason.size x.decoded x.reason.padded.count in (
       y,
       x.reason.padded.padding ∙ ap (λ (n : ℕ). replicate n false) (sym (pads_count text y)),
-      fault_meant (take_user_bits x.reason.size x.bytes) f x.reason.first,
+      (telegram_fault_is_read (take_user_bits x.reason.size x.bytes) f).1
+          (fault_meant (take_user_bits x.reason.size x.bytes) f x.reason.first),
     )
 
 pub telegram_reason : (text : List ℕ) (why : TextError) → IsTelegramReason text why ↔ (telegram_of_text text ≡ Err why)
@@ -183,7 +185,7 @@ message_means : (text : List ℕ) (why : RadioTextError) → IsMessageReason tex
 unfolding message_of_text
 message_means text radio.Memory x = absurd x
 message_means text radio.NotHex x = no_message_digits text (decode_of text) refl x
-message_means text (radio.Fault f) x = rw (x.1, x.2) refl
+message_means text (radio.Fault f) x = rw (x.1, (message_fault_is_read x.0 f).0 x.2) refl
 
 message_fault : (r : Result Message Fault) (f : Fault) → message_of_bytes r ≡ Err (radio.Fault f) → r ≡ Err f
 message_fault (Ok m) f is = absurd cc
@@ -201,7 +203,7 @@ means_message text (Ok bytes) radio.NotHex decoded is = absurd (no_other (read_m
     no_other : (r : Result Message Fault) → message_of_bytes r ≡ Err radio.NotHex → ⊥
     no_other (Ok m) is = absurd cc
     no_other (Err f) is = absurd cc
-means_message text (Ok bytes) (radio.Fault f) decoded is = (bytes, decoded, message_fault (read_message bytes) f is)
+means_message text (Ok bytes) (radio.Fault f) decoded is = (bytes, decoded, (message_fault_is_read bytes f).1 (message_fault (read_message bytes) f is))
 means_message text (Err e) radio.Memory decoded is = absurd cc
 means_message text (Err e) radio.NotHex decoded is = λ bytes was. absurd cc
 means_message text (Err e) (radio.Fault f) decoded is = absurd cc

@@ -4,6 +4,9 @@ pub mod TrackPackets
 pub mod Telegram
 pub mod TrainPackets
 pub mod Message
+pub mod Kept
+pub mod Tables
+pub mod Faults
 pub mod Encoding
 pub mod Document
 pub mod Yes

@@ -25,7 +25,8 @@ use Rattle.etcs_edition.specs.Telegram.{IsTelegramText}
 use Rattle.etcs_edition.specs.Message.{IsMessage}
 use Rattle.etcs_edition.specs.Forms.{telegram_form, message_form}
 use Rattle.etcs_edition.specs.Report.{IsReport}
-use Rattle.etcs_edition.specs.Refusals.{IsTelegramReason, IsMessageFault, IsDocumentReason, document_words}
+use Rattle.etcs_edition.specs.Refusals.{IsTelegramReason, IsDocumentReason, document_words}
+use Rattle.etcs_edition.specs.Faults.{IsMessageFault}
 
 -- ---- what is written for a text or a record
 

@@ -4,13 +4,10 @@ use Rattle.std.specs.Prelude.{◌≡◌, ◌≢◌, ◌↔◌, ℕ, ◌+◌, ◌
 use Rattle.std.specs.Option.{is_some}
 use Rattle.serde_json.specs.Data.{Data}
 use Rattle.serde_json.specs.Find.{as_str, get}
-use Rattle.etcs_bits.specs.declared.layout.fault.Fault.{Fault as BitFault}
 use Rattle.hex.specs.Hex.{decode_of}
-use Rattle.etcs_telegram.specs.Meaning.{read_telegram}
 use Rattle.etcs_telegram.specs.declared.error.TextError.{TextError}
 use Rattle.etcs_telegram.specs.declared.error.TextError.TheVariants as errors
 use Rattle.etcs_telegram.specs.declared.size.Size.{Size}
-use Rattle.etcs_radio.specs.Meaning.{read_message}
 use Rattle.etcs_radio.specs.declared.error.RadioTextError.{RadioTextError}
 use Rattle.etcs_radio.specs.declared.error.RadioTextError.TheVariants as radio
 use Rattle.etcs_document.specs.Document.{document_list, group_path, has_count, in_form, json_value, only_values}
@@ -20,16 +17,9 @@ use Rattle.etcs_schema.specs.Fault.{Kind, Step, fault, key, list_item}
 use Rattle.etcs_schema.specs.Reading.{only_keys}
 use Rattle.etcs_edition.specs.Wire.{bits_of_bytes}
 use Rattle.etcs_edition.specs.Telegram.{user_bits}
+use Rattle.etcs_edition.specs.Faults.{IsTelegramFault, IsMessageFault}
 
 -- ---- texts
-
--- the first fault of the user bits of a telegram
-abbrev pub IsTelegramFault : List Bool → BitFault → Type 0
-IsTelegramFault bits f = read_telegram bits ≡ Err f
-
--- the first fault of the bytes of a radio message
-abbrev pub IsMessageFault : List ℕ → BitFault → Type 0
-IsMessageFault bytes f = read_message bytes ≡ Err f
 
 -- The text is the digits of bytes, which have the bits of a short or a long telegram and fewer than eight pad bits.
 pub record IsSized (text : List ℕ) : Type 0 where

@@ -1,15 +1,17 @@
 //! Laws that the definitions of the edition and those of other crates say the same. Each law is the contract of
 //! a call that does nothing.
 
-ghost use Rattle.std.specs.Prelude.{◌≡◌, ◌↔◌, ℕ, List, [], Bool, length, take, Ok, Err, IsErr, IsOkAnd};
+ghost use Rattle.std.specs.Prelude.{◌≡◌, ◌↔◌, ℕ, List, [], Bool, true, length, take, Ok, Err, IsErr, IsOkAnd};
 ghost use Rattle.etcs_bits.specs.declared.layout.fault.Fault.{Fault};
+ghost use Rattle.etcs_profile.specs.PacketNumbers.{is_kept as is_kept_track_packet};
+ghost use Rattle.etcs_radio.specs.TrainNumbers.{is_kept as is_kept_train_packet};
 ghost use Rattle.etcs_telegram.specs.Record.{Telegram};
-ghost use Rattle.etcs_telegram.specs.Telegram.{IsTelegram as IsDecodedTelegram};
+ghost use Rattle.etcs_telegram.specs.Telegram.{IsTelegram as IsDecodedTelegram, IsTelegramFault as IsDecodedTelegramFault};
 ghost use Rattle.etcs_telegram.specs.Text.{IsTelegramText as IsDecodedTelegramText, IsCanonicalText as IsEncodedTelegram};
 ghost use Rattle.etcs_telegram.specs.Meaning.{read_telegram};
 ghost use Rattle.etcs_telegram.specs.TextMeaning.{telegram_of_text};
 ghost use Rattle.etcs_radio.specs.declared.message.Message.{Message};
-ghost use Rattle.etcs_radio.specs.Message.{IsMessage as IsDecodedMessage};
+ghost use Rattle.etcs_radio.specs.Message.{IsMessage as IsDecodedMessage, IsMessageFault as IsDecodedMessageFault};
 ghost use Rattle.etcs_radio.specs.Text.{IsMessageText as IsDecodedMessageText, IsCanonicalText as IsEncodedMessage};
 ghost use Rattle.etcs_radio.specs.Meaning.{read_message};
 ghost use Rattle.etcs_radio.specs.TextMeaning.{message_of_text};
@@ -35,6 +37,8 @@ ghost use Rattle.etcs_run.specs.TelegramLines.{telegram_decoded};
 ghost use Rattle.etcs_edition.specs.Telegram.{IsTelegram, IsTelegramText};
 ghost use Rattle.etcs_edition.specs.Message.{IsMessage, IsMessageText};
 ghost use Rattle.etcs_edition.specs.Wire.{bits_of_bytes};
+ghost use Rattle.etcs_edition.specs.Kept.{is_kept_to_train, is_kept_to_track};
+ghost use Rattle.etcs_edition.specs.Faults.{IsTelegramFault, IsMessageFault};
 ghost use Rattle.etcs_edition.specs.Encoding.{IsWrittenTelegram, IsWrittenMessage};
 ghost use Rattle.etcs_edition.specs.Document.{IsLineText};
 ghost use Rattle.etcs_edition.specs.Yes.{SaysYes};
@@ -66,6 +70,15 @@ pub fn messages_agree()
 /// reads.
 pub fn message_texts_agree()
     ensures { (m : Message) (text : List ℕ) → IsMessageText m text ↔ IsDecodedMessageText m text }
+{}
+
+/// A packet with this number and this many bits is kept as bits by the edition if and only if the type of the
+/// packets that are kept as bits allows it (SUBSET-026, 7.4.1).
+pub fn kept_packets_agree()
+    ensures to_train { (n bits : ℕ)
+        → (is_kept_to_train n bits ≡ true) ↔ (is_kept_track_packet n bits ≡ true) }
+    ensures to_track { (n bits : ℕ)
+        → (is_kept_to_track n bits ≡ true) ↔ (is_kept_train_packet n bits ≡ true) }
 {}
 
 /// A text is the one that is written for a telegram or a radio message by the edition if and only if it is
@@ -175,6 +188,13 @@ pub fn outputs_agree()
         → IsEachLine IsTelegramLine input output ↔ (output ≡ each_text_line telegram_decoded input) }
     ensures decode_radio { (input : List ℕ) (output : Output)
         → IsStream IsMessageLine input output ↔ (output ≡ line_by_line (stream_answers 0 []) input) }
+{}
+
+/// A fault is the first one of a telegram's bits, or of a radio message's bytes, by the edition if and only if
+/// it is the one that `etcs_telegram::decode` or `etcs_radio::decode` returns.
+pub fn first_faults_agree()
+    ensures telegrams { (bits : List Bool) (f : Fault) → IsTelegramFault bits f ↔ IsDecodedTelegramFault bits f }
+    ensures messages { (bytes : List ℕ) (f : Fault) → IsMessageFault bytes f ↔ IsDecodedMessageFault bytes f }
 {}
 
 /// The bits up to the end of a fault decide it: no telegram of as many bits begins with them by the edition,
