@@ -136,11 +136,12 @@ def conditions(name: str) -> FrozenSet[Key]:
     return frozenset(found)
 
 
-def named(definition: Definition) -> Iterator[Key]:
+@functools.lru_cache(None)
+def named(definition: Definition) -> Sequence[Key]:
     """What a definition names. A name with holes is an operator, each of whose parts then occurs."""
-    for name, key in names_in(definition.module).items():
-        if key != definition.key and {*filter(None, name.split("◌"))} <= definition.words:
-            yield key
+    words = definition.words
+    return [key for name, key in names_in(definition.module).items()
+            if key != definition.key and {*filter(None, name.split("◌"))} <= words]
 
 
 def closure(roots: Iterable[Key]) -> List[Definition]:

@@ -22,12 +22,17 @@ CLAUSE = re.compile(r"(?s)\bensures (\w*) ?\{(.*?)\}\n")
 STATED = {
     "Output": "outputs_agree", "Yes": "yes_agrees, a_yes_has_no_finding", "Meaning of a yes": "yes_agrees",
     "Findings": "findings_agree", "Groups by themselves": "findings_name_what_is_not_sound",
-    "Telegrams": "telegrams_agree, a_text_has_one_record (telegrams)",
+    "Telegrams": "telegrams_agree, a_text_has_one_record (telegrams)", "First fault": "first_faults_agree (telegrams)",
     "Texts": "telegram_texts_agree, reasons_agree (telegrams)",
     "There and back": "written_texts_agree, what_is_written_is_read, a_text_has_one_record",
     "Radio messages": "messages_agree, message_texts_agree, written_texts_agree (messages), reasons_agree (messages)",
-    "JSON": "forms_agree", "Documents": "lines_agree, reasons_agree (documents)"}
+    "JSON": "forms_agree", "Documents": "lines_agree, reasons_agree (documents)",
+    "Library for C": "outputs_agree (check), telegram_texts_agree, message_texts_agree, reasons_agree, forms_agree"}
 """The laws of the edition that state a promise, each perhaps with one of its clauses."""
+BESIDE = {
+    "Output": [("etcs_run", "parsed_command")],
+    "Library for C": [("balisecheck_c", it) for it in ("IsAnswer", "IsRecordAnswer", "telegram_fault", "message_fault")]}
+"""What a promise names beside the definitions of these laws: the command that words are, and what calls return."""
 
 
 class Law(NamedTuple):
@@ -81,7 +86,7 @@ def stating(title: str) -> Tuple[str, Set[Key]]:
         assert own, law
         found.update(key for words, source in own for key in meant_in(words, source) if key in definitions())
         cited.append(f"`{name}`{f' (`{clause}`)' if clause else ''}")
-    return ", ".join(cited), found
+    return ", ".join(cited), found | {key_of(name, crate) for crate, name in BESIDE.get(title, [])}
 
 
 def laws_part() -> str:
