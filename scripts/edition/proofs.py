@@ -6,8 +6,9 @@
 """
 from __future__ import annotations
 
+import functools
 import re
-from typing import Iterator, List, NamedTuple, Set
+from typing import Iterator, List, Mapping, NamedTuple, Set
 
 from edition.definitions import TOP, Key, closure, conditions_of, definitions, in_order, key_of, lines, meant_in
 from variables.page import table
@@ -18,6 +19,7 @@ PART = re.compile(r"(?s)(<!-- (laws|promises|order) -->\n).*?(?=<!-- /\2 -->\n)"
 PROMISE = re.compile(r"(?m)^\| \*\*([\w ]+)\.\*\* .* \| (.*) \| (.*) \|$")
 CALL = re.compile(r"`(\w+)::(?:\w+::)?(\w+)`(?: \(((?:`\w+`(?:, )?)+)\))?")
 DEFINED = re.compile(r"`(\w+)/(\w+\.antt)`: ((?:`\w+`(?:, )?)+)")
+COVERING = ("packet_numbers_agree", "kept_packets_agree")
 CLAUSE = re.compile(r"(?s)\bensures (\w*) ?\{(.*?)\}\n")
 
 
@@ -51,6 +53,17 @@ def laws() -> Iterator[Law]:
                 yield Law(law, clause, short, others)
 
 
+@functools.lru_cache(None)
+def covered() -> Mapping[Key, List[Key]]:
+    """Definitions of other crates that those of the edition name, each with what the edition has instead of it."""
+    return {key: law.short for law in laws() if law.name in COVERING for key in law.others}
+
+
+def fewest(keys: List[Key]) -> int:
+    """How many lines someone has to read for these, who may read what the edition has instead."""
+    return min(lines(keys), lines(keys, covered()))
+
+
 def roots_of(calls: str, cell: str) -> Set[Key]:
     """The definitions that a promise names, and those that the clauses and laws name which it cites."""
     found = {key_of(name, crate, file) for crate, file, names in DEFINED.findall(cell)
@@ -72,14 +85,12 @@ def laws_part() -> str:
         stated = both if law is together else [law]
         cited = ", ".join(f"`{it.name}`{f' (`{it.clause}`)' * bool(it.clause)}" for it in stated)
         short = ", ".join(f"`{it}`" for _, it in law.short)
-        rows.append([short, cited, f"{lines(law.short):,}", f"{lines(law.others):,}"])
+        rows.append([short, cited, f"{fewest(law.short):,}", f"{lines(law.others):,}"])
     (yes,) = [it.short for it in every if it.name == "yes_agrees"]
-    kept = {key: it.short for it in every if it.name == "kept_packets_agree" for key in it.others}
-    stated = [key for it in sorted(conditions_of(yes)) for key in kept[it]]
     words = (f"Types of `src` that these definitions name have conditions, which these counts leave out: the number "
              f"and the size of a packet that is kept as bits (`is_kept` of `etcs_profile` and `etcs_radio`). The law "
              f"`kept_packets_agree` is about these conditions. With the edition's definitions of them a yes rests on "
-             f"{lines([*yes, *stated]):,} lines.\n\n")
+             f"{lines([*yes, *conditions_of(yes)], covered()):,} lines.\n\n")
     assert {name for _, name in conditions_of(yes)} == {"is_kept"}, conditions_of(yes)
     return table(["Definition of the edition", "Law", "Lines", "Lines without it"], rows) + words
 
@@ -99,7 +110,7 @@ def promises_part(text: str) -> str:
 def order_part() -> str:
     """A row for each file of the reading order."""
     rows, count = [], 0
-    for path, own in in_order([key for law in laws() for key in law.short]):
+    for path, own in in_order([key for law in laws() for key in law.short], covered()):
         size = sum(it.lines for it in own)
         count += size
         link = f"[{path.relative_to(TOP).parts[1]}/{path.name}](../../{path.relative_to(TOP)})"

@@ -1,7 +1,6 @@
 -- First faults by the edition are those of the codecs.
-use Rattle.std.proofs.Common.{◌≡◌, ◌↔◌, ℕ, ◌≤◌, ◌⊎◌, ◌==◌, Bool, true, false, List, [], ◌∷◌, length, Option, Some, None, Result, Ok, Err, refl, sym, ap, subst, ◌∙◌, arith, inl, inr}
-use Rattle.std.specs.Prelude.{◌||◌, if◌then◌else◌, not}
-use Rattle.std.proofs.lemmas.Bool.{false≢true}
+use Rattle.std.proofs.Common.{◌≡◌, ◌↔◌, ℕ, ◌≤◌, ◌⊎◌, ◌==◌, Bool, true, List, [], ◌∷◌, length, Option, Some, None, Result, Ok, Err, refl, sym, ap, subst, ◌∙◌, arith, inl, inr}
+use Rattle.std.specs.Prelude.{◌||◌}
 use Rattle.etcs_bits.specs.declared.variables.identity.Identity.{Identity}
 use Rattle.std.specs.List.{list_any}
 use Rattle.etcs_bits.specs.declared.layout.fault.Fault.{Fault}
@@ -48,6 +47,7 @@ use Rattle.etcs_edition.specs.Tables.{message_table}
 use Rattle.etcs_edition.specs.Faults.{number_here, after, Pass, IsPacketFault, IsLacking, IsTelegramFault, AreLater, IsMessageFault}
 use Rattle.etcs_edition.proofs.AfterLemmas.{Like, landing}
 use Rattle.etcs_edition.proofs.TableLemmas.{like_header, like_track, like_train, like_head}
+use Rattle.etcs_edition.proofs.MessageLemmas.{one_of_two, is_other}
 use Rattle.etcs_edition.proofs.TextLemmas.{same_bytes}
 
 -- ---- one record
@@ -236,18 +236,6 @@ track_number_is (packets.Raw p) = refl
 
 authority_is_15 : (p : TrackPacket) → is_authority p ≡ (row_number 0 (track_packet.rows p) == 15)
 authority_is_15 p = ap (λ (n : ℕ). n == 15) (track_number_is p)
-
--- a test of the number of a position report, 0 or 1
-one_of_two : (n : ℕ) → (if n == 0 then true else (n == 1)) ≡ (n == 0 || (n == 1))
-one_of_two n = by_tests (n == 0) (n == 1)
-  where
-    by_tests : (a b : Bool) → (if a then true else b) ≡ (a || b)
-    by_tests true b = refl
-    by_tests false b = refl
-
-is_other : (known end : Bool) → not (known || end) ≡ true → false ≡ known
-is_other true end kept = absurd (false≢true kept)
-is_other false end kept = refl
 
 report_is : (previous : Option Identity) (r : Report)
     → true ≡ (row_number 0 ((chosen nid_track train_numbered all_but_the_end_of_trains).rows (numbered_report (parts_by_previous previous r))) == 0

@@ -3,6 +3,8 @@
 
 ghost use Rattle.std.specs.Prelude.{◌≡◌, ◌↔◌, ℕ, List, [], Bool, true, length, take, Ok, Err, IsErr, IsOkAnd};
 ghost use Rattle.etcs_bits.specs.declared.layout.fault.Fault.{Fault};
+ghost use Rattle.etcs_profile.specs.declared.track.TrackPacket.{TrackPacket};
+ghost use Rattle.etcs_profile.specs.Track.{track_number};
 ghost use Rattle.etcs_profile.specs.PacketNumbers.{is_kept as is_kept_track_packet};
 ghost use Rattle.etcs_radio.specs.TrainNumbers.{is_kept as is_kept_train_packet};
 ghost use Rattle.etcs_telegram.specs.Record.{Telegram};
@@ -24,7 +26,8 @@ ghost use Rattle.etcs_document.specs.Document.{line_of_text};
 ghost use Rattle.etcs_document.specs.ReportText.{report_words};
 ghost use Rattle.etcs_document.specs.Verdict.{SaysYes as CheckSaysYes, summary_of_text};
 ghost use Rattle.etcs_edition.specs.Telegram.{IsTelegram, IsTelegramText};
-ghost use Rattle.etcs_edition.specs.Message.{IsMessage, IsMessageText};
+ghost use Rattle.etcs_edition.specs.Message.{has_number, IsMessage, IsMessageText};
+ghost use Rattle.etcs_edition.specs.TrackPackets.{track_packet_fields};
 ghost use Rattle.etcs_edition.specs.Wire.{bits_of_bytes};
 ghost use Rattle.etcs_edition.specs.Kept.{is_kept_to_train, is_kept_to_track};
 ghost use Rattle.etcs_edition.specs.Faults.{IsTelegramFault, IsMessageFault};
@@ -65,6 +68,12 @@ pub fn kept_packets_agree()
         → (is_kept_to_train n bits ≡ true) ↔ (is_kept_track_packet n bits ≡ true) }
     ensures to_track { (n bits : ℕ)
         → (is_kept_to_track n bits ≡ true) ↔ (is_kept_train_packet n bits ≡ true) }
+{}
+
+/// A packet from track to train has the number by the edition, NID_PACKET, that contracts see.
+pub fn packet_numbers_agree()
+    ensures { (p : TrackPacket) (n : ℕ)
+        → (has_number n (track_packet_fields p) ≡ true) ↔ (track_number p ≡ n) }
 {}
 
 /// A text is the one that is written for a telegram or a radio message by the edition if and only if it is
