@@ -8,12 +8,12 @@ ghost use Rattle.etcs_profile.specs.Track.{track_number};
 ghost use Rattle.etcs_profile.specs.PacketNumbers.{is_kept as is_kept_track_packet};
 ghost use Rattle.etcs_radio.specs.TrainNumbers.{is_kept as is_kept_train_packet};
 ghost use Rattle.etcs_telegram.specs.Record.{Telegram};
-ghost use Rattle.etcs_telegram.specs.Telegram.{IsTelegram as IsDecodedTelegram, IsTelegramFault as IsDecodedTelegramFault};
+ghost use Rattle.etcs_telegram.specs.Telegram.{AreUserBits, IsNoTelegram, IsTelegram as IsDecodedTelegram, IsTelegramFault as IsDecodedTelegramFault};
 ghost use Rattle.etcs_telegram.specs.Text.{IsTelegramText as IsDecodedTelegramText, IsCanonicalText as IsEncodedTelegram};
 ghost use Rattle.etcs_telegram.specs.Meaning.{read_telegram};
 ghost use Rattle.etcs_telegram.specs.TextMeaning.{telegram_of_text};
 ghost use Rattle.etcs_radio.specs.declared.message.Message.{Message};
-ghost use Rattle.etcs_radio.specs.Message.{IsMessage as IsDecodedMessage, IsMessageFault as IsDecodedMessageFault};
+ghost use Rattle.etcs_radio.specs.Message.{IsNoMessage, IsMessage as IsDecodedMessage, IsMessageFault as IsDecodedMessageFault};
 ghost use Rattle.etcs_radio.specs.Text.{IsMessageText as IsDecodedMessageText, IsCanonicalText as IsEncodedMessage};
 ghost use Rattle.etcs_radio.specs.Meaning.{read_message};
 ghost use Rattle.etcs_radio.specs.TextMeaning.{message_of_text};
@@ -30,7 +30,7 @@ ghost use Rattle.etcs_edition.specs.Message.{has_number, IsMessage, IsMessageTex
 ghost use Rattle.etcs_edition.specs.TrackPackets.{track_packet_fields};
 ghost use Rattle.etcs_edition.specs.Wire.{bits_of_bytes};
 ghost use Rattle.etcs_edition.specs.Kept.{is_kept_to_train, is_kept_to_track};
-ghost use Rattle.etcs_edition.specs.Faults.{IsTelegramFault, IsMessageFault};
+ghost use Rattle.etcs_edition.specs.Faults.{IsTelegramFault, IsMessageFault, NoTelegramBegins, NoMessageBegins};
 ghost use Rattle.etcs_edition.specs.Encoding.{IsWrittenTelegram, IsWrittenMessage};
 ghost use Rattle.etcs_edition.specs.Document.{IsLineText};
 ghost use Rattle.etcs_edition.specs.Yes.{SaysYes};
@@ -154,6 +154,14 @@ pub fn refusals_agree()
 pub fn first_faults_agree()
     ensures telegrams { (bits : List Bool) (f : Fault) → IsTelegramFault bits f ↔ IsDecodedTelegramFault bits f }
     ensures messages { (bytes : List ℕ) (f : Fault) → IsMessageFault bytes f ↔ IsDecodedMessageFault bytes f }
+{}
+
+/// No telegram of as many bits begins with the bits up to the end of a fault by the edition, if and only if none
+/// does by the contract of `etcs_telegram::decode`. The same is true of radio messages and `etcs_radio::decode`.
+pub fn decisions_agree()
+    ensures telegrams { (bits : List Bool) (f : Fault) → AreUserBits bits
+        → NoTelegramBegins bits f ↔ IsNoTelegram bits f }
+    ensures messages { (bytes : List ℕ) (f : Fault) → NoMessageBegins bytes f ↔ IsNoMessage bytes f }
 {}
 
 /// The bits up to the end of a fault decide it: no telegram of as many bits begins with them by the edition,
