@@ -1,7 +1,6 @@
 -- First faults by the edition are those of the codecs.
-use Rattle.std.proofs.Common.{◌≡◌, ◌↔◌, ℕ, ◌≤◌, ◌⊎◌, ◌==◌, Bool, true, false, List, [], ◌∷◌, length, Option, Some, None, Result, Ok, Err, refl, sym, ap, subst, ◌∙◌, arith, inl, inr}
-use Rattle.std.specs.Prelude.{◌||◌, if◌then◌else◌, not}
-use Rattle.std.proofs.lemmas.Bool.{false≢true}
+use Rattle.std.proofs.Common.{◌≡◌, ◌↔◌, ℕ, ◌≤◌, ◌⊎◌, ◌==◌, Bool, true, List, [], ◌∷◌, length, take, Option, Some, None, Result, Ok, Err, refl, sym, ap, subst, ◌∙◌, arith, inl, inr}
+use Rattle.std.specs.Prelude.{◌||◌, IsSome}
 use Rattle.etcs_bits.specs.declared.variables.identity.Identity.{Identity}
 use Rattle.std.specs.List.{list_any}
 use Rattle.etcs_bits.specs.declared.layout.fault.Fault.{Fault}
@@ -29,25 +28,33 @@ use Rattle.etcs_profile.specs.Track.{track_packet, track_number, authority_numbe
 use Rattle.etcs_bits.specs.layout.Format.{chosen}
 use Rattle.etcs_profile.specs.PacketNumbers.{nid_track}
 use Rattle.etcs_telegram.specs.Header.{header}
-use Rattle.etcs_telegram.specs.Meaning.{read_telegram}
+use Rattle.etcs_telegram.specs.Record.{Telegram}
+use Rattle.etcs_telegram.specs.Meaning.{short_or_long, read_telegram}
 use Rattle.etcs_telegram.proofs.LawLemmas as telegrams
 use Rattle.etcs_radio.specs.Meaning.{read_message}
 use Rattle.etcs_radio.proofs.MessageLemmas as messages
-use Rattle.etcs_telegram.specs.Telegram.{IsTelegramFault as IsDecodedTelegramFault}
+use Rattle.etcs_telegram.specs.declared.header.Header.{Header}
+use Rattle.etcs_telegram.specs.Sizes.{size_from_bits}
+use Rattle.etcs_telegram.proofs.TelegramLemmas.{count_by}
+use Rattle.etcs_packet.specs.Whole.{HeadAndListStand}
+use Rattle.etcs_telegram.specs.Telegram.{AreUserBits, IsNoTelegram, IsTelegram as IsDecodedTelegram, IsTelegramFault as IsDecodedTelegramFault}
 use Rattle.etcs_radio.specs.declared.report.Report.{Report}
 use Rattle.etcs_radio.specs.declared.train_packet.TrainPacket.{TrainPacket}
 use Rattle.etcs_radio.specs.declared.train_packet.TrainPacket.TheVariants as train_packets
 use Rattle.etcs_radio.specs.Head.{Head, head, head_numbered, nid_message}
-use Rattle.etcs_radio.specs.Message.{IsMessageFault as IsDecodedMessageFault, IsIncomplete, IsPacketsFault, beginning}
+use Rattle.etcs_radio.specs.Message.{IsNoMessage, IsMessageFault as IsDecodedMessageFault, IsIncomplete, IsPacketsFault, beginning}
 use Rattle.etcs_radio.specs.RawTrain.{other_of}
 use Rattle.etcs_radio.specs.Report.{report_numbered, parts_by_previous}
 use Rattle.etcs_radio.specs.Required.{is_authority}
 use Rattle.etcs_radio.specs.TrainPacket.{train_packet, is_report, numbered_report, train_numbered, all_but_the_end as all_but_the_end_of_trains}
 use Rattle.etcs_radio.proofs.MessageLemmas.{headed_track, headed_train}
+use Rattle.etcs_edition.specs.Wire.{bits_of_bytes}
 use Rattle.etcs_edition.specs.Tables.{message_table}
-use Rattle.etcs_edition.specs.Faults.{number_here, after, Pass, IsPacketFault, IsLacking, IsTelegramFault, AreLater, IsMessageFault}
+use Rattle.etcs_edition.specs.Faults.{number_here, after, Pass, IsPacketFault, IsLacking, IsTelegramFault, AreLater, IsMessageFault, NoTelegramBegins, NoMessageBegins}
 use Rattle.etcs_edition.proofs.AfterLemmas.{Like, landing}
 use Rattle.etcs_edition.proofs.TableLemmas.{like_header, like_track, like_train, like_head}
+use Rattle.etcs_edition.proofs.MessageLemmas.{one_of_two, is_other, message_read, read_message as read_message_of}
+use Rattle.etcs_edition.proofs.TelegramLemmas.{telegram_read, read_telegram as read_telegram_of}
 use Rattle.etcs_edition.proofs.TextLemmas.{same_bytes}
 
 -- ---- one record
@@ -237,18 +244,6 @@ track_number_is (packets.Raw p) = refl
 authority_is_15 : (p : TrackPacket) → is_authority p ≡ (row_number 0 (track_packet.rows p) == 15)
 authority_is_15 p = ap (λ (n : ℕ). n == 15) (track_number_is p)
 
--- a test of the number of a position report, 0 or 1
-one_of_two : (n : ℕ) → (if n == 0 then true else (n == 1)) ≡ (n == 0 || (n == 1))
-one_of_two n = by_tests (n == 0) (n == 1)
-  where
-    by_tests : (a b : Bool) → (if a then true else b) ≡ (a || b)
-    by_tests true b = refl
-    by_tests false b = refl
-
-is_other : (known end : Bool) → not (known || end) ≡ true → false ≡ known
-is_other true end kept = absurd (false≢true kept)
-is_other false end kept = refl
-
 report_is : (previous : Option Identity) (r : Report)
     → true ≡ (row_number 0 ((chosen nid_track train_numbered all_but_the_end_of_trains).rows (numbered_report (parts_by_previous previous r))) == 0
     || (row_number 0 ((chosen nid_track train_numbered all_but_the_end_of_trains).rows (numbered_report (parts_by_previous previous r))) == 1))
@@ -382,3 +377,39 @@ fault_of_message bytes f t =
 pub message_fault_is_read : (bytes : List ℕ) (f : Fault) → IsMessageFault bytes f ↔ (read_message bytes ≡ Err f)
 message_fault_is_read bytes f =
     (λ t. messages.fault_meant bytes f (fault_of_message bytes f t), λ e. message_fault bytes f (messages.meant_fault bytes f e))
+
+-- ---- what decides a fault
+
+-- 210 or 830 bits at whose beginning a header and packets stand are a telegram
+stand_telegram : (bits : List Bool) (h : Header) (xs : List TrackPacket) (to : Place) → AreUserBits bits
+    → HeadAndListStand stops.Telegram header.rows track_packet.rows h xs (start bits) to
+    → IsDecodedTelegram (record { size = short_or_long (length bits); header = h; packets = xs }) bits
+stand_telegram bits h xs to count whole =
+    record { count = count_by (length bits) count; begins = record { end = to; whole = whole } }
+
+pub none_begins : (bits : List Bool) (f : Fault) → AreUserBits bits → NoTelegramBegins bits f → IsNoTelegram bits f
+none_begins bits f count none = λ others length_is same h xs to whole.
+    let counts = subst (λ (n : ℕ). IsSome (size_from_bits n)) (sym length_is) count in
+    let t : Telegram = record { size = short_or_long (length others); header = h; packets = xs } in
+    none others length_is same t (read_telegram_of t others (stand_telegram others h xs to counts whole))
+
+pub begins_none : (bits : List Bool) (f : Fault) → IsNoTelegram bits f → NoTelegramBegins bits f
+begins_none bits f none = λ others length_is same t is.
+    let begins = (telegram_read t others is).begins in
+    none others length_is same t.header t.packets begins.end begins.whole
+
+same_front : (bytes others : List ℕ) (n : ℕ) → take n (bits_of_bytes others) ≡ take n (bits_of_bytes bytes)
+    → take n (working_bits others) ≡ take n (working_bits bytes)
+same_front bytes others n same = ap (take n) (same_bytes others) ∙ same ∙ sym (ap (take n) (same_bytes bytes))
+
+front_same : (bytes others : List ℕ) (n : ℕ) → take n (working_bits others) ≡ take n (working_bits bytes)
+    → take n (bits_of_bytes others) ≡ take n (bits_of_bytes bytes)
+front_same bytes others n same = sym (ap (take n) (same_bytes others)) ∙ same ∙ ap (take n) (same_bytes bytes)
+
+pub no_message_begins : (bytes : List ℕ) (f : Fault) → NoMessageBegins bytes f → IsNoMessage bytes f
+no_message_begins bytes f none = λ others length_is same m is.
+    none others length_is (front_same bytes others f.end same) m (read_message_of m others is)
+
+pub begins_no_message : (bytes : List ℕ) (f : Fault) → IsNoMessage bytes f → NoMessageBegins bytes f
+begins_no_message bytes f none = λ others length_is same m is.
+    none others length_is (same_front bytes others f.end same) m (message_read m others is)

@@ -16,7 +16,11 @@ use Rattle.etcs_packet.specs.declared.stop.Stop.{Stop}
 use Rattle.etcs_packet.specs.declared.stop.Stop.TheVariants as stops
 use Rattle.etcs_packet.specs.Lists.{ends}
 use Rattle.etcs_packet.specs.Whole.{start}
+use Rattle.etcs_telegram.specs.Record.{Telegram}
+use Rattle.etcs_radio.specs.declared.message.Message.{Message}
 use Rattle.etcs_edition.specs.Wire.{bits_of_bytes}
+use Rattle.etcs_edition.specs.Telegram.{IsTelegram}
+use Rattle.etcs_edition.specs.Message.{IsMessage}
 use Rattle.etcs_edition.specs.Tables.{header_table, track_table, train_table, message_table}
 
 -- ---- the variables of a table
@@ -90,3 +94,16 @@ IsMessageFault bytes fault =
     (after (message_table (length bytes)) (start (bits_of_bytes bytes)) ≡ Err fault)
     ⊎ ((m : Place) × (after (message_table (length bytes)) (start (bits_of_bytes bytes)) ≡ Ok m)
     × AreLater (number_here 8 (start (bits_of_bytes bytes)) == 3) m fault)
+
+-- ---- what decides a fault
+
+-- No telegram of as many bits begins with these bits up to the end of the fault.
+abbrev pub NoTelegramBegins : List Bool → Fault → Type 0
+NoTelegramBegins bits fault = (others : List Bool) → length others ≡ length bits
+    → take fault.end others ≡ take fault.end bits → (t : Telegram) → IsTelegram t others → ⊥
+
+-- No radio message of as many bytes begins with the bits of these bytes up to the end of the fault.
+abbrev pub NoMessageBegins : List ℕ → Fault → Type 0
+NoMessageBegins bytes fault = (others : List ℕ) → length others ≡ length bytes
+    → take fault.end (bits_of_bytes others) ≡ take fault.end (bits_of_bytes bytes)
+    → (m : Message) → IsMessage m others → ⊥

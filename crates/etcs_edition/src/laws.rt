@@ -3,15 +3,17 @@
 
 ghost use Rattle.std.specs.Prelude.{◌≡◌, ◌↔◌, ℕ, List, [], Bool, true, length, take, Ok, Err, IsErr, IsOkAnd};
 ghost use Rattle.etcs_bits.specs.declared.layout.fault.Fault.{Fault};
+ghost use Rattle.etcs_profile.specs.declared.track.TrackPacket.{TrackPacket};
+ghost use Rattle.etcs_profile.specs.Track.{track_number};
 ghost use Rattle.etcs_profile.specs.PacketNumbers.{is_kept as is_kept_track_packet};
 ghost use Rattle.etcs_radio.specs.TrainNumbers.{is_kept as is_kept_train_packet};
 ghost use Rattle.etcs_telegram.specs.Record.{Telegram};
-ghost use Rattle.etcs_telegram.specs.Telegram.{IsTelegram as IsDecodedTelegram, IsTelegramFault as IsDecodedTelegramFault};
+ghost use Rattle.etcs_telegram.specs.Telegram.{AreUserBits, IsNoTelegram, IsTelegram as IsDecodedTelegram, IsTelegramFault as IsDecodedTelegramFault};
 ghost use Rattle.etcs_telegram.specs.Text.{IsTelegramText as IsDecodedTelegramText, IsCanonicalText as IsEncodedTelegram};
 ghost use Rattle.etcs_telegram.specs.Meaning.{read_telegram};
 ghost use Rattle.etcs_telegram.specs.TextMeaning.{telegram_of_text};
 ghost use Rattle.etcs_radio.specs.declared.message.Message.{Message};
-ghost use Rattle.etcs_radio.specs.Message.{IsMessage as IsDecodedMessage, IsMessageFault as IsDecodedMessageFault};
+ghost use Rattle.etcs_radio.specs.Message.{IsNoMessage, IsMessage as IsDecodedMessage, IsMessageFault as IsDecodedMessageFault};
 ghost use Rattle.etcs_radio.specs.Text.{IsMessageText as IsDecodedMessageText, IsCanonicalText as IsEncodedMessage};
 ghost use Rattle.etcs_radio.specs.Meaning.{read_message};
 ghost use Rattle.etcs_radio.specs.TextMeaning.{message_of_text};
@@ -35,10 +37,11 @@ ghost use Rattle.etcs_run.specs.Output.{Output, each_text_line, line_by_line};
 ghost use Rattle.etcs_run.specs.RadioStream.{stream_answers};
 ghost use Rattle.etcs_run.specs.TelegramLines.{telegram_decoded};
 ghost use Rattle.etcs_edition.specs.Telegram.{IsTelegram, IsTelegramText};
-ghost use Rattle.etcs_edition.specs.Message.{IsMessage, IsMessageText};
+ghost use Rattle.etcs_edition.specs.Message.{has_number, IsMessage, IsMessageText};
+ghost use Rattle.etcs_edition.specs.TrackPackets.{track_packet_fields};
 ghost use Rattle.etcs_edition.specs.Wire.{bits_of_bytes};
 ghost use Rattle.etcs_edition.specs.Kept.{is_kept_to_train, is_kept_to_track};
-ghost use Rattle.etcs_edition.specs.Faults.{IsTelegramFault, IsMessageFault};
+ghost use Rattle.etcs_edition.specs.Faults.{IsTelegramFault, IsMessageFault, NoTelegramBegins, NoMessageBegins};
 ghost use Rattle.etcs_edition.specs.Encoding.{IsWrittenTelegram, IsWrittenMessage};
 ghost use Rattle.etcs_edition.specs.Document.{IsLineText};
 ghost use Rattle.etcs_edition.specs.Yes.{SaysYes};
@@ -79,6 +82,12 @@ pub fn kept_packets_agree()
         → (is_kept_to_train n bits ≡ true) ↔ (is_kept_track_packet n bits ≡ true) }
     ensures to_track { (n bits : ℕ)
         → (is_kept_to_track n bits ≡ true) ↔ (is_kept_train_packet n bits ≡ true) }
+{}
+
+/// A packet from track to train has the number by the edition, NID_PACKET, that contracts see.
+pub fn packet_numbers_agree()
+    ensures { (p : TrackPacket) (n : ℕ)
+        → (has_number n (track_packet_fields p) ≡ true) ↔ (track_number p ≡ n) }
 {}
 
 /// A text is the one that is written for a telegram or a radio message by the edition if and only if it is
@@ -195,6 +204,14 @@ pub fn outputs_agree()
 pub fn first_faults_agree()
     ensures telegrams { (bits : List Bool) (f : Fault) → IsTelegramFault bits f ↔ IsDecodedTelegramFault bits f }
     ensures messages { (bytes : List ℕ) (f : Fault) → IsMessageFault bytes f ↔ IsDecodedMessageFault bytes f }
+{}
+
+/// No telegram of as many bits begins with the bits up to the end of a fault by the edition, if and only if none
+/// does by the contract of `etcs_telegram::decode`. The same is true of radio messages and `etcs_radio::decode`.
+pub fn decisions_agree()
+    ensures telegrams { (bits : List Bool) (f : Fault) → AreUserBits bits
+        → NoTelegramBegins bits f ↔ IsNoTelegram bits f }
+    ensures messages { (bytes : List ℕ) (f : Fault) → NoMessageBegins bytes f ↔ IsNoMessage bytes f }
 {}
 
 /// The bits up to the end of a fault decide it: no telegram of as many bits begins with them by the edition,
