@@ -7,7 +7,8 @@ import shutil
 import pytest
 
 import readability
-from edition.definitions import key_of, lines
+from edition.definitions import key_of
+from edition.proofs import fewest
 from hostile import GROUPS, STACK
 from runner import TOP, Answer, crate_uses, run
 from variables.table import read_rows
@@ -109,7 +110,7 @@ def numbers():
                 (ARCHITECTURE, "`check` of {} sound groups", f"{GROUPS:,}"), (ARCHITECTURE, "{} KiB of stack", STACK),
                 (PROOFS, r"\({} edits\)", f"{named:,}"), (PROOFS, "the {} in `must-fail/`", sum(edits)),
                 (SAFETY, "the {} of these rows", len(doubts)),
-                (SAFETY, "{} lines for a yes", lines([YES])), (SAFETY, "{} with the findings", lines([YES, FOUND])),
+                (SAFETY, "{} lines for a yes", fewest([YES])), (SAFETY, "{} with the findings", fewest([YES, FOUND])),
                 *((SAFETY, f"the {{}} rows `{kind}`", kinds.count(kind)) for kind in ("rule", "word")))
 
 

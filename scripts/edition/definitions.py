@@ -15,6 +15,8 @@ from typing import Dict, FrozenSet, Iterable, Iterator, List, Mapping, NamedTupl
 TOP = Path(__file__).resolve().parents[2]
 Key = Tuple[str, str]
 """A module, such as `etcs_edition.specs.Wire`, and a name in it."""
+NOTHING: Mapping[Key, Sequence[Key]] = {}
+"""No definition is replaced by others."""
 USE = re.compile(r"(?m)^(?:pub )?use Rattle\.([\w.]+)\.\{(.*)\}$")
 BLOCK = re.compile(r"(?:.+\n)+")
 TYPE = re.compile(r"(?ms)^pub (?:struct|enum) (\w+)\b[^;]*?\{.*?^\}")
@@ -136,28 +138,34 @@ def conditions(name: str) -> FrozenSet[Key]:
     return frozenset(found)
 
 
-def named(definition: Definition) -> Iterator[Key]:
+@functools.lru_cache(None)
+def named(definition: Definition) -> Tuple[Key, ...]:
     """What a definition names. A name with holes is an operator, each of whose parts then occurs."""
-    for name, key in names_in(definition.module).items():
-        if key != definition.key and {*filter(None, name.split("◌"))} <= definition.words:
-            yield key
+    words = definition.words
+    return tuple(key for name, key in names_in(definition.module).items()
+                 if key != definition.key and {*filter(None, name.split("◌"))} <= words)
 
 
-def closure(roots: Iterable[Key]) -> List[Definition]:
+def replaced(keys: Iterable[Key], instead: Mapping[Key, Sequence[Key]]) -> List[Key]:
+    """These keys, but what can be read instead of some of them."""
+    return [other for key in keys for other in instead.get(key, [key])]
+
+
+def closure(roots: Iterable[Key], instead: Mapping[Key, Sequence[Key]] = NOTHING) -> List[Definition]:
     """The definitions on which these rest, and these themselves. A definition has no proof among them."""
     found: Set[Key] = set()
-    rest = [*roots]
+    rest = replaced(roots, instead)
     while rest:
         key = rest.pop()
         if key not in found and key in definitions() and not definitions()[key].is_proof:
             found.add(key)
-            rest.extend(named(definitions()[key]))
+            rest.extend(replaced(named(definitions()[key]), instead))
     return [it for key, it in definitions().items() if key in found]
 
 
-def lines(roots: Iterable[Key]) -> int:
+def lines(roots: Iterable[Key], instead: Mapping[Key, Sequence[Key]] = NOTHING) -> int:
     """How many lines the definitions have on which these rest."""
-    return sum(it.lines for it in closure(roots))
+    return sum(it.lines for it in closure(roots, instead))
 
 
 def conditions_of(roots: Iterable[Key]) -> Set[Key]:
@@ -173,17 +181,18 @@ def key_of(name: str, crate: str, file: str = "") -> Key:
     return found
 
 
-def in_order(roots: Sequence[Key]) -> List[Tuple[Path, List[Definition]]]:
+def in_order(roots: Sequence[Key], instead: Mapping[Key, Sequence[Key]]) -> List[Tuple[Path, List[Definition]]]:
     """The files on which these rest, each after those that it imports, with the definitions that count."""
     needed: Dict[str, List[Definition]] = {}
-    for it in closure(roots):
+    for it in closure(roots, instead):
         needed.setdefault(it.module, []).append(it)
     found: Dict[str, List[Definition]] = {}
 
     def visit(module: str) -> None:
         if module in needed and module not in found:
-            for other in [key[0] for it in needed[module] for key in named(it) if key[0] != module]:
-                visit(other)
+            for other in [key[0] for it in needed[module] for key in replaced(named(it), instead)]:
+                if other != module:
+                    visit(other)
             found[module] = needed[module]
 
     for key in roots:

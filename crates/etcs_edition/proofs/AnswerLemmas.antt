@@ -1,9 +1,12 @@
 -- What is refused, and what has a yes, by the edition.
-use Rattle.std.proofs.Common.{◌≡◌, ◌↔◌, ℕ, List, [], Result, Ok, Err, refl, sym}
+use Rattle.std.proofs.Common.{◌≡◌, ◌↔◌, ℕ, List, [], Result, Ok, Err, refl, sym, subst}
 use Rattle.std.specs.Prelude.{IsErr}
 use Rattle.std.proofs.lemmas.Bool.{false≢true}
 use Rattle.etcs_group.specs.Group.{Aspects}
 use Rattle.etcs_check.proofs.LineLemmas.{no_finding_means_sound_line}
+use Rattle.etcs_check.proofs.NamedLemmas.{unnamed_means_sound}
+use Rattle.etcs_check.specs.Laws.{NamesTheUnsound}
+use Rattle.etcs_check.specs.declared.finding.Finding.{Finding}
 use Rattle.etcs_document.proofs.SoundLemmas.{line_controlled}
 use Rattle.etcs_document.specs.Document.{line_of_text}
 use Rattle.etcs_radio.proofs.TextLemmas as messages
@@ -62,3 +65,12 @@ none_is_yes bytes groups messages text none =
     let controlled = line_controlled bytes groups messages (line_is_text bytes groups messages text) in
     let same = sym (findings_read groups messages [] controlled none) in
     record { text = text; sound = (no_finding_means_sound_line groups messages controlled).0 same }
+
+-- ---- groups and messages by themselves
+
+pub named_if_unsound : (bytes : List ℕ) (groups : List Aspects) (messages : List Message) (found : List Finding)
+    → IsLineText bytes groups messages → AreFindings groups messages found → NamesTheUnsound groups messages found
+named_if_unsound bytes groups messages found text are =
+    let controlled = line_controlled bytes groups messages (line_is_text bytes groups messages text) in
+    let same = findings_read groups messages found controlled are in
+    subst (λ (fs : List Finding). NamesTheUnsound groups messages fs) (sym same) (unnamed_means_sound groups messages controlled)

@@ -1,5 +1,5 @@
 -- Documents by the edition are those that are read.
-use Rattle.std.proofs.Common.{◌≡◌, ℕ, suc, ◌+◌, Bool, true, false, List, [], ◌∷◌, length, codes, Option, Some, None, Result, Ok, Err, refl, sym, ap, subst, arith, inl, inr, if◌then◌else◌}
+use Rattle.std.proofs.Common.{◌≡◌, ℕ, suc, ◌+◌, ◌<◌, ◌∙◌, Bool, true, false, List, [], ◌∷◌, length, codes, Option, Some, None, Result, Ok, Err, refl, sym, ap, subst, arith, inl, inr, if◌then◌else◌}
 use Rattle.std.specs.Prelude.{◌&&◌, ◌||◌, nat_le, nat_lt, option_map, IsSomeAnd, IsTrue}
 use Rattle.std.specs.Option.{ok_or, is_some}
 use Rattle.std.specs.Str.{is_utf8, bytes_eq}
@@ -69,7 +69,7 @@ is_message i v m is =
 
 -- ---- lists
 
-each_is : {X : Type 0} (Is : Data → X → Type 0) (read : ℕ → Data → Result X DocumentFault)
+pub each_is : {X : Type 0} (Is : Data → X → Type 0) (read : ℕ → Data → Result X DocumentFault)
     → ((n : ℕ) (d : Data) (x : X) → read n d ≡ Ok x → Is d x)
     → (n : ℕ) (ds : List Data) (xs : List X) → read_indexed read n ds ≡ Ok xs → Each Is ds xs
 each_is Is read to n [] [] is = tt
@@ -87,7 +87,7 @@ is_each Is read to n [] (x ∷ xs) are = absurd are
 is_each Is read to n (d ∷ ds) [] are = absurd are
 is_each Is read to n (d ∷ ds) (x ∷ xs) are = rw (to n d x are.0, is_each Is read to (n + 1) ds xs are.1) refl
 
-same_count : {X : Type 0} (Is : Data → X → Type 0) (ds : List Data) (xs : List X) → Each Is ds xs → length ds ≡ length xs
+pub same_count : {X : Type 0} (Is : Data → X → Type 0) (ds : List Data) (xs : List X) → Each Is ds xs → length ds ≡ length xs
 same_count Is [] [] are = refl
 same_count Is [] (x ∷ xs) are = absurd are
 same_count Is (d ∷ ds) [] are = absurd are
@@ -203,6 +203,14 @@ are_aspects g (d ∷ ds) (x ∷ xs) are is =
 
 -- ---- groups
 
+-- each aspect of an object has a balise, so that aspects with as many balises each are those of a controlled group
+are_controlled : (ds : List Data) (xs : Aspects) → Each IsAspectObject ds xs → 0 < length xs
+    → ((a b : ℕ) (g h : Telegrams) → At xs a g → At xs b h → length g ≡ length h) → IsControlled xs
+are_controlled ds [] each some counts = absurd (omega (arith, some))
+are_controlled [] (x ∷ xs) each some counts = absurd each
+are_controlled (d ∷ ds) (x ∷ xs) each some counts =
+    record { some = some; balises = each.0.some; counts = λ a g at. counts a 0 g x at refl }
+
 group_by : (g : ℕ) (d : Data) (o : Option Data) (aspects : Aspects)
     → (if is_some o then controlled_group g d else only_aspect g d) ≡ Ok aspects → IsGroupObject d aspects
 unfolding controlled_group only_aspect
@@ -212,12 +220,14 @@ group_by g d None aspects is =
 group_by g d (Some list) aspects is =
     let x = then_ok (in_form (group_path g None) (only_values (codes "aspects") d)) (listed_aspects g) aspects is in
     let form = only_is (group_path g None) (codes "aspects") d x.0 x.1 in
+    let controlled = list_controlled g x.0 aspects x.2 in
     inl (record {
       keys = form.0;
       objects = x.0;
       list = form.1;
       are = aspects_are g x.0 aspects x.2;
-      controlled = list_controlled g x.0 aspects x.2;
+      some = controlled.some;
+      counts = λ a b g h at_a at_b. controlled.counts a g at_a ∙ sym (controlled.counts b h at_b);
     })
 
 group_is : (g : ℕ) (d : Data) (aspects : Aspects) → document_group g d ≡ Ok aspects → IsGroupObject d aspects
@@ -245,7 +255,7 @@ unfolding document_group controlled_group only_aspect
 is_group g d aspects (inl x) =
     let there = some_of (λ v. option_map data_list (as_array v) ≡ Some x.objects) (get (codes "aspects") d) x.list in
     let form = is_only (group_path g None) (codes "aspects") d x.objects x.keys x.list in
-    rw (there.1, form, are_aspects g x.objects aspects x.are x.controlled) refl
+    rw (there.1, form, are_aspects g x.objects aspects x.are (are_controlled x.objects aspects x.are x.some x.counts)) refl
 is_group g d aspects (inr x) =
     rw (no_aspects d x.2.keys, is_aspect g None None d x.0 x.2 refl) (ap (λ (xs : Aspects). Ok xs) (sym x.1))
 

@@ -31,7 +31,7 @@ use Rattle.etcs_edition.specs.Encoding.{IsWrittenTelegram, IsWrittenMessage}
 use Rattle.etcs_edition.proofs.AgreeLemmas.{agree_flat, count_append}
 use Rattle.etcs_edition.proofs.TrackLemmas.{agree_track_packet}
 use Rattle.etcs_edition.proofs.TrainLemmas.{agree_train_packet}
-use Rattle.etcs_edition.proofs.MessageLemmas.{agree_message}
+use Rattle.etcs_edition.proofs.MessageLemmas.{same_required, agree_message}
 use Rattle.etcs_edition.proofs.TelegramLemmas.{same_size, front_same, telegram_fit, telegram_allowed}
 use Rattle.etcs_edition.proofs.TextLemmas.{same_bytes, byte_number, pad_number, few_bits}
 
@@ -150,7 +150,7 @@ written_message m text y =
           same_bytes y.bytes ∙ y.padded
           ∙ ap₂ (λ (bits : List Bool) (n : ℕ). bits ++ replicate n false) (y.spelled.1 ∙ sym (a.bits allowed))
           (rest_same (length y.bytes) m);
-      complete = y.complete;
+      complete = sym (same_required m) ∙ y.complete;
     } in
     record { bytes = y.bytes; encoding = encoding; written = y.written }
 
@@ -169,6 +169,6 @@ message_written m text x =
           ∙ ap₂ (λ (bits : List Bool) (n : ℕ). bits ++ replicate n false) (a.bits e.allowed)
           (sym (rest_same (length x.bytes) m));
       whole = let few = e.few in omega (arith, used);
-      complete = e.complete;
+      complete = same_required m ∙ e.complete;
       written = x.written;
     }

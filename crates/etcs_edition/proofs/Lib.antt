@@ -5,6 +5,10 @@ pub mod TelegramLemmas
 pub mod TextLemmas
 pub mod TrainLemmas
 pub mod MessageLemmas
+pub mod KeptLemmas
+pub mod AfterLemmas
+pub mod TableLemmas
+pub mod FaultLemmas
 pub mod EncodingLemmas
 pub mod DocumentLemmas
 pub mod YesLemmas
@@ -12,3 +16,8 @@ pub mod RuleLemmas
 pub mod FindingLemmas
 pub mod ReportLemmas
 pub mod AnswerLemmas
+pub mod ReasonLemmas
+pub mod RefusalLemmas
+pub mod FormLemmas
+pub mod OutputLemmas
+pub mod CheckLemmas

@@ -34,10 +34,10 @@ few_bits Short = omega arith
 few_bits Long = omega arith
 
 -- a list of n elements, and others after it
-first_of : (n : ℕ) (xs ys : List Bool) → length xs ≡ n → take n (xs ++ ys) ≡ xs
+pub first_of : (n : ℕ) (xs ys : List Bool) → length xs ≡ n → take n (xs ++ ys) ≡ xs
 first_of n xs ys count = subst (λ k. take k (xs ++ ys) ≡ xs) count (take-append_seam xs ys)
 
-others_of : (n : ℕ) (xs ys : List Bool) → length xs ≡ n → drop n (xs ++ ys) ≡ ys
+pub others_of : (n : ℕ) (xs ys : List Bool) → length xs ≡ n → drop n (xs ++ ys) ≡ ys
 others_of n xs ys count = subst (λ k. drop k (xs ++ ys) ≡ ys) count (drop-append_seam xs ys)
 
 pub text_read : (t : Telegram) (text : List ℕ) → IsTelegramText t text → IsDecodedTelegramText t text

@@ -51,10 +51,10 @@ agree_identity i = agree_any (plain 10) i.country refl (agree_last (plain 14) i.
 
 -- ---- ranges: a number that does not fit is out of range either way
 
-none_above : (b : Bool) (n k : ℕ) → n < k → (b || nat_le k n) ≡ b
+pub none_above : (b : Bool) (n k : ℕ) → n < k → (b || nat_le k n) ≡ b
 none_above b n k lt = grind arith
 
-only_last : (b : Bool) (n k : ℕ) → n < k + 1 → (b || nat_le k n) ≡ (b || (n == k))
+pub only_last : (b : Bool) (n k : ℕ) → n < k + 1 → (b || nat_le k n) ≡ (b || (n == k))
 only_last b n k lt = grind arith
 
 pub agree_speed : (v : ℕ) → Agree (alone (ranged 7 120 128) v) (up_to 7 120 v ∷ [])

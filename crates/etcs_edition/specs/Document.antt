@@ -8,7 +8,7 @@ use Rattle.serde_json.specs.Read.{read}
 use Rattle.etcs_schema.specs.Entries.{are_known}
 use Rattle.etcs_schema.specs.Reading.{data_list}
 use Rattle.etcs_group.specs.Group.{Telegrams, Aspects}
-use Rattle.etcs_group.specs.Controlled.{IsControlled}
+use Rattle.etcs_group.specs.Places.{At}
 use Rattle.etcs_radio.specs.declared.message.Message.{Message}
 use Rattle.etcs_edition.specs.Telegram.{IsTelegramText}
 use Rattle.etcs_edition.specs.Message.{IsMessageText}
@@ -40,13 +40,14 @@ pub record IsAspectObject (d : Data) (group : Telegrams) : Type 0 where
   pub few : length group ≤ 8
   pub are : Each (λ v t. IsSomeAnd (as_str v) (IsTelegramText t)) texts group
 
--- A controlled group: an object with the one key `aspects`, a list of aspects with as many balises each.
+-- A controlled group: an object with the one key `aspects`, a list of one or more aspects with as many balises each.
 pub record IsControlledObject (d : Data) (aspects : Aspects) : Type 0 where
   pub keys : OnlyKeys (codes "aspects" ∷ []) d
   pub objects : List Data
   pub list : ListAt (codes "aspects") d objects
   pub are : Each IsAspectObject objects aspects
-  pub controlled : IsControlled aspects
+  pub some : 0 < length aspects
+  pub counts : (a b : ℕ) (g h : Telegrams) → At aspects a g → At aspects b h → length g ≡ length h
 
 -- A group is a controlled group, or an aspect, which is then its only one.
 abbrev pub IsGroupObject : Data → Aspects → Type 0

@@ -2,12 +2,11 @@
 -- digits in lower case. By this project's rule a telegram is filled up with ones, and a message with zeros.
 use Rattle.std.specs.Prelude.{◌≡◌, ℕ, ◌+◌, ◌-◌, ◌*◌, ◌<◌, ◌≤◌, Bool, true, false, List, ◌++◌, length, replicate}
 use Rattle.hex.specs.Hex.{encode_lower, IsBytes}
-use Rattle.etcs_radio.specs.Message.{is_complete}
 use Rattle.etcs_radio.specs.declared.message.Message.{Message}
 use Rattle.etcs_telegram.specs.Record.{Telegram}
 use Rattle.etcs_edition.specs.Wire.{bits_of_bytes, bit_count, Spells}
 use Rattle.etcs_edition.specs.Telegram.{telegram_fields, user_bits}
-use Rattle.etcs_edition.specs.Message.{message_fields}
+use Rattle.etcs_edition.specs.Message.{message_fields, has_required}
 
 -- The text that is written for a telegram: its bits, ones up to its size, and zeros up to a whole byte.
 pub record IsWrittenTelegram (t : Telegram) (text : List ℕ) : Type 0 where
@@ -31,5 +30,5 @@ pub record IsWrittenMessage (m : Message) (text : List ℕ) : Type 0 where
   pub padded : bits_of_bytes bytes
       ≡ spelling ++ replicate (length bytes * 8 - bit_count (message_fields (length bytes) m)) false
   pub whole : length bytes * 8 < bit_count (message_fields (length bytes) m) + 8
-  pub complete : is_complete m ≡ true
+  pub complete : has_required m ≡ true
   pub written : text ≡ encode_lower bytes

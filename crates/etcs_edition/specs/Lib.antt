@@ -4,9 +4,15 @@ pub mod TrackPackets
 pub mod Telegram
 pub mod TrainPackets
 pub mod Message
+pub mod Kept
+pub mod Tables
+pub mod Faults
 pub mod Encoding
 pub mod Document
 pub mod Yes
 pub mod Rules
 pub mod Findings
 pub mod Report
+pub mod Forms
+pub mod Refusals
+pub mod Output

@@ -1,34 +1,55 @@
 //! Laws that the definitions of the edition and those of other crates say the same. Each law is the contract of
 //! a call that does nothing.
 
-ghost use Rattle.std.specs.Prelude.{◌≡◌, ◌↔◌, ℕ, List, [], Bool, length, take, Ok, Err, IsErr, IsOkAnd};
+ghost use Rattle.std.specs.Prelude.{◌≡◌, ◌↔◌, ℕ, List, [], Bool, true, length, take, Ok, Err, IsErr, IsOkAnd};
 ghost use Rattle.etcs_bits.specs.declared.layout.fault.Fault.{Fault};
+ghost use Rattle.etcs_profile.specs.declared.track.TrackPacket.{TrackPacket};
+ghost use Rattle.etcs_profile.specs.Track.{track_number};
+ghost use Rattle.etcs_profile.specs.PacketNumbers.{is_kept as is_kept_track_packet};
+ghost use Rattle.etcs_radio.specs.TrainNumbers.{is_kept as is_kept_train_packet};
 ghost use Rattle.etcs_telegram.specs.Record.{Telegram};
-ghost use Rattle.etcs_telegram.specs.Telegram.{IsTelegram as IsDecodedTelegram};
+ghost use Rattle.etcs_telegram.specs.Telegram.{AreUserBits, IsNoTelegram, IsTelegram as IsDecodedTelegram, IsTelegramFault as IsDecodedTelegramFault};
 ghost use Rattle.etcs_telegram.specs.Text.{IsTelegramText as IsDecodedTelegramText, IsCanonicalText as IsEncodedTelegram};
 ghost use Rattle.etcs_telegram.specs.Meaning.{read_telegram};
 ghost use Rattle.etcs_telegram.specs.TextMeaning.{telegram_of_text};
 ghost use Rattle.etcs_radio.specs.declared.message.Message.{Message};
-ghost use Rattle.etcs_radio.specs.Message.{IsMessage as IsDecodedMessage};
+ghost use Rattle.etcs_radio.specs.Message.{IsNoMessage, IsMessage as IsDecodedMessage, IsMessageFault as IsDecodedMessageFault};
 ghost use Rattle.etcs_radio.specs.Text.{IsMessageText as IsDecodedMessageText, IsCanonicalText as IsEncodedMessage};
 ghost use Rattle.etcs_radio.specs.Meaning.{read_message};
 ghost use Rattle.etcs_radio.specs.TextMeaning.{message_of_text};
 ghost use Rattle.etcs_group.specs.Group.{Aspects};
-ghost use Rattle.etcs_check.specs.Laws.{AreControlled};
+ghost use Rattle.etcs_check.specs.Laws.{AreControlled, NamesTheUnsound};
 ghost use Rattle.etcs_check.specs.Line.{findings};
 ghost use Rattle.etcs_check.specs.Violation.{HasParts};
 ghost use Rattle.etcs_check.specs.declared.finding.Finding.{Finding};
 ghost use Rattle.etcs_document.specs.Document.{line_of_text};
 ghost use Rattle.etcs_document.specs.ReportText.{report_words};
 ghost use Rattle.etcs_document.specs.Verdict.{SaysYes as CheckSaysYes, summary_of_text};
+ghost use Rattle.etcs_document.specs.DocumentFault.{DocumentFault};
+ghost use Rattle.etcs_telegram.specs.declared.error.TextError.{TextError};
+ghost use Rattle.etcs_radio.specs.declared.error.RadioTextError.{RadioTextError};
+ghost use Rattle.serde_json.specs.Data.{Data};
+ghost use Rattle.etcs_schema.specs.Codec.{object};
+ghost use Rattle.etcs_json.specs.Telegrams.{telegram};
+ghost use Rattle.etcs_json.specs.AnyMessage.{message};
+ghost use Rattle.etcs_run.specs.Checking.{check_output};
+ghost use Rattle.etcs_run.specs.Output.{Output, each_text_line, line_by_line};
+ghost use Rattle.etcs_run.specs.RadioStream.{stream_answers};
+ghost use Rattle.etcs_run.specs.TelegramLines.{telegram_decoded};
 ghost use Rattle.etcs_edition.specs.Telegram.{IsTelegram, IsTelegramText};
-ghost use Rattle.etcs_edition.specs.Message.{IsMessage, IsMessageText};
+ghost use Rattle.etcs_edition.specs.Message.{has_number, IsMessage, IsMessageText};
+ghost use Rattle.etcs_edition.specs.TrackPackets.{track_packet_fields};
 ghost use Rattle.etcs_edition.specs.Wire.{bits_of_bytes};
+ghost use Rattle.etcs_edition.specs.Kept.{is_kept_to_train, is_kept_to_track};
+ghost use Rattle.etcs_edition.specs.Faults.{IsTelegramFault, IsMessageFault, NoTelegramBegins, NoMessageBegins};
 ghost use Rattle.etcs_edition.specs.Encoding.{IsWrittenTelegram, IsWrittenMessage};
 ghost use Rattle.etcs_edition.specs.Document.{IsLineText};
 ghost use Rattle.etcs_edition.specs.Yes.{SaysYes};
 ghost use Rattle.etcs_edition.specs.Findings.{RuleHolds, AreFindings};
 ghost use Rattle.etcs_edition.specs.Report.{IsReport};
+ghost use Rattle.etcs_edition.specs.Refusals.{IsTelegramReason, IsMessageReason, IsDocumentReason};
+ghost use Rattle.etcs_edition.specs.Forms.{telegram_form, message_form};
+ghost use Rattle.etcs_edition.specs.Output.{IsChecked, IsTelegramLine, IsMessageLine, IsEachLine, IsStream};
 
 /// Bits are a telegram by the edition if and only if they are the one that `etcs_telegram::decode` reads
 /// (SUBSET-026, 7.4 and 8.4.2).
@@ -52,6 +73,21 @@ pub fn messages_agree()
 /// reads.
 pub fn message_texts_agree()
     ensures { (m : Message) (text : List ℕ) → IsMessageText m text ↔ IsDecodedMessageText m text }
+{}
+
+/// A packet with this number and this many bits is kept as bits by the edition if and only if the type of the
+/// packets that are kept as bits allows it (SUBSET-026, 7.4.1).
+pub fn kept_packets_agree()
+    ensures to_train { (n bits : ℕ)
+        → (is_kept_to_train n bits ≡ true) ↔ (is_kept_track_packet n bits ≡ true) }
+    ensures to_track { (n bits : ℕ)
+        → (is_kept_to_track n bits ≡ true) ↔ (is_kept_train_packet n bits ≡ true) }
+{}
+
+/// A packet from track to train has the number by the edition, NID_PACKET, that contracts see.
+pub fn packet_numbers_agree()
+    ensures { (p : TrackPacket) (n : ℕ)
+        → (has_number n (track_packet_fields p) ≡ true) ↔ (track_number p ≡ n) }
 {}
 
 /// A text is the one that is written for a telegram or a radio message by the edition if and only if it is
@@ -115,6 +151,14 @@ pub fn a_yes_has_no_finding()
         → SaysYes bytes groups messages ↔ (IsLineText bytes groups messages × AreFindings groups messages []) }
 {}
 
+/// Groups by themselves: no finding by the edition names a group if and only if it is sound and no earlier group
+/// has its identity, and none names a message if and only if it is sound.
+pub fn findings_name_what_is_not_sound()
+    ensures { (bytes : List ℕ) (groups : List Aspects) (messages : List Message) (found : List Finding)
+        → IsLineText bytes groups messages → AreFindings groups messages found
+        → NamesTheUnsound groups messages found }
+{}
+
 /// What is a telegram, a radio message or the document of a line by the edition has no reason to be refused,
 /// and everything else has one. `etcs_telegram::from_hex`, `etcs_radio::from_hex` and
 /// `etcs_document::read_line` return this reason, or that memory ran out.
@@ -125,6 +169,49 @@ pub fn refusals_agree()
         → ((m : Message) → IsMessageText m text → ⊥) ↔ IsErr (message_of_text text) }
     ensures documents { (bytes : List ℕ)
         → ((line : List Aspects × List Message) → IsLineText bytes line.0 line.1 → ⊥) ↔ IsErr (line_of_text bytes) }
+{}
+
+/// A reason by the edition to refuse a text or a document is the one that `etcs_telegram::from_hex`,
+/// `etcs_radio::from_hex` and `etcs_document::read_line` return, unless memory runs out: the first in their order.
+pub fn reasons_agree()
+    ensures telegrams { (text : List ℕ) (why : TextError)
+        → IsTelegramReason text why ↔ (telegram_of_text text ≡ Err why) }
+    ensures messages { (text : List ℕ) (why : RadioTextError)
+        → IsMessageReason text why ↔ (message_of_text text ≡ Err why) }
+    ensures documents { (bytes : List ℕ) (why : DocumentFault)
+        → IsDocumentReason bytes why ↔ (line_of_text bytes ≡ Err why) }
+{}
+
+/// A value is the JSON form of a telegram or a radio message by the edition if and only if it is the one that
+/// `etcs_json::WriteJson::write_json` writes.
+pub fn forms_agree()
+    ensures telegrams { (t : Telegram) (form : Data) → (form ≡ telegram_form t) ↔ (form ≡ (object telegram).to t) }
+    ensures messages { (m : Message) (form : Data) → (form ≡ message_form m) ↔ (form ≡ message.to m) }
+{}
+
+/// A text and a status are by the edition what the program writes for an input if and only if they are what
+/// `etcs_run::execute` writes: for `check`, for `decode` and for `decode --radio`.
+pub fn outputs_agree()
+    ensures check { (input : List ℕ) (output : Output) → IsChecked input output ↔ (output ≡ check_output input) }
+    ensures decode { (input : List ℕ) (output : Output)
+        → IsEachLine IsTelegramLine input output ↔ (output ≡ each_text_line telegram_decoded input) }
+    ensures decode_radio { (input : List ℕ) (output : Output)
+        → IsStream IsMessageLine input output ↔ (output ≡ line_by_line (stream_answers 0 []) input) }
+{}
+
+/// A fault is the first one of a telegram's bits, or of a radio message's bytes, by the edition if and only if
+/// it is the one that `etcs_telegram::decode` or `etcs_radio::decode` returns.
+pub fn first_faults_agree()
+    ensures telegrams { (bits : List Bool) (f : Fault) → IsTelegramFault bits f ↔ IsDecodedTelegramFault bits f }
+    ensures messages { (bytes : List ℕ) (f : Fault) → IsMessageFault bytes f ↔ IsDecodedMessageFault bytes f }
+{}
+
+/// No telegram of as many bits begins with the bits up to the end of a fault by the edition, if and only if none
+/// does by the contract of `etcs_telegram::decode`. The same is true of radio messages and `etcs_radio::decode`.
+pub fn decisions_agree()
+    ensures telegrams { (bits : List Bool) (f : Fault) → AreUserBits bits
+        → NoTelegramBegins bits f ↔ IsNoTelegram bits f }
+    ensures messages { (bytes : List ℕ) (f : Fault) → NoMessageBegins bytes f ↔ IsNoMessage bytes f }
 {}
 
 /// The bits up to the end of a fault decide it: no telegram of as many bits begins with them by the edition,
