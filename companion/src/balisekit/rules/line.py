@@ -153,7 +153,8 @@ class Line:
         self.__dict__.pop("_telegrams", None)
         decoded: Optional[Decoded] = self.__dict__.pop("decoded", None)
         for data in decoded.groups if decoded else ():
-            data.__dict__.pop("passages", None)  # (each of which has this object)
+            for name in ("passages", "first_passages"):
+                data.__dict__.pop(name, None)  # (each passage has this object)
 
     @cached_property
     def _telegrams(self) -> Sequence[Telegram]:
