@@ -249,7 +249,8 @@ class GroupData:
     def passages(self) -> Sequence[Passage]:
         """Each aspect all telegrams of which were read, in both directions: those that give a train anything."""
         made: List[Passage] = []
-        for aspect in self.group.group.aspects:
+        says_any = any(telegram.packets for telegram in self.telegrams.values())
+        for aspect in self.group.group.aspects if says_any else ():
             telegrams = [self.telegrams[row.number] for row in aspect.rows if row.number in self.telegrams]
             if len(telegrams) == len(aspect.rows):
                 made += self._passages(aspect.name, telegrams)

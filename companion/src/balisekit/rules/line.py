@@ -379,5 +379,8 @@ def _balise_group(number: int, group: Group, contents: Mapping[int, Content]) ->
     balises, where = len(group.aspects[0].rows), kilometres(group)
     track = next((row.track for row in rows.values() if row.track), "")
     unread = tuple(sorted(rows.keys() - contents.keys())) if len(contents) < len(rows) else ()
-    says = tuple(any(each.says[index] for each in contents.values()) for index in range(2))
+    if first and len(contents) == 1:
+        says = first.says
+    else:
+        says = tuple(any(each.says[index] for each in contents.values()) for index in range(2))
     return BaliseGroup(number, group, balises, identity, linked, where.group, where.rising, track, unread, says=says)
