@@ -185,6 +185,9 @@ def test_wheel(made, venv):
     assert sum_of(venv / "bin/balisekit") == sum_of(tree / "balisekit") and [*venv.rglob("entry_points.txt")] == []
     assert all([*venv.rglob(name)] for name in ("LICENSE-MIT", "THIRD-PARTY.md"))
     has_live_pages(venv)
+    (metadata,) = map(text_of, venv.rglob("balisekit-*.dist-info/METADATA"))
+    # An expression of licences would need version 2.4: twine of Debian 13 refuses it here, that of Debian 12 does not.
+    assert metadata.startswith("Metadata-Version: 2.1\n") and "\nLicense: MIT OR Apache-2.0\n" in metadata
     serves(made, venv)
 
 

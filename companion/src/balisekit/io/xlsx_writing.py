@@ -55,6 +55,11 @@ def pieces(
         second.append([_cell(second, line)])
     if not is_whole:
         book.active = second
+    yield from _saved(book)
+
+
+def _saved(book: Any) -> Iterator[bytes]:
+    """The bytes of a workbook, which do not depend on the time."""
     with TemporaryFile() as made, TemporaryFile() as file:
         book.save(made)
         _without_times(made, file)

@@ -15,6 +15,7 @@ from balisekit.rules import links, meaning, track_plan
 from balisekit.rules.accepted import RULES, Acceptance, Entries, Item, Judged, identities, judge
 from balisekit.rules.applied import Applied, Notes, look_for, no_notes
 from balisekit.rules.checking import Checked, Place
+from balisekit.rules.discovery import first_to_last
 from balisekit.rules.entries import Entry, entries, kilometre_of
 from balisekit.rules.line import Line
 from balisekit.rules.location import Identity
@@ -58,7 +59,7 @@ FAMILIES: Mapping[str, Family] = {
     "F": Family("F", "findings of the program, proved", "findings"),
     "L": Family(
         "L",
-        "links, by balisekit's own rules L1 to L9, not proved",
+        f"links, by balisekit's own rules {first_to_last(links.RULES)}, not proved",
         "links",
         links.RULES,
         links.notes_on,
@@ -75,7 +76,7 @@ FAMILIES: Mapping[str, Family] = {
     ),
     "X": Family(
         "X",
-        "track plan, by balisekit's own rules X1 to X5, not proved",
+        f"track plan, by balisekit's own rules {first_to_last(track_plan.RULES)}, not proved",
         "track plan",
         track_plan.RULES,
         track_plan.OF_PLACES.notes,

@@ -1,26 +1,19 @@
-"""The rules L1 to L9: what the groups of a line say of each other, against the kilometres of the table."""
+"""The rules L: what the groups of a line say of each other, against the kilometres of the table."""
 from __future__ import annotations
 
 from collections import Counter
 from typing import Iterator, Sequence, Tuple
 
 from balisekit.rules.applied import Applied, look_for
+from balisekit.rules.discovery import rules_of
 from balisekit.rules.line import BY_LINKS, Line
-from balisekit.rules.links.l1_unknown_group import RULE as L1
 from balisekit.rules.links.l2_distance import RULE as L2
-from balisekit.rules.links.l3_orientation import RULE as L3
-from balisekit.rules.links.l4_unlinked_group import RULE as L4
-from balisekit.rules.links.l5_single_balise import RULE as L5
-from balisekit.rules.links.l6_unknown_identity import RULE as L6
-from balisekit.rules.links.l7_open_profile import RULE as L7
-from balisekit.rules.links.l8_late_profile import RULE as L8
-from balisekit.rules.links.l9_passed_over import RULE as L9
 from balisekit.rules.location import IN_JUMP, BaliseGroup
 from balisekit.rules.passed_over import PassedOver
 from balisekit.rules.rule import Options, Rule
 from balisekit.tables.names import clean, describe_group
 
-RULES = (L1, L2, L3, L4, L5, L6, L7, L8, L9)
+RULES = rules_of(__name__, __path__)
 __all__ = ["L2", "RULES", "Links", "compare", "notes_on", "passed_over"]
 SHOWN = 20
 """How many notes with one reason are written. The others are counted."""
