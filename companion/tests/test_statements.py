@@ -24,7 +24,7 @@ from balisekit.rules.entries import entries
 from balisekit.rules.families import apply
 from balisekit.rules.rule import Options
 from balisekit.rules.statements import statement
-from balisekit.rules.statements.scene import Balise, Scene
+from balisekit.rules.statements.scene import Aspects, Balise, Scene
 from balisekit.tables import messages as messages_file, reader
 
 TOP = Path(__file__).resolve().parents[2]
@@ -417,7 +417,7 @@ def test_a_finding_that_the_json_does_not_show() -> None:
     form: Form = {"n_pig": 0, "m_dup": 1, "packets": []}
     for line in ("F8 group 0 balise 0 nominal: packets of duplicates differ", "F10 group 0 nominal: no gradient"):
         finding = grammar.finding(line)
-        assert finding and str(statement(Scene(finding, [[Balise(None, form)]]))) == finding.name
+        assert finding and str(statement(Scene(finding, Aspects([[Balise(None, form)]])))) == finding.name
 
 
 Items = List[line_table.Item]

@@ -148,8 +148,15 @@ def kilometre_of(place: int) -> str:
     return f"{'-' if place < 0 else ''}{whole}.{digits[:3]}{digits[3:].rstrip('0')}"
 
 
+RISING = {"rising": 1, "falling": -1}
+"""What the column `nominal` says of the kilometres."""
+
+
 def kilometres(group: Group) -> Kilometres:
     """The kilometre of a group. Whether they rise is by the kilometres of its balises, else by the column `nominal`."""
+    first = group.aspects[0].rows[0]
+    if len(group.aspects) == len(group.aspects[0].rows) == 1:
+        return Kilometres(first.km, RISING.get(first.nominal))
     known: Dict[int, Decimal] = {}
     for aspect in group.aspects:
         for place, row in enumerate(aspect.rows):
@@ -161,7 +168,7 @@ def kilometres(group: Group) -> Kilometres:
     if rises != falls:
         return Kilometres(known.get(0), 1 if rises else -1)
     words = {row.nominal for row in group.rows()} - {""}
-    rising = {"rising": 1, "falling": -1}.get(words.pop()) if rises and len(words) == 1 else None
+    rising = RISING.get(words.pop()) if rises and len(words) == 1 else None
     return Kilometres(known.get(0), rising)
 
 

@@ -54,9 +54,8 @@ def about(entry: Entry) -> str:
 
 def _aspects(entry: Entry) -> Iterator[str]:
     """Which aspects it is about."""
-    all_of_them = [aspect.name for aspect in entry.group.aspects] if entry.group else []
     if len(entry.aspects) > 1:
-        every = len(entry.aspects) == len(all_of_them)
+        every = entry.group is not None and len(entry.aspects) == len(entry.group.aspects)
         yield "every aspect" if every else f"aspects {', '.join(map(quoted, entry.aspects))}"
     elif entry.aspects:
         yield f"aspect {quoted(entry.aspects[0])}"

@@ -18,7 +18,7 @@ from balisekit.etcs.geometry import kilometres
 from balisekit.etcs.places import Identities
 from balisekit.rules.findings_on_correct_data import row_of
 from balisekit.rules.statements import statement
-from balisekit.rules.statements.scene import Balise, BaliseName, Scene, Statement
+from balisekit.rules.statements.scene import Aspects, Balise, BaliseName, Scene, Statement
 from balisekit.tables.account import Account
 from balisekit.tables.grouping import by_position
 from balisekit.tables.model import Aspect, Group, Message, Messages, Row, Table
@@ -380,16 +380,16 @@ def _head(group: Group) -> Row:
 
 
 def _correct(scene: Scene) -> str:
-    return row_of(scene.finding, [[balise.form for balise in aspect] for aspect in scene.aspects])
+    return row_of(scene.finding, scene.aspects)
 
 
 def _scene(groups: Sequence[Group], records: Mapping[int, Record], index: int) -> Scene:
     """All telegrams of a group."""
     group = groups[index]
     forms = {row.number: records[row.number].form for row in group.rows()}
-    aspects = [
+    aspects = Aspects(
         [Balise(row, forms[row.number], place) for place, row in enumerate(aspect.rows)] for aspect in group.aspects
-    ]
+    )
     return Scene(NO_FINDING, aspects, [aspect.name for aspect in group.aspects], kilometres(group))
 
 
@@ -424,7 +424,7 @@ class _Names:
             accepted = self._at(self._readable.accepted_messages, finding.message, finding)
             self._look_at_packet(accepted.form, finding)
             where = self._identities.here(accepted.form).kilometres
-            scene = Scene(finding, [[Balise(None, accepted.form)]], kilometres=where)
+            scene = Scene(finding, Aspects([[Balise(None, accepted.form)]]), kilometres=where)
             return Place(finding, message=accepted.message, statement=statement(scene), correct=_correct(scene))
         group, aspect, row = self._site(finding)
         earlier = self._first[finding.group or 0] if finding.rule == 14 else None

@@ -52,6 +52,8 @@ METRES = 3
 """How many decimals a kilometre has that is written to the metre."""
 KEPT = 1 << 12
 """How many texts of packets are kept with their objects: many telegrams have the same packets."""
+Known = Dict[str, Tuple[Sequence[Form], int]]
+"""By the text of NID_C and packets: the packets, and the hash of their text."""
 
 
 FIELDS_OF: Callable[[Form], Optional[Form]] = fields_of
@@ -150,6 +152,8 @@ class Telegram:
     packets: Sequence[Packet]
     forms: Sequence[Form]
     """The packets as the program has decoded them. Telegrams with the same packets may share them."""
+    hash: int
+    """That of the text of the packets: different packets mostly have different ones."""
 
     @cached_property
     def holding(self) -> Tuple[Sequence[Packet], ...]:
@@ -245,11 +249,17 @@ class GroupData:
     def passages(self) -> Sequence[Passage]:
         """Each aspect all telegrams of which were read, in both directions: those that give a train anything."""
         made: List[Passage] = []
-        for aspect in self.group.group.aspects:
+        says_any = any(telegram.packets for telegram in self.telegrams.values())
+        for aspect in self.group.group.aspects if says_any else ():
             telegrams = [self.telegrams[row.number] for row in aspect.rows if row.number in self.telegrams]
             if len(telegrams) == len(aspect.rows):
                 made += self._passages(aspect.name, telegrams)
         return made
+
+    @cached_property
+    def first_passages(self) -> Mapping[int, Passage]:
+        """By the id of each packet: the first passage in which it counts from this group."""
+        return {id(packet): passage for passage in reversed(self.passages) for packet in passage.said}
 
     def _passages(self, aspect: str, telegrams: Sequence[Telegram]) -> Iterator[Passage]:
         """What a train gets of an aspect in both directions, if that is anything."""
@@ -445,7 +455,7 @@ def contents_of_decoded(telegrams: Sequence[Telegram]) -> Iterator[Tuple[Row, Co
 
 def telegrams_of(records: Iterable[Tuple[Row, Record]]) -> Iterator[Telegram]:
     """The telegrams of these records, decoded in parts."""
-    known: Dict[str, Sequence[Form]] = {}
+    known: Known = {}
     waiting: List[Tuple[Row, Tuple[str, ...]]] = []
     for row, record in records:
         waiting.append((row, RECORD.findall(record.line)[0]))
@@ -455,15 +465,15 @@ def telegrams_of(records: Iterable[Tuple[Row, Record]]) -> Iterator[Telegram]:
     yield from _decoded(waiting, known)
 
 
-def _decoded(waiting: Sequence[Tuple[Row, Tuple[str, ...]]], known: Dict[str, Sequence[Form]]) -> Iterator[Telegram]:
+def _decoded(waiting: Sequence[Tuple[Row, Tuple[str, ...]]], known: Known) -> Iterator[Telegram]:
     if len(known) > KEPT:
         known.clear()
     new = list(dict.fromkeys(found[6] for _, found in waiting if found[6] not in known))
     for text, form in zip(new, json.loads(f"[{','.join(f'{{{text}}}' for text in new)}]")):
-        known[text] = [_with_fields(packet) for packet in form["packets"]]
+        known[text] = [_with_fields(packet) for packet in form["packets"]], hash(text.partition(",")[2])
     for row, found in waiting:
         m_dup, m_mcount, m_version, n_pig, n_total, nid_bg, text, nid_c, linked = found
-        forms = known[text]
+        forms, its_hash = known[text]
         position = int(n_pig)
         yield Telegram(
             row,
@@ -476,6 +486,7 @@ def _decoded(waiting: Sequence[Tuple[Row, Tuple[str, ...]]], known: Dict[str, Se
             linked == "1",
             _packets(forms, row, position),
             forms,
+            its_hash,
         )
 
 

@@ -155,12 +155,13 @@ def _expected(cause: Cause) -> str:
 
 def kilometre_of(group: Optional[Group], rows: Collection[int]) -> Optional[Decimal]:
     """The kilometre of the first of these rows."""
-    known = {row.number: row.km for row in group.rows()} if group else {}
-    return known.get(min(rows, default=0))
+    row = group.row(min(rows, default=0)) if group else None
+    return row.km if row else None
 
 
 def _rows(place: Place) -> Sequence[Row]:
     """The rows that a finding is about: all of its aspect or group, or those of its balise, in each aspect."""
-    balise = place.finding.balise
-    aspects = [one for one in place.group.aspects if place.aspect in (None, one.name)] if place.group else []
+    balise, aspect = place.finding.balise, place.finding.aspect
+    aspects = place.group.aspects if place.group else ()
+    aspects = aspects if aspect is None else aspects[aspect : aspect + 1]
     return [row for one in aspects for row in (one.rows if balise is None else [one.rows[balise]])]

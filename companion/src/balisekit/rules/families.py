@@ -274,7 +274,6 @@ def entry_of_remark(remark: Remark) -> Entry:
     rows = [row] if row else group.group.rows() if group else []
     numbers = tuple(sorted(remark.rows or {row.number for row in rows}))
     aspects = (row.aspect,) if row and row.aspect not in ("", "*") else ()
-    places = group.group.places if group else {}
     name = BaliseName(row.name, where.n_pig) if row and where.n_pig is not None else None
     return Entry(
         remark.rule,
@@ -283,7 +282,7 @@ def entry_of_remark(remark: Remark) -> Entry:
         numbers,
         group.group if group else None,
         tuple(remark.aspects) or aspects,
-        places[row.number] if row and group else None,
+        group.group.places[row.number] if row and group else None,
         where.number,
         where.direction,
         kilometre_of(group.group, numbers) if group else None,

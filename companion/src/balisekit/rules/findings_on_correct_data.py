@@ -11,6 +11,7 @@ from typing import Dict, Sequence
 from balisekit.engine.grammar import Finding
 from balisekit.etcs.geometry import passed
 from balisekit.etcs.variables import Form
+from balisekit.rules.statements.scene import Aspects
 
 MADE = os.path.join(os.path.dirname(__file__), "findings_on_correct_data.json")
 MISSING, SHORT = (10, 12), (11, 13)
@@ -25,16 +26,15 @@ def reasons() -> Dict[str, str]:
     return said
 
 
-def row_of(finding: Finding, aspects: Sequence[Forms]) -> str:
-    """The row of the table that a finding fits, or nothing. `aspects` has the telegrams, or the message alone.
+def row_of(finding: Finding, aspects: Aspects) -> str:
+    """The row of the table that a finding fits, or nothing.
 
     A pair of duplicates that is controlled has no row here: by the table it is not accepted by a rule. Neither has a
     group in which two aspects send the same: one may have been copied for the other.
     """
     if finding.message is not None:
-        return _message(finding, aspects[0][0])
-    repeated = any(one == other for place, one in enumerate(aspects) for other in aspects[:place])
-    return "" if repeated else _group(finding, aspects)
+        return _message(finding, aspects.forms[0][0])
+    return "" if aspects.are_repeated else _group(finding, aspects)
 
 
 def _message(finding: Finding, form: Form) -> str:
@@ -44,19 +44,18 @@ def _message(finding: Finding, form: Form) -> str:
     return "message" if fits else ""
 
 
-def _group(finding: Finding, aspects: Sequence[Forms]) -> str:
+def _group(finding: Finding, aspects: Aspects) -> str:
     """F6, F9, F14 and F16 of default telegrams; F9 of packets 0 and 136; F10 to F13; F16 of one balise."""
-    rule, balise, telegrams = finding.rule, finding.balise, aspects[finding.aspect or 0]
+    rule, balise, telegrams = finding.rule, finding.balise, aspects.forms[finding.aspect or 0]
     default = "default aspect" if len(aspects) > 1 else "default group"
     if rule == 9 and balise is not None and finding.packet is not None:
         number = telegrams[balise]["packets"][finding.packet]["nid_packet"]
         return {136: "infill", 0: "cover marker", 254: default}.get(number, "")
     if rule in (*MISSING, *SHORT):
         return _profiles(finding, telegrams)
-    if rule == 16 and (finding.aspect is not None or balise is None or not _is_default(balise, aspects)):
-        return "one controlled balise" if _is_one_controlled(aspects) else ""
-    has_default = any(packet["nid_packet"] == 254 for forms in aspects for form in forms for packet in form["packets"])
-    return default if rule in (6, 16) or rule == 14 and has_default else ""
+    if rule == 16 and (finding.aspect is not None or balise is None or not _is_default(balise, aspects.forms)):
+        return "one controlled balise" if aspects.is_one_controlled else ""
+    return default if rule in (6, 16) or rule == 14 and aspects.has_default else ""
 
 
 def _profiles(finding: Finding, telegrams: Forms) -> str:
@@ -75,13 +74,3 @@ def _is_default(balise: int, aspects: Sequence[Forms]) -> bool:
     """Whether the telegram of a balise is a default telegram in an aspect."""
     own = [forms[balise] for forms in aspects]
     return any(form["m_mcount"] == 254 or 254 in [packet["nid_packet"] for packet in form["packets"]] for form in own)
-
-
-def _is_one_controlled(aspects: Sequence[Forms]) -> bool:
-    """Whether the telegrams differ at one place only, where each aspect has its own, and all have one counter."""
-    differing = [own for own in zip(*aspects) if any(form != own[0] for form in own)]
-    if len(differing) != 1:
-        return False
-    own = differing[0]
-    repeated = any(form in own[:place] for place, form in enumerate(own))
-    return not repeated and len({form["m_mcount"] for form in own}) == 1

@@ -153,7 +153,8 @@ class Line:
         self.__dict__.pop("_telegrams", None)
         decoded: Optional[Decoded] = self.__dict__.pop("decoded", None)
         for data in decoded.groups if decoded else ():
-            data.__dict__.pop("passages", None)  # (each of which has this object)
+            for name in ("passages", "first_passages"):
+                data.__dict__.pop(name, None)  # (each passage has this object)
 
     @cached_property
     def _telegrams(self) -> Sequence[Telegram]:
@@ -385,5 +386,8 @@ def _balise_group(number: int, group: Group, contents: Mapping[int, Content]) ->
     balises, where = len(group.aspects[0].rows), kilometres(group)
     track = next((row.track for row in rows.values() if row.track), "")
     unread = tuple(sorted(rows.keys() - contents.keys())) if len(contents) < len(rows) else ()
-    says = tuple(any(each.says[index] for each in contents.values()) for index in range(2))
+    if first and len(contents) == 1:
+        says = first.says
+    else:
+        says = tuple(any(each.says[index] for each in contents.values()) for index in range(2))
     return BaliseGroup(number, group, balises, identity, linked, where.group, where.rising, track, unread, says=says)

@@ -166,10 +166,11 @@ class Passages:
         unknown = {number for number, content in contents.items() if content.identity[1] == NOT_KNOWN}
         rows = {row.number: row for row in group.group.rows() if row.number in unknown} if unknown else {}
         self.unknown += [Location(group, row, n_pig=contents[row.number].n_pig) for row in rows.values()]
-        aspects = [aspect.rows for aspect in group.group.aspects]
-        if group.unread:
-            aspects = [rows for rows in aspects if all(row.number in contents for row in rows)]
-        self._add([[(row, contents[row.number]) for row in rows] for rows in aspects], group)
+        if any(packets for content in contents.values() for packets in content.packets):
+            aspects = [aspect.rows for aspect in group.group.aspects]
+            if group.unread:
+                aspects = [rows for rows in aspects if all(row.number in contents for row in rows)]
+            self._add([[(row, contents[row.number]) for row in rows] for rows in aspects], group)
         if group.balises == 1 and not group.linked:
             first = [aspect.rows[0] for aspect in group.group.aspects if aspect.rows[0].number in contents]
             found = ((row, contents[row.number]) for row in first)

@@ -50,6 +50,16 @@ class Group:
         for aspect in self.aspects:
             yield from aspect.rows
 
+    def row(self, number: int) -> Optional[Row]:
+        """The row with this number, if the group has it."""
+        if len(self.aspects) == 1:
+            return next((row for row in self.aspects[0].rows if row.number == number), None)
+        return self._by_number.get(number)
+
+    @cached_property
+    def _by_number(self) -> Dict[int, Row]:
+        return {row.number: row for row in self.rows()}
+
     @cached_property
     def places(self) -> Dict[int, int]:
         """The place of each row's balise in nominal order, by the number of the row."""

@@ -27,21 +27,21 @@ How sure. 87 %, by practice and memory of the standard.
 from __future__ import annotations
 
 from decimal import Decimal
-from itertools import combinations, product
+from itertools import chain, product
 from typing import Dict, Iterable, Iterator, List, NamedTuple, Sequence, Tuple
 
 from balisekit.etcs.variables import metres
 from balisekit.rules.decoded import GRADIENTS, LINKING, SPEEDS, Decoded, Packet, Passage
 from balisekit.rules.line import Line
 from balisekit.rules.meaning.along import leaves
-from balisekit.rules.meaning.sent import by_culprit, contrary, distance, field_at, speed, tolerance
-from balisekit.rules.meaning.siblings import common_reach
+from balisekit.rules.meaning.sent import are_contrary, by_culprit, contrary, distance, field_at, speed, tolerance
+from balisekit.rules.meaning.siblings import common_reach, with_common_reach
 from balisekit.rules.meaning.words import between, more_stretches
 from balisekit.rules.rule import Options, Remark, Result, Rule, Urgency
 from balisekit.tables.names import listed, quoted, rows_words
 
-STEEPER = 5
-"""By how many per mille gradients may differ."""
+APART = {SPEEDS: 0, GRADIENTS: 5}
+"""By how much values may differ: gradients by so many per mille."""
 NAMED = 5
 
 
@@ -78,15 +78,17 @@ def find(line: Line, options: Options) -> Result:
 
 
 def _of_group(line: Line, options: Options, some: Sequence[Passage]) -> Iterator[Remark]:
-    links = [passage.of(LINKING) for passage in some]
-    common = [common_reach(line, options, *pair) for pair in combinations(zip(some, links), 2)]
-    for number in (SPEEDS, GRADIENTS):
+    said = {number: [passage.of(number) for passage in some] for number in (SPEEDS, GRADIENTS)}
+    differing = {number: own for number, own in said.items() if are_contrary(chain(*own), APART[number])}
+    linked = [(passage, passage.of(LINKING)) for passage in some]
+    near = with_common_reach(line, options, linked) if differing else ()
+    common = [(*each, common_reach(line, options, *(linked[place] for place in each))) for each in near]
+    for own in differing.values():
         pairs: Pairs = {}
-        said = [(passage, passage.of(number)) for passage in some]
-        for reach, ((one, mine), (other, its)) in zip(common, combinations(said, 2)):
-            differing = _compared(line, options, one, product(mine, its), reach) if reach else None
-            if differing:
-                pairs[one.aspect, other.aspect] = differing
+        for one, other, reach in common:
+            found = _compared(line, options, some[one], product(own[one], own[other]), reach) if reach else None
+            if found:
+                pairs[some[one].aspect, some[other].aspect] = found
         for culprit, others in by_culprit(list(pairs)):
             yield _remark(line.decoded, some[0], pairs, culprit, others)
 
@@ -99,8 +101,7 @@ def _compared(
     for packets in pairs:
         if packets[0] is packets[1]:
             continue  # of a fixed balise
-        apart = STEEPER if packets[0].number == GRADIENTS else 0
-        differing = list(contrary(packets[0].stretches, packets[1].stretches, reach, apart))
+        differing = list(contrary(packets[0].stretches, packets[1].stretches, reach, APART[packets[0].number]))
         least = tolerance(options, *((each, len(each.stretches)) for each in packets)) if differing else 0
         for begin, end, *values in differing:
             place = one.place(begin + least)

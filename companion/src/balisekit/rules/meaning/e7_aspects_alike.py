@@ -29,11 +29,13 @@ How sure. 93 %, by practice and memory of the standard.
 """
 from __future__ import annotations
 
+from collections import Counter
 from decimal import Decimal
+from itertools import chain
 from typing import Dict, Iterator, List, Mapping, NamedTuple, Optional, Sequence, Tuple
 
 from balisekit.etcs.geometry import INFILL
-from balisekit.rules.decoded import Decoded, GroupData, Packet, Telegram
+from balisekit.rules.decoded import AUTHORITIES, Decoded, GroupData, Packet, Telegram
 from balisekit.rules.line import Line
 from balisekit.rules.location import Location
 from balisekit.rules.meaning.along import End, ends_of, ends_the_line
@@ -68,9 +70,9 @@ def find(line: Line, options: Options) -> Result:
     several = [data for data in line.decoded.groups if len(data.group.group.aspects) > 1]
     alike = [each for data in several for each in _alike(data)]
     stops = [each for each in alike if not each.speeds]
-    ends: Dict[int, List[End]] = {}
+    ends: Dict[Tuple[int, int], List[End]] = {}
     for end in ends_of(line.decoded) if alike else ():
-        ends.setdefault(id(end.passage.group), []).append(end)
+        ends.setdefault((id(end.passage.group), end.packet.end), []).append(end)
     moving = [(each, _ends_of(each, ends)) for each in alike if each.speeds]
     last = [each for each, own in moving if own and all(ends_the_line(line.decoded, end) for end in own)]
     least = [*last, *(each for each, own in moving if not own and _is_infill_of(line.decoded, each, last))]
@@ -80,17 +82,17 @@ def find(line: Line, options: Options) -> Result:
 
 def _alike(data: GroupData) -> Iterator[Alike]:
     """The aspects that say the same, together."""
-    classes: List[Tuple[List[Telegram], List[Aspect]]] = []
+    classes: Dict[Tuple[int, ...], List[Tuple[List[Telegram], List[Aspect]]]] = {}
     for aspect in data.group.group.aspects:
-        if any(row.number not in data.telegrams for row in aspect.rows):
-            continue
-        telegrams = [data.telegrams[row.number] for row in aspect.rows]
-        known = next((own for first, own in classes if _are_alike(first, telegrams)), None)
-        if known is None:
-            classes.append((telegrams, [aspect]))
-        else:
+        if all(row.number in data.telegrams for row in aspect.rows):
+            telegrams = [data.telegrams[row.number] for row in aspect.rows]
+            of_hash = classes.setdefault(tuple([telegram.hash for telegram in telegrams]), [])
+            known = next((own for first, own in of_hash if _are_alike(first, telegrams)), None)
+            if known is None:
+                known = []
+                of_hash.append((telegrams, known))
             known.append(aspect)
-    for telegrams, aspects in classes:
+    for telegrams, aspects in chain.from_iterable(classes.values()):
         if len(aspects) > 1:
             yield Alike(data, aspects, [packet for telegram in telegrams for packet in telegram.packets])
 
@@ -100,10 +102,11 @@ def _are_alike(some: Sequence[Telegram], others: Sequence[Telegram]) -> bool:
     return all(one is other or one.forms == other.forms for one, other in zip(some, others))
 
 
-def _ends_of(alike: Alike, by_group: Mapping[int, Sequence[End]]) -> Sequence[End]:
-    """Where their authorities end that count from their group."""
+def _ends_of(alike: Alike, known: Mapping[Tuple[int, int], Sequence[End]]) -> Sequence[End]:
+    """Where their authorities end that count from their group. `known` has all ends by group and length."""
     own = [packet.form for packet in alike.packets]
-    return [end for end in by_group.get(id(alike.data), ()) if end.packet.form in own]
+    lengths = {packet.end for packet in alike.packets if packet.number in AUTHORITIES}
+    return [end for length in lengths for end in known.get((id(alike.data), length), ()) if end.packet.form in own]
 
 
 def _is_infill_of(decoded: Decoded, alike: Alike, signals: Sequence[Alike]) -> bool:
@@ -116,7 +119,8 @@ def _is_infill_of(decoded: Decoded, alike: Alike, signals: Sequence[Alike]) -> b
 
 def _remark(alike: Alike, urgency: Optional[Urgency]) -> Remark:
     rows = [row for aspect in alike.aspects for row in aspect.rows]
-    controlled = {row.number for row in rows if rows.count(row) < len(alike.aspects)}
+    counts = Counter(row.number for row in rows)
+    controlled = {number for number, count in counts.items() if count < len(alike.aspects)}
     speed = max(alike.speeds)
     sentence = (
         f"the aspects {_names(alike.names)} have the same packets in every balise, with V_MAIN {speed} km/h: one of "

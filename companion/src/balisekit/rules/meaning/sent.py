@@ -3,7 +3,7 @@ from __future__ import annotations
 
 from collections import Counter
 from decimal import Decimal
-from typing import Callable, Dict, Iterator, List, Mapping, NamedTuple, Optional, Sequence, Tuple, TypeVar, Union
+from typing import Callable, Dict, Iterable, Iterator, List, Mapping, NamedTuple, Optional, Sequence, Tuple, TypeVar, Union
 
 from balisekit.etcs.geometry import ELEMENT_KEYS
 from balisekit.rules.decoded import Decoded, GroupData, Packet, Passage, Stretch, allowance, tolerance_of_lengths
@@ -14,6 +14,8 @@ from balisekit.rules.rule import Field, Options, Remark, Result
 Owner = Union[GroupData, Passage]
 """The group, or the message, that sends a packet."""
 Key = TypeVar("Key")
+FAR = 10**12
+"""The end of a profile without an end, beyond all others."""
 
 
 class Fault(NamedTuple):
@@ -54,8 +56,7 @@ def of_packets(rule: str, line: Line, numbers: Sequence[int], look_at: Callable[
 
 def _place(owner: Owner, packet: Packet, fault: Fault) -> Optional[Tuple[Passage, int]]:
     """In which direction a fault is, and how far from the group, if it is about a field in one direction."""
-    passages = owner.passages if isinstance(owner, GroupData) else [owner]
-    passage = next((each for each in passages if packet in each.said), None)
+    passage = owner.first_passages.get(id(packet)) if isinstance(owner, GroupData) else _saying(owner, packet)
     if passage is None or not fault.fields or packet.form.get("q_dir") == 2:
         return None
     element, keys = fault.fields[0][1], ELEMENT_KEYS.get(packet.number)
@@ -64,6 +65,11 @@ def _place(owner: Owner, packet: Packet, fault: Fault) -> Optional[Tuple[Passage
     if keys is None:
         return None
     return passage, sum(each[keys[0]] for each in packet.form["elements"][: element + 1]) * packet.unit
+
+
+def _saying(passage: Passage, packet: Packet) -> Optional[Passage]:
+    """The passage of a message, if a packet counts from its group."""
+    return passage if packet in passage.said else None
 
 
 def _with_km(decoded: Decoded, fault: Fault, at: Optional[Tuple[Passage, int]]) -> Fault:
@@ -143,3 +149,30 @@ def contrary(
             if other_end >= end:
                 break
             place += 1
+
+
+def are_contrary(packets: Iterable[Packet], apart: int) -> bool:
+    """Whether any two of these profiles differ by more than `apart` anywhere. Profiles of one track do not."""
+    by_value: Dict[int, List[Tuple[int, int]]] = {}
+    for packet in packets:
+        for begin, end, value, _ in packet.stretches:
+            by_value.setdefault(value, []).append((begin, FAR if end is None else end))
+    spans = sorted((*span, value) for value, own in by_value.items() for span in _united(own))
+    for place, (_, end, value) in enumerate(spans):
+        for begin, _, other in spans[place + 1 :]:
+            if begin >= end:
+                break
+            if abs(value - other) > apart:
+                return True
+    return False
+
+
+def _united(spans: List[Tuple[int, int]]) -> Iterator[Tuple[int, int]]:
+    """The stretches that these cover, in their order."""
+    first, last = 0, -1
+    for begin, end in sorted(spans):
+        if begin > last and last > first:
+            yield first, last
+        first, last = (begin, end) if begin > last else (first, max(last, end))
+    if last > first:
+        yield first, last

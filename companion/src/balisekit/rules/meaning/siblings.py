@@ -1,13 +1,14 @@
 """Aspects beside each other: which packets they have (E8), which authorities (E9), how far they go together (E10)."""
 from __future__ import annotations
 
+from collections import Counter
 from itertools import combinations
 from typing import Dict, FrozenSet, Iterator, List, Mapping, NamedTuple, Sequence, Set, Tuple
 
 from balisekit.etcs.geometry import DIRECTIONS
 from balisekit.rules.decoded import GRADIENTS, LINKING, SPEEDS, GroupData, Packet, Passage, allowance
 from balisekit.rules.line import Line
-from balisekit.rules.location import NOT_KNOWN
+from balisekit.rules.location import NOT_KNOWN, Identity
 from balisekit.rules.meaning.sent import tolerance
 from balisekit.rules.rule import Options
 
@@ -62,6 +63,39 @@ def lacking_in(said: Said, moving: Moving) -> Dict[Tuple[str, str, str], List[in
                 words = "" if number == AUTHORITY or moving[index] == either else " in it"
                 found.setdefault((without[0], direction, words), []).append(number)
     return found
+
+
+def with_common_reach(line: Line, options: Options, some: Sequence[Linked]) -> Iterator[Tuple[int, int]]:
+    """The places of each two passages of a group that may have a common reach, in the order of `combinations`.
+
+    Their packets 5 name one group first, or without packets 5 their authorities end near each other: a group with very
+    many aspects has few such pairs.
+    """
+    ahead: Dict[int, List[int]] = {}
+    named: Dict[Identity, List[int]] = {}
+    ends: List[Tuple[int, int, int]] = []
+    for place, (passage, linking) in enumerate(some):
+        first = next(line.decoded.reached(passage), None) if linking else None
+        if first:
+            named.setdefault(first.identity, []).append(place)
+        elif passage.authorities:
+            last = max(passage.authorities, key=lambda packet: packet.end)
+            ends.append((last.end, place, allowance(last, last.lengths)))
+    for own in named.values():
+        ahead.update((place, own[index + 1 :]) for index, place in enumerate(own))
+    for one, other in _near(sorted(ends), tolerance(options)):
+        ahead.setdefault(min(one, other), []).append(max(one, other))
+    return ((place, other) for place in sorted(ahead) for other in sorted(ahead[place]))
+
+
+def _near(ends: Sequence[Tuple[int, int, int]], least: int) -> Iterator[Tuple[int, int]]:
+    """The places of each two ends that may be equal. They are in their order, each with what rounding may add to it."""
+    greatest = max((allowed for _, _, allowed in ends), default=0)
+    for index, (end, place, allowed) in enumerate(ends):
+        after = index + 1
+        while after < len(ends) and ends[after][0] - end <= least + allowed + greatest:
+            yield place, ends[after][1]
+            after += 1
 
 
 def common_reach(line: Line, options: Options, one: Linked, other: Linked) -> int:
@@ -136,11 +170,17 @@ def is_usual(count: int, of_how_many: int) -> bool:
 
 
 def pairs_of(options: Options, cases: Sequence[Sequence[Case]]) -> Mapping[Tuple[str, str], Sequence[Pair]]:
-    """Each two aspects of a group with a V_MAIN above 0, by their names in the order of the alphabet."""
+    """Each two aspects of a group with a V_MAIN above 0, by their names in the order of the alphabet.
+
+    Names with too few cases to show an order are left out.
+    """
     pairs: Dict[Tuple[str, str], List[Pair]] = {}
     least = tolerance(options)
-    for own in cases:
-        moving = sorted([case for case in own if case.packet.form["v_main"]], key=lambda case: case.passage.aspect)
+    go = [[case for case in own if case.packet.form["v_main"]] for own in cases]
+    counts = Counter(case.passage.aspect for own in go for case in own)
+    for own in go:
+        usual = [case for case in own if counts[case.passage.aspect] >= LEAST]
+        moving = sorted(usual, key=lambda case: case.passage.aspect)
         parts = [(case.packet.end, allowance(case.packet, case.packet.lengths)) for case in moving]
         for (one, (end, allowed)), (other, (its_end, its_allowed)) in combinations(zip(moving, parts), 2):
             longer = its_end - end

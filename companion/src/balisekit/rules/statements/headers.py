@@ -93,13 +93,14 @@ def not_told_apart(scene: Scene) -> Statement:
     if scene.finding.aspect is None:
         return _neither_fixed_nor_switched(scene)
     counter = scene.own.form["m_mcount"]
-    for index, aspect in enumerate(scene.aspects[: scene.finding.aspect]):
+    index = scene.aspects.first_with[counter]
+    if index < scene.finding.aspect:
+        aspect = scene.aspects[index]
         same = [place for place, balise in enumerate(aspect) if balise.form["m_mcount"] == counter]
-        if same:
-            place = scene.place if scene.place in same else same[0]
-            where = "" if place == scene.place else f" in {aspect[place]}"
-            sentence = f"M_MCOUNT {counter} is also that of {scene.of_aspect(index)}{where}"
-            return Statement(sentence, aspect[place].rows, values={"M_MCOUNT": str(counter)})
+        place = scene.place if scene.place in same else same[0]
+        where = "" if place == scene.place else f" in {aspect[place]}"
+        sentence = f"M_MCOUNT {counter} is also that of {scene.of_aspect(index)}{where}"
+        return Statement(sentence, aspect[place].rows, values={"M_MCOUNT": str(counter)})
     return Statement(f"M_MCOUNT {counter} is also that of an earlier aspect", values={"M_MCOUNT": str(counter)})
 
 

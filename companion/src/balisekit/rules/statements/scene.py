@@ -1,7 +1,9 @@
 """A finding of the program with all telegrams of its group, or with its message."""
 from __future__ import annotations
 
-from typing import List, Mapping, NamedTuple, Optional, Sequence, Tuple
+import json
+from functools import cached_property
+from typing import Dict, List, Mapping, NamedTuple, Optional, Sequence, Tuple
 
 from balisekit.engine.grammar import Finding
 from balisekit.etcs.geometry import Kilometres
@@ -75,12 +77,55 @@ class Balise(NamedTuple):
 Aspect = Sequence[Balise]
 
 
+class Aspects(List[Aspect]):
+    """The balises of each aspect of a group, or the message alone, and what each of many findings asks of them all."""
+
+    @cached_property
+    def forms(self) -> Sequence[Sequence[Form]]:
+        """The telegrams of each aspect, or the message."""
+        return [[balise.form for balise in aspect] for aspect in self]
+
+    @cached_property
+    def texts(self) -> Sequence[Sequence[str]]:
+        """The same as texts, which are equal if the telegrams are. A fixed balise has one object for all aspects."""
+        known = {id(form): form for forms in self.forms for form in forms}
+        texts = {key: json.dumps(form, sort_keys=True) for key, form in known.items()}
+        return [[texts[id(form)] for form in forms] for forms in self.forms]
+
+    @cached_property
+    def are_repeated(self) -> bool:
+        """Whether two aspects send the same."""
+        return len(self) > 1 and len({tuple(texts) for texts in self.texts}) < len(self)
+
+    @cached_property
+    def is_one_controlled(self) -> bool:
+        """Whether the telegrams differ at one place only, where each aspect has its own, and all have one counter."""
+        differing = [place for place, own in enumerate(zip(*self.texts)) if len(set(own)) > 1]
+        if len(differing) != 1:
+            return False
+        is_repeated = len({own[differing[0]] for own in self.texts}) < len(self)
+        return not is_repeated and len({forms[differing[0]]["m_mcount"] for forms in self.forms}) == 1
+
+    @cached_property
+    def has_default(self) -> bool:
+        """Whether a telegram has a packet 254."""
+        return any(packet["nid_packet"] == 254 for forms in self.forms for form in forms for packet in form["packets"])
+
+    @cached_property
+    def first_with(self) -> Mapping[int, int]:
+        """The first aspect with each M_MCOUNT."""
+        first: Dict[int, int] = {}
+        for index, forms in enumerate(self.forms):
+            for form in forms:
+                first.setdefault(form["m_mcount"], index)
+        return first
+
+
 class Scene(NamedTuple):
     """A finding, and what it is about."""
 
     finding: Finding
-    aspects: Sequence[Aspect]
-    """The balises of each aspect of the group, or the message alone."""
+    aspects: Aspects
     names: Sequence[str] = ("",)
     """The names of the aspects."""
     kilometres: Kilometres = Kilometres()
