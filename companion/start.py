@@ -12,12 +12,26 @@ DEBIAN = "/usr/bin/python3"
 DEBIAN_PACKAGES = "/usr/lib/python3/dist-packages"
 
 
+def is_workbook(word):
+    """Whether a word has the name of a workbook, or names a file that begins as one, whatever its name is."""
+    path = word.partition("=")[2] if word.startswith("--") else word
+    if path.lower().endswith(".xlsx"):
+        return True
+    try:
+        if not os.path.isfile(path):
+            return False
+        with open(path, "rb") as file:
+            return file.read(4) == b"PK\x03\x04"
+    except (OSError, ValueError):  # ValueError for a NUL in the path
+        return False
+
+
 def packages_of(words):
     """The packages that a command with these options needs."""
     needed = []
     if "draw" in words or "report" in words or any(word.startswith("--html") for word in words):
         needed.append("jinja2")
-    if any(word.lower().endswith(".xlsx") or word.startswith("--xlsx") for word in words):
+    if any(word.startswith("--xlsx") or is_workbook(word) for word in words):
         needed.append("openpyxl")
     if any(word.startswith("--columns") for word in words) and sys.version_info < (3, 11):
         needed.append("tomli")
@@ -61,4 +75,10 @@ def start():
     return main_of_clone()
 
 
-sys.exit(start())
+try:
+    status = start()
+except Exception as error:
+    # (a traceback would end with status 1, as for findings: memory is short, or a module is damaged)
+    sys.stderr.write("balisekit: it does not start: " + type(error).__name__ + ": " + str(error) + "\n")
+    status = 3
+sys.exit(status)

@@ -9,7 +9,8 @@
 # For many small documents, `export BALISECHECK=$(BALISECHECK_PATH=1 ./balisecheck)` is faster in a clone, because
 # the sources are then hashed only once.
 #
-# check_documents writes the report of each document, each line after the name of the document. In each document groups
+# check_documents writes the report of each document, each line after the name of the document. A status counts only with
+# the line of the report that goes with it, such as `yes: groups 2, messages 0` with status 0. In each document groups
 # and messages count from 0. It checks as many documents at once as there are processors, which all take memory:
 # `export PARALLEL=-j2` makes it two at once.
 #
@@ -40,7 +41,8 @@
 # check_tables has balisekit check many tables, as at night, each with its file of accepted findings: `line.csv` with
 # `line.accepted.csv`. What is written for a table goes into a file of FOLDER, which must be new or empty. Options such as
 # --timeout=600 go to balisekit; end them with `--`. It prints the summary: status, table and last line, then how many
-# tables had each status. `nice` in front of bash leaves the processors to others.
+# tables had each status. Status 0 without a line `account:` counts as 3. Each file that is named has a line, except the
+# accepted findings of a table that is named too. `nice` in front of bash leaves the processors to others.
 #
 #     $ check_tables /tmp/night.$$ examples/links/line.csv examples/links/distance-differs.csv; echo "status $?"
 #     0	examples/links/line.csv	program: "yes: groups 4, messages 0"
@@ -57,6 +59,7 @@
 #   a block is refused while more than a pipe holds is unread       logs signal 13 and status 0       2
 #   a document is not there                                         logs status 1, as of findings     3
 #   no document is named, or the file cannot be read                0                                 3
+#   another program ends with 0, and writes no line of a yes        0                                 3
 #   the answers cannot be written, as on a full disk                0                                 3
 
 # check_tables runs this.
@@ -84,20 +87,33 @@ status_of_parts() {
         END { exit sum + 0 == whole ? greatest + 0 : 3 }' "$1"
 }
 
+# report_of DOCUMENT: the program's report, with its status if the report has the line that goes with it, and otherwise 3.
+report_of() {
+    local statuses
+    # Without this test a document that is not there would end with 1, as one with findings does.
+    [ -r "$1" ] || { echo 'check_documents: the document cannot be read' >&2; return 3; }
+    "$BALISECHECK" check <"$1" | awk '
+        NR == 1 { first = $0 }
+        { print; last = $0 }
+        END {
+            if (NR == 1 && first ~ /^yes: groups [0-9]+, messages [0-9]+$/) exit 10
+            exit first ~ /^no: findings [0-9]+$/ ? 11 : last ~ /^refused: / ? 12 : 13
+        }'
+    statuses=("${PIPESTATUS[@]}")
+    [ "$((statuses[0] + 10))" -ne "${statuses[1]}" ] || return "${statuses[0]}"
+    echo "check_documents: $BALISECHECK ended with status ${statuses[0]}, without the line of a report that goes with it" >&2
+    return 3
+}
+
 # check_documents DOCUMENT..: the reports of the documents, in this order, each line after the document's name.
 check_documents() (
     [ $# -gt 0 ] || { echo 'check_documents DOCUMENT..' >&2; exit 3; }
     log=$(mktemp) && trap 'rm -f "$log"' EXIT || exit 3
     BALISECHECK=$(the_program)
     export BALISECHECK
-    # Without the test a document that is not there would end with 1, as one with findings does.
-    # shellcheck disable=SC2016
-    printf '%s\0' "$@" |
-        parallel -0 -k --tag --joblog "$log" '[ -r {} ] || exit 3; "$BALISECHECK" check <{}' | cat
-    ended=("${PIPESTATUS[@]:1}")
-    # A report has a line at least, so a program that writes none has not answered.
-    awk -F '\t' 'NR > 1 && $6 == 0 && $7 == 0 { exit 3 }' "$log" || exit
-    status_of_parts "$log" 0 $# "${ended[@]}"
+    export -f report_of
+    printf '%s\0' "$@" | PARALLEL_SHELL=$BASH parallel -0 -k --tag --joblog "$log" report_of {} | cat
+    status_of_parts "$log" 0 $# "${PIPESTATUS[@]:1}"
 )
 
 # run_in_blocks SIZE FILE COMMAND WORD..: what the command writes for each block of whole lines of the file, in the order
@@ -109,7 +125,7 @@ run_in_blocks() (
     [ $# -eq 1 ] || set -- "${*@Q}"
     bytes=$(wc -c <"$file") && log=$(mktemp) && trap 'rm -f "$log"' EXIT || exit 3
     # What a refused block leaves is read too. Else parallel cannot hand it over, and logs a signal instead of status 2.
-    parallel --pipe --block "$size" -k --joblog "$log" "$1; ended=\$?; cat >/dev/null; exit \$ended" <"$file" | cat
+    PARALLEL_SHELL=$BASH parallel --pipe --block "$size" -k --joblog "$log" "$1; ended=\$?; cat >/dev/null; exit \$ended" <"$file" | cat
     status_of_parts "$log" 5 "$bytes" "${PIPESTATUS[@]}"
 )
 
@@ -124,7 +140,7 @@ shared_identities() (
         | "\(.value | (.aspects[0] // .).balises[0])\t\($name) group \(.key)"' "${@/#-/./-}" >"$room/first" || exit 3
     cut -f 1 "$room/first" | "$(the_program)" decode | cut -d , -f 6,7 >"$room/numbers" ||
         exit $(($? == 2 ? 2 : 3))
-    [ "$(wc -l <"$room/numbers")" -eq "$(wc -l <"$room/first")" ] || exit 3
+    [ "$(grep -cE '^"nid_bg":[0-9]+,"nid_c":[0-9]+$' "$room/numbers")" -eq "$(wc -l <"$room/first")" ] || exit 3
     cut -f 2 "$room/first" | paste "$room/numbers" - | LC_ALL=C sort -s -t $'\t' -k 1,1 >"$room/sorted" || exit 3
     awk -F '\t' '
         $1 != numbers { numbers = $1; first = $0; next }
@@ -133,9 +149,17 @@ shared_identities() (
         END { exit shared + 0 }' "$room/sorted" || exit $(($? == 1 ? 1 : 3))
 )
 
-# is_accepted FILE: whether it has accepted findings, by its name and its headings. A table has others.
-is_accepted() {
-    [[ $1 == *.accepted.csv ]] && { [ ! -e "$1" ] || head -n 1 "${1/#-/./-}" | grep -aqi rule; }
+# is_read_with FILE TABLE..: whether the hook reads the file as the accepted findings of one of these tables.
+is_read_with() {
+    local file=$1 stem table
+    [[ $file == *.accepted.csv ]] || return 1
+    shift
+    for table; do
+        stem=$table
+        [[ ${table##*/} != *.* ]] || stem=${table%.*}
+        [[ $table == *.accepted.csv || $stem.accepted.csv != "$file" || ! -e $file ]] || return 0
+    done
+    return 1
 }
 
 # check_tables FOLDER [OPTION.. --] TABLE..: a file of the FOLDER for each table, and the summary.
@@ -146,7 +170,7 @@ check_tables() (
         [ "$word" != -- ] || { options=("${@:1:place}") && shift $((place + 1)) && break; }
         place=$((place + 1))
     done
-    for word; do is_accepted "$word" || tables+=("$word"); done
+    for word; do is_read_with "$word" "$@" || tables+=("$word"); done
     [ ${#tables[@]} -gt 0 ] || { echo 'check_tables FOLDER [OPTION.. --] TABLE..' >&2; exit 3; }
     if ! mkdir -p "$folder" || ! folder=$(cd "$folder" && pwd) || [ -n "$(ls -A "$folder")" ]; then
         echo "check_tables: $folder is not empty, or cannot be written" >&2
@@ -157,21 +181,24 @@ check_tables() (
     # Without the test a file that cannot be written would end with 1, as a table with findings does.
     # shellcheck disable=SC2016
     printf '%s\0' "${tables[@]}" |
-        parallel -0 --joblog "$folder/jobs" 'file=$folder/{#}-{/.}.txt; true >"$file" || exit 3
+        PARALLEL_SHELL=$BASH parallel -0 --joblog "$folder/jobs" 'file=$folder/{#}-{/.}.txt; true >"$file" || exit 3
             "$check_tables_hook" $words -- {} >"$file" 2>&1 </dev/null'
-    [ $? -le 101 ] && summary_of_tables "$folder" "${tables[@]}"
+    [ $? -le 101 ] || exit 3
+    summary_of_tables "$folder" "${tables[@]}"
 )
 
 # summary_of_tables FOLDER TABLE..: a line for each table, in this order, by the log of parallel in the folder. A table
-# without a last line, or without status 0 to 2, counts with 3.
+# without a last line, or without status 0 to 2, counts with 3, and so does status 0 without an account.
 summary_of_tables() {
     local folder=$1 number=0 table file last status counts=(0 0 0 0) greatest=0
     shift
     for table; do
         number=$((number + 1)) file=${table##*/}
-        last=$(tail -n 1 "$folder/$number-${file%.*}.txt") || last=
+        file=$folder/$number-${file%.*}.txt
+        last=$(tail -n 1 "$file") || last=
         status=$(awk -F '\t' -v number="$number" '$1 == number && $7 ~ /^[0-2]$/ && $8 == 0 { print $7 }' "$folder/jobs")
         [ -n "$last" ] && [ -n "$status" ] || status=3
+        [ "$status" != 0 ] || grep -aq '^account: ' "$file" || { status=3 && last="no line of an account; the last is: $last"; }
         counts[status]=$((counts[status] + 1))
         [ "$status" -le "$greatest" ] || greatest=$status
         printf '%s\t%s\t%s\n' "$status" "$table" "${last:-no answer}" || return 3

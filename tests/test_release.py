@@ -21,7 +21,7 @@ VERSION, STORED = (TOP / "VERSION").read_text("utf-8").strip(), "dist/x86_64-lin
 NEEDS = {"git": "git", "help2man": "help2man", "dpkg-deb": "dpkg",
          "hatchling": "python3-hatchling", "pip": "python3-pip", "jinja2": "python3-jinja2"}
 # A clone's manual page of balisekit has no help of single commands here, which would take long.
-TOOLS = {"help": 'case $* in *.py" --"*) exec /usr/bin/python3 "$@" ;; esac\n'}
+TOOLS = {"help": 'case $* in *.py" --"* | "-I -c "*) exec /usr/bin/python3 "$@" ;; esac\n'}
 INSTALL = "-m pip install -q --no-index --no-deps --no-compile --disable-pip-version-check *.whl"
 # It counts how many processes a check starts.
 COUNT = """import contextlib, io, sys
@@ -173,7 +173,7 @@ def package_of(venv):
 
 
 def test_wheel(made, venv):
-    """The wheel has the sources of balisekit as they are, with ABOUT, RELEASES and the library."""
+    """The wheel has the sources of balisekit and its start script as they are, with ABOUT, RELEASES and the library."""
     tree, package = made.with_name("tree"), package_of(venv)
     files = {"RELEASES": tree / "dist/RELEASES", **{it: tree / STORED / it for it in ("ABOUT", "libbalisecheck.so")}}
     added = {it for it, path in files.items() if path.exists()}
@@ -181,9 +181,28 @@ def test_wheel(made, venv):
     differ = sh(tree, f"diff -r -x __pycache__ companion/src/balisekit '{package}' || true").splitlines()
     assert {*differ} == {f"Only in {package}: {it}" for it in added}
     assert (package / "py.typed").exists()
+    # (companion/tests/installed.py makes the same of the sources)
+    assert sum_of(venv / "bin/balisekit") == sum_of(tree / "balisekit") and [*venv.rglob("entry_points.txt")] == []
     assert all([*venv.rglob(name)] for name in ("LICENSE-MIT", "THIRD-PARTY.md"))
     has_live_pages(venv)
+    (metadata,) = map(text_of, venv.rglob("balisekit-*.dist-info/METADATA"))
+    # An expression of licences would need version 2.4: twine of Debian 13 refuses it here, that of Debian 12 does not.
+    assert metadata.startswith("Metadata-Version: 2.1\n") and "\nLicense: MIT OR Apache-2.0\n" in metadata
     serves(made, venv)
+
+
+@pytest.mark.parametrize("options", ["--user", "--prefix '{}'", "--target '{}'"])
+def test_wheel_beside_no_interpreter(options, made, tmp_path):
+    """The command answers wherever pip puts it, through a link, and beside files that have the names of modules."""
+    room = tmp_path / "a room"
+    write(room / "re.py", "open('evil', 'w').close(); raise SystemExit(0)")
+    managed = "--break-system-packages" if "break-system" in sh(made, "python3 -m pip install --help") else ""
+    sh(made, f"PYTHONUSERBASE='{room}' python3 {INSTALL} {managed} {options.format(room)} 2>/dev/null")
+    (command,) = room.rglob("bin/balisekit")
+    (room / "link").symlink_to(command)
+    for words in (command, room / "link"):
+        said = sh(room, f"PYTHONPATH='{room}' PATH='{command.parent}:/usr/bin:/bin' '{words}' check '{TOP}/examples/links/line.csv'")
+        assert said.endswith('\nprogram: "yes: groups 4, messages 0"\n') and not (room / "evil").exists()
 
 
 def test_refused_rows(made, venv):

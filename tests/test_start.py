@@ -68,7 +68,9 @@ def test_one_answers(tree, command, wanted):
     ("rm -r $stored", f"out/balisecheck is not there; {STORED} is not there; run scripts/build"),
     ("chmod -x $stored/balisecheck", f"{STORED} is not executable: chmod +x it, balisecheck and balisekit"),
     ("program $stored 'echo no GLIBC_2.34; echo no GLIBC_2.33; exit 1' 'glibc 2.34'", f"{NEEDS}no GLIBC_2.34; run"),
-    ("chmod a-r crates/etcs_low/src/lib.rt", "the sources cannot be hashed")])
+    ("rm $stored/ABOUT", f"{STORED} has no ABOUT: "), ("chmod a-r $stored/ABOUT", f"{STORED} has no ABOUT: "),
+    ("chmod a-r crates/etcs_low/src/lib.rt", "the sources cannot be hashed"),
+    ("chmod a-rx crates/etcs_low/specs", "the sources cannot be hashed")])
 def test_none_answers(tree, command, why):
     """After the command no program is run, and the reason is reported in one line."""
     sh(tree, command)
@@ -88,6 +90,22 @@ def test_calls(tree):
     sh(tree, "chmod -R -x+X .; chmod +x $stored/balisecheck")
     assert decode(tree, "sh") == (0, "stored a1\n", "")
     assert decode(tree, *USER, "bash", "-c", 'ulimit -u 1; exec sh "$@"', "-")[0] >= 3
+
+
+@pytest.mark.parametrize("words", [("check",), ("decode",), ("encode",), ("--help",), ("check", "more"), ("",)])
+def test_a_path_is_no_answer(words, tree):
+    """With a word the program answers, also if the variable that asks for its path has stayed in the environment."""
+    sh(tree, """program $stored '[ $# != 1 ] || [ "$1" != decode ] || exit 0; echo "it was $*"; exit 1'""")
+    answers = [run(tree, tree / "balisecheck", *words, **known) for known in ({}, {"BALISECHECK_PATH": "1"})]
+    assert answers[0] == answers[1] == ((0, "", "") if words == ("decode",) else (1, f"it was {' '.join(words)}\n", ""))
+
+
+@pytest.mark.parametrize("limit", [*(f"-n {number}" for number in (12, 13, 14, 17, 23, 24)), "-v 3500", "-v 4000", "-v 6000"])
+def test_too_few_files_or_too_little_memory(limit, tree):
+    """The program answers, or it is status 3 with the reason: the sources of the program are not said to be others."""
+    status, output, errors = decode(tree, *USER, "bash", "-c", f'ulimit {limit}; exec "$@"', "-")
+    assert (status, output) in ((0, "stored a1\n"), (3, "")) and (status == 0 or errors)
+    assert "other sources" not in errors and "damaged" not in errors
 
 
 def build(tree, command=":"):

@@ -12,7 +12,9 @@ from pathlib import Path
 from typing import Callable, Iterator, List, Sequence, Tuple
 
 import pytest
+from cases_of_program import TOP
 from covered import COVERAGE
+from installed import environment
 
 from balisekit.cli import main as cli
 from balisekit.engine import find_program
@@ -67,6 +69,18 @@ def pytest_sessionfinish(session: pytest.Session) -> None:
     """Each process that runs tests writes what it has covered."""
     if COVERAGE and session.config.getoption("dist", "no") == "no":
         COVERAGE.save()
+
+
+@pytest.fixture(scope="session")
+def wheel(tmp_path_factory: pytest.TempPathFactory) -> Path:
+    """The command of a wheel, in a virtual environment with blanks in its path."""
+    return environment(tmp_path_factory.mktemp("wheel") / "a venv")
+
+
+@pytest.fixture(params=["clone", "wheel"])
+def command(request: pytest.FixtureRequest) -> str:
+    """The command balisekit: the start script of the clone, and the one that pip installs."""
+    return str(TOP / "balisekit" if request.param == "clone" else request.getfixturevalue("wheel"))
 
 
 @pytest.fixture(scope="session", autouse=True)

@@ -3,6 +3,8 @@ from __future__ import annotations
 
 import csv
 import io
+import re
+from decimal import Decimal
 from typing import Any, Dict, Iterator, List, NamedTuple, Optional, Set, Tuple
 
 HEXADECIMAL = frozenset("0123456789abcdefABCDEF")
@@ -10,6 +12,7 @@ QUOTES = "\"'‘’“”„«»"
 ZERO_WIDTH = "\u200b"
 LEAST = 40
 """The fewest characters of a telegram."""
+LINE_ENDS = frozenset("\n\r\v\f\x1c\x1d\x1e\x85\u2028\u2029")
 
 
 class Place(NamedTuple):
@@ -52,6 +55,16 @@ def is_telegram(text: str) -> bool:
     return len(rest) >= LEAST and 10 * sum(each in HEXADECIMAL for each in rest) >= 9 * len(rest)
 
 
+def how_many(text: str) -> int:
+    """How many telegrams a cell has: those between commas, semicolons, bars, tabs and line ends, or the whole of it.
+
+    A number of at least 40 digits counts too: a spreadsheet may have shortened a telegram to it.
+    """
+    if re.fullmatch("[0-9.,]+[eE][+][0-9]{2,3}", text.strip()):
+        return int(Decimal(text.strip().replace(",", ".")) >= 10**39)
+    return sum(map(is_telegram, re.split("[,;|\t\r\n\v\f\x1c-\x1e\x85\u2028\u2029]", text))) or int(is_telegram(text))
+
+
 def cells_of_csv(content: bytes, encoding: str, separator: str) -> Cells:
     """All cells of a CSV file. A first line that names the separator is not a row."""
     text = content.decode(encoding)
@@ -70,6 +83,16 @@ def cells_of_workbook(content: bytes) -> Cells:
     return {place: text for sheet in book.worksheets for place, text in _cells_of_sheet(sheet)}
 
 
+def unknown_formulas(content: bytes) -> Set[Place]:
+    """The formulas of a workbook whose values are not stored."""
+    import openpyxl
+
+    book = openpyxl.load_workbook(io.BytesIO(content), read_only=True)
+    cells = {place: text for sheet in book.worksheets for place, text in _cells_of_sheet(sheet)}
+    known = cells_of_workbook(content)
+    return {place for place, text in cells.items() if text.startswith("=") and place not in known}
+
+
 def _cells_of_sheet(sheet: Any) -> Iterator[Tuple[Place, str]]:
     sheet.reset_dimensions()  # (the size that a workbook states may be wrong)
     for number, row in enumerate(sheet.iter_rows(values_only=True), 1):
@@ -84,8 +107,12 @@ def _text(value: object) -> str:
 
 
 def telegrams(cells: Cells, known: Known) -> Set[Place]:
-    """The cells that are telegrams: by their text, or in the column of telegrams of a row that is read."""
-    by_text = {place for place, text in cells.items() if is_telegram(text)}
+    """The cells that are telegrams by their text, or in the column of telegrams of a row that is read.
+
+    In other sheets they may be among words, in a cell with line ends.
+    """
+    by_text = {place for place, text in cells.items() if how_many(text)}
+    by_text |= {place for place in swallowed(cells) if place.sheet != known.sheet}
     return by_text | {Place(known.sheet, row, known.column) for row in rows_read(cells, known)}
 
 
@@ -101,9 +128,12 @@ def rows_read(cells: Cells, known: Known) -> List[int]:
 
 def swallowed(cells: Cells) -> Set[Place]:
     """The cells that contain line ends and, beside other things, telegrams: rows that a quote has swallowed."""
-    return {place for place, text in cells.items() if len(text.split("\n")) > 1 and _has_telegram(text)}
+    with_ends = ((place, text) for place, text in cells.items() if not LINE_ENDS.isdisjoint(text))
+    return {place for place, text in with_ends if any(map(_has_telegram, text.replace(",", ";").split(";")))}
 
 
 def _has_telegram(text: str) -> bool:
-    pieces = text.replace("\r", "\n").replace(";", "\n").replace(",", "\n").replace("\t", "\n").split("\n")
-    return any(map(is_telegram, pieces))
+    """Whether 36 of 40 letters and digits in a row are hexadecimal, whatever is between them."""
+    letters = [each for each in text if each.isalnum()]
+    parts = (letters[begin : begin + LEAST] for begin in range(len(letters) - LEAST + 1))
+    return any(sum(each in HEXADECIMAL for each in part) >= 36 for part in parts)

@@ -13,7 +13,7 @@ from typing import Any, Callable, Dict, Iterator, List, NamedTuple, Optional, Se
 
 import pytest
 from conftest import Run
-from plain_count import Place, is_telegram, rows_read, swallowed, telegrams
+from plain_count import Place, how_many, is_telegram, rows_read, swallowed, telegrams, unknown_formulas
 from random_tables import FEATURES, Made, made
 
 from balisekit.rules import checking
@@ -67,6 +67,7 @@ class Compared:
         self.parts: List[Json] = self.account["not_judged"]
         self.cells, self.known = table.cells(), table.known
         self.found = telegrams(self.cells, self.known)
+        self.formulas = unknown_formulas(table.content) if table.sheets else set()
         self.rows = rows_read(self.cells, self.known)
         self.heads = {
             place.column: text.strip()
@@ -81,15 +82,21 @@ class Compared:
         yield from self._line()
         yield from self._status()
         yield from self._places()
+        yield from self._formulas()
         yield from self._inputs()
         yield from self._messages()
 
     def _counts(self) -> Iterator[str]:
-        account, counted = self.account, len(self.found)
+        account, counted = self.account, self._count(self.found)
         if account["telegrams"] != counted:
             yield f"{account['telegrams']} telegrams, and the file has {counted}"
         if account["telegrams"] != named_of(account):
             yield f"{account['telegrams']} telegrams, of which {named_of(account)} are named"
+
+    def _count(self, places: Set[Place]) -> int:
+        """How many telegrams these cells have: one in each cell of a row that is read, in the column of telegrams."""
+        read = {Place(self.known.sheet, row, self.known.column) for row in self.rows}
+        return sum(1 if place in read else how_many(self.cells[place]) for place in places)
 
     def _judged(self) -> Iterator[str]:
         """The telegrams of the groups that were handed to the program are judged, unless --only lacks F."""
@@ -128,9 +135,9 @@ class Compared:
         """Each telegram is in a row that is read, or in one part."""
         of_rows = {Place(self.known.sheet, row, self.known.column) for row in self.rows}
         rest, left = self.found - of_rows, of_rows
-        for part in self.parts:
-            places = self._of_part(part)
-            if len(places) != part["telegrams"] or not places <= rest | left:
+        for part in (part for part in self.parts if "formulas" not in part):
+            places = self._of_part(part, self.found)
+            if self._count(places) != part["telegrams"] or not places <= rest | left:
                 yield f"it means the telegrams {sorted(places)}: {part}"
             rest, left = rest - places, left - places
             if part["asked"] != self._is_asked(part):
@@ -140,9 +147,20 @@ class Compared:
         if len(left) != self.account["judged"] + self.account["refused"]:
             yield f"{len(left)} telegrams of the rows that are read are in no part: {self.account}"
 
-    def _of_part(self, part: Json) -> Set[Place]:
-        """The telegrams that a part means, by its sheet, rows and column."""
-        places = {place for place in self.found if place.row in part["rows"]}
+    def _formulas(self) -> Iterator[str]:
+        """Each formula whose value is not stored is in one part."""
+        rest = self.formulas
+        for part in (part for part in self.parts if "formulas" in part):
+            places = self._of_part(part, rest)
+            if len(places) != part["formulas"] or part["telegrams"] or part["asked"] != self._is_asked(part):
+                yield f"it means the formulas {sorted(places)}: {part}"
+            rest = rest - places
+        if rest:
+            yield f"formulas in no part: {sorted(rest)}"
+
+    def _of_part(self, part: Json, found: Set[Place]) -> Set[Place]:
+        """What a part means of what was found, by its sheet, rows and column."""
+        places = {place for place in found if place.row in part["rows"]}
         if part["sheet"] != self.known.sheet:
             return {place for place in places if place.sheet == part["sheet"]}
         columns = {self.known.column} if part["column"] is None else self._columns(part["column"])

@@ -224,6 +224,32 @@ def test_a_sheet_for_each_entry(run: Run, table: Write, tmp_path: Path) -> None:
     assert row[:5] == ("L2", "wrong place", "352/1", "A", "2") and "metres_by_d_link 1010" in row[5]
 
 
+def test_workbooks_have_the_verdict(run: Run, table: Write, tmp_path: Path) -> None:
+    """Without it a sheet that lacks what was not judged looks like one of a sound table. A spreadsheet shows it first.
+
+    A sheet of variables with it can still be compared.
+    """
+    openpyxl = pytest.importorskip("openpyxl")
+    heads, row = "group,telegram,old", f"A,{ALONE}"
+    for status, line in ((0, row), (2, f"{row},{OTHER}"), (2, f"{row}\nB,{ALONE[:-2]}")):
+        path, entries, sheet = table(heads, line), tmp_path / "entries.xlsx", tmp_path / "table.xlsx"
+        said = run("check", path, "--xlsx", entries, "--force")
+        assert said[0] == run("table", path, "--xlsx", sheet, "--force")[0] == status
+        last = [
+            each for each in said[1] if each.startswith(("account: ", "not judged: ", "INCOMPLETE", 'program: "yes'))
+        ]
+        for file in (entries, sheet):
+            book = openpyxl.load_workbook(file)
+            lines = [cell for (cell,) in book["answer"].iter_rows(values_only=True)]
+            assert book.active.title == ("answer" if status else book.sheetnames[0])
+            assert sum(bool(each.sheet_view.tabSelected) for each in book.worksheets) < 2
+            assert lines[0].startswith("balisecheck") and lines[1].startswith("settings: ")
+            assert (
+                lines[-len(last) :] == last if file == entries else lines[-1].startswith("INCOMPLETE") == (status == 2)
+            )
+        assert run("table", path, "--expect", sheet)[0] == status
+
+
 def test_two_runs_write_the_same_workbook(run: Run, tmp_path: Path, monkeypatch: pytest.MonkeyPatch) -> None:
     """No time is in its bytes: neither that of the run nor that of its parts."""
     openpyxl = pytest.importorskip("openpyxl")

@@ -77,8 +77,8 @@ def test_columns_and_statuses() -> None:
     statuses = re.findall(r"^\| ([0-3]) \|", rows, re.MULTILINE)
     assert statuses == re.findall(r"^  ([0-3])  ", cli.STATUSES, re.MULTILINE) == ["0", "1", "2", "3"]
     for text in (rows.split("\n| 2 |")[1].split("|")[1], cli.STATUSES.split("\n  2  ")[1]):
-        why = "INCOMPLETE: a telegram or message was refused, telegrams of the table were not read, or a rule L or X "
-        why += "compared none of what it had to"
+        why = "INCOMPLETE: a telegram or message was refused, telegrams of the table were not read, or a rule L, E "
+        why += "or X compared none of what it had to"
         assert " ".join(text.split()).startswith(why)
     assert all(
         number in rows for number in re.findall(r"with (?:status )?(\d+)", cli.STATUSES.split("\n  an interrupt")[1])

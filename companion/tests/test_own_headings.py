@@ -208,7 +208,9 @@ class TestWorkbooks:
         status, out, err = run("check", path, "--columns", file, "--fill-merged")
         assert status == 1 and err == [] and out[0] == f"{path}: 5 telegrams of 2 groups"
         assert "note: the sheet is Balisen; hidden and filtered rows are read as well" in out
-        assert "note: merged ranges, whose cells all have the value of the first one: 5, the first A1:D1" in out
+        assert (
+            "note: merged ranges, whose empty cells are read with the value of the first one: 5, the first A1:D1" in out
+        )
         assert "note: the headings are in row 3: the 2 rows above it are passed over" in out
 
     def test_headings_over_two_rows(self, tmp_path: Path) -> None:

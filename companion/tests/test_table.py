@@ -18,6 +18,7 @@ from telegrams import ALONE, FIRST, MESSAGE, OTHER, SECOND
 
 from balisekit.errors import KitError, TableError, TableErrors
 from balisekit.tables import messages as messages_file, reader as tables, xlsx as xlsx_file
+from balisekit.tables.cells import NOT_CALCULATED
 from balisekit.tables.model import Table
 from balisekit.tables.names import describe_rows
 
@@ -157,7 +158,7 @@ BAD: Sequence[Any] = [
     (["group,telegram,Group", f"A,{ALONE},B"], "row 1: columns 1 and 3 have one heading, group"),
     ([H], "the table has no row below its heading"),
     ([H, f",{ALONE}"], "row 2, column group: no group; fill merged cells"),
-    ([H, "A,"], "row 2, column telegram: empty, or a formula"),
+    ([H, "A,"], "row 2, column telegram: it is empty"),
     ([H, "A,9.00720E+52"], "row 2, column telegram: a number, not digits: the spreadsheet has changed it"),
     (
         [H, f"A,{ALONE}", f"b,{OTHER}", f"A,{OTHER}"],
@@ -582,7 +583,7 @@ class TestWorkbooks:
             (["A", 1e52], "row 2, column telegram: a number, not digits"),
             (["A", datetime.date(2026, 1, 2)], "row 2, column telegram: a date, not digits"),
             ([datetime.date(2026, 1, 2), ALONE], "row 2, column group: a date, not a name"),
-            (["A", "=A1"], "row 2, column telegram: empty, or a formula whose value is not stored"),
+            (["A", "=A1"], f"row 2, column telegram: {NOT_CALCULATED}"),
             ([None, ALONE], "row 2, column group: no group; fill merged cells"),
         ],
     )

@@ -13,7 +13,7 @@ PACKAGE = os.path.dirname(os.path.abspath(__file__))
 
 
 def main() -> int:
-    """What the command `balisekit` of a wheel calls."""
+    """What the command calls that pip makes of the sources. (The one of a wheel runs this file itself.)"""
     return _started(bool(os.environ.get("PYTHONPATH")))
 
 
@@ -45,9 +45,19 @@ def _started(is_open: bool) -> int:
         signal.pthread_sigmask(signal.SIG_BLOCK, [signal.SIGINT])
         os.execv(sys.executable, [sys.executable, "-I", os.path.abspath(__file__), *sys.argv[1:]])
     signal.pthread_sigmask(signal.SIG_UNBLOCK, [signal.SIGINT])
-    from balisekit.cli.main import main as run
+    try:
+        from balisekit.cli.main import main as run
 
-    return run()
+        return run()
+    except Exception as error:
+        # (a traceback would end with status 1, as for findings: memory is short, or a module is damaged)
+        return _does_not_start(error)
+
+
+def _does_not_start(error: Exception) -> int:
+    """Reports why there is no answer."""
+    sys.stderr.write(f"balisekit: it does not start: {type(error).__name__}: {error}\n")
+    return 3
 
 
 def _load_package() -> None:
@@ -65,5 +75,9 @@ def _load_package() -> None:
 
 if __name__ == "__main__":
     sys.dont_write_bytecode = any(map(os.environ.get, ("PYTHONDONTWRITEBYTECODE", "PYTHONPYCACHEPREFIX")))
-    _load_package()
-    sys.exit(_started(False))
+    try:
+        _load_package()
+        status = _started(False)
+    except Exception as failed:
+        status = _does_not_start(failed)
+    sys.exit(status)

@@ -22,6 +22,7 @@ NAMES = Path(__file__).with_name("names_of_tables.txt")
 SOUND = f"group,telegram\nA,{ALONE}\nB,{OTHER}\n"
 EVIL = "#!/bin/sh\ntouch evil\n"
 STAND = """#!/bin/sh
+[ "$1" != --version ] || exec echo balisekit 1.2.3
 printf '%s\\0' "$@" >>calls
 printf '\\0' >>calls
 """
@@ -120,6 +121,16 @@ def test_endings_in_either_case() -> None:
 def test_no_table(words: Sequence[str], tmp_path: Path) -> None:
     """Nothing was checked, so this is no answer."""
     assert hook(tmp_path, *words) == (3, "", "check-tables: no table is named\n")
+
+
+@pytest.mark.parametrize("text", ["exit 0", "echo yes", "cat", "echo balisekit", "echo my balisekit 0.5"])
+def test_a_program_that_is_no_balisekit(text: str, tmp_path: Path) -> None:
+    """Its status 0 is no yes."""
+    put(tmp_path, "balisekit", f"#!/bin/sh\n{text}\n")
+    put(tmp_path, "examples/hooks/check-tables", HOOK.read_text("utf-8"))
+    put(tmp_path, "t.csv", SOUND)
+    said = f"check-tables: {tmp_path}/balisekit does not answer as balisekit\n"
+    assert hook(tmp_path, "--", "t.csv", script=tmp_path / "examples" / "hooks" / "check-tables") == (3, "", said)
 
 
 @pytest.mark.parametrize("words", [("--program=x/evil.csv",), ("--", "--", "--program=x/evil.csv")])

@@ -10,7 +10,10 @@ from typing import Dict, List, Tuple
 
 import pytest
 from cases_of_program import TOP
+from installed import layout
 from telegrams import ALONE, OTHER
+
+from balisekit import __version__
 
 pytestmark = pytest.mark.uncovered
 SOURCES = TOP / "companion" / "src"
@@ -18,8 +21,8 @@ MODULES = Path(__file__).with_name("shadowing_modules.txt").read_text("utf-8").s
 EVIL = "open({!r}, 'w').close()\nprint('evil')\nraise SystemExit(0)\n"
 COMMAND = [str(TOP / "balisekit")]
 MODULE = [sys.executable, "-m", "balisekit"]
-WRAPPER = [sys.executable, "-c", "import sys; from balisekit.start import main; sys.exit(main())"]
-"""What pip makes of the entry point of a wheel, without its `import re`."""
+ENTRY_POINT = [sys.executable, "-c", "import sys; from balisekit.start import main; sys.exit(main())"]
+"""What pip makes of the entry point of the sources, without its `import re`. The wheel has no entry point."""
 BEFORE_BALISEKIT = ("sitecustomize", "usercustomize", "balisekit", "codecs")
 """What an interpreter that is not isolated imports from PYTHONPATH before its first instruction for balisekit."""
 
@@ -45,10 +48,10 @@ def tables(room: Path) -> List[str]:
     return ["check", "t.csv", "--json", "-"]
 
 
-def test_the_command_reads_no_variable_of_python(tmp_path: Path) -> None:
+def test_the_command_reads_no_variable_of_python(command: str, tmp_path: Path) -> None:
     """All at once, in the current folder too: each of them would end the command with status 0 and `evil`."""
     folder = shadows(tmp_path / "evil", *MODULES)
-    words, known = [*COMMAND, *tables(folder)], {"PYTHONPATH": str(folder), "PYTHONUSERBASE": str(folder)}
+    words, known = [command, *tables(folder)], {"PYTHONPATH": str(folder), "PYTHONUSERBASE": str(folder)}
     site = folder / "lib" / f"python3.{sys.version_info[1]}" / "site-packages"
     site.mkdir(parents=True)
     for name in ("usercustomize.py", "csv.py", "evil.pth"):
@@ -57,9 +60,22 @@ def test_the_command_reads_no_variable_of_python(tmp_path: Path) -> None:
     assert answer(words, folder, **known) == answer(words, folder) and not (folder / "evil").exists()
 
 
-@pytest.mark.parametrize("words", [MODULE, WRAPPER], ids=["module", "wheel"])
+def test_no_other_balisekit_answers(command: str, tmp_path: Path) -> None:
+    """Neither another clone, which PYTHONPATH names, nor one in the current folder."""
+    other = tmp_path / "companion" / "src"
+    shutil.copytree(SOURCES, other, ignore=shutil.ignore_patterns("__pycache__"))
+    init = other / "balisekit" / "__init__.py"
+    init.write_text(init.read_text("utf-8").replace(__version__, "9.9.9"), "utf-8")
+    for word in ("check", "main"):
+        (other / "balisekit" / "cli" / f"{word}.py").write_text("raise SystemExit(0)\n", "utf-8")
+    words, known = [command, *tables(other)], {"PYTHONPATH": str(other)}
+    assert answer([command, "--version"], other, **known)[1].startswith(f"balisekit {__version__}\n")
+    assert answer(words, other, **known) == answer(words, tmp_path / "companion" / "src") and answer(words, other)[1]
+
+
+@pytest.mark.parametrize("words", [MODULE, ENTRY_POINT], ids=["module", "sources"])
 def test_others_start_the_interpreter_once_more(words: List[str], tmp_path: Path) -> None:
-    """`python3 -m balisekit` and the command of a wheel: modules that the interpreter itself has not imported yet."""
+    """As a module, and by the entry point of the sources: modules that the interpreter has not imported yet."""
     folder = shadows(tmp_path / "evil", *(name for name in MODULES if name not in BEFORE_BALISEKIT))
     words = [*words, *tables(folder)]
     status, out, err = answer(words, folder, PYTHONPATH=os.pathsep.join(map(str, (SOURCES, folder))))
@@ -91,6 +107,14 @@ def test_packages_of_the_user_are_found_behind_all_others(tmp_path: Path) -> Non
     known = {"BALISEKIT_PYTHON": str(bare), "PYTHONUSERBASE": str(tmp_path)}
     status, _, err = answer(words, tmp_path, **known)
     assert status == 3 and "(ImportError: the one of the user)" in err
+
+
+@pytest.mark.parametrize("name", ["PYTHONDONTWRITEBYTECODE", "PYTHONPYCACHEPREFIX"])
+def test_no_compiled_module_is_written_by_the_wheel(name: str, tmp_path: Path) -> None:
+    """As by the clone."""
+    command = layout(tmp_path)
+    assert answer([str(command), "check", "--help"], tmp_path, **{name: str(tmp_path / "x")})[0] == 0
+    assert not [*tmp_path.rglob("__pycache__")]
 
 
 @pytest.mark.parametrize("name", ["PYTHONDONTWRITEBYTECODE", "PYTHONPYCACHEPREFIX"])

@@ -23,7 +23,7 @@ from balisekit.io import clock, inputs
 from balisekit.rules.accepted import COLUMNS
 
 FAULT = TOP / "examples" / "links" / "distance-differs.csv"
-TOML = '[check]\ntolerance = 20\njumps = "j.csv"\nrelease_speed = 40\n[columns]\nkm = "Kilometer"\n'
+TOML = '[check]\ntolerance = 20\njumps = "j.csv"\nrelease_speed = 40\n[columns]\nname = "Bezeichnung"\n'
 TOML += '[report]\nproject = "P"\n'
 JUMPS = "km,km_after\n90.0,91.0\n"
 COMMANDS = {
@@ -54,7 +54,7 @@ def line(tmp_path: Path, monkeypatch: pytest.MonkeyPatch) -> Path:
     """A table with a wrong link, in the folder in which the command runs, beside a file of settings."""
     (tmp_path / "balisekit.toml").write_text(TOML, "utf-8")
     (tmp_path / "j.csv").write_text(JUMPS, "utf-8")
-    (tmp_path / "t.csv").write_bytes(FAULT.read_bytes())
+    (tmp_path / "t.csv").write_text(FAULT.read_text("utf-8").replace(",name,", ",Bezeichnung,", 1), "utf-8")
     monkeypatch.chdir(tmp_path)
     return tmp_path / "t.csv"
 
@@ -81,7 +81,7 @@ def test_each_command_names_its_settings(
     values = {
         "tolerance": "check.tolerance = 20",
         "jumps": f"check.jumps = j.csv (SHA-256 {sum_of(Path('j.csv'))})",
-        "columns": "columns.km = Kilometer",
+        "columns": "columns.name = Bezeichnung",
         "report": "report.project = P",
     }
     wanted = ", ".join(values[name] for name in used.split())
@@ -94,7 +94,7 @@ def test_each_command_names_its_settings(
 
 def test_a_forgotten_tolerance_is_seen(line: Path, capsys: pytest.CaptureFixture[str]) -> None:
     """In the order: table, program, settings, entries; the verdict is last. Without the file the fault is found."""
-    text = FAULT.read_text("utf-8")
+    text = line.read_text("utf-8")
     status, lines = said(capsys, "check", "t.csv")
     assert lines[0].startswith("t.csv: ") and lines[1].startswith("balisecheck") and lines[2].startswith("settings: b")
     assert status in (0, 1) and text == line.read_text("utf-8")
@@ -133,7 +133,7 @@ def test_settings_in_outputs_for_others(line: Path, run: Run, tmp_path: Path, mo
     values = [
         {"name": "check.tolerance", "value": "20", "sha256": None},
         {"name": "check.jumps", "value": "j.csv", "sha256": jumps},
-        {"name": "columns.km", "value": "Kilometer", "sha256": None},
+        {"name": "columns.name", "value": "Bezeichnung", "sha256": None},
     ]
     assert form["settings"] == [{"file": "balisekit.toml", "sha256": toml, "values": values}]
     assert form["table"]["path"] == "t.csv" and form["program"]["known_by"] in ("ABOUT", "RELEASES", "sources")

@@ -29,6 +29,10 @@ def looks(out: Sequence[str]) -> List[str]:
         ("na\u00efve", "nai\u0308ve", "U+00EF LATIN SMALL LETTER I WITH DIAERESIS, U+0308 COMBINING DIAERESIS"),
         ("A-1", "A\u20131", "U+2013 EN DASH"),
         ("Signal A", "Signal\u00ad A", "U+00AD SOFT HYPHEN"),
+        ("Signal A", "Signal\x1a A", "U+001A"),
+        ("Signal A", "Sig\x07nal\x1a A", "U+0007, U+001A"),
+        ("Signal\u200b A", "Signal\u200b\u200b A", "U+200B ZERO WIDTH SPACE"),
+        ("Sig\u200bnal A", "Signal\u200b A", "the order of their characters"),
     ],
 )
 def test_names_that_look_alike(run: Run, table: Write, one: str, other: str, differing: str) -> None:
@@ -44,6 +48,15 @@ def test_aspects_and_tracks_that_look_alike(run: Run, table: Write, column: str,
     assert [line for line in looks(out) if "look alike" in line] == [
         f'look: {what} "red" and "r\u0435d" look alike, and differ by U+0435 CYRILLIC SMALL LETTER IE'
     ]
+
+
+@pytest.mark.parametrize("one, other", [("Gleis 1", "gleis 1"), ("Gleis 1", "Gleis\u00a01"), ("A 1", "A  1")])
+def test_tracks_that_differ_in_case_or_blanks(run: Run, table: Write, one: str, other: str) -> None:
+    """Groups have a note. Rules over the line would compare nothing between two tracks that are meant to be one."""
+    out = run("check", table("group,track,telegram", f"A,{one},{ALONE}", f"B,{other},{OTHER}"))[1]
+    assert looks(out) == [f'look: tracks "{one}" and "{other}" differ only in case or blanks']
+    out = run("check", table("group,telegram", f"{one},{ALONE}", f"{other},{OTHER}"))[1]
+    assert looks(out) == [] and f'note: groups "{one}" and "{other}" differ only in case or blanks' in out
 
 
 @pytest.mark.parametrize(

@@ -2,11 +2,14 @@
 from __future__ import annotations
 
 import os
+from hashlib import sha256
 from pathlib import Path
 
 import pytest
 from cases_of_program import TOP
 from conftest import Run
+
+from balisekit.cli.settings import NAMES
 
 LINE = TOP / "examples" / "table" / "line.csv"
 LINES = Path(__file__).with_name("settings.txt").read_text("utf-8").split("\n")
@@ -28,7 +31,30 @@ def _beside(folder: Path, text: str) -> Path:
 def test_a_value_that_is_refused(text: str, why: str, run: Run, tmp_path: Path) -> None:
     command = ["report", "--html", tmp_path / "r.html"] if text.startswith("[report]") else ["check"]
     status, out, err = run(*command[:1], _beside(tmp_path, text), *command[1:])
+    why = why.replace("{folder}", str(tmp_path)).replace("{rules}", ", ".join(NAMES))
     assert (status, out, err) == (2, [], [f"balisekit: {tmp_path / 'balisekit.toml'}: {why}"])
+
+
+UNUSED = [
+    ('[columns]\nkm = "kmx"\nname = "Bezeichnung"', "", "all have their defaults"),
+    ('[columns]\nvariable = "Variable"', "", "all have their defaults"),
+    ('[expect]\nraw = "Raw"', "", "all have their defaults"),
+    ('[report]\nproject = "P"', "", "all have their defaults"),
+    ("[check]\nline_speed = 200\ntolerance = 3", "--only F", "all have their defaults"),
+    ("[check]\nline_speed = 200\ntolerance = 3", "--only F,L", "check.tolerance = 3"),
+    ("[check]\nline_speed = 200\ntolerance = 3", "--only E", "check.line_speed = 200, check.tolerance = 3"),
+    ('[check]\nrules = "E2"', "--only F,L", "all have their defaults"),
+]
+
+
+@pytest.mark.parametrize("text, words, wanted", UNUSED)
+def test_settings_that_are_not_used(text: str, words: str, wanted: str, run: Run, tmp_path: Path) -> None:
+    """The file is named, and only what has changed the answer."""
+    path = _beside(tmp_path, text)
+    status, out, _ = run("check", path, *words.split())
+    file = tmp_path / "balisekit.toml"
+    (line,) = [line for line in out if line.startswith("settings: ")]
+    assert line.endswith(f"{file} (SHA-256 {sha256(file.read_bytes()).hexdigest()}): {wanted}") and status < 3
 
 
 @pytest.mark.parametrize("option", ["--tolerance=20.1", "--tolerance=99999", "--line-speed=501", "--release-speed=101"])

@@ -31,12 +31,12 @@ def contents(room: Path) -> Contents:
     return {path.name: re.sub(rb' time="[0-9.]+"', b"", path.read_bytes()) for path in room.iterdir()}
 
 
-def ran(room: Path, number: signal.Signals, moment: float) -> Tuple[int, str, float]:
+def ran(command: str, room: Path, number: signal.Signals, moment: float) -> Tuple[int, str, float]:
     """Status and errors of a command that gets a signal at this moment, and for how long it ran."""
     known = {**os.environ, "SOURCE_DATE_EPOCH": "1700000000", "BALISEKIT_PYTHON": sys.executable}
     begin = time.monotonic()
     with subprocess.Popen(
-        [str(TOP / "balisekit"), *WORDS.split()],
+        [command, *WORDS.split()],
         cwd=room,
         env=known,
         stdout=subprocess.DEVNULL,
@@ -51,19 +51,19 @@ def ran(room: Path, number: signal.Signals, moment: float) -> Tuple[int, str, fl
 
 @pytest.mark.slow
 @pytest.mark.parametrize("number", SAID, ids=[number.name for number in SAID])
-def test_at_fifty_moments(number: signal.Signals, tmp_path: Path) -> None:
+def test_at_fifty_moments(number: signal.Signals, command: str, tmp_path: Path) -> None:
     """From the start to the end. A process that the system ends has the status that a shell reports as 128 + n."""
     (tmp_path / "t.csv").write_text(f"group,km,telegram\nA,1.0,{ALONE}\nB,2.0,{OTHER}\n", "utf-8")
     (tmp_path / "old.sarif").write_text("before", "utf-8")
     before, seconds = contents(tmp_path), 0.0
-    status, errors, seconds = ran(tmp_path, signal.SIGCONT, 0)
+    status, errors, seconds = ran(command, tmp_path, signal.SIGCONT, 0)
     after = contents(tmp_path)
     assert (status, errors) == (0, "") and len(after) == len(before) + 3 and after["old.sarif"] != b"before"
     seen: List[int] = []
     for moment in range(MOMENTS):
         for name in after:
             (tmp_path / name).write_bytes(before[name]) if name in before else (tmp_path / name).unlink(missing_ok=True)
-        status, errors, _ = ran(tmp_path, number, 1.2 * seconds * moment / MOMENTS)
+        status, errors, _ = ran(command, tmp_path, number, 1.2 * seconds * moment / MOMENTS)
         assert (status, errors) in [(0, ""), (-number, ""), (128 + number, f"balisekit: {SAID[number]}\n")], moment
         assert contents(tmp_path) == (after if status == 0 else before), (moment, status)
         seen.append(status)

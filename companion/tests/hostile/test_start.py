@@ -1,23 +1,29 @@
-"""./balisekit takes an interpreter that serves the command, and says why if there is none."""
+"""The command takes an interpreter that serves it, in a clone and in a wheel, and says why if there is none."""
 from __future__ import annotations
 
 import os
 import shlex
+import shutil
 import subprocess
+import sys
 from pathlib import Path
 from typing import Dict, Tuple
 
 import pytest
 from cases_of_program import TOP
+from installed import VERSION, layout
+from telegrams import ALONE
 
 from balisekit.errors import NoAnswer, needed
 
 LINE = shlex.quote(str(TOP / "examples" / "table" / "line.csv"))
+LINK = shlex.quote(str(TOP / "examples" / "links" / "line.csv"))
 DRAW = f"draw {LINE} --track --aspect green"
 DEBIAN = Path("/usr/bin/python3")
 BARE = f'#!/bin/sh\nexec {DEBIAN} -S "$@"\n'
 """An interpreter without packages."""
 OLD = f"""#!/bin/sh
+[ "$2" != "-c" ] || exec {DEBIAN} "$@"
 exec {DEBIAN} -c '
 import runpy, sys
 sys.version_info = (3, 8, 20)
@@ -33,15 +39,17 @@ needs_debian = pytest.mark.skipif(
 )
 
 
-def start(words: str, folder: Path, stdin: str = "/dev/null", **settings: str) -> Tuple[int, str, str]:
-    """The answer of ./balisekit with this folder first in the path."""
+def start(
+    words: str, folder: Path, stdin: str = "/dev/null", command: str = str(TOP / "balisekit"), **settings: str
+) -> Tuple[int, str, str]:
+    """The answer of the command, by default ./balisekit, with this folder first in the path."""
     known: Dict[str, str] = {**os.environ, "PATH": f"{folder}:/usr/bin:/bin", **settings}
     if "BALISEKIT_PYTHON" not in settings:
         known.pop("BALISEKIT_PYTHON", None)
     descriptor = os.open(stdin, os.O_RDONLY)
     try:
         done = subprocess.run(
-            [str(TOP / "balisekit"), *shlex.split(words)], env=known, stdin=descriptor, capture_output=True, check=False
+            [command, *shlex.split(words)], env=known, stdin=descriptor, capture_output=True, check=False
         )
     finally:
         os.close(descriptor)
@@ -57,8 +65,8 @@ def python(folder: Path, text: str) -> str:
 
 
 @pytest.mark.parametrize("words", ["show", "check --help", "--version"])
-def test_a_folder_as_standard_input_is_refused(words: str, tmp_path: Path) -> None:
-    assert start(words, tmp_path, str(tmp_path)) == (2, "", "balisekit: standard input is a folder\n")
+def test_a_folder_as_standard_input_is_refused(words: str, command: str, tmp_path: Path) -> None:
+    assert start(words, tmp_path, str(tmp_path), command) == (2, "", "balisekit: standard input is a folder\n")
 
 
 def test_an_interpreter_that_is_not_there(tmp_path: Path) -> None:
@@ -69,6 +77,8 @@ def test_an_interpreter_that_is_not_there(tmp_path: Path) -> None:
 def test_no_python3(tmp_path: Path) -> None:
     """The command that installs it is reported. (A copy looks for Debian's in a place where there is none.)"""
     script = tmp_path / "balisekit"
+    (tmp_path / "companion").mkdir()
+    (tmp_path / "companion" / "start.py").touch()
     script.write_text((TOP / "balisekit").read_text("utf-8").replace(str(DEBIAN), "/nowhere/python3"), "utf-8")
     done = subprocess.run(["/bin/sh", str(script)], env={"PATH": str(tmp_path)}, capture_output=True, check=False)
     said = b"balisekit: there is no /nowhere/python3: sudo apt-get install python3\n"
@@ -129,17 +139,100 @@ def test_it_is_found_through_a_link(tmp_path: Path) -> None:
     assert done.returncode == 0 and done.stdout.startswith(b"balisekit ")
 
 
-@pytest.mark.parametrize("limit", [*(f"-n {number}" for number in range(12, 20)), "-u 1"])
-def test_too_few_files_or_processes(limit: str, tmp_path: Path) -> None:
-    """Status 3, as for the program: a shell that cannot go on ends with 2, which would mean a refusal.
-
-    With fewer files than 12 the shell cannot open the script itself, and ends with its own status 2.
-    """
+def limited(command: str, limit: str, folder: Path, **settings: str) -> Tuple[int, str, str]:
+    """What a check of a sound table answers within a limit of the shell."""
     table = str(TOP / "examples" / "links" / "line.csv")
-    words = ["bash", "-c", f'ulimit {limit} || exit 9; exec "$0" check "$1"', str(TOP / "balisekit"), table]
+    words = ["bash", "-c", f'ulimit {limit} || exit 9; exec "$0" check "$1"', command, table]
     user = [] if os.getuid() else "setpriv --reuid=65534 --clear-groups --inh-caps=+dac_override".split()
     user += [] if os.getuid() else ["--ambient-caps=+dac_override"]
-    known = {**os.environ, "BALISEKIT_PYTHON": str(DEBIAN)}
-    done = subprocess.run([*user, *words], env=known, cwd=tmp_path, capture_output=True, check=False)
-    assert done.returncode in ((3,) if limit == "-u 1" else (0, 3)), done
-    assert done.returncode == 0 or done.stderr and not done.stdout
+    known = {**os.environ, "BALISEKIT_PYTHON": str(DEBIAN), **settings}
+    done = subprocess.run([*user, *words], env=known, cwd=folder, capture_output=True, check=False)
+    return done.returncode, done.stdout.decode(), done.stderr.decode()
+
+
+@pytest.mark.parametrize("limit", [*(f"-n {number}" for number in range(12, 20)), "-u 1"])
+def test_too_few_files_or_processes(limit: str, command: str, tmp_path: Path) -> None:
+    """Status 3, as for the program: a shell that cannot go on ends with 2, which would mean a refusal.
+
+    With fewer files than 12 dash, Debian's /bin/sh, cannot open the script itself, and ends with its own status 2.
+    """
+    status, out, err = limited(command, limit, tmp_path)
+    assert status in ((3,) if limit == "-u 1" else (0, 3)), (status, out, err)
+    assert status == 0 or err and not out
+
+
+@pytest.mark.parametrize("named", ["", str(DEBIAN)], ids=["path", "named"])
+@pytest.mark.parametrize("limit", [*(f"-v {number}" for number in range(6000, 42000, 4000)), "-d 1000", "-d 9000"])
+def test_too_little_memory(limit: str, named: str, command: str, tmp_path: Path) -> None:
+    """Status 3 and a line of balisekit: an interpreter that ends while it starts has status 1, as for findings."""
+    status, out, err = limited(command, limit, tmp_path, BALISEKIT_PYTHON=named)
+    assert status in ((3,) if limit < "-v 22000" else (0, 3)), (status, out, err)
+    assert status == 0 or err.splitlines()[-1].startswith("balisekit: ") and not out
+
+
+@pytest.mark.parametrize("named", ["/bin/true", "/bin/echo", "/bin/cat", "/bin/sh", "true"])
+def test_a_program_that_is_no_interpreter(named: str, tmp_path: Path) -> None:
+    """Its status 0 is no answer of balisekit."""
+    status, out, err = start(f"check {LINE}", tmp_path, BALISEKIT_PYTHON=named)
+    why = f"balisekit: {named} does not start, and BALISEKIT_PYTHON names a Python 3.9 or later: "
+    assert (status, out) == (3, "") and err.startswith(why)
+
+
+@pytest.mark.parametrize("name", ["start.py", "errors.py", "cli/main.py", "cli/signals.py", "__init__.py"])
+@pytest.mark.parametrize("text", ["x = (", "raise MemoryError", "import balisekit.none"])
+def test_a_damaged_module(name: str, text: str, tmp_path: Path) -> None:
+    """Of a clone and of a wheel: status 3, and no traceback with the status of findings.
+
+    A wheel's start.py is the first file that Python reads: what is wrong with it can only be a traceback.
+    """
+    clone = tmp_path / "clone"
+    shutil.copytree(TOP / "companion" / "src", clone / "companion" / "src")
+    for part in ("balisekit", "companion/start.py"):
+        shutil.copy2(TOP / part, clone / part)
+    for command in (clone / "balisekit", layout(tmp_path / "wheel"))[: 1 if name == "start.py" else 2]:
+        (damaged,) = command.parents[0 if command.parent == clone else 1].rglob(f"balisekit/{name}")
+        damaged.write_text(text, "utf-8")
+        status, out, err = start(f"check {LINE}", tmp_path, command=str(command))
+        assert (status, out) == (3, ""), (status, out, err)
+        assert err
+
+
+@pytest.mark.parametrize("packages", ["lib/{}/site-packages", "lib64/{}/site-packages", "lib/{}/dist-packages", "."])
+def test_a_wheel_without_an_interpreter_beside(packages: str, tmp_path: Path) -> None:
+    """As by `pip install` with --user, --prefix or --target, on Fedora and on Debian; also through a link."""
+    command = layout(tmp_path / "a = prefix", packages.format(VERSION))
+    (tmp_path / "link").symlink_to(command)
+    answers = [start(f"check {LINE}", tmp_path, command=str(each)) for each in (command, tmp_path / "link")]
+    assert answers[0] == answers[1] and (answers[0][0], answers[0][2]) == (2, ""), answers
+
+
+def test_a_wheel_of_another_interpreter(tmp_path: Path) -> None:
+    """The one of its folder is taken. Without it there is no answer."""
+    command = layout(tmp_path / "prefix", "lib/python3.99/site-packages")
+    status, out, err = start("--version", tmp_path, command=str(command))
+    assert (status, out) == (3, "") and err.startswith("balisekit: there is no python3.99, for which ")
+    (tmp_path / "python3.99").write_text(f'#!/bin/sh\nexec {sys.executable} "$@"\n', "utf-8")
+    (tmp_path / "python3.99").chmod(0o755)
+    assert start("--version", tmp_path, command=str(command))[0] == 0
+
+
+def test_a_command_without_its_files(tmp_path: Path) -> None:
+    command = shutil.copy2(TOP / "balisekit", tmp_path / "balisekit")
+    said = f"balisekit: its files are neither in {tmp_path}/companion nor where pip installs them\n"
+    assert start("--version", tmp_path, command=str(command)) == (3, "", said)
+
+
+@needs_debian
+@pytest.mark.parametrize("name", ["line.csv", "line", "line.xlsm", "line.xls"])
+def test_a_workbook_with_another_name(name: str, tmp_path: Path) -> None:
+    """An interpreter that can read it is taken, as for an .xlsx."""
+    openpyxl = pytest.importorskip("openpyxl")
+    book, path = openpyxl.Workbook(), tmp_path / name
+    for row in (["group", "telegram"], ["A", ALONE]):
+        book.active.append(row)
+    with open(path, "wb") as file:
+        book.save(file)
+    python(tmp_path, BARE)
+    for words in (f"check {path}", f"table {LINK} --expect={path}"):
+        status, out, err = start(words, tmp_path)
+        assert status == (0 if words.startswith("check") else 2) and "openpyxl" not in err, (out, err)

@@ -17,7 +17,7 @@ from telegrams import ALONE, OTHER
 
 from balisekit.errors import KitError
 from balisekit.tables import expected, reader as tables
-from balisekit.tables.cells import NOT_CALCULATED
+from balisekit.tables.cells import COVERED, NOT_CALCULATED
 
 pytest.importorskip("openpyxl")
 sys.path.insert(0, str(Path(__file__).parent))
@@ -228,29 +228,126 @@ def cell(body: str, place: str = "C2") -> str:
 @pytest.mark.parametrize(
     "rows, behind, notes",
     [
-        ([cell("<f>A1</f>")], "", ["formulas without a stored value, read as empty: 1, the first C2"]),
-        ([cell("<f>A1</f><v/>")], "", ["formulas without a stored value, read as empty: 1, the first C2"]),
-        (
-            [cell("<f t='x'/><v></v>"), cell("<f>1</f>", "C3")],
-            "",
-            ["formulas without a stored value, read as empty: 2, the first C2"],
-        ),
         ([cell("<f>A1</f><v>7</v>")], "", []),
         ([cell("<v>7</v>"), cell("<f>C2</f><v>7</v>", "C3")], "", []),
         (
             [cell("<v>7</v>"), cell("", "C3")],
             "<mergeCells count='2'><mergeCell ref='C2:C3'/><mergeCell ref='D1:E1'/></mergeCells>",
             [
-                "merged ranges, of which only the first cell is not empty: 2, the first C2:C3; --fill-merged takes its "
-                "value for all cells"
+                "merged ranges, whose empty cells are read as empty: 2, the first C2:C3; --fill-merged takes the value "
+                "of the first cell for them"
             ],
         ),
     ],
 )
 def test_cells_that_are_read_as_empty(table: Write, rows: List[str], behind: str, notes: List[str]) -> None:
-    """Formulas that nobody has worked out, as pandas writes them, and merged cells."""
+    """Merged cells. Formulas that have a value are not read as empty."""
     read = tables.read(str(table(content=workbook(sheet(KM, *rows, behind=behind)))))
     assert read.notes == ("the sheet is S1; hidden and filtered rows are read as well", *notes)
+
+
+@pytest.mark.parametrize("body", ["<f>A1</f>", "<f>A1</f><v/>", "<f t='x'/><v></v>"])
+def test_formulas_that_nobody_has_worked_out(body: str, run: Run, table: Write) -> None:
+    """Libraries write them without values. In a column that is read they are refused, unless it is skipped."""
+    path = table(content=workbook(sheet(KM, cell(body))))
+    assert run("check", path)[2] == [f"balisekit: {path}: row 2, column km: {NOT_CALCULATED}"]
+    status, out, _ = run("check", path, "--skip-column", "km")
+    assert status == 0 and 'not judged: 1 formula in sheet "S1", column "km", row 2: --skip-column km' in "\n".join(out)
+
+
+FORMULA = "<c><f>Other!B2</f></c>"
+X = row("group", "telegram", "x")
+SAVED = "their values are not stored, and may be telegrams: open the workbook in a spreadsheet, and save it"
+
+
+@pytest.mark.parametrize(
+    "sheets, where, more, asked",
+    [
+        ([sheet(X, f"<row>{text('A')}{text(ALONE)}{FORMULA}</row>")], 'column "x", row 2', "--skip-column x", "x"),
+        ([sheet(HEADING, GOOD), sheet(f"<row>{FORMULA}</row>")], "row 1", "--sheet", ""),
+        ([sheet(f"<row>{FORMULA}</row>", HEADING, GOOD)], "row 1", "", ""),
+    ],
+)
+def test_formulas_that_may_be_telegrams(
+    sheets: List[str], where: str, more: str, asked: str, run: Run, table: Write
+) -> None:
+    """They are not counted as telegrams, and the answer is INCOMPLETE unless an option leaves them out."""
+    path, name = table(content=workbook(*sheets)), f"S{len(sheets)}"
+    status, out, _ = run("check", path)
+    remedy = f", or give {more}" if more else ""
+    assert status == 2 and f'not judged: 1 formula in sheet "{name}", {where}: {SAVED}{remedy}' in out
+    counts = "account: 1 telegram in the file; 1 judged, 0 refused, 0 not judged; 1 formula without a stored value; "
+    assert any(line.startswith(counts) for line in out)
+    assert out[-1].startswith("INCOMPLETE: 1 formula without a stored value")
+    option = ["--skip-column", asked] if asked else ["--sheet", "S1"]
+    assert run("check", path, *option)[0] == (0 if more else 2)
+
+
+def test_lines_of_a_csv_in_one_column(run: Run, table: Write) -> None:
+    """Somebody has pasted them into a sheet or a column. Each telegram counts."""
+    lines = f"B;{OTHER};12.3", f"B|{OTHER}|{ALONE}"
+    path = table(content=workbook(sheet(HEADING, GOOD), sheet(*map(row, lines))))
+    status, out, _ = run("check", path)
+    assert status == 2 and out[-1].startswith("INCOMPLETE: 3 telegrams in columns or sheets that are not read")
+    assert any(line.startswith('not judged: 3 telegrams in sheet "S2", rows 1 to 2: ') for line in out)
+    path = table(content=workbook(sheet(X, row("A", ALONE, lines[0]))))
+    status, out, _ = run("check", path)
+    assert status == 2 and any(
+        line.startswith('not judged: 1 telegram in sheet "S1", column "x", row 2') for line in out
+    )
+
+
+def test_telegrams_in_comments(table: Write) -> None:
+    """Only cells are read, so telegrams in a comment of a cell are named."""
+    comments = f"<comments xmlns='{MAIN}'><comment ref='B2'><text><t>{OTHER}</t></text></comment></comments>"
+    part = ("xl/comments1.xml", "comments", comments)
+    notes = tables.read(str(table(content=workbook(sheet(HEADING, GOOD), more=[part])))).notes
+    said = "telegrams in comments, text boxes and other parts that are not read: 1, the first in xl/comments1.xml"
+    assert said in notes
+
+
+def merged(*ranges: str) -> str:
+    """The part of a sheet that names these merged ranges."""
+    return f"<mergeCells>{''.join(f'<mergeCell ref={each!r}/>' for each in ranges)}</mergeCells>"
+
+
+@pytest.mark.parametrize("fill", [False, True])
+@pytest.mark.parametrize(
+    "rows, ranges, wanted",
+    [
+        ([row("group", "telegram"), GOOD, row("B", OTHER)], ["A2:A3"], "row 3, column group: "),
+        ([row("group", "telegram"), GOOD, row("A", OTHER)], ["B2:B3"], "row 3, column telegram: "),
+        ([row("group", "telegram"), GOOD, row("A", ALONE), row("A", OTHER)], ["B2:B4"], "row 4, column telegram: "),
+        ([row("group", "telegram"), GOOD, row("", OTHER)], ["A3:B3"], "row 3, column telegram: "),
+        ([row("group", "telegram"), GOOD, row("A", "ignored")], ["A1:B1"], "row 1, column telegram: "),
+        ([row("group", "x", "telegram"), row("A", "", ALONE)], ["B2:C2"], "row 2, column telegram: "),
+    ],
+)
+def test_contents_below_a_merged_cell(
+    rows: List[str], ranges: List[str], wanted: str, fill: bool, table: Write
+) -> None:
+    """LibreOffice can keep them, and shows only the first cell: nobody sees what would be judged."""
+    path = table(content=workbook(sheet(*rows, behind=merged(*ranges))))
+    with pytest.raises(KitError) as raised:
+        tables.read(str(path), fill_merged=fill)
+    assert raised.value.status == 2 and raised.value.lines() == [f"{path}: {wanted}{COVERED}"]
+
+
+@pytest.mark.parametrize("fill", [False, True])
+def test_equal_contents_below_a_merged_cell(fill: bool, table: Write) -> None:
+    """They are what is seen. In a column that is not read, other words are not needed."""
+    rows = row("group", "telegram", "x"), row("A", ALONE, "y"), row(" A", ALONE, "z")
+    path = table(content=workbook(sheet(*rows, behind=merged("A2:A3", "B2:B3", "C2:C3"))))
+    assert [(each.group, each.telegram) for each in tables.read(str(path), fill_merged=fill).rows] == [("A", ALONE)] * 2
+
+
+def test_expected_contents_below_a_merged_cell(table: Write) -> None:
+    """They would be compared."""
+    rows = row("group", "variable", "raw"), row("A", "N_PIG", "0"), row("A", "N_TOTAL", "1")
+    path = table(content=workbook(sheet(*rows, behind=merged("C2:C3"))))
+    with pytest.raises(KitError) as raised:
+        expected.read(str(path))
+    assert raised.value.lines() == [f"{path}: row 3, column raw: {COVERED}"]
 
 
 @pytest.mark.parametrize("state", ["hidden", "veryHidden"])

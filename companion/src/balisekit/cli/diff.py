@@ -46,7 +46,7 @@ def run(options: argparse.Namespace) -> int:
     named = not any(document for _, _, document in sides)
     program = Program.find(options.program, options.timeout)
     old, new = (_checked(program, *side, named) for side in sides)
-    tables = [path for path, side in zip((options.old, options.new), sides) if side[2] is None]
+    tables = [table for table, _, document in sides if document is None]
     found = compare(old, replace(new, settings=in_force(options, tables)), named)
     if options.html:
         options.html.write(page(found, now))

@@ -58,7 +58,7 @@ def run(options: argparse.Namespace) -> int:
     program, table, messages = shared.inputs(options)
     notes: Sequence[str] = ()
     keys = tuple(settings.KINDS) if options.group is None and options.message is None else ()
-    in_use = in_force(options, [options.table], keys)
+    in_use = in_force(options, [table], keys)
     if options.group is not None:
         picture, notes = _group(options, program, table)
     elif options.message is not None:

@@ -3,7 +3,7 @@ from __future__ import annotations
 
 import argparse
 import os
-from typing import Iterable, Iterator, List, Sequence
+from typing import Collection, Iterable, Iterator, List, Sequence, Union
 
 from balisekit.cli import settings
 from balisekit.cli.options import EXACT
@@ -11,6 +11,8 @@ from balisekit.io import inputs
 from balisekit.io.output_folder import OutputFolder
 from balisekit.rules.rule import RELEASE_SPEED
 from balisekit.tables import own_headings
+from balisekit.tables.expected import Expected
+from balisekit.tables.model import Table
 from balisekit.tables.settings import Setting, Settings, Source
 
 _READING = ("sheet", "skip_column", "by_position", "fill_merged")
@@ -21,13 +23,18 @@ DEFAULT = ("release_speed", RELEASE_SPEED)
 
 
 def in_force(
-    options: argparse.Namespace, tables: Sequence[str], keys: Sequence[str] = (), headed: bool = False
+    options: argparse.Namespace,
+    tables: Iterable[Union[Table, Expected]],
+    keys: Sequence[str] = (),
+    headed: bool = False,
 ) -> Settings:
     """Which settings of a command differ from their defaults, by the command line and by the files of these tables.
 
     `keys` are those of [check] that the command uses. With `headed` it also uses [report].
     """
-    files = [_source(file, options, keys, headed) for file in _files(options, tables)]
+    read = list(tables)
+    own = {heading for table in read for heading in table.own}
+    files = [_source(file, options, own, keys, headed) for file in _files(options, [table.path for table in read])]
     given = tuple(_settings_given(options))
     return Settings((*([Source(settings=given)] if given else []), *files))
 
@@ -51,8 +58,10 @@ def _settings_given(options: argparse.Namespace) -> Iterator[Setting]:
             yield _setting(option, each, name in own_headings.FILES)
 
 
-def _source(file: own_headings.Found, options: argparse.Namespace, keys: Iterable[str], headed: bool) -> Source:
-    """What a file states that is used, and differs from the defaults."""
+def _source(
+    file: own_headings.Found, options: argparse.Namespace, own: Collection[str], keys: Iterable[str], headed: bool
+) -> Source:
+    """What a file states that is used, and differs from the defaults. `own` are the headings that tables have by it."""
     check, given = file.tables[own_headings.CHECK_TABLE], settings.given(options)
     stated = [
         _setting(f"check.{key}", check[key], key in own_headings.FILES)
@@ -61,7 +70,8 @@ def _source(file: own_headings.Found, options: argparse.Namespace, keys: Iterabl
     ]
     sheets = [own_headings.COLUMNS_TABLE, *([own_headings.EXPECT_TABLE] if getattr(options, "expect", None) else [])]
     for table in sheets:
-        stated += [_setting(f"{table}.{name}", text) for name, text in file.tables[table].items() if text != name]
+        headings = {name: text for name, text in file.tables[table].items() if text != name and text in own}
+        stated += [_setting(f"{table}.{name}", text) for name, text in headings.items()]
     heading = file.tables[own_headings.REPORT_TABLE] if headed else {}
     stated += [_setting(f"report.{key}", value) for key, value in heading.items()]
     return Source(file.path, file.sha256, tuple(stated))

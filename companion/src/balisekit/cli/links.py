@@ -29,7 +29,7 @@ def run(options: argparse.Namespace) -> int:
     program, table, messages = shared.inputs(options)
     shared.refuse_without_kilometres(table)
     checked = checking.check(program, table, messages, options.by_position)
-    checked = replace(checked, settings=in_force(options, [options.table], ("tolerance", "jumps", "plan")))
+    checked = replace(checked, settings=in_force(options, [table], ("tolerance", "jumps", "plan")))
     outcome = apply(checked, LETTERS, line, in_copy=False)
     links = next(part.applied for part in outcome.parts if part.applied)
     if options.json:

@@ -34,9 +34,9 @@ STATUSES = """\
 exit status:
   0  nothing was found or differs, or everything found is accepted; or the command is done
   1  `check`, `report`, `links`, `diff` or `table --expect` found something, or an accepted entry is at fault
-  2  INCOMPLETE: a telegram or message was refused, telegrams of the table were not read, or a rule L or X compared
-     none of what it had to; or refused: a table that cannot be read, wrong options, an output that would replace an
-     input or, without --force, another file
+  2  INCOMPLETE: a telegram or message was refused, telegrams of the table were not read, or a rule L, E or X
+     compared none of what it had to; or refused: a table that cannot be read, wrong options, an output that would
+     replace an input or, without --force, another file
   3  no answer, such as no program, or a file that cannot be written
   an interrupt ends a command with status 130, SIGTERM with 143, SIGHUP with 129
 

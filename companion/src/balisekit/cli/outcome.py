@@ -60,7 +60,8 @@ def outcome(options: argparse.Namespace, line: Options, keep: bool = False) -> O
     if all(FAMILIES[letter].needs_kilometres for letter in asked if letter != PLAN or line.plan):
         shared.refuse_without_kilometres(table)
     checked = checking.check(program, table, messages, options.by_position, options.all)
-    checked = replace(checked, settings=in_force(options, [options.table], tuple(settings.KINDS), headed=keep))
+    keys = settings.used_by([*asked, *("L" if keep else "")])  # (a report has pictures of tracks with links)
+    checked = replace(checked, settings=in_force(options, [table], keys, headed=keep))
     if keep:
         checked.accepted.keep()
     signed = (entries, clock.today()) if entries else None

@@ -36,7 +36,7 @@ def run(options: argparse.Namespace) -> int:
     """Does it. The answer is the exit status."""
     jumps = settings.jumps(options)
     checked = checking.check(*shared.inputs(options), options.by_position, options.all)
-    checked = replace(checked, settings=in_force(options, [options.table], ("jumps", "plan")))
+    checked = replace(checked, settings=in_force(options, [checked.table], ("jumps", "plan")))
     made = implied(Line.of(checked, jumps, in_full=True), Options(jumps=jumps))
     options.csv.write(csv_writing.pieces(COLUMNS, map(cells, made.rows)))
     shared.say(_lines(options, checked, made), options.csv)

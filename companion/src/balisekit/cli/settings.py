@@ -17,6 +17,7 @@ from balisekit.rules.chainage import Jump, read_jumps
 from balisekit.rules.rule import ALL, LINE_SPEED, RELEASE_SPEED, Options
 from balisekit.tables import own_headings, plan as plan_file
 from balisekit.tables.cells import GREATEST_NAME
+from balisekit.tables.names import clean
 
 GREATEST_LINE_SPEED, GREATEST_RELEASE_SPEED = 500, 100
 """In km/h. ETCS has speeds up to 600 km/h, but no line is that fast, and trains are released at 40 km/h or less."""
@@ -56,15 +57,17 @@ class Kind(NamedTuple):
     types: Tuple[type, ...]
     """Its types in a file. The items of a list are texts."""
     example: str
+    families: str
+    """The letters of the families of rules that use it."""
 
 
 KINDS: Mapping[str, Kind] = {
-    "line_speed": Kind(_line_speed, (int,), "160"),
-    "release_speed": Kind(_release_speed, (int,), "40"),
-    "tolerance": Kind(shared.tolerance, (int, float), "2.5"),
-    "jumps": Kind(str, (str,), '"jumps.csv"'),
-    "plan": Kind(str, (str,), '"plan.csv"'),
-    "rules": Kind(_rules, (str, list), '["E2", "E20"]'),
+    "line_speed": Kind(_line_speed, (int,), "160", "E"),
+    "release_speed": Kind(_release_speed, (int,), "40", "E"),
+    "tolerance": Kind(shared.tolerance, (int, float), "2.5", "LEX"),
+    "jumps": Kind(str, (str,), '"jumps.csv"', "LEX"),
+    "plan": Kind(str, (str,), '"plan.csv"', "LEX"),
+    "rules": Kind(_rules, (str, list), '["E2", "E20"]', "E"),
 }
 """The keys of [check]."""
 GREATEST_SIGNATURES = 20
@@ -86,20 +89,21 @@ def add_options(parser: argparse.ArgumentParser) -> None:
     parser.add_argument("--rules", **shared.value("RULES", _rules, RULES))
 
 
+def used_by(letters: Sequence[str]) -> Sequence[str]:
+    """The keys of [check] that the rules of these families use."""
+    return [name for name, kind in KINDS.items() if not set(kind.families).isdisjoint(letters)]
+
+
 def refuse_unused(options: argparse.Namespace, letters: Sequence[str]) -> None:
     """Raises TableError if an option is given that the rules of these families do not use."""
-    purpose = f"with --only {','.join(letters)}"
-    if "E" not in letters:
-        shared.refuse_unused(options, purpose, "line_speed", "release_speed", "rules")
-    if not {"E", "X"} & set(letters):
-        shared.refuse_unused(options, purpose, "plan")
-    if set(letters) == {"F"}:
-        shared.refuse_unused(options, purpose, "tolerance", "jumps")
+    used = set(used_by(letters)) - ({"plan"} if {"E", "X"}.isdisjoint(letters) else set())  # (L uses only its jumps)
+    shared.refuse_unused(options, f"with --only {','.join(letters)}", *(name for name in KINDS if name not in used))
 
 
 def of_line(options: argparse.Namespace) -> Options:
     """What the options and balisekit.toml state. TableError is raised for a value of the file that is none."""
     stated = {**_of_file(options), **given(options)}
+    _look_at_files(options, stated)
     more: Dict[str, Any] = {}
     if "tolerance" in stated:
         more["tolerance"] = more["tolerance_of_places"] = stated["tolerance"]
@@ -138,6 +142,15 @@ def _of_file(options: argparse.Namespace) -> Dict[str, Any]:
     path, values = own_headings.stated(options.table, options.columns, own_headings.CHECK_TABLE)
     with faults_of(path):
         return {name: _value(name, value) for name, value in values.items()}
+
+
+def _look_at_files(options: argparse.Namespace, stated: Mapping[str, Any]) -> None:
+    """TableError is raised for a file that only [check] names, and that is not there."""
+    path, _ = own_headings.stated(options.table, options.columns, own_headings.CHECK_TABLE)
+    with faults_of(path):
+        for name in sorted(own_headings.FILES & (stated.keys() - given(options).keys())):
+            if not os.path.lexists(stated[name]):
+                raise TableError(f"[check] {name}: there is no file {clean(stated[name][:GREATEST_NAME])}")
 
 
 def _value(name: str, value: object) -> Any:

@@ -89,7 +89,7 @@ class _Shown:
             self.not_read = overlooked(table)
             yield from ([line] for line in overlooked_lines(table))
             chosen = groups_named(table, options.group) if options.group else table
-            yield opening_of(program, in_force(options, [options.table]))
+            yield opening_of(program, in_force(options, [table]))
             groups = Identities(chosen.groups, (yield from self._table(program, table, chosen)))
         else:
             messages = messages_file.read(options.messages) if options.messages else None

@@ -13,7 +13,7 @@ from balisekit.present import sheets
 from balisekit.present.account_text import overlooked_lines
 from balisekit.present.check_text import head_line
 from balisekit.present.opening import opening
-from balisekit.present.refusals import lacking, refused_lines
+from balisekit.present.refusals import refused_lines
 from balisekit.rules import checking
 from balisekit.rules.checking import Checked
 from balisekit.tables import expected
@@ -38,21 +38,20 @@ def run(options: argparse.Namespace) -> int:
         raise TableError("name what to do: --csv FILE or --xlsx FILE writes the sheet, --expect FILE compares one")
     wanted = expected.read(options.expect, options.columns) if options.expect else None
     checked = checking.check(*shared.inputs(options), options.by_position, options.all)
-    tables = [options.table, *([options.expect] if options.expect else [])]
-    checked = replace(checked, settings=in_force(options, tables))
+    checked = replace(checked, settings=in_force(options, [checked.table, *([wanted] if wanted else [])]))
     sheet = Sheet(checked)
     if options.csv:
         options.csv.write(sheets.csv_pieces(sheet))
     if options.xlsx:
-        options.xlsx.write(sheets.xlsx_pieces(sheet))
+        options.xlsx.write(sheets.xlsx_pieces(sheet, checked))
     said = _lines(options, checked, sheet.notes)
     status = 0 if checked.whole else 2
     if wanted:
         compared = compare(checked, wanted)
         said += sheets.lines(checked, compared)
         status = status or (1 if compared.differences else 0)
-    elif not checked.whole:
-        said.append(f"INCOMPLETE: {', '.join(lacking(checked))}")
+    else:
+        said += sheets.incomplete(checked)
     shared.say(said, options.csv, options.xlsx)
     return status
 

@@ -15,7 +15,7 @@ from balisekit.rules.checking import Checked
 from balisekit.rules.line import with_directions
 from balisekit.tables.expected import Expected
 from balisekit.tables.model import Group, Row
-from balisekit.tables.names import NAMED, kilometre, listed
+from balisekit.tables.names import NAMED, clean, kilometre, listed
 
 TELEGRAM = ("group", "identity", "aspect", "balise")
 """The columns that identify the telegram of a row."""
@@ -119,16 +119,17 @@ class _Telegrams:
         self.found: Callable[[str], Dict[int, Dict[Key, List[Tuple[int, Found]]]]] = lru_cache(64)(self._found)
 
     def _add(self, group: Group) -> None:
-        """The rows of a group. One of every aspect is also found by each aspect."""
+        """The rows of a group, by names as they are and as outputs show them. Some have every aspect."""
         forms = self._forms(group) if "identity" in self.telegram else {}
         if "identity" in self.telegram and not forms:
-            self.unread.add(_plain(group.name))
+            self.unread |= {_plain(group.name), _plain(clean(group.name))}
         for aspect in group.aspects:
             for row in aspect.rows:
                 cells = {"group": group.name, "identity": identity_of(forms), "balise": str(group.places[row.number])}
                 for name in {row.aspect, aspect.name}:
-                    key = tuple(_plain({**cells, "aspect": name}[column]) for column in self.telegram)
-                    self.rows.setdefault(key, {})[row.number] = row
+                    texts = [{**cells, "aspect": name}[column] for column in self.telegram]
+                    for key in (tuple(map(_plain, texts)), tuple(map(_plain, map(clean, texts)))):
+                        self.rows.setdefault(key, {})[row.number] = row
 
     def _forms(self, group: Group) -> Dict[int, Form]:
         numbers = sorted({row.number for row in group.rows()})
@@ -188,7 +189,7 @@ def _named(columns: Sequence[str], cells: Mapping[str, str]) -> str:
 
 def same(expected: str, found: str, unit: str = "") -> bool:
     """Whether two cells are the same number or the same text. The expected one may have the unit after it."""
-    if expected == found or _plain(expected) == _plain(found):
+    if expected == found or _plain(expected) in (_plain(found), _plain(clean(found))):
         return True
     numbers = [_number(text) for text in (expected.removesuffix(unit) if unit else expected, found)]
     return None not in numbers and numbers[0] == numbers[1]

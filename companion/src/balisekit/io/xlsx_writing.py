@@ -11,6 +11,8 @@ from balisekit.errors import TableError, needed
 
 GREATEST_ROW = 1_048_576
 """The last row of a sheet."""
+ANSWER = "answer"
+"""The sheet that has the verdict."""
 PIECE = 1 << 20
 PURPOSE = "writing .xlsx (CSV needs no package)"
 EARLIEST = (1980, 1, 1, 0, 0, 0)
@@ -26,10 +28,13 @@ def pieces(
     rows: Iterable[Sequence[Cell]],
     widths: Sequence[int] = (),
     purpose: str = PURPOSE,
+    answer: Sequence[str] = (),
+    is_whole: bool = True,
 ) -> Iterator[bytes]:
     """The bytes of a workbook with this sheet. Its rows are never in memory together.
 
-    `widths` has those of the first columns, in characters. `purpose` is named if the package is absent.
+    `widths` has those of the first columns, in characters. `purpose` is named if the package is absent. A second sheet
+    has the lines of the answer. A spreadsheet opens it first unless the answer is whole.
     """
     with needed("openpyxl", purpose):
         import openpyxl
@@ -45,6 +50,16 @@ def pieces(
         if number > GREATEST_ROW:
             raise TableError(f"an .xlsx has at most {GREATEST_ROW:,} rows, and there are more: write CSV")
         sheet.append([_cell(sheet, value) for value in row])
+    second = book.create_sheet(ANSWER)
+    for line in answer:
+        second.append([_cell(second, line)])
+    if not is_whole:
+        book.active = second
+    yield from _saved(book)
+
+
+def _saved(book: Any) -> Iterator[bytes]:
+    """The bytes of a workbook, which do not depend on the time."""
     with TemporaryFile() as made, TemporaryFile() as file:
         book.save(made)
         _without_times(made, file)

@@ -26,7 +26,8 @@ def not_judged_lines(some: Iterable[NotJudged], thing: str = TELEGRAM) -> Iterat
         where = [f"sheet {quoted(each.sheet)}"] if each.sheet else []
         where += [f"column {quoted(each.column)}"] if each.column else []
         where += [rows_words(each.rows) if thing == TELEGRAM else rows_words(each.rows).replace("row", "line", 1)]
-        yield f"not judged: {counted(each.telegrams, thing)} in {', '.join(where)}: {clean(each.why)}"
+        many = counted(each.formulas, "formula") if each.formulas else counted(each.telegrams, thing)
+        yield f"not judged: {many} in {', '.join(where)}: {clean(each.why)}"
 
 
 def overlooked_lines(table: Table) -> Iterator[str]:
@@ -38,6 +39,8 @@ def _parts(account: Account, thing: str) -> Iterator[str]:
     left_out = sum(each.telegrams for each in account.not_judged)
     yield f"{counted(account.telegrams, thing)} in the file"
     yield f"{account.judged} judged, {account.refused} refused, {left_out} not judged"
+    formulas = sum(each.formulas for each in account.not_judged)
+    yield from [f"{counted(formulas, 'formula')} without a stored value"] if formulas else ()
     if account.sheets:
         names = f" (not read: {_names(account.sheets_not_read)})" if account.sheets_not_read else ""
         yield f"sheets {len(account.sheets)} of {len(account.sheets) + len(account.sheets_not_read)}{names}"
@@ -78,5 +81,6 @@ def _not_judged_json(each: NotJudged, shown: Callable[[str], str]) -> Dict[str, 
         "rows": list(each.rows),
         "column": None if each.column is None else shown(each.column),
         "telegrams": each.telegrams,
+        **({"formulas": each.formulas} if each.formulas else {}),
         "asked": each.asked,
     }

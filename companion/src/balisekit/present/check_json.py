@@ -11,13 +11,13 @@ from balisekit.present.check_text import groups_by_aspects
 from balisekit.present.headings import finding_words, not_decoded
 from balisekit.present.links_text import FORMAT, rules_json
 from balisekit.present.opening import paths_from, program_json, settings_json
-from balisekit.present.outcome_text import not_applied, verdict
+from balisekit.present.outcome_text import last_lines, not_applied
 from balisekit.present.refusals import message_refused, telegram_refused
 from balisekit.rules.checking import Checked, LeftOut, Place, Refused, RefusedMessage
 from balisekit.rules.entries import Entry
 from balisekit.rules.families import PROVED, Outcome
 from balisekit.rules.remarks import remarks
-from balisekit.tables.model import Message, Row
+from balisekit.tables.model import Group, Message, Row
 
 
 def as_json(outcome: Outcome) -> Dict[str, Any]:
@@ -27,7 +27,7 @@ def as_json(outcome: Outcome) -> Dict[str, Any]:
         "format": FORMAT,
         **({"accepted": accepted_text.as_json(outcome.judged, outcome)} if outcome.judged else {}),
         "status": outcome.status,
-        "last_line": verdict(outcome),
+        "last_line": last_lines(outcome)[-1],
         "families": list(outcome.letters),
         "not_applied": not_applied(outcome),
         "verdict" if checked.whole else "rest": checked.verdict.line if checked.verdict else None,
@@ -43,9 +43,22 @@ def as_json(outcome: Outcome) -> Dict[str, Any]:
         "findings": map(_finding, checked.findings),
         "rules": rules_json([part.applied for part in outcome.parts if part.applied]),
         "notes": [note for part in outcome.parts if part.applied for note in part.applied.notes],
+        "passed_over": _passed_over(outcome),
         "entries": entries_json(outcome),
         "not_decoded": not_decoded(checked),
     }
+
+
+def _passed_over(outcome: Outcome) -> Iterator[Dict[str, Any]]:
+    """The groups and messages that rules of balisekit have not looked at, or not all of them, and why."""
+    for part in outcome.parts:
+        for about, why in part.applied.passed_over if part.applied else ():
+            yield {
+                "family": part.family.letter,
+                "group": about.name if isinstance(about, Group) else None,
+                "message": about.number if isinstance(about, Message) else None,
+                "why": why,
+            }
 
 
 def entries_json(outcome: Outcome) -> Iterator[Dict[str, Any]]:

@@ -1,28 +1,30 @@
 """The answer of `check` as JUnit writes the results of tests: a suite for each family of rules.
 
-A suite has a case for each group and message, and for each rule that compared nothing. The first suite also has a case
-for each refused message, each entry at fault, and each column or sheet whose telegrams are not judged. Cases have no
-time, because the program and the rules look at all groups in one run. Python's own XML library writes the file, so its
-form does not depend on installed packages.
+A suite has a case for each group and message, and for each rule that compared nothing. A group or message that some
+rules passed over is skipped, with the reason. The first suite also has a case for each refused message, each entry at
+fault, and each column or sheet whose telegrams are not judged. Cases have no time, because the program and the rules
+look at all groups in one run. Python's own XML library writes the file, so its form does not depend on installed
+packages.
 """
 from __future__ import annotations
 
 import xml.etree.ElementTree as ElementTree
 from collections import Counter
-from typing import Dict, Iterator, List, NamedTuple, Optional, Sequence, Tuple
+from typing import Dict, Iterator, List, Mapping, NamedTuple, Optional, Sequence, Tuple
 
 from balisekit.present import NOT_PROVED
 from balisekit.present.accepted_text import accepted_words
 from balisekit.present.account_text import account_lines, not_judged_lines
 from balisekit.present.check_text import before_last
 from balisekit.present.headings import finding_lines
-from balisekit.present.links_text import empty_rules
+from balisekit.present.links_text import empty_rules, not_compared
 from balisekit.present.opening import Shown, opening, paths_from
-from balisekit.present.outcome_text import item_words, last_lines, not_applied
+from balisekit.present.outcome_text import item_words, last_lines, not_applied, notes_of
 from balisekit.present.refusals import message_refused, refused
 from balisekit.rules.accepted import Item, Judged
 from balisekit.rules.checking import Checked, Place
 from balisekit.rules.families import PROVED, Outcome, Part
+from balisekit.tables.model import Group
 from balisekit.tables.names import clean, describe_message
 
 NAMES = {"failures": "failure", "errors": "error", "skipped": "skipped"}
@@ -39,7 +41,10 @@ class Case(NamedTuple):
 
 
 def document(outcome: Outcome) -> bytes:
-    """The file. The output of its first suite has how `check` begins, its remarks on the table, and its last line."""
+    """The file. The output of each suite has what its rules note and have not compared.
+
+    That of the first one also has how `check` begins, its remarks on the table, and its last line.
+    """
     suites = [(part, list(_cases(outcome, part))) for part in outcome.parts]
     shown = paths_from(outcome.checked)
     top = ElementTree.Element("testsuites", _numbers([case for _, cases in suites for case in cases]))
@@ -55,12 +60,22 @@ def document(outcome: Outcome) -> bytes:
                 ElementTree.SubElement(
                     element, case.result, {"message": case.why, "type": case.result}
                 ).text = case.text
-    begin = opening(outcome.checked, outcome.judged, shown)
-    out = [*begin, *before_last(outcome.checked.table), *not_applied(outcome), *account_lines(outcome)]
-    out.append(last_lines(outcome)[-1])
-    ElementTree.SubElement(top[0], "system-out").text = "\n".join([*map(clean, out), NOT_PROVED])
+        said = [*_output(outcome, part, shown)]
+        if said:
+            ElementTree.SubElement(suite, "system-out").text = "\n".join([*map(clean, said), NOT_PROVED])
     written: bytes = ElementTree.tostring(top, "utf-8", xml_declaration=True)
     return written + b"\n"
+
+
+def _output(outcome: Outcome, part: Part, shown: Shown) -> Iterator[str]:
+    """The output of a suite."""
+    own = [*notes_of(part), *(not_compared(part.applied) if part.applied else ())]
+    if part is not outcome.parts[0]:
+        yield from own
+        return
+    yield from opening(outcome.checked, outcome.judged, shown)
+    yield from before_last(outcome.checked.table)
+    yield from (*own, *not_applied(outcome), *account_lines(outcome), last_lines(outcome)[-1])
 
 
 def _numbers(cases: Sequence[Case]) -> Dict[str, str]:
@@ -78,19 +93,25 @@ def _cases(outcome: Outcome, part: Part) -> Iterator[Case]:
     items: Dict[object, List[Item]] = {}
     for item in part.items:
         items.setdefault(_about(item), []).append(item)
-    left_out = dict(_left_out(checked))
+    left_out, passed_over = dict(_left_out(checked)), _passed_over(part)
     for group in checked.table.groups:
-        case = _case("group", clean(group.name), items.get(group.name, []), judged)
+        case = _case("group", clean(group.name), items.get(group.name, []), judged, passed_over.get(group.name, ""))
         yield case if case.result == "failure" else left_out.get(group.name, case)
     for accepted in checked.accepted_messages:
-        name = describe_message(accepted.message)
-        yield _case("message", name, items.get(accepted.message.number, []), judged)
+        name, number = describe_message(accepted.message), accepted.message.number
+        yield _case("message", name, items.get(number, []), judged, passed_over.get(number, ""))
     for rule in empty_rules(part.applied) if part.applied else ():
         yield Case("rule", rule.split(" ", 1)[0], "error", rule)
     if is_first:
         yield from _not_read(checked)
         yield from _bad_messages(checked)
         yield from _at_fault(judged, paths_from(checked)) if judged else ()
+
+
+def _passed_over(part: Part) -> Mapping[object, str]:
+    """Why some rules have passed over a group or message, by its name or number."""
+    some = part.applied.passed_over if part.applied else ()
+    return {about.name if isinstance(about, Group) else about.number: clean(why) for about, why in some}
 
 
 def _about(item: Item) -> object:
@@ -131,18 +152,17 @@ def _at_fault(judged: Judged, shown: Shown) -> Iterator[Case]:
         yield Case("accepted", f"row {fault.row}", "failure", why, f"{clean(shown(judged.entries.path))}: {why}")
 
 
-def _case(kind: str, name: str, items: Sequence[Item], judged: Optional[Judged]) -> Case:
-    """A group or message that was looked at: what is open of it, else what was accepted."""
+def _case(kind: str, name: str, items: Sequence[Item], judged: Optional[Judged], passed_over: str) -> Case:
+    """A group or message that was looked at: what is open of it, else what was accepted or passed over."""
     still_open = [item for item in items if not (judged and judged.of(item))]
     if still_open:
         first = still_open[0]
         words = first.finding.line if isinstance(first, Place) else f"{first.rule}: {first.sentence}"
         why = f"{len(still_open)} open: {words}"
         return Case(kind, name, "failure", why, "\n".join(line for item in still_open for line in _lines(item)))
-    if items and judged:
-        reasons = dict.fromkeys(accepted_words(entry) for entry in map(judged.of, items) if entry)
-        return Case(kind, name, "skipped", "; ".join(reasons), "\n".join(map(item_words, items)))
-    return Case(kind, name)
+    accepted = (accepted_words(entry) for entry in map(judged.of, items) if entry) if judged else ()
+    reasons = [*dict.fromkeys(accepted), *([f"passed over: {passed_over}"] if passed_over else [])]
+    return Case(kind, name, "skipped" * bool(reasons), "; ".join(reasons), "\n".join(map(item_words, items)))
 
 
 def _lines(item: Item) -> List[str]:

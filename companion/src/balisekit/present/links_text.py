@@ -13,13 +13,14 @@ from balisekit.present.headings import words
 from balisekit.present.opening import opening, paths_from, program_json, settings_json
 from balisekit.present.refusals import lacking, refused_lines
 from balisekit.rules.checking import Checked
+from balisekit.rules.discovery import first_to_last
 from balisekit.rules.families import FAMILIES, entry_of_remark
-from balisekit.rules.links import L2, Links
+from balisekit.rules.links import L2, RULES, Links
 from balisekit.rules.location import ANOTHER_TRACK
 from balisekit.rules.rule import Remark, Result, Rule
 from balisekit.tables.names import clean, passed_over
 
-OF_RULES = "L1 to L9"
+OF_RULES = first_to_last(RULES)
 FORMAT = 1
 """The version of the JSON. An added key does not change it."""
 ABOUT = f"{OF_RULES} are rules of balisekit; {NOT_PROVED}"
@@ -148,6 +149,7 @@ def as_json(checked: Checked, links: Links) -> Dict[str, Any]:
             "refused_messages": len(checked.refused_messages),
             "not_looked_at": checked.not_looked_at,
             "not_read": table.account.overlooked,
+            "not_known": table.account.unknown,
         },
         "rules": rules_json([links]),
         "notes": [*table.notes, *links.notes],

@@ -18,7 +18,7 @@ from balisekit.rules.entries import Entry, entry_of
 from balisekit.rules.families import PLAN, PROVED, Outcome, Part, entry_of_remark
 from balisekit.tables.names import clean
 
-LINKS = "L"
+LINKS, MEANING = "L", "E"
 NO_KILOMETRES = "no kilometres: rules over the line are not applied"
 SHOWN = 20
 """How many items that no entry can name are listed. The others are counted."""
@@ -64,7 +64,7 @@ def behind(outcome: Outcome, part: Part) -> Iterator[str]:
     if part.applied is None:
         yield from headings.summary(outcome.checked, part.open, outcome.judged is not None)
         return
-    yield from (f"note: {clean(note)}" for note in part.applied.notes)
+    yield from notes_of(part)
     yield from _applied(part, part.applied)
 
 
@@ -72,7 +72,9 @@ def _applied(part: Part, applied: Applied) -> Iterator[str]:
     """What was compared, and which rules were applied if a rule was asked for that is off by default."""
     if part.family.letter in (LINKS, PLAN):
         yield compared(applied, part.family.letter == PLAN)
-    elif not all(rule.is_default for rule in part.family.rules):
+    else:
+        yield from not_compared(applied)
+    if part.family.letter == MEANING and not all(rule.is_default for rule in part.family.rules):
         yield f"applied: {', '.join(rule.name for rule in part.family.rules)}"
 
 
@@ -101,6 +103,11 @@ def not_looked_at(outcome: Outcome) -> Iterator[str]:
     yield from not_applied(outcome)
     for part in outcome.parts:
         yield from not_compared(part.applied) if part.applied else ()
+
+
+def notes_of(part: Part) -> List[str]:
+    """The notes on what the rules of a part have found, and on what they have passed over."""
+    return [f"note: {clean(note)}" for note in part.applied.notes] if part.applied else []
 
 
 def explained_rules(outcome: Outcome) -> Iterator[Tuple[str, Page]]:

@@ -71,9 +71,13 @@ def not_looked_at(checked: Checked) -> List[str]:
 
 
 def overlooked(table: Table) -> List[str]:
-    """How many telegrams are in columns or sheets that are not read, although no option asked for that."""
-    count = table.account.overlooked
-    return [f"{counted(count, 'telegram')} in columns or sheets that are not read"] if count else []
+    """How many telegrams are in columns or sheets that are not read, although no option asked for that.
+
+    Formulas whose values are not stored are counted by themselves.
+    """
+    where, account = "in columns or sheets that are not read", table.account
+    counts = ((account.overlooked, "telegram", where), (account.unknown, "formula", "without a stored value"))
+    return [f"{counted(count, what)} {which}" for count, what, which in counts if count]
 
 
 def refused_counts(checked: Checked) -> List[str]:

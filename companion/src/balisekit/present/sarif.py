@@ -21,7 +21,7 @@ from balisekit.present.account_text import account_json, not_judged_lines
 from balisekit.present.explanations import Page, pages
 from balisekit.present.headings import entry_lines
 from balisekit.present.opening import opening, paths_from, settings_json
-from balisekit.present.outcome_text import closing_lines, not_applied, not_decoded
+from balisekit.present.outcome_text import closing_lines, not_looked_at, notes_of
 from balisekit.present.refusals import message_refused, refused
 from balisekit.rules.accepted import keys
 from balisekit.rules.entries import Entry
@@ -45,6 +45,8 @@ NOT_JUDGED = "not-judged"
 """The identifier of a result for telegrams in a column or sheet that is not read."""
 NOT_JUDGED_PAGE = Page("telegrams that are not judged", {"How to correct it": "See the account in docs/commands.md."})
 FINGERPRINT = "balisekit/v1"
+INCOMPLETE = 2
+"""The status of an answer that does not cover all that was asked for."""
 Object = Dict[str, Any]
 Lines = Sequence[Tuple[int, int]]
 """The first and the last line of each row of a file."""
@@ -82,18 +84,16 @@ def document(outcome: Outcome) -> Object:
 
 
 def _invocation(outcome: Outcome) -> Object:
-    """How the run has ended. How the answer begins, what was not looked at and how it ends are notifications."""
+    """How the run has ended. How the answer begins, notes, what was not looked at and how it ends are notifications."""
     shown = paths_from(outcome.checked)
     begin, closing = opening(outcome.checked, outcome.judged, shown), closing_lines(outcome, shown)
-    notes = [
-        {"level": "note", "message": {"text": note}}
-        for note in [*begin, *not_decoded(outcome), *not_applied(outcome), *closing]
-    ]
+    notes = [note for part in outcome.parts for note in notes_of(part)]
+    lines = [*begin, *notes, *not_looked_at(outcome), *closing]
     return {
-        "executionSuccessful": True,
+        "executionSuccessful": outcome.status != INCOMPLETE,
         "exitCode": outcome.status,
         "exitCodeDescription": closing[-1],
-        "toolExecutionNotifications": notes,
+        "toolExecutionNotifications": [{"level": "note", "message": {"text": line}} for line in lines],
     }
 
 

@@ -5,7 +5,10 @@ from typing import Iterator, List, Union
 
 from balisekit.compare.sheet import COLUMNS, Compared, Difference, Sheet
 from balisekit.io import csv_writing, xlsx_writing
-from balisekit.present.refusals import lacking
+from balisekit.present.account_text import overlooked_lines
+from balisekit.present.opening import opening, paths_from
+from balisekit.present.outcome_text import closing_lines
+from balisekit.present.refusals import lacking, refused_lines
 from balisekit.rules.checking import Checked
 from balisekit.rules.entries import Entry
 from balisekit.rules.families import Outcome
@@ -20,13 +23,20 @@ WIDTHS = (6, 18, 12, 24, 12, 32, 80, 16, 10, 40)
 
 def csv_pieces(sheet: Sheet) -> Iterator[str]:
     """The CSV file."""
-    return csv_writing.pieces(COLUMNS, (found.cells for found in sheet.all()))
+    return csv_writing.pieces(COLUMNS, (list(map(clean, found.cells)) for found in sheet.all()))
 
 
-def xlsx_pieces(sheet: Sheet) -> Iterator[bytes]:
-    """The workbook."""
-    rows = ([_cell(*pair) for pair in zip(COLUMNS, found.cells)] for found in sheet.all())
-    return xlsx_writing.pieces("variables", COLUMNS, rows)
+def xlsx_pieces(sheet: Sheet, checked: Checked) -> Iterator[bytes]:
+    """The workbook, with what was left out of it."""
+    rows = ([_cell(column, clean(text)) for column, text in zip(COLUMNS, found.cells)] for found in sheet.all())
+    left_out = [*refused_lines(checked), *overlooked_lines(checked.table), *incomplete(checked)]
+    answer = [*opening(checked, shown=paths_from(checked)), *left_out]
+    return xlsx_writing.pieces("variables", COLUMNS, rows, answer=answer, is_whole=checked.whole)
+
+
+def incomplete(checked: Checked) -> List[str]:
+    """The last line of a sheet from which something was left out."""
+    return [] if checked.whole else [f"INCOMPLETE: {', '.join(lacking(checked))}"]
 
 
 def _cell(column: str, text: str) -> Union[str, int, float]:
@@ -70,7 +80,9 @@ def lines(checked: Checked, compared: Compared) -> Iterator[str]:
 def entries_pieces(outcome: Outcome) -> Iterator[bytes]:
     """The workbook of entries. NoAnswer is raised if the package that writes it is absent."""
     rows = ([clean(text) or None for text in _row(outcome, entry)] for entry in outcome.entries)
-    return xlsx_writing.pieces("entries", ENTRIES, rows, WIDTHS, "an .xlsx")
+    shown = paths_from(outcome.checked)
+    answer = [*opening(outcome.checked, outcome.judged, shown), *closing_lines(outcome, shown)]
+    return xlsx_writing.pieces("entries", ENTRIES, rows, WIDTHS, "an .xlsx", answer, outcome.status != 2)
 
 
 def _row(outcome: Outcome, entry: Entry) -> List[str]:

@@ -19,6 +19,7 @@ from balisekit.io import inputs
 from balisekit.io.csv_writing import plain
 from balisekit.rules import links, meaning, track_plan
 from balisekit.rules.checking import Checked, Place
+from balisekit.rules.discovery import first_to_last
 from balisekit.rules.rule import Remark, Rule
 from balisekit.tables import csv as csv_file
 from balisekit.tables.cells import headings
@@ -32,11 +33,13 @@ NEEDED = (*FIELDS, "reason", "who", "date")
 COLUMNS = (*NEEDED, "until", "sha256")
 ANY = "*"
 NUMBER = ("|[0-9]{1,6}", "no whole number")
+FINDINGS = range(1, 17)
+"""The numbers of the program's findings F."""
+RULES: Mapping[str, Rule] = {rule.name: rule for rule in (*links.RULES, *meaning.RULES, *track_plan.RULES)}
+"""All rules of balisekit whose remarks can be accepted, by their names."""
+OF_FAMILIES = "{}, {} and {}".format(*map(first_to_last, (links.RULES, meaning.RULES, track_plan.RULES)))
 VALUES = {
-    "rule": (
-        "F([1-9]|1[0-6])|L[1-9]|E([1-9]|1[0-9]|2[0-3])|X[1-5]",
-        "none of F1 to F16, L1 to L9, E1 to E23 and X1 to X5",
-    ),
+    "rule": ("|".join([f"F{number}" for number in FINDINGS] + [*RULES]), f"none of F1 to F16, {OF_FAMILIES}"),
     **dict.fromkeys(("nid_c", "nid_bg", "balise", "packet"), NUMBER),
     "direction": ("|nominal|reverse", "neither nominal nor reverse"),
     "sha256": ("|[0-9a-f]{64}", "no SHA-256: --propose writes it"),
@@ -51,8 +54,6 @@ ONE_TELEGRAM = ("F1", "F4", "F6", "F9", "L1", "L2", "L3", "L5", "L6", "L9")
 """The findings and remarks about one telegram only."""
 ALL_ASPECTS = ("F3", "F14", "F15", "F16")
 """The findings that compare aspects or groups. The others are about all telegrams of an aspect."""
-RULES: Mapping[str, Rule] = {rule.name: rule for rule in (*links.RULES, *meaning.RULES, *track_plan.RULES)}
-"""All rules of balisekit whose remarks can be accepted, by their names."""
 OWN_ON_CORRECT_DATA = (name for name, rule in RULES.items() if rule.has_correct_data)
 ON_CORRECT_DATA = ("F6", "F9", "F10", "F11", "F12", "F13", "F14", "F16", *OWN_ON_CORRECT_DATA)
 """The rules of the table of findings on correct data in docs/findings.md, and those whose pages name correct data."""

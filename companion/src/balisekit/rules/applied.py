@@ -7,6 +7,7 @@ from typing import Callable, Dict, Iterator, Mapping, Sequence, Tuple
 
 from balisekit.rules.line import Line
 from balisekit.rules.location import BaliseGroup
+from balisekit.rules.passed_over import Find, PassedOver, nothing
 from balisekit.rules.rule import Field, Options, Remark, Result, Rule
 
 BY_FIELD = ("E2", "E10", "E13", "E15")
@@ -28,6 +29,8 @@ class Applied:
     line: Line
     results: Mapping[Rule, Result]
     notes: Tuple[str, ...] = ()
+    passed_over: Tuple[PassedOver, ...] = ()
+    """The groups and messages that some of the rules have not looked at. The notes name them too."""
 
     @cached_property
     def remarks(self) -> Sequence[Remark]:
@@ -42,12 +45,18 @@ class Applied:
 
 
 def look_for(
-    line: Line, options: Options, rules: Sequence[Rule], notes: Notes = no_notes, known: Mapping[str, Result] = {}
+    line: Line,
+    options: Options,
+    rules: Sequence[Rule],
+    notes: Notes = no_notes,
+    known: Mapping[str, Result] = {},
+    passed_over: Find = nothing,
 ) -> Applied:
     """Applies these rules to a line. The results of some may be known, by their names."""
     results = {rule: known.get(rule.name) or result_of(line, options, rule) for rule in rules}
     _name_causes({rule.name: rule for rule in results}, results)
-    return Applied(line, results, (*notes(line), *(note for result in results.values() for note in result.notes)))
+    said = (*notes(line), *(note for result in results.values() for note in result.notes))
+    return Applied(line, results, said, tuple(passed_over(line)))
 
 
 def result_of(line: Line, options: Options, rule: Rule) -> Result:

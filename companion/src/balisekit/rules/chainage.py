@@ -6,13 +6,17 @@ are finer than a decimetre are rounded.
 from __future__ import annotations
 
 from decimal import ROUND_HALF_EVEN, Decimal
-from typing import Dict, Iterator, List, NamedTuple, Optional, Sequence, Tuple
+from typing import Dict, Iterator, Mapping, NamedTuple, Optional, Sequence, Tuple
 
-from balisekit.errors import TableError, faults_of
+from balisekit.errors import TableError, TableErrors, faults_of
 from balisekit.etcs.geometry import kilometre_of
 from balisekit.io import inputs
-from balisekit.tables import csv as csv_file, reader
-from balisekit.tables.headings import Headings
+from balisekit.io.csv_writing import plain
+from balisekit.tables import csv as csv_file, decimal_commas, reader
+from balisekit.tables.beside import SWALLOWED
+from balisekit.tables.cells import LINE_END, Sheet
+from balisekit.tables.headings import Headings, alike, compared
+from balisekit.tables.names import clean
 
 DECIMETRES = Decimal(10_000)
 """In a kilometre."""
@@ -43,7 +47,7 @@ class Chainage(NamedTuple):
     @classmethod
     def of(cls, jumps: Sequence[Jump], track: str) -> Chainage:
         """The kilometres of a track with those of the jumps that are on it, each once if the plan states it too."""
-        own = {(decimetres(jump.before), decimetres(jump.after)) for jump in jumps if jump.track == track}
+        own = {(decimetres(jump.before), decimetres(jump.after)) for jump in jumps if clean(jump.track) == clean(track)}
         return cls(tuple(sorted(own)))
 
     def place(self, km: Optional[Decimal]) -> Optional[int]:
@@ -80,24 +84,52 @@ class Chainage(NamedTuple):
 
 
 def read_jumps(path: str) -> Tuple[Jump, ...]:
-    """The jumps of this file. TableError is raised if it cannot be read."""
+    """The jumps of this file. TableError or TableErrors is raised if it cannot be read."""
     with faults_of(path):
-        return tuple(_jumps(csv_file.read(inputs.read_settings(path).content, Headings(COLUMNS, NEEDED)).rows))
+        return tuple(_jumps(csv_file.read(inputs.read_settings(path).content, Headings(COLUMNS, NEEDED))))
 
 
-def _jumps(rows: List[List[str]]) -> Iterator[Jump]:
-    headings = Headings(COLUMNS, NEEDED)
+def _jumps(sheet: Sheet) -> Iterator[Jump]:
+    rows, headings = sheet.rows, Headings(COLUMNS, NEEDED)
     first = headings.row_of(rows)
     if first is None:
         raise TableError(f"no row has the headings {' and '.join(NEEDED)}")
-    places = headings.look_at(rows, first)
+    places, width = headings.look_at(rows, first), len(rows[first])
+    _look_at_heads(rows[: first + 1])
+    faults = [fault for name in NEEDED for fault in decimal_commas.faults(sheet, first + 1, width, places, name)]
+    if faults:
+        raise TableErrors(faults)
     for number, row in enumerate(rows[first + 1 :], first + 2):
-        cells = {name: row[place].strip() if place < len(row) else "" for name, place in places.items()}
+        _look_at_row(number, row, width, places)
+        cells = {name: plain(row[place].strip()) if place < len(row) else "" for name, place in places.items()}
         if any(cells.values()):
             jump = Jump(_kilometre(cells, "km", number), _kilometre(cells, "km_after", number), cells.get("track", ""))
             if jump.before == jump.after:
                 raise TableError("km and km_after are the same: that is no jump", number)
             yield jump
+
+
+def _look_at_heads(rows: Sequence[Sequence[str]]) -> None:
+    """Raises TableError for a column that is not known, and for a row above the headings that looks like a jump."""
+    for name in compared(rows[-1]):
+        if name and name not in COLUMNS:
+            meant = alike(name, COLUMNS)
+            hint = f'did you mean "{meant}"?' if meant else f"the columns are {', '.join(COLUMNS)}"
+            raise TableError(f"there is no column {name[:40]}: {hint}", len(rows))
+    for number, row in enumerate(rows[:-1], 1):
+        if sum(1 for cell in row if reader.KM.fullmatch(cell.strip())) > 1:
+            raise TableError("it is above the headings: put one row with headings above all others", number)
+
+
+def _look_at_row(number: int, row: Sequence[str], width: int, places: Mapping[str, int]) -> None:
+    """Raises TableError for cells that no column has, and for a line end: a quote may have put rows into a cell."""
+    for at, cell in enumerate(row):
+        if cell.strip() and at >= width:
+            raise TableError(f"it has {len(row)} cells, and the heading {width}", number)
+        if cell.strip() and at not in places.values():
+            raise TableError(f"cell {at + 1} is not empty, and has no heading", number)
+        if LINE_END.search(cell):
+            raise TableError(f"cell {at + 1} contains a line end: {SWALLOWED}", number)
 
 
 def _kilometre(cells: Dict[str, str], name: str, number: int) -> Decimal:

@@ -110,6 +110,8 @@ class Telegrams(Mapping[int, Form]):
         return self._records[number].line
 
     def __getitem__(self, number: int) -> Form:
+        if number not in self._rows:
+            raise KeyError(number)
         return self._records[number].shared
 
     def __iter__(self) -> Iterator[int]:
@@ -244,7 +246,7 @@ class Checked:
     def whole(self) -> bool:
         """Whether all that is in the file, and was not left out by an option, has been checked."""
         is_checked = not (self.refused or self.refused_messages or self.left_out or self.not_looked_at)
-        return is_checked and not self.table.account.overlooked
+        return is_checked and not (self.table.account.overlooked or self.table.account.unknown)
 
     @property
     def status(self) -> int:

@@ -35,7 +35,7 @@ from balisekit.etcs.geometry import DIRECTIONS, ELEMENT_KEYS, INFILL, NOMINAL, S
 from balisekit.etcs.raw_packets import fields_of
 from balisekit.etcs.variables import UNITS, Form
 from balisekit.rules.chainage import Chainage, Jump
-from balisekit.rules.location import BaliseGroup, Identity, Location
+from balisekit.rules.location import IN_JUMP, NO_DIRECTION, NO_KILOMETRE, NOT_IN_TABLE, BaliseGroup, Identity, Location
 from balisekit.rules.passages import DUPLICATE, HOLDING, SAYS_NOTHING, Content, Said, packets_of
 from balisekit.tables.model import Message, Row
 
@@ -48,6 +48,8 @@ RECORD = re.compile(
 """The record of a telegram: the keys of its header, and NID_C with the packets as one text."""
 AT_ONCE = 500
 """How many telegrams are decoded together: their keys then share memory."""
+METRES = 3
+"""How many decimals a kilometre has that is written to the metre."""
 KEPT = 1 << 12
 """How many texts of packets are kept with their objects: many telegrams have the same packets."""
 
@@ -182,6 +184,15 @@ class Passage:
         return self.group.group.along(self.direction) if self.group else None
 
     @property
+    def lacks(self) -> str:
+        """Why the places ahead of it are not known, or nothing."""
+        if self.group is None:
+            return NOT_IN_TABLE
+        if self.group.place is None:
+            return NO_KILOMETRE if self.group.group.km is None else IN_JUMP
+        return NO_DIRECTION if self.way is None else ""
+
+    @property
     def speaks(self) -> bool:
         """Whether a packet before a packet 136 says anything of the track."""
         return any(packet.number not in SAYS_NOTHING for packet in self.said)
@@ -272,7 +283,7 @@ class Decoded:
     chainages: Mapping[str, Chainage]
     """Of each track."""
     resolution: int
-    """One unit of the last decimal of the table's kilometres, in decimetres, rounded up."""
+    """One unit of the last decimal of the table's kilometres, at most 1 m, in decimetres, rounded up."""
     worked_out: Dict[object, Any] = field(default_factory=dict)
     """What several rules need, by who works it out."""
 
@@ -280,6 +291,11 @@ class Decoded:
     def passages(self) -> Sequence[Passage]:
         """All passages, those of groups in the order of the table, then the messages."""
         return [*(passage for group in self.groups for passage in group.passages), *self.messages]
+
+    @cached_property
+    def unplaced(self) -> Sequence[Passage]:
+        """The passages that lack a place, or a direction along the kilometres."""
+        return [passage for passage in self.passages if passage.lacks]
 
     @cached_property
     def sent(self) -> Mapping[int, Sequence[Tuple[Union[GroupData, Passage], Packet]]]:
@@ -476,9 +492,12 @@ def _with_fields(packet: Form) -> Form:
 
 
 def resolution_of(groups: Sequence[BaliseGroup]) -> int:
-    """One unit of the last decimal that a kilometre of the table has."""
+    """One unit of the last decimal that a kilometre of the table has, and at most 1 m.
+
+    A spreadsheet stores 11.100 as 11.1, so fewer decimals than three do not show that the kilometres are rounded.
+    """
     decimals = max((_decimals(row.km) for each in groups for row in each.group.rows() if row.km is not None), default=3)
-    return int(Decimal(10_000).scaleb(-decimals).to_integral_value(ROUND_CEILING))
+    return int(Decimal(10_000).scaleb(-max(decimals, METRES)).to_integral_value(ROUND_CEILING))
 
 
 def _decimals(km: Decimal) -> int:

@@ -15,9 +15,11 @@ from balisekit.rules import links, meaning, track_plan
 from balisekit.rules.accepted import RULES, Acceptance, Entries, Item, Judged, identities, judge
 from balisekit.rules.applied import Applied, Notes, look_for, no_notes
 from balisekit.rules.checking import Checked, Place
+from balisekit.rules.discovery import first_to_last
 from balisekit.rules.entries import Entry, entries, kilometre_of
 from balisekit.rules.line import Line
 from balisekit.rules.location import Identity
+from balisekit.rules.passed_over import Find, nothing
 from balisekit.rules.results import read, results
 from balisekit.rules.rule import Options, Remark, Result, Rule
 from balisekit.rules.statements.scene import BaliseName
@@ -44,6 +46,8 @@ class Family(NamedTuple):
     """The notes on a line beside those of the rules."""
     in_full: bool = False
     """Whether its rules compare all that telegrams say."""
+    passed_over: Find = nothing
+    """The groups and messages that its rules pass over. Its notes name them too."""
 
     @property
     def needs_kilometres(self) -> bool:
@@ -53,16 +57,31 @@ class Family(NamedTuple):
 
 FAMILIES: Mapping[str, Family] = {
     "F": Family("F", "findings of the program, proved", "findings"),
-    "L": Family("L", "links, by balisekit's own rules L1 to L9, not proved", "links", links.RULES, links.notes_on),
+    "L": Family(
+        "L",
+        f"links, by balisekit's own rules {first_to_last(links.RULES)}, not proved",
+        "links",
+        links.RULES,
+        links.notes_on,
+        passed_over=links.passed_over,
+    ),
     "E": Family(
         "E",
         "remarks on what the data mean, by balisekit's own rules, not proved",
         "remarks",
         meaning.RULES,
+        meaning.OF_PLACES.notes,
         in_full=True,
+        passed_over=meaning.OF_PLACES.find,
     ),
     "X": Family(
-        "X", "track plan, by balisekit's own rules X1 to X5, not proved", "track plan", track_plan.RULES, in_full=True
+        "X",
+        f"track plan, by balisekit's own rules {first_to_last(track_plan.RULES)}, not proved",
+        "track plan",
+        track_plan.RULES,
+        track_plan.OF_PLACES.notes,
+        in_full=True,
+        passed_over=track_plan.OF_PLACES.find,
     ),
 }
 """In the order of an answer."""
@@ -226,7 +245,7 @@ def _looked_at(
                 continue
             line = line or Line.of(checked, options.jumps, bool(in_full) and not count)
             known = known or (read(line, found_in_full) if family.in_full and count else {})
-            found = look_for(line, options, family.rules, family.notes, known)
+            found = look_for(line, options, family.rules, family.notes, known, family.passed_over)
             yield Part(family, found.remarks, time.perf_counter() - begin, found)
 
 

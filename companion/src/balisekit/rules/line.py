@@ -27,7 +27,7 @@ from balisekit.rules.decoded import (
     rounding,
     telegrams_of,
 )
-from balisekit.rules.location import NO_KILOMETRE, NOT_KNOWN, BaliseGroup, Identity, incomparable
+from balisekit.rules.location import IN_JUMP, NOT_KNOWN, BaliseGroup, Identity, incomparable
 from balisekit.rules.passages import Chain, Content, Link, Passages, contents_of
 from balisekit.tables.model import Aspect, Group, Message, Row
 from balisekit.tables.names import clean
@@ -257,7 +257,7 @@ class Line:
         """Why the places of two groups cannot be compared, or nothing."""
         why = incomparable(one, other)
         lost = one and other and None in (self.places[one.number], self.places[other.number])
-        return NO_KILOMETRE if lost and not why else why
+        return IN_JUMP if lost and not why else why
 
     def allowed(self, link: Link, lengths: int, tolerance: Decimal) -> Decimal:
         """By how many decimetres a sum of `lengths` distances D_LINK may differ from the kilometres.

@@ -5,12 +5,13 @@ A step ends at a group of the table, and the next one begins there, as a train c
 from __future__ import annotations
 
 from bisect import bisect_left, insort
+from collections import Counter
 from typing import Dict, Iterator, List, NamedTuple, Optional, Sequence, Tuple
 
 from balisekit.etcs.geometry import NOMINAL, REVERSE
 from balisekit.rules.chainage import Chainage
 from balisekit.rules.line import Line
-from balisekit.rules.location import BaliseGroup, incomparable
+from balisekit.rules.location import NO_DIRECTION, BaliseGroup
 from balisekit.rules.passages import Chain, Link
 
 
@@ -95,22 +96,23 @@ def counted(line: Line, chain: Chain) -> Iterator[Tuple[Link, Counted]]:
             base, summed, lengths = here, 0, 0
 
 
-def steps_of(line: Line) -> Iterator[Step]:
-    """All steps between groups of one track whose places are known."""
-    places = line.places
+def steps_of(line: Line, skipped: Optional[Counter[str]] = None) -> Iterator[Step]:
+    """All steps between groups of one track whose places are known. `skipped` gets why there is none to a link."""
+    places, skipped = line.places, Counter[str]() if skipped is None else skipped
     for chains in line.alike:
         chain = chains[0]
         base, distance, lengths = chain.sender, 0, 0
         way = base.along(chain.direction) if base else None
         for link in chain.links:
             distance, lengths, here = distance + link.distance, lengths + 1, link.target
-            if base is None or here is None or incomparable(base, here):
+            why = line.incomparable(base, here)
+            if base is None or here is None or why:
+                skipped[why] += len(chains) * link.known
                 continue
-            begin, end = places[base.number], places[here.number]
-            if begin is None or end is None:
-                continue
+            begin, end = places[base.number] or 0, places[here.number] or 0
             if way is None:
                 way = (end > begin) - (end < begin) or None
+            skipped[NO_DIRECTION] += len(chains) if way is None else 0
             if way is not None:
                 low, high = min(begin, end), max(begin, end)
                 yield Step(chains, link, base, here, way, lengths, distance, (end - begin) * way, low, high)

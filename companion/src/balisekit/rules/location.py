@@ -13,6 +13,9 @@ from balisekit.tables.names import clean, describe_balise, describe_group, descr
 NOT_KNOWN = 16_383
 """The NID_BG that says that an identity is not known."""
 NOT_IN_TABLE, ANOTHER_TRACK, NO_KILOMETRE = "not in the table", "another track", "no kilometre"
+NO_DIRECTION, BEHIND_POINT = "no direction along the kilometres", "behind a point of the plan"
+IN_JUMP = "a kilometre that a jump leaves out or repeats"
+"""Why rules do not compare a place."""
 Identity = Tuple[int, int]
 """NID_C and NID_BG."""
 

@@ -137,6 +137,13 @@ class Result(NamedTuple):
                     found += [answer._replace(location=chain.location._replace(link=place)) for chain in chains]
         return cls(found, looked_at, skipped)
 
+    @classmethod
+    def of_places(
+        cls, found: Sequence[Remark], looked_at: int, lacks: Mapping[str, int], others: Mapping[str, int] = {}
+    ) -> Result:
+        """A result that counts what the table `lacks`, and others for which nothing in the table is missing."""
+        return cls(found, looked_at, {**lacks, **others}, is_optional=not any(lacks.values()))
+
     @property
     def skipped(self) -> int:
         """How many things it has not looked at."""

@@ -18,6 +18,8 @@ class NotJudged(NamedTuple):
     """The heading of their column, if it is not the one of the telegrams."""
     sheet: Optional[str] = None
     """Of a workbook."""
+    formulas: int = 0
+    """How many formulas there are instead of telegrams whose values are not stored. Each may be a telegram."""
 
 
 @dataclass(frozen=True)
@@ -48,6 +50,11 @@ class Account:
         """How many telegrams are not judged, although no option of the command line asked for that."""
         return sum(each.telegrams for each in self.not_judged if not each.asked)
 
+    @property
+    def unknown(self) -> int:
+        """How many formulas may be telegrams, because their values are not stored and no option leaves them out."""
+        return sum(each.formulas for each in self.not_judged if not each.asked)
+
     def refusing(self, count: int) -> Account:
         """The same with so many more telegrams refused."""
         return replace(self, refused=self.refused + count)
@@ -69,3 +76,11 @@ def elsewhere(
     """Telegrams that are not in the column that is read. The row of each is given."""
     rows = list(numbers)
     return NotJudged(why, tuple(sorted(set(rows))), len(rows), asked, column, sheet)
+
+
+def of_formulas(
+    why: str, numbers: Iterable[int], asked: bool, column: Optional[str] = None, sheet: Optional[str] = None
+) -> NotJudged:
+    """The same for formulas whose values are not stored."""
+    rows = list(numbers)
+    return NotJudged(why, tuple(sorted(set(rows))), 0, asked, column, sheet, len(rows))

@@ -7,14 +7,25 @@ from itertools import islice
 from typing import Dict, Iterable, Iterator, List, Mapping, Sequence, Tuple
 
 from balisekit.errors import TableError, TableErrors
-from balisekit.tables.account import Account, NotJudged, elsewhere
-from balisekit.tables.cells import GREATEST_NAME, LEAST_DIGITS, LINE_END, NEEDED, Sheet, has_telegram, is_telegram
+from balisekit.tables.account import Account, NotJudged, elsewhere, of_formulas
+from balisekit.tables.cells import (
+    GREATEST_NAME,
+    LARGE,
+    LEAST_DIGITS,
+    LINE_END,
+    NEEDED,
+    Sheet,
+    has_telegram,
+    is_telegram,
+    telegrams_in,
+)
 from balisekit.tables.headings import compared, shown
 
 ABOVE = "it has a telegram, and is not below the headings: put one row with headings above all telegrams"
 SWALLOWED = "is a quote missing, or one too many?"
 NOT_READ = "only the column telegram is read"
 OTHER_SHEET = "the sheet is not read: give --sheet if only one sheet is to be judged"
+UNKNOWN = "their values are not stored, and may be telegrams: open the workbook in a spreadsheet, and save it"
 Headings = Sequence[str]
 
 
@@ -23,7 +34,7 @@ def skip(headings: Headings, places: Dict[str, int], skipped: Sequence[str], row
 
     TableError is raised for a column that is needed.
     """
-    names, notes = _names(headings), []
+    names, notes = names_of(headings), []
     for heading, name in zip(skipped, compared(skipped)):
         for known in [known for known, at in places.items() if names[at].lower() == name]:
             if known in NEEDED:
@@ -33,7 +44,7 @@ def skip(headings: Headings, places: Dict[str, int], skipped: Sequence[str], row
     return notes
 
 
-def _names(headings: Headings) -> List[str]:
+def names_of(headings: Headings) -> List[str]:
     """The headings in one line each. A column without one has its number."""
     return [shown(cell)[:GREATEST_NAME] or f"column {number}" for number, cell in enumerate(headings, 1)]
 
@@ -50,18 +61,20 @@ def telegrams(sheet: Sheet, begin: int, column: int) -> Dict[int, List[int]]:
     faults = [TableError(ABOVE, number) for number, row in heads if any(map(in_part, row))]
     for number, row in enumerate(islice(sheet.rows, begin, None), begin + 1):
         own = len(row[column]) if column < len(row) else 0
-        if len("".join(row)) - own < LEAST_DIGITS:
+        text = "".join(row)
+        if len(text) - own < LEAST_DIGITS and "+" not in text:
             continue  # (this takes a tenth of the time of the cells one by one)
         for at, cell in enumerate(row):
-            if at == column or len(cell) < LEAST_DIGITS:
+            if at == column or len(cell) < LEAST_DIGITS and not LARGE.fullmatch(cell):
                 continue
-            if LINE_END.search(cell.strip()) and in_part(cell):
+            is_plain = is_telegram(cell) and not LINE_END.search(cell.strip())
+            if LINE_END.search(cell) and not is_plain and in_part(cell):
                 faults.append(TableError(f"cell {at + 1} has line ends and a telegram in it: {SWALLOWED}", number))
-            elif is_telegram(cell):
-                found.setdefault(at, []).append(number)
+            else:
+                found.setdefault(at, []).extend([number] * telegrams_in(cell, sheet.separator))
     if faults:
         raise TableErrors(faults)
-    return found
+    return {at: numbers for at, numbers in found.items() if numbers}
 
 
 def account(
@@ -80,19 +93,40 @@ def account(
 
 
 def of_columns(
-    sheet: Sheet, place: int, places: Mapping[str, int], in_columns: Mapping[int, Sequence[int]], skipped: Sequence[str]
+    sheet: Sheet,
+    headings: Headings,
+    begin: int,
+    places: Mapping[str, int],
+    in_columns: Mapping[int, Sequence[int]],
+    skipped: Sequence[str],
 ) -> Iterator[NotJudged]:
-    """The telegrams in other columns than the one that is read. `place` is the row of the headings, counted from 0."""
-    names, asked_for = _names(sheet.rows[place]), compared(skipped)
-    for at, numbers in sorted(in_columns.items()):
+    """The telegrams in other columns than the one that is read, and formulas that may be some.
+
+    The rows below row `begin` are read.
+    """
+    names, asked_for = names_of(headings), compared(skipped)
+    above = [number for number, _ in sheet.not_calculated if number <= begin]
+    if above:
+        yield of_formulas(UNKNOWN, above, False, None, sheet.name)
+    formulas: Dict[int, List[int]] = {}
+    for number, at in sheet.not_calculated[len(above) :]:
+        formulas.setdefault(at, []).append(number)
+    for at in sorted({*in_columns, *formulas}):
         option, asked = f"--skip-column {shlex.quote(names[at])}", names[at].lower() in asked_for
         remedy = "" if at == places["group"] else f": give {option} if they are not to be judged"
-        why = f"{option} leaves them out" if asked else f"{NOT_READ}{remedy}"
-        yield elsewhere(why, numbers, asked, names[at], sheet.name or None)
+        left_out = f"{option} leaves them out" if asked else ""
+        where = asked, names[at], sheet.name or None
+        if at in in_columns:
+            yield elsewhere(left_out or f"{NOT_READ}{remedy}", in_columns[at], *where)
+        if at in formulas:
+            yield of_formulas(left_out or f"{UNKNOWN}, or give {option}", formulas[at], *where)
 
 
 def _of_sheets(sheet: Sheet) -> Iterator[NotJudged]:
     """The telegrams in the other sheets of a workbook."""
-    why = f"--sheet {shlex.quote(sheet.name)} leaves them out" if sheet.is_chosen else OTHER_SHEET
-    for name, numbers in sheet.telegrams_of_others.items():
-        yield elsewhere(why, numbers, sheet.is_chosen, None, name)
+    left_out = f"--sheet {shlex.quote(sheet.name)} leaves them out" if sheet.is_chosen else ""
+    for name, (numbers, formulas) in sheet.in_others.items():
+        if numbers:
+            yield elsewhere(left_out or OTHER_SHEET, numbers, sheet.is_chosen, None, name)
+        if formulas:
+            yield of_formulas(left_out or f"{UNKNOWN}, or give --sheet", formulas, sheet.is_chosen, None, name)

@@ -2,7 +2,10 @@
 from __future__ import annotations
 
 import re
-from typing import Collection, List, Mapping, NamedTuple, Sequence, Tuple
+import unicodedata
+from itertools import accumulate
+from operator import le
+from typing import Collection, Iterable, List, Mapping, NamedTuple, Sequence, Tuple
 
 from balisekit.errors import TableError, TableErrors
 
@@ -19,10 +22,22 @@ ERROR = re.compile("#[A-Z/0]+[!?]|#N/A|#NV")
 PAIRS = re.compile(r"[^:-]{2}(?:([:-])[^:-]{2})(?:\1[^:-]{2})*")
 LEAST_DIGITS = 40
 """How many characters a cell has at least that looks like a telegram. The shortest telegrams have 54."""
+RUN = re.compile("[0-9A-Fa-f]{8}")
+"""What is in each text that looks like a telegram, because at most one of ten characters is no digit."""
+LARGE = re.compile(r"\s*[0-9](?:[.,][0-9]+)?[eE]\+(?:39|[4-9][0-9]|[1-9][0-9]{2})\s*")
+"""A number of at least 40 digits, to which a spreadsheet has shortened a telegram."""
 LINE_END = re.compile("[\r\n\v\f\x1c-\x1e\x85\u2028\u2029]")
-PARTS = re.compile("[,;\t\r\n\v\f\x1c-\x1e\x85\u2028\u2029]")
+PARTS = re.compile("[,;|\t\r\n\v\f\x1c-\x1e\x85\u2028\u2029]")
 """What separates cells and rows that a quote has put into one cell."""
+BETWEEN = re.compile(rf"[\s{BLANKS}\u00ad\u2060\ufeff]+|(?<![0-9A-Za-z])0[xX]")
+"""What may be between digits or in front of them: blanks, line ends, characters without ink, 0x."""
+GROUPS_WITHIN = [
+    re.compile(f"[0-9A-Fa-f]{{{size}}}([^0-9A-Za-z])[0-9A-Fa-f]{{{size}}}(?:\\1[0-9A-Fa-f]{{{size}}}){{2,}}")
+    for size in (2, 4, 8)
+]
+"""At least four groups of equally many digits, which are no date and no time."""
 
+COVERED = "a merged cell covers contents of its own, which a spreadsheet does not show: unmerge the cells"
 NOT_CALCULATED = "the values of its formulas are not stored: open the workbook in a spreadsheet, and save it"
 
 
@@ -39,23 +54,69 @@ class Sheet(NamedTuple):
     others: Tuple[str, ...] = ()
     """The names of the workbook's other sheets."""
     merged: Sequence[Area] = ()
-    """The merged areas, if their cells are to be filled."""
-    is_merged: bool = False
-    """Whether there are merged areas whose cells are not filled."""
-    telegrams_of_others: Mapping[str, Sequence[int]] = {}
-    """The rows of cells that look like telegrams in the other sheets, by the names of these."""
+    """The merged areas."""
+    is_filled: bool = False
+    """Whether empty cells of a merged area are to have the value of its first cell."""
+    in_others: Mapping[str, Found] = {}
+    """What is found in the other sheets, by the names of these."""
     is_chosen: bool = False
     """Whether the user has named the sheet."""
-    not_calculated: Sequence[int] = ()
-    """Of a workbook: the rows that are empty only because the values of their formulas are not stored."""
+    not_calculated: Sequence[Place] = ()
+    """Of a workbook: the cells that are empty only because the values of their formulas are not stored."""
 
-    def look_at_calculated(self, heading: int) -> None:
-        """TableErrors is raised for rows below the heading that are not calculated."""
-        faults = [TableError(NOT_CALCULATED, number) for number in self.not_calculated if number > heading]
+    @property
+    def filled(self) -> Sequence[Area]:
+        """The merged areas whose cells are to be filled."""
+        return self.merged if self.is_filled else ()
+
+    def look_at_covered(self, heading: int, places: Mapping[str, int]) -> None:
+        """TableErrors is raised for contents that a merged cell covers, from the heading on in these columns.
+
+        Spreadsheets show only the first cell of a merged area. LibreOffice can keep what is in the others.
+        """
+        looked_at, faults = 0, []
+        for left, top, right, bottom in self.merged:
+            within = [(name, at) for name, at in places.items() if left <= at + 1 <= right]
+            part = self.rows[max(top, heading) - 1 : bottom] if within else []
+            looked_at += len(part) * len(within)
+            if looked_at > len(self.rows) * len(places):
+                raise TableError("its merged ranges overlap: save the workbook again")
+            shown = ("", kind_and_text(_value(self.rows, left, top))[1].strip())
+            for number, row in enumerate(part, max(top, heading)):
+                hidden = [
+                    name
+                    for name, at in within
+                    if kind_and_text(row[at] if at < len(row) else "")[1].strip() not in shown
+                ]
+                faults += [TableError(COVERED, number, name) for name in hidden]
         if faults:
             raise TableErrors(faults)
 
+    def look_at_calculated(self, heading: int, width: int, places: Mapping[str, int]) -> None:
+        """TableErrors is raised for formulas below the heading whose values are not stored and needed.
 
+        They are in these columns, beyond those that the heading has, or in a row that has nothing else.
+        """
+        names, faults = {at: name for name, at in places.items()}, []
+        for number, at in self.not_calculated:
+            is_empty = not any(map(str.strip, self.rows[number - 1]))
+            if number > heading and (is_empty or at in names or at >= width):
+                faults.append(TableError(NOT_CALCULATED, number, "" if is_empty else names.get(at, "")))
+        if faults:
+            raise TableErrors(list({str(fault): fault for fault in faults}.values()))
+
+
+class Found(NamedTuple):
+    """What is found in a sheet that is not read."""
+
+    telegrams: List[int]
+    """The row of each telegram."""
+    formulas: List[int]
+    """The row of each formula whose value is not stored."""
+
+
+Place = Tuple[int, int]
+"""The row of a cell, counted from 1, and its column, counted from 0."""
 Area = Tuple[int, int, int, int]
 """The first column, the first row, the last column and the last row of an area, counted from 1."""
 
@@ -96,15 +157,41 @@ def is_telegram(cell: str) -> bool:
     return len(text) >= LEAST_DIGITS and 10 * len(NO_DIGIT.sub("", text)) >= 9 * len(text)
 
 
-def has_telegram(cell: str, separator: str = "") -> bool:
-    """Whether a cell looks like a telegram, or has one between separators or line ends.
+def telegrams_in(cell: str, separator: str = "") -> int:
+    """How many telegrams a cell has: it looks like one, or has some between separators or line ends.
 
-    `separator` is that of the file, which may be another one than those of spreadsheets.
+    With line ends it may have any words beside the telegram: rows that a quote has swallowed are in it. `separator` is
+    that of the file, which may be another one than those of spreadsheets.
     """
     if len(cell) < LEAST_DIGITS:
-        return False
+        return int(bool(LARGE.fullmatch(cell)))
     parts = PARTS.split(cell.replace(separator, "\n") if separator else cell)
-    return is_telegram(cell) or any(map(is_telegram, parts))
+    return sum(map(is_telegram, parts)) or int(is_telegram(cell) or has_swallowed(cell))
+
+
+def has_telegram(cell: str, separator: str = "") -> bool:
+    """Whether a cell has a telegram."""
+    return telegrams_in(cell, separator) > 0
+
+
+def has_swallowed(cell: str) -> bool:
+    """Whether a cell has line ends, and a telegram among other things."""
+    return len(cell) >= LEAST_DIGITS and bool(LINE_END.search(cell)) and _is_within(cell)
+
+
+def _is_within(text: str) -> bool:
+    """Whether something like a telegram is between any words of a text."""
+    bare = BETWEEN.sub("", unicodedata.normalize("NFKC", text))
+    for groups in GROUPS_WITHIN:
+        bare = groups.sub(lambda found: found[0].replace(found[1], ""), bare)
+    return any(RUN.search(part) and _has_stretch(part) for part in re.split("[,;]", bare))
+
+
+def _has_stretch(text: str) -> bool:
+    """Whether it has a stretch of at least 40 characters of which nine of ten are digits."""
+    sums = [0, *accumulate(1 if DIGITS.match(each) else -9 for each in text)]
+    least: Iterable[int] = accumulate(sums, min)
+    return any(map(le, least, sums[LEAST_DIGITS:]))
 
 
 def fill_heads(rows: List[List[str]], areas: Sequence[Area]) -> None:
@@ -121,18 +208,13 @@ def end_of_heading(row: int, areas: Sequence[Area], columns: Collection[int]) ->
 
 
 def fill(rows: List[List[str]], areas: Sequence[Area], heading: int, columns: Collection[int]) -> None:
-    """Fills the areas below the heading in these columns. A row that is empty stays so."""
-    filled, most = 0, len(rows) * len(columns)
+    """Fills the areas below the heading in these columns. A row that is empty stays so. No areas overlap."""
     for left, top, right, bottom in areas:
         value = _value(rows, left, top)
         within = [column + 1 for column in columns if left <= column + 1 <= right]
         if not value or not within or top <= heading:
             continue
-        part = rows[top - 1 : bottom]
-        filled += len(part) * len(within)
-        if filled > most:
-            raise TableError("its merged ranges overlap: save the workbook again")
-        for row in part:
+        for row in rows[top - 1 : bottom]:
             for column in within if any(map(str.strip, row)) else ():
                 _put(row, column, value)
 

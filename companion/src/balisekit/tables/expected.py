@@ -1,22 +1,29 @@
 """A sheet of variables that somebody expects, as `table` writes one."""
 from __future__ import annotations
 
-from dataclasses import dataclass
-from typing import Callable, Iterator, List, Mapping, Optional, Tuple
+import re
+from dataclasses import dataclass, replace
+from typing import Callable, Iterator, List, Mapping, Optional, Sequence, Set, Tuple
 
 from balisekit.errors import TableError, TableErrors, faults_of
 from balisekit.io import inputs
 from balisekit.io.csv_writing import plain
 from balisekit.tables import csv as csv_file, own_headings, xlsx as xlsx_file
 from balisekit.tables.encoding import WORKBOOKS
-from balisekit.tables.cells import ERROR, Sheet, kind_and_text
-from balisekit.tables.headings import Headings
+from balisekit.tables.beside import SWALLOWED, names_of
+from balisekit.tables.cells import ERROR, LINE_END, PARTS, Sheet, kind_and_text
+from balisekit.tables.headings import Headings, alike
+from balisekit.tables.names import NAMED, listed
 from balisekit.tables.reader import head_of
 
 ONE_OF = (("group", "identity"), ("raw", "value"))
 """A sheet needs one of each of these."""
 NO_VALUE = "neither raw nor value: there is nothing to compare"
+HAS_SWALLOWED = f"has line ends and a variable in it: {SWALLOWED}"
 OTHER_KINDS = ("date", "truth value")
+VARIABLE = re.compile("[A-Z]+(_[A-Z0-9]+)+|user bits|other data")
+"""What a cell of the column variable looks like, wherever it is."""
+SEPARATORS = re.compile("[,;\t]")
 Cells = Mapping[str, str]
 """The cells of a row by the names of the columns."""
 
@@ -31,6 +38,11 @@ class Expected:
     """Where each column is."""
     heading: int
     """The row of the headings, counted from 1."""
+    width: int
+    """How many cells the row of the headings has."""
+    separator: str
+    own: Tuple[str, ...]
+    """The headings that are in it because a file of settings states them."""
     is_text: bool
     source: Callable[[], Iterator[List[str]]]
 
@@ -53,19 +65,37 @@ class Expected:
         places = [self.places[name] for name in ONE_OF[1] if name in self.places]
         return any(kind_and_text(row[place])[1].strip() for place in places if place < len(row))
 
-    def look_at(self) -> None:
-        """TableErrors is raised for cells that cannot be compared, and TableError if there is no row."""
+    def look_at(self) -> Set[int]:
+        """The columns that are not read although they have something in them.
+
+        TableErrors is raised for cells that cannot be compared, and TableError if there is no row.
+        """
         faults: List[TableError] = []
         row: List[str] = []
+        used: Set[int] = set()
+        others = set(range(self.width)).difference(self.places.values())
         for number, row in self._filled():
-            for name, place in self.places.items():
-                why = _fault(name, row[place] if place < len(row) else "")
-                faults += [TableError(why, number, name)] if why else []
-            faults += [] if self._has_value(row) else [TableError(NO_VALUE, number)]
+            faults += self._faults(number, row)
+            used.update(at for at in others.difference(used) if any(map(str.strip, row[at : at + 1])))
         if faults:
             raise TableErrors(faults)
         if not row:
             raise TableError("the sheet has no row below its heading")
+        return used
+
+    def _faults(self, number: int, row: List[str]) -> Iterator[TableError]:
+        """Why a row cannot be compared."""
+        if any(map(str.strip, row[self.width :])):
+            yield TableError(f"it has {len(row)} cells, and the heading {self.width}", number)
+        for at, cell in enumerate(row):
+            if at not in self.places.values() and _has_swallowed(cell, self.separator):
+                yield TableError(f"cell {at + 1} {HAS_SWALLOWED}", number)
+        for name, place in self.places.items():
+            why = _fault(name, row[place] if place < len(row) else "")
+            if why:
+                yield TableError(why, number, name)
+        if not self._has_value(row):
+            yield TableError(NO_VALUE, number)
 
 
 def read(path: str, columns: Optional[str] = None) -> Expected:
@@ -75,14 +105,66 @@ def read(path: str, columns: Optional[str] = None) -> Expected:
     with faults_of(path):
         sheet, source = _opened(file.content, headings)
         place, places = head_of(sheet, headings)
-        sheet.look_at_calculated(place + 1)
+        sheet.look_at_calculated(place + 1, len(sheet.rows[place]), places)
         for names in ONE_OF:
             if not places.keys() & set(names):
                 raise TableError(f"no column {' or '.join(names)}: it needs one of them", place + 1)
-        notes = (*sheet.notes, *headings.used(sheet.rows[place]))
-        expected = Expected(path, notes, places, place + 1, sheet.encoding != "xlsx", source)
-        expected.look_at()
-    return expected
+        _look_at_stated(own_headings.found(path, columns), places, place + 1)
+        _look_above(sheet.rows[: place + 1], sheet.separator)
+        width, is_text = len(sheet.rows[place]), sheet.encoding != "xlsx"
+        own = tuple(headings.of_row(sheet.rows[place]).values())
+        expected = Expected(path, (), places, place + 1, width, sheet.separator, own, is_text, source)
+        used = expected.look_at()
+        notes = (*sheet.notes, *headings.used(sheet.rows[place]), *_notes(sheet, place, places, used))
+    return replace(expected, notes=notes)
+
+
+def _look_at_stated(found: own_headings.Found, places: Mapping[str, int], row: int) -> None:
+    """Raises TableError if [expect] names a column that the sheet lacks: its cells would not be compared."""
+    for name, heading in found.tables.get(own_headings.EXPECT_TABLE, {}).items():
+        if name not in places:
+            raise TableError(f'no column {name}: by [expect] of {found.path} its heading is "{heading}"', row)
+
+
+def _look_above(rows: Sequence[Sequence[str]], separator: str) -> None:
+    """Raises TableErrors if the rows down to that of the headings have rows of the sheet among or in them."""
+    above = (
+        number for number, row in enumerate(rows[:-1], 1) if any(map(VARIABLE.fullmatch, row)) and _filled(row) > 2
+    )
+    cells = ((number, at, cell) for number, row in enumerate(rows, 1) for at, cell in enumerate(row, 1))
+    within = (
+        TableError(f"cell {at} {HAS_SWALLOWED}", row) for row, at, cell in cells if _has_swallowed(cell, separator)
+    )
+    faults = [*(TableError("it has a variable, and is not below the headings", number) for number in above), *within]
+    if faults:
+        raise TableErrors(faults)
+
+
+def _filled(row: Sequence[str]) -> int:
+    return sum(1 for cell in row if cell.strip())
+
+
+def _notes(sheet: Sheet, place: int, places: Mapping[str, int], used: Set[int]) -> Iterator[str]:
+    """Notes on what is not compared: rows above the headings, columns with unknown headings, and other sheets."""
+    if place:
+        yield f"the headings of the sheet are in row {place + 1}: what is above them is not compared"
+    heads = names_of(sheet.rows[place])
+    lacks = [name for name in own_headings.SHEET if name not in places]
+    meant = {at: alike(heads[at].lower(), lacks) for at in sorted(used)}
+    names = [f'{heads[at]}{f" (did you mean {name}?)" if name else ""}' for at, name in meant.items()]
+    if names:
+        yield f"columns of the sheet that are not compared: {listed(names, NAMED)}"
+    if sheet.others:
+        yield f"sheets of its workbook that are not compared: {listed(sheet.others, NAMED)}"
+
+
+def _has_swallowed(cell: str, separator: str) -> bool:
+    """Whether a cell has line ends, and a row with a variable."""
+    if not LINE_END.search(cell):
+        return False
+    text = cell.replace(separator, ";") if separator else cell
+    parts = (part.strip(' "') for part in PARTS.split(text))
+    return len(SEPARATORS.findall(text)) > 1 and any(map(VARIABLE.fullmatch, parts))
 
 
 def _opened(content: bytes, headings: Headings) -> Tuple[Sheet, Callable[[], Iterator[List[str]]]]:
@@ -96,6 +178,8 @@ def _opened(content: bytes, headings: Headings) -> Tuple[Sheet, Callable[[], Ite
 def _fault(column: str, cell: str) -> str:
     """Why a cell cannot be compared, or nothing."""
     kind, text = kind_and_text(cell)
+    if "\n" in text or "\r" in text:
+        return "the cell contains a line end"
     if kind in OTHER_KINDS:
         return f"a {kind}: the spreadsheet has changed it; make the column text"
     if ERROR.fullmatch(text.strip()):

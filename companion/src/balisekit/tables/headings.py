@@ -105,9 +105,14 @@ class Headings(NamedTuple):
             return max(filled, key=lambda place: (len(self.places(rows[place])), -place), default=0)
         return max((place for place in filled if place < data), default=data)
 
+    def of_row(self, row: Sequence[str]) -> Dict[str, str]:
+        """The headings of the user's own that the row has, by their columns."""
+        names = compared(row)
+        return {name: own for name, own in self.own.items() if compared([own])[0] in names}
+
     def used(self, row: Sequence[str]) -> List[str]:
         """A note on the headings of the user's own that the row has."""
-        names = [f'{name} is "{shown(own)}"' for name, own in self.own.items() if compared([own])[0] in compared(row)]
+        names = [f'{name} is "{shown(own)}"' for name, own in self.of_row(row).items()]
         return [f"headings by {self.source}: {', '.join(names)}"] if names else []
 
 

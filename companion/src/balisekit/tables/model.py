@@ -74,6 +74,8 @@ class Table:
     """What became of the telegrams of the file, as far as the table was read."""
     notes: Tuple[str, ...] = ()
     """What the user should know about how the table was read."""
+    own: Tuple[str, ...] = ()
+    """The headings that are in it because a file of settings states them."""
     meant: Tuple[str, ...] = ()
     """Of the first 1,000 headings that are passed over: the one for which each may have been mistyped, or nothing."""
 

@@ -104,6 +104,8 @@ def _read(path: str) -> Dict[str, Dict[str, Any]]:
         check = tables[CHECK_TABLE]
         for name in FILES.intersection(check if isinstance(check, dict) else ()):
             if isinstance(check[name], str):
+                if not check[name].strip():
+                    raise TableError(f'[check] {name} is empty: write {name} = "{name}.csv"')
                 check[name] = inputs.claimed(os.path.join(os.path.dirname(path), check[name]))
         if form and tables[COLUMNS_TABLE]:
             raise TableError(f"{next(iter(form))} is outside of [columns]: put all headings of the table there")

@@ -32,10 +32,10 @@ from typing import Callable, Dict, Iterator, List, Mapping, NamedTuple, Optional
 from balisekit.errors import TableError, TableErrors, faults_of
 from balisekit.io import inputs
 from balisekit.io.csv_writing import plain
-from balisekit.tables import csv as csv_file, plan_values as values
+from balisekit.tables import csv as csv_file, decimal_commas, plan_values as values
 from balisekit.tables.cells import ERROR, GREATEST_NAME, Sheet
 from balisekit.tables.headings import Headings, alike, compared
-from balisekit.tables.names import kilometre
+from balisekit.tables.names import clean, kilometre
 from balisekit.tables.plan_values import Terms, Value
 from balisekit.tables.reader import head_of, kilometre_of
 
@@ -74,6 +74,7 @@ class PlanRow(NamedTuple):
     km: Decimal
     km_to: Optional[Decimal] = None
     track: str = ""
+    """With the escapes of all outputs, as the name: a plan that was written is read as the same."""
     way: int = 0
     """1 for rising kilometres, -1 for falling ones, 0 for both."""
     value: Value = None
@@ -123,7 +124,7 @@ class Plan:
 
     def places(self, kind: str, track: str, way: int) -> Sequence[PlanRow]:
         """The rows of a kind for trains of one way of a track, in the order of the kilometres."""
-        return self._lanes.get((kind, track, way), ())
+        return self._lanes.get((kind, clean(track), way), ())
 
     @cached_property
     def _lanes(self) -> Mapping[Lane, Sequence[PlanRow]]:
@@ -156,12 +157,12 @@ class Plan:
         """The points between two kilometres of a track, both included, at which trains of this way may leave it."""
         low, high = min(begin, end), max(begin, end)
         rows = self.places("point", track, way) if way else self.of_kind("point")
-        return [row for row in rows if row.track == track and low <= row.km <= high]
+        return [row for row in rows if row.track == clean(track) and low <= row.km <= high]
 
 
 def aspect_name(group: str, aspect: str) -> str:
     """What a plan calls an aspect of the table."""
-    return group if aspect in ("", "*") else f"{group}/{aspect}"
+    return clean(group if aspect in ("", "*") else f"{group}/{aspect}")
 
 
 def read(path: str) -> Plan:
@@ -178,7 +179,7 @@ def cells(row: PlanRow) -> Sequence[str]:
     """A row as a plan writes it, in the order of COLUMNS."""
     km = "" if row.kind == "aspect" and not row.km else kilometre(row.km)
     km_to = "" if row.km_to is None else kilometre(row.km_to)
-    return row.kind, km, km_to, row.track, WAY_WORDS[row.way], _value_text(row), row.name
+    return row.kind, km, km_to, clean(row.track), WAY_WORDS[row.way], _value_text(row), clean(row.name)
 
 
 def _value_text(row: PlanRow) -> str:
@@ -226,6 +227,8 @@ def _rows(sheet: Sheet, place: int, places: Mapping[str, int]) -> Tuple[PlanRow,
             except TableError as fault:
                 fault.row = number
                 faults.append(fault)
+    for name in ("km", "km_to"):
+        faults += decimal_commas.faults(sheet, place + 1, width, places, name)
     faults += _clashes(rows)
     if faults:
         raise TableErrors(faults)
@@ -267,7 +270,7 @@ def _row(number: int, cells: Mapping[str, str]) -> PlanRow:
         raise TableError("an aspect needs a name: SIGNAL/ASPECT", column="name")
     km, km_to = _kilometres(kind, cells)
     value = _read("value", lambda text: _value(kind, text), cells)
-    return PlanRow(number, kind, km, km_to, cells["track"], way, value, cells["name"])
+    return PlanRow(number, kind, km, km_to, clean(cells["track"]), way, value, clean(cells["name"]))
 
 
 def _kilometres(kind: str, cells: Mapping[str, str]) -> Tuple[Decimal, Optional[Decimal]]:

@@ -9,7 +9,7 @@ from typing import Any, Callable, Dict, Iterator, List, Mapping, Optional, Seque
 
 from balisekit.errors import TableError, TableErrors, faults_of
 from balisekit.io import inputs
-from balisekit.tables import beside, csv as csv_file, own_headings
+from balisekit.tables import beside, csv as csv_file, decimal_commas, own_headings
 from balisekit.tables.cells import (
     COLUMNS,
     DIGITS,
@@ -61,24 +61,25 @@ def read(
         cells = sheet_of(file.content, headings, sheet, fill_merged)
         place, places = head_of(cells, headings)
         not_there = beside.skip(cells.rows[place], places, skip_columns, place + 1)
-        begin = end_of_heading(place + 1, cells.merged, places.values())
+        begin = end_of_heading(place + 1, cells.filled, places.values())
         named = _take_names(cells, place, places)
         passed_over = _passed_over(cells, place, places)
         meant = tuple(_meant(name, places) for name in passed_over[:COMPARED])
         try:
-            cells.look_at_calculated(begin)
+            cells.look_at_calculated(begin, len(cells.rows[place]), places)
             in_columns = beside.telegrams(cells, begin, places["telegram"])
             rows = _rows(cells, places, begin, len(cells.rows[place]))
             grouped = groups_of(rows, by_position, place + 1)
         except (TableError, TableErrors) as error:
             raise TableErrors([*_hints(passed_over, meant, place, named), *error.faults]) from error
     about = path, file.sha256, cells.encoding, cells.separator
-    not_judged = beside.of_columns(cells, place, places, in_columns, skip_columns)
+    not_judged = beside.of_columns(cells, cells.rows[place], begin, places, in_columns, skip_columns)
     account = beside.account(cells, [row.number for row in rows], passed_over, not_judged)
     of_heading = _notes_on_heading(place, headings.used(cells.rows[place]), named)
     of_file, ordered = (*cells.notes, *own_headings.not_read(path, columns)), [BY_POSITION] if by_position else []
     notes = (*of_file, *of_heading, *not_there, *ordered, *grouped.notes)
-    return Table(*about, passed_over, grouped.rows, grouped.groups, account, notes, meant)
+    own = tuple(headings.of_row(cells.rows[place]).values())
+    return Table(*about, passed_over, grouped.rows, grouped.groups, account, notes, own, meant)
 
 
 def _hints(passed_over: Sequence[str], meant: Sequence[str], place: int, named: bool) -> List[TableError]:
@@ -107,7 +108,7 @@ def head_of(sheet: Sheet, headings: Headings) -> Tuple[int, Dict[str, int]]:
     if not any(any(map(str.strip, row)) for row in sheet.rows):
         raise TableError(f"the table is empty: it needs a row with the headings {' and '.join(headings.needed)}")
     heads = [list(row) for row in sheet.rows[: SEARCHED + 1]]
-    fill_heads(heads, sheet.merged)
+    fill_heads(heads, sheet.filled)
     found = headings.row_of(heads)
     place = headings.likely(heads) if found is None else found
     try:
@@ -119,7 +120,8 @@ def head_of(sheet: Sheet, headings: Headings) -> Tuple[int, Dict[str, int]]:
         why = f"sheet {sheet.name}: {error.why}; --sheet names another sheet: {others}"
         raise TableError(why, error.row) from error
     sheet.rows[place] = heads[place]
-    fill(sheet.rows, sheet.merged, place + 1, places.values())
+    sheet.look_at_covered(place + 1, places)
+    fill(sheet.rows, sheet.filled, place + 1, places.values())
     return place, places
 
 
@@ -143,7 +145,7 @@ def _has_names(sheet: Sheet, place: int, places: Mapping[str, int]) -> bool:
     at = places.get("balise")
     if at is None or "name" in places:
         return False
-    rows = islice(sheet.rows, end_of_heading(place + 1, sheet.merged, places.values()), None)
+    rows = islice(sheet.rows, end_of_heading(place + 1, sheet.filled, places.values()), None)
     filled = filter(str.strip, (row[at] for row in rows if at < len(row)))
     first = next(filled, None)
     return first is not None and _is_name(first) and all(map(_is_name, filled))
@@ -183,7 +185,8 @@ def _rows(sheet: Sheet, places: Dict[str, int], begin: int, width: int) -> Tuple
         values: List[Any] = list(map(getitem, others, others_of(cells)))
         rows.append(Row(number, values[0], telegram, cell.strip(), *values[1:]))
         wide = wide or len(cells) > width + 1
-    faults = list(_faults(sheet, columns, begin, width)) if wide or any(column.faults for column in columns) else []
+    faults = decimal_commas.faults(sheet, begin, width, places)
+    faults += _faults(sheet, columns, begin, width) if wide or any(column.faults for column in columns) else []
     if faults:
         raise TableErrors(faults)
     if not rows:
@@ -234,7 +237,7 @@ def _faults(sheet: Sheet, columns: Sequence[_Column], begin: int, width: int) ->
         for column in columns:
             if cells[column.place] in column.faults:
                 why = column.faults[cells[column.place]]
-                why += ": give --fill-merged" if why == NO_GROUP and sheet.is_merged else ""
+                why += ": give --fill-merged" if why == NO_GROUP and sheet.merged and not sheet.is_filled else ""
                 yield TableError(why, number, column.name)
 
 
@@ -245,7 +248,7 @@ def _telegram(cell: str, kind: str) -> str:
             "and export again"
         )
     if not digits(cell):
-        raise TableError("empty, or a formula whose value is not stored")
+        raise TableError("it is empty")
     return digits(cell)
 
 

@@ -13,7 +13,7 @@ from typing import Any, Callable, Dict, Iterable, Iterator, List, Optional, Patt
 from xml.etree.ElementTree import Element, ParseError, iterparse
 
 from balisekit.errors import KitError, TableError, needed
-from balisekit.tables.cells import GREATEST_NAME, Area, Sheet, fill_heads, is_telegram, of_kind
+from balisekit.tables.cells import GREATEST_NAME, Area, Found, Place, Sheet, fill_heads, of_kind, telegrams_in
 from balisekit.tables.encoding import OLD_WORKBOOK
 from balisekit.tables.headings import SEARCHED, Headings, is_data
 
@@ -30,17 +30,18 @@ GREATEST_COLUMNS = 200
 SHORT_WAY_OUT = "save the table as CSV, or in a workbook of its own"
 
 NAMESPACE = "{http://schemas.openxmlformats.org/spreadsheetml/2006/main}"
-REFERENCE = rb"""[^<]*?\s%b\s*=\s*["']([^"']*)"""
-NO_VALUE = rb"[^<]*(?:</[^<]*)?(?:<[^\s<>/]*v\s*/>\s*|<[^\s<>/]*v\s*>\s*</[^<]*)?</[^<]*c\s*>"
-"""What follows a formula whose value is not stored, up to the end of its cell."""
+REFERENCE = rb"""[^<]*?\sref\s*=\s*["']([^"']*)"""
 PLACES = 6
 """Numbers are rounded to as many decimal places as a kilometre can have: later digits of sums are wrong."""
-FORMULAS = "formulas without a stored value, read as empty: {count}, the first {first}"
 MERGED = (
-    "merged ranges, of which only the first cell is not empty: {count}, the first {first}; --fill-merged takes its "
-    "value for all cells"
+    "merged ranges, whose empty cells are read as empty: {count}, the first {first}; --fill-merged takes the value of "
+    "the first cell for them"
 )
-FILLED = "merged ranges, whose cells all have the value of the first one: {count}, the first {first}"
+FILLED = "merged ranges, whose empty cells are read with the value of the first one: {count}, the first {first}"
+BESIDE = "telegrams in comments, text boxes and other parts that are not read: {count}, the first in {first}"
+CELLS = re.compile(r"xl/(worksheets/[^/]*|sharedStrings)\.xml", re.IGNORECASE)
+"""The parts of a workbook that have cells."""
+TEXT = re.compile(""">([^<]{40,})<|"([^"<]{40,})"|'([^'<]{40,})'""")
 CELL_TAGS = ("}c", "c")
 """How the name of the element of a cell ends, whatever its namespace."""
 DATES = (datetime.date, datetime.time, datetime.timedelta)
@@ -67,14 +68,15 @@ def read(content: bytes, name: Optional[str], headings: Headings = Headings(), f
             raise TableError(f"{named - len(all_sheets)} of its {named} sheets cannot be found in it: {SHORT_WAY_OUT}")
         _look_at_names("sheet", [each.title for each in all_sheets])
         sheet, note = _chosen(book, name, headings, fill_merged)
-        formulas, merged = _read_as_empty(sheet)
-        not_calculated: List[int] = []
-        rows, areas = _cells(_rows(sheet, not_calculated)), _areas(merged) if fill_merged else ()
-        notes = (note, *_notes(formulas, FORMULAS), *_notes(merged, FILLED if fill_merged else MERGED))
+        merged = _merged(sheet)
+        not_calculated: List[Place] = []
+        rows, areas = _cells(_rows(sheet, not_calculated)), _areas(merged)
+        beside = _telegrams_beside_cells(content) if "telegram" in headings.needed else []
+        notes = (note, *_notes(beside, BESIDE), *_notes(merged, FILLED if fill_merged else MERGED))
         others = tuple(other.title for other in all_sheets if other is not sheet)
-        found = _telegrams_of_others(book, sheet) if "telegram" in headings.needed else {}
-        is_merged, is_chosen = bool(merged) and not fill_merged, name is not None
-        return Sheet("xlsx", "", rows, notes, sheet.title, others, areas, is_merged, found, is_chosen, not_calculated)
+        found = _found_in_others(book, sheet) if "telegram" in headings.needed else {}
+        is_chosen = name is not None
+        return Sheet("xlsx", "", rows, notes, sheet.title, others, areas, fill_merged, found, is_chosen, not_calculated)
 
 
 def _unreadable(error: Exception, row: Optional[int] = None) -> Exception:
@@ -157,11 +159,12 @@ def _tag(name: bytes, xml: bytes) -> Pattern[bytes]:
     return re.compile(b"<" + prefix + name + rb"(?=[\s/>])")
 
 
-def _rows(sheet: Any, not_calculated: Optional[List[int]] = None) -> Iterator[List[Any]]:
+def _rows(sheet: Any, not_calculated: Optional[List[Place]] = None) -> Iterator[List[Any]]:
     """The values of each row of a sheet, also of rows that it skips. TableError is raised for what openpyxl raises.
 
-    `not_calculated` gets the numbers of rows that are empty only because the values of their formulas are not stored.
+    `not_calculated` gets the cells that are empty only because the values of their formulas are not stored.
     """
+    formulas = [] if not_calculated is None else not_calculated
     number = 0
     try:
         for row, parse_cell in _elements(sheet):
@@ -171,10 +174,7 @@ def _rows(sheet: Any, not_calculated: Optional[List[int]] = None) -> Iterator[Li
                 why = f"it follows row {before} in the workbook, which is damaged: save it again"
                 raise TableError(why, row=number)
             yield from ([] for _ in range(before + 1, number))
-            values = _values(row, number, parse_cell)
-            if not_calculated is not None and not any(values):
-                not_calculated += [number] * any(map(_is_not_calculated, row.iterfind(f"{NAMESPACE}c")))
-            yield values
+            yield _values(row, number, parse_cell, formulas)
     except Exception as error:
         raise _unreadable(error, number) from error
 
@@ -203,8 +203,8 @@ def _number(text: str) -> int:
     return int(text) if re.fullmatch(r"\s*-?[0-9]{1,20}\s*", text) else 0
 
 
-def _values(row: Element, number: int, parse_cell: ParseCell) -> List[Any]:
-    """The values of a row."""
+def _values(row: Element, number: int, parse_cell: ParseCell, not_calculated: List[Place]) -> List[Any]:
+    """The values of a row. `not_calculated` gets its cells with formulas whose values are not stored."""
     from openpyxl.utils import column_index_from_string
 
     values: List[Any] = []
@@ -214,6 +214,8 @@ def _values(row: Element, number: int, parse_cell: ParseCell) -> List[Any]:
         if skipped < 0:
             raise TableError("its cells are not in the order of their columns: save the workbook again", row=number)
         values += [*[None] * skipped, _value(cell, parse_cell)]
+        if values[-1] is None and _is_not_calculated(cell):
+            not_calculated.append((number, len(values) - 1))
     return values
 
 
@@ -268,27 +270,28 @@ def _chosen(book: Any, name: Optional[str], headings: Headings, fill_merged: boo
     return sheet, f"the sheet is {sheet.title}{', which is hidden' * hidden}; hidden and filtered rows are read as well"
 
 
-def _telegrams_of_others(book: Any, chosen: Any) -> Dict[str, Sequence[int]]:
-    """The rows of cells that look like telegrams in the sheets that are not read, hidden ones among them."""
-    found: Dict[str, Sequence[int]] = {}
+def _found_in_others(book: Any, chosen: Any) -> Dict[str, Found]:
+    """What is found in the sheets that are not read, hidden ones among them."""
+    found: Dict[str, Found] = {}
     for sheet in book.worksheets:
         try:
-            numbers = list(_telegrams(sheet)) if sheet is not chosen else []
+            found.update({sheet.title: _found(sheet)} if sheet is not chosen else {})
         except Exception as error:
             fault = _unreadable(error)
             raise TableError(f"sheet {sheet.title}: {fault}") if isinstance(fault, TableError) else fault from error
-        found.update({sheet.title: numbers} if numbers else {})
     return found
 
 
-def _telegrams(sheet: Any) -> Iterator[int]:
-    """The row of each cell that looks like a telegram, in a sheet whose rows and cells may be in any order."""
-    number = 0
+def _found(sheet: Any) -> Found:
+    """What is found in a sheet whose rows and cells may be in any order."""
+    found, number = Found([], []), 0
     for row, parse_cell in _elements(sheet):
         number = _number(row.get("r", "")) or number + 1
         for cell in row.iterfind(f"{NAMESPACE}c"):
-            if is_telegram(_text(_value(cell, parse_cell))):
-                yield number
+            value = _value(cell, parse_cell)
+            found.telegrams.extend([number] * telegrams_in(_text(value)))
+            found.formulas.extend([number] * (value is None and _is_not_calculated(cell)))
+    return found
 
 
 def _head(sheet: Any, fill_merged: bool) -> List[List[str]]:
@@ -300,7 +303,7 @@ def _head(sheet: Any, fill_merged: bool) -> List[List[str]]:
         pass
     rows = _cells(values, widest=None)
     if fill_merged:
-        fill_heads(rows, _areas(_read_as_empty(sheet)[1]))
+        fill_heads(rows, _areas(_merged(sheet)))
     return rows
 
 
@@ -313,15 +316,23 @@ def _cells(values_of_rows: Iterable[List[Any]], widest: Optional[int] = GREATEST
     return rows
 
 
-def _read_as_empty(sheet: Any) -> Tuple[List[str], List[str]]:
-    """The cells that are read as empty although a spreadsheet shows something in them: formulas, and merged areas."""
+def _telegrams_beside_cells(content: bytes) -> List[str]:
+    """The part of each telegram that is in no cell, but in a comment or a text box, for example."""
+    found: List[str] = []
+    with zipfile.ZipFile(io.BytesIO(content)) as parts:
+        for name in parts.namelist():
+            if name.endswith(".xml") and not CELLS.fullmatch(name):
+                texts = TEXT.findall(parts.read(name).decode("utf-8", "replace"))
+                found += [name] * sum(telegrams_in("".join(text)) for text in texts)
+    return found
+
+
+def _merged(sheet: Any) -> List[str]:
+    """The merged ranges of a sheet."""
     with sheet._get_source() as part:
         xml = part.read()
-    cell, formula, merged = (_tag(name, xml).pattern for name in (b"c", b"f", b"mergeCell"))
-    no_value = cell + REFERENCE % b"r" + b"[^<]*" + formula + NO_VALUE
-    found = re.findall(no_value, xml) if re.search(formula, xml) else []
-    ranges = re.findall(merged + REFERENCE % b"ref", xml)
-    return [place.decode("utf-8", "replace") for place in found], [area.decode("utf-8", "replace") for area in ranges]
+    ranges = re.findall(_tag(b"mergeCell", xml).pattern + REFERENCE, xml)
+    return [area.decode("utf-8", "replace") for area in ranges]
 
 
 def _notes(places: Sequence[str], what: str) -> List[str]:

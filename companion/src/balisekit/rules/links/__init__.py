@@ -1,28 +1,23 @@
-"""The rules L1 to L9: what the groups of a line say of each other, against the kilometres of the table."""
+"""The rules L: what the groups of a line say of each other, against the kilometres of the table."""
 from __future__ import annotations
 
 from collections import Counter
 from typing import Iterator, Sequence, Tuple
 
 from balisekit.rules.applied import Applied, look_for
+from balisekit.rules.discovery import rules_of
 from balisekit.rules.line import BY_LINKS, Line
-from balisekit.rules.links.l1_unknown_group import RULE as L1
 from balisekit.rules.links.l2_distance import RULE as L2
-from balisekit.rules.links.l3_orientation import RULE as L3
-from balisekit.rules.links.l4_unlinked_group import RULE as L4
-from balisekit.rules.links.l5_single_balise import RULE as L5
-from balisekit.rules.links.l6_unknown_identity import RULE as L6
-from balisekit.rules.links.l7_open_profile import RULE as L7
-from balisekit.rules.links.l8_late_profile import RULE as L8
-from balisekit.rules.links.l9_passed_over import RULE as L9
-from balisekit.rules.location import BaliseGroup
+from balisekit.rules.location import IN_JUMP, BaliseGroup
+from balisekit.rules.passed_over import PassedOver
 from balisekit.rules.rule import Options, Rule
 from balisekit.tables.names import clean, describe_group
 
-RULES = (L1, L2, L3, L4, L5, L6, L7, L8, L9)
-__all__ = ["L2", "RULES", "Links", "compare", "notes_on"]
+RULES = rules_of(__name__, __path__)
+__all__ = ["L2", "RULES", "Links", "compare", "notes_on", "passed_over"]
 SHOWN = 20
 """How many notes with one reason are written. The others are counted."""
+NOT_THERE = "its group is not in the table, and its distances are not compared"
 INFILL = "it counts from the group of packet 136, and is not compared"
 Note = Tuple[str, str]
 """What it is about, and the reason."""
@@ -47,9 +42,19 @@ def notes_on(line: Line) -> Iterator[str]:
     yield from (f"and {count - SHOWN} more: {why}" for why, count in counted.items() if count > SHOWN)
 
 
+def passed_over(line: Line) -> Iterator[PassedOver]:
+    """The groups and messages that some of these rules do not look at."""
+    yield from (PassedOver(group.group, _lacks(line, group)) for group in line.groups if _lacks(line, group))
+    chains = {chain.location.message.number: chain for chain in line.chains if chain.location.message}
+    for chain in chains.values():
+        why = _lacks(line, chain.sender) if chain.sender else NOT_THERE
+        if why and chain.location.message:
+            yield PassedOver(chain.location.message, why)
+
+
 def _all(line: Line) -> Iterator[Note]:
     for group in line.groups:
-        why = _lacks(group)
+        why = _lacks(line, group) or (BY_LINKS if group.by_links else "")
         if why:
             yield describe_group(group.group), why
         first = line.passages.by_identity.get(group.identity) if group.identity else None
@@ -59,18 +64,18 @@ def _all(line: Line) -> Iterator[Note]:
     yield from ((str(chain.location), INFILL) for chain in line.passages.infill_chains)
     for chain in line.chains:
         if chain.sender is None:
-            yield str(chain.location), "its group is not in the table, and its distances are not compared"
+            yield str(chain.location), NOT_THERE
 
 
-def _lacks(group: BaliseGroup) -> str:
+def _lacks(line: Line, group: BaliseGroup) -> str:
     if group.identity is None:
         return "no telegram of it could be read, so its identity is not known: L1 counts links that may be to it"
-    if group.km is None:
-        return "it has no kilometre: L2 and L9 do not look at it"
+    if line.places[group.number] is None:
+        return f"it has {'no kilometre' if group.km is None else IN_JUMP}: L2 and L9 do not look at it"
     if group.rising is None:
         differ = ", because the links that name it disagree" if group.links_differ else ""
         return (
             f"its direction along the kilometres is not known{differ}: L3 does not look at it, and L2 takes "
             "the direction from the first link; write rising or falling in the column nominal"
         )
-    return BY_LINKS if group.by_links else ""
+    return ""

@@ -37,7 +37,7 @@ from typing import Iterator, Optional, Sequence, Set, Union
 from balisekit.rules.chainage import Chainage
 from balisekit.rules.line import Line
 from balisekit.rules.link_steps import jumps_of, steps_of
-from balisekit.rules.location import BaliseGroup, incomparable
+from balisekit.rules.location import IN_JUMP, BaliseGroup, incomparable
 from balisekit.rules.passages import Chain
 from balisekit.rules.rule import Options, Remark, Result, Rule, Urgency
 
@@ -73,7 +73,7 @@ def compare(
             continue
         wanted = _apart(base, here, places)
         if wanted is None:
-            yield "no kilometre"
+            yield IN_JUMP
             continue
         if along is None:
             along = (wanted > 0) - (wanted < 0) or None

@@ -31,7 +31,7 @@ from typing import Iterator, Union
 
 from balisekit.etcs.geometry import NOMINAL, REVERSE
 from balisekit.rules.line import Line
-from balisekit.rules.location import ANOTHER_TRACK, NOT_IN_TABLE
+from balisekit.rules.location import ANOTHER_TRACK, NO_DIRECTION, NOT_IN_TABLE
 from balisekit.rules.passages import Chain
 from balisekit.rules.rule import Options, Remark, Result, Rule, Urgency
 
@@ -51,7 +51,7 @@ def _look_at(line: Line, chain: Chain) -> Iterator[Union[Remark, str, None]]:
         elif here.balises == 1:
             yield ""
         elif here.rising is None or along is None:
-            yield "no direction along the kilometres"
+            yield NO_DIRECTION
         elif here.track != sender.track:
             yield ANOTHER_TRACK
         elif (here.rising == along) == link.nominal:

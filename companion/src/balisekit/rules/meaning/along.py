@@ -2,8 +2,23 @@
 from __future__ import annotations
 
 from bisect import bisect_left
+from collections import Counter
 from decimal import Decimal
-from typing import Dict, Iterator, List, Mapping, NamedTuple, Optional, Sequence, Set, Tuple
+from typing import (
+    Callable,
+    Dict,
+    Iterable,
+    Iterator,
+    List,
+    Mapping,
+    NamedTuple,
+    Optional,
+    Protocol,
+    Sequence,
+    Set,
+    Tuple,
+    TypeVar,
+)
 
 from balisekit.rules.decoded import LINKING, Decoded, GroupData, Packet, Passage, allowance
 from balisekit.rules.line import Line
@@ -21,6 +36,17 @@ FAR = 100_000
 """In decimetres: how far in rear a refused packet 5 may be that leads to a place."""
 REPOSITIONED = 5000
 """In decimetres: how near to its link a balise with repositioning information is."""
+
+
+class HasPlace(Protocol):
+    """What is at a place of the track."""
+
+    @property
+    def place(self) -> int:
+        """In decimetres."""
+
+
+Thing = TypeVar("Thing", bound=HasPlace)
 
 
 class End(NamedTuple):
@@ -61,7 +87,7 @@ def _ends(decoded: Decoded) -> Iterator[End]:
     known: Set[Tuple[int, str]] = set()
     for passage in decoded.passages:
         for packet in passage.said:
-            if (packet.number == 12 and packet.form["v_main"] or packet.number == 15) and passage.way is not None:
+            if passage.way is not None and is_authority(packet):
                 key = id(packet), passage.direction
                 place = passage.place(packet.end) if key not in known else None
                 if place is not None:
@@ -97,6 +123,17 @@ def is_named(decoded: Decoded, options: Options, end: End, within: int) -> bool:
     within += decoded.tolerance(options.tolerance_of_places, allowance(end.packet, end.packet.lengths))
     near = (each for at, each in names_of(decoded, end.passage) if abs(at - end.distance) <= within)
     return any(each is None or each.place is None or each.group.track != end.passage.track for each in near)
+
+
+def passed_over(decoded: Decoded, is_meant: Callable[[Packet], bool]) -> Counter[str]:
+    """How many packets have no known place, each once in each direction, by the reason."""
+    unplaced = ((packet, passage) for passage in decoded.unplaced for packet in passage.said if is_meant(packet))
+    return Counter({(id(packet), passage.direction): passage.lacks for packet, passage in unplaced}.values())
+
+
+def is_authority(packet: Packet) -> bool:
+    """Whether it is a packet 12 with a V_MAIN above 0, or a packet 15."""
+    return packet.number == 15 or packet.number == 12 and bool(packet.form["v_main"])
 
 
 def lane_of(passage: Passage) -> Lane:
@@ -150,6 +187,18 @@ def _lasts_and_signals(decoded: Decoded) -> Dict[Lane, Tuple[int, List[int]]]:
 def unread_of(decoded: Decoded) -> Iterator[Tuple[str, Optional[int]]]:
     """Tracks and places of groups with a refused telegram."""
     return ((data.group.track, data.place) for data in decoded.groups if data.group.unread)
+
+
+def parts(some: Iterable[Thing], apart: int) -> Iterator[List[Thing]]:
+    """Things in the order of their places, those together that are at most so far apart."""
+    part: List[Thing] = []
+    for each in some:
+        if part and each.place - part[-1].place > apart:
+            yield part
+            part = []
+        part.append(each)
+    if part:
+        yield part
 
 
 def rear(place: int, way: int, length: int) -> Extent:

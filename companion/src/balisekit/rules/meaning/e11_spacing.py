@@ -2,9 +2,9 @@
 
 What it says. Neighbouring balises of a group are less than 2.3 m or more than 12 m apart by their kilometres, or their
 order contradicts the column `nominal`. This column states whether the kilometres rise or fall in nominal direction.
-With a `--line-speed` above 180 km/h the least spacing is 3.0 m. One unit of the last decimal of the kilometres is
-allowed in either direction. The rule passes over a group whose balises all have the same kilometre (SUBSET-036 and
-SUBSET-040, installation of balise groups).
+With a `--line-speed` above 180 km/h the least spacing is 3.0 m. One unit of the last decimal of the kilometres, at
+most 1 m, is allowed in either direction. The rule passes over a group whose balises all have the same kilometre
+(SUBSET-036 and SUBSET-040, installation of balise groups).
 
 Why it matters. At worst the train has a wrong position, because distances of the group count from its first balise.
 Balises that are too close disturb each other, so a train might miss one. A balise that is too far away is not taken for
@@ -29,11 +29,12 @@ How sure. 88 %, because the distances are from memory.
 """
 from __future__ import annotations
 
+from collections import Counter
 from decimal import Decimal
 from typing import Dict, Iterator, List, Tuple
 
 from balisekit.rules.line import Line
-from balisekit.rules.location import BaliseGroup, Location
+from balisekit.rules.location import NO_KILOMETRE, BaliseGroup, Location
 from balisekit.rules.meaning.words import balises_of
 from balisekit.rules.rule import Options, Remark, Result, Rule, Urgency
 from balisekit.tables.model import Row
@@ -43,6 +44,8 @@ LEAST, LEAST_FAST, GREATEST = Decimal("2.3"), Decimal("3.0"), Decimal(12)
 """In metres."""
 FAST = 180
 """Above this line speed in km/h the greater least spacing holds."""
+ONE_KILOMETRE = "one kilometre for the group"
+"""Why balises are not compared: many tables have only the kilometre of the group."""
 WORDS = {"rising": 1, "falling": -1}
 Place = Tuple[Row, Decimal]
 """A balise with its kilometre."""
@@ -52,13 +55,17 @@ def find(line: Line, options: Options) -> Result:
     """Looks at each two neighbours of a group."""
     least = LEAST_FAST if options.line_speed is not None and options.line_speed > FAST else LEAST
     unit, found, looked_at = Decimal(line.decoded.resolution) / 10, [], 0
+    skipped: Counter[str] = Counter()
     for group in line.groups:
         known = _places(group)
+        neighbours = [(known[each - 1], known[each]) for each in known if each - 1 in known]
+        skipped[NO_KILOMETRE] += group.balises - 1 - len(neighbours)
         if len({km for _, km in known.values()}) > 1:
-            neighbours = [(known[each - 1], known[each]) for each in known if each - 1 in known]
             looked_at += len(neighbours)
             found += [*_spacing(group, neighbours, least, unit), *_direction(group, list(known.values()))]
-    return Result(found, looked_at)
+        else:
+            skipped[ONE_KILOMETRE] += len(neighbours)
+    return Result.of_places(found, looked_at, {}, skipped)
 
 
 def _places(group: BaliseGroup) -> Dict[int, Place]:
@@ -76,8 +83,7 @@ def _spacing(
         limit = f"less than {least}" if metres < least else f"more than {GREATEST}"
         sentence = (
             f"the balise is at km {kilometre(km)}, {_number(metres)} m from the one before it in the group, row "
-            f"{before.number}: that is {limit} m, and one unit of the last decimal of the kilometres is "
-            f"{_number(unit)} m"
+            f"{before.number}: that is {limit} m, and {_number(unit)} m is allowed for the rounding of the kilometres"
         )
         yield Remark("E11", Location(group, row), sentence, values={"spacing_m": metres}, others=(before.number,))
 

@@ -39,7 +39,20 @@ from typing import Dict, Iterator, List, Optional, Sequence, Tuple
 from balisekit.etcs.variables import metres
 from balisekit.rules.decoded import Decoded, GroupData, allowance
 from balisekit.rules.line import Line
-from balisekit.rules.meaning.along import End, Lane, ends_of, extents_of, is_named, lane_of, leaves, names_of
+from balisekit.rules.location import BEHIND_POINT
+from balisekit.rules.meaning.along import (
+    End,
+    Lane,
+    ends_of,
+    extents_of,
+    is_authority,
+    is_named,
+    lane_of,
+    leaves,
+    names_of,
+    parts,
+    passed_over,
+)
 from balisekit.rules.meaning.words import at_place, merged, source
 from balisekit.rules.rule import Options, Remark, Result, Rule, Urgency
 
@@ -54,8 +67,10 @@ def find(line: Line, options: Options) -> Result:
     linked: Dict[Tuple[Lane, GroupData], List[End]] = {}
     unlinked: Dict[Lane, List[End]] = {}
     ends: List[Tuple[Lane, End]] = []  # (those that are not at the group to which they lead)
+    beyond: Counter[str] = Counter()
     for end in ends_of(decoded):
         if leaves(options, decoded, end.passage, end.place):
+            beyond[BEHIND_POINT] += 1
             continue
         lane, looked_at = lane_of(end.passage), looked_at + 1
         target = _target(decoded, end)
@@ -70,14 +85,14 @@ def find(line: Line, options: Options) -> Result:
     for (_, target), some in linked.items():
         found.update((end.key, remark) for end, remark in _compare(decoded, options, some, target))
     for some in unlinked.values():
-        for part in _parts(some):
+        for part in parts(sorted(some, key=lambda each: each.place), ALONE):
             found.update((end.key, remark) for end, remark in _compare(decoded, options, part))
     extents = extents_of(decoded) if ends else {}
     for lane, end in ends:
         low, high = extents.get(lane, NOWHERE)
         if end.key not in found and low <= end.place <= high:
             found.update((end.key, remark) for remark in _between(decoded, options, end))
-    return Result(merged(found.values()), looked_at)
+    return Result.of_places(merged(found.values()), looked_at, passed_over(decoded, is_authority), beyond)
 
 
 def _target(decoded: Decoded, end: End) -> Optional[GroupData]:
@@ -96,17 +111,6 @@ def _target(decoded: Decoded, end: End) -> Optional[GroupData]:
     if target is None or target.place is None or by_links is None or abs(by_links - target.place) > NEAR:
         return None
     return target
-
-
-def _parts(ends: List[End]) -> Iterator[List[End]]:
-    """Ends without packets 5 that are near each other, together."""
-    part: List[End] = []
-    for end in sorted(ends, key=lambda each: each.place):
-        if part and end.place - part[-1].place > ALONE:
-            yield part
-            part = []
-        part.append(end)
-    yield part
 
 
 def _compare(

@@ -26,6 +26,7 @@ How sure. 87 %, by practice and memory of the standard.
 """
 from __future__ import annotations
 
+from collections import Counter
 from dataclasses import dataclass
 from decimal import Decimal
 from typing import Dict, Iterator, List, Sequence, Tuple
@@ -33,10 +34,23 @@ from typing import Dict, Iterator, List, Sequence, Tuple
 from balisekit.rules.decoded import GRADIENTS, SPEEDS, Decoded, Packet, allowance
 from balisekit.rules.line import Line
 from balisekit.rules.meaning.along import leaves
-from balisekit.rules.meaning.profiles import Piece, Profiles, lanes_of, longest_difference, pairs, pieces_of
+from balisekit.rules.meaning.profiles import (
+    Piece,
+    Profiles,
+    cause_of,
+    lanes_of,
+    longest_difference,
+    pairs,
+    pieces_of,
+    unplaced_of,
+)
 from balisekit.rules.meaning.sent import field_at
 from balisekit.rules.meaning.words import more_stretches, source
 from balisekit.rules.rule import Options, Remark, Result, Rule, Urgency
+
+
+ALONE = "the only group of its track"
+"""Why profiles are compared with no others."""
 
 
 @dataclass(frozen=True)
@@ -52,12 +66,16 @@ class Difference:
 def find(line: Line, options: Options) -> Result:
     """Compares the profiles of each group with those of the groups ahead."""
     decoded, found, looked_at = line.decoded, [], 0
+    alone: Counter[str] = Counter()
     for number in (SPEEDS, GRADIENTS):
-        for lane in lanes_of(decoded, number).values():
+        for (track, _), lane in lanes_of(decoded, number).items():
+            if len(decoded.along[track]) == 1 < len(decoded.along):
+                alone[ALONE] += len(lane)
+                continue
             differences = [each for one in pairs(lane) for each in _difference(decoded, options, *one)]
             looked_at += len(lane)
             found += list(_remarks(decoded, differences))
-    return Result(found, looked_at)
+    return Result.of_places(found, looked_at, Counter(unplaced_of(decoded, SPEEDS, GRADIENTS).values()), alone)
 
 
 def _difference(decoded: Decoded, options: Options, rear: Profiles, ahead: Profiles, low: int) -> Iterator[Difference]:
@@ -92,7 +110,7 @@ def _remarks(decoded: Decoded, differences: Sequence[Difference]) -> Iterator[Re
         if counts[id(each.rear)] == counts[id(each.ahead)]:
             piece = each.pieces[0]
             is_rear = bool(
-                _cause(each.rear, each.ahead, piece, True) or not _cause(each.ahead, each.rear, piece, False)
+                cause_of(each.rear, each.ahead, piece, True) or not cause_of(each.ahead, each.rear, piece, False)
             )
         by_group.setdefault(id(each.rear if is_rear else each.ahead), []).append((each, is_rear))
     for some in by_group.values():
@@ -112,7 +130,7 @@ def _remark(decoded: Decoded, some: Sequence[Tuple[Difference, bool]]) -> Remark
     shown = [f"{value * factor:{'+' if factor == 1 else ''}} {unit}" for value in (own_value, other_value)]
     sentence = (
         f"{name} is {shown[0]} from {decoded.km(track, piece.low * way)} to {decoded.km(track, piece.high * way)}, and "
-        f"{shown[1]} by {source(other.passage, other.packet)}{_cause(*groups, piece, is_rear)}{more_stretches(more)}"
+        f"{shown[1]} by {source(other.passage, other.packet)}{cause_of(*groups, piece, is_rear)}{more_stretches(more)}"
     )
     values = {f"{name.lower()}": Decimal(own_value * factor), f"other_{name.lower()}": Decimal(other_value * factor)}
     alike = [each.packet.row for each in piece.alike(own) if each.packet.row]
@@ -130,18 +148,6 @@ def _row(difference: Difference, is_rear: bool) -> int:
     piece = difference.pieces[0]
     packet: Packet = (piece.ahead if is_rear else piece.rear).packet
     return packet.row.number if packet.row else 0
-
-
-def _cause(own: Profiles, other: Profiles, piece: Piece, is_rear: bool) -> str:
-    """What looks like the cause, if the first group is the wrong one."""
-    aspects = (piece.rear, piece.ahead) if is_rear else (piece.ahead, piece.rear)
-    value, other_value = (each.value_at(piece.low) for each in aspects)
-    if aspects[0].packet.number == SPEEDS and value == 5 * other_value:
-        return ": is V_STATIC in km/h instead of steps of 5 km/h?"
-    if aspects[0].packet.number == GRADIENTS and value == -other_value:
-        return ": is Q_GDIR wrong?"
-    factor = own.longest.scale_of(other.longest)
-    return f": are its distances {factor}, by Q_SCALE?" if factor else ""
 
 
 RULE = Rule("E13", "profiles of groups", __doc__ or "", find, Urgency.WRONG_INFORMATION, needs_kilometres=True)

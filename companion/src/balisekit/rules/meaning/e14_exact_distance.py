@@ -46,7 +46,8 @@ LEAST, SHARE = 5, 5
 
 def find(line: Line, options: Options) -> Result:
     """Looks at each link between two groups of one track."""
-    steps = list(steps_of(line))
+    skipped = Counter(line.infill_links)
+    steps = list(steps_of(line, skipped))
     least = line.decoded.tolerance(options.tolerance_of_places)
     differing = [each for each in steps if abs(each.difference) > least + rounding(each.link.unit, each.lengths)]
     wrong = set(map(id, differing))
@@ -66,7 +67,7 @@ def find(line: Line, options: Options) -> Result:
     for step in within:
         if step.here.track not in many:
             found += _remarks(line, step, least)
-    return Result(found, len(steps), notes=notes)
+    return Result(found, sum(len(each.chains) for each in steps), skipped, notes)
 
 
 def _explains(jump: Jump, step: Step, tolerance: int) -> bool:

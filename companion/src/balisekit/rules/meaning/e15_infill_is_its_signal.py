@@ -48,11 +48,12 @@ from balisekit.rules.rule import Field, Options, Remark, Result, Rule, Urgency
 from balisekit.tables.names import clean, describe_identity
 
 COMPARED = (12, 21, 27, 80)
+NO_ASPECT = "no such aspect of the signal"
 
 
 def find(line: Line, options: Options) -> Result:
     """Looks at what follows each packet 136."""
-    decoded, found, looked_at = line.decoded, [], 0
+    decoded, found, looked_at, skipped = line.decoded, [], 0, 0
     unknown: List[Tuple[Passage, Packet, Identity]] = []
     for passage in decoded.passages:
         reference = passage.reference
@@ -61,9 +62,10 @@ def find(line: Line, options: Options) -> Result:
             identity = reference.form.get("nid_c", country), reference.form["nid_bg"]
             target = decoded.by_identity.get(identity)
             if target is not None:
-                looked_at += 1
+                signal = _signal(decoded, passage, target)
+                looked_at, skipped = looked_at + (signal is not None), skipped + (signal is None)
                 ahead = list(_ahead(passage, passage.group, reference, target))
-                found += ahead or list(_differences(decoded, passage, target))
+                found += ahead or list(_differences(signal, passage, target))
             elif identity[1] != NOT_KNOWN:
                 unknown.append((passage, reference, identity))
     extents, notes = extents_of(decoded) if unknown else {}, set()
@@ -78,7 +80,8 @@ def find(line: Line, options: Options) -> Result:
             looked_at += 1
             values = {"nid_c": Decimal(identity[0]), "nid_bg": Decimal(identity[1])}
             found.append(Remark("E15", passage.at(reference), words, None, values))
-    return Result(merged(found), looked_at, notes=sorted(notes))
+    result = Result.of_places(merged(found), looked_at, {}, {NO_ASPECT: skipped})
+    return result._replace(notes=sorted(notes))
 
 
 def _may_be_refused(line: Line, passage: Passage) -> bool:
@@ -122,9 +125,8 @@ def _signal(decoded: Decoded, passage: Passage, target: GroupData) -> Optional[P
     return next(same, None)
 
 
-def _differences(decoded: Decoded, passage: Passage, target: GroupData) -> Iterator[Remark]:
+def _differences(signal: Optional[Passage], passage: Passage, target: GroupData) -> Iterator[Remark]:
     """One remark on all packets of an aspect that differ from those of the signal."""
-    signal = _signal(decoded, passage, target)
     words: List[str] = []
     others: List[int] = []
     values: Dict[str, Decimal] = {}

@@ -31,13 +31,14 @@ How sure. 95 %, by practice and memory of the standard.
 """
 from __future__ import annotations
 
+from collections import Counter
 from decimal import Decimal
-from typing import Dict, Iterator, Tuple
+from typing import Dict, Iterator, Optional, Tuple
 
 from balisekit.etcs.geometry import DIRECTIONS
 from balisekit.rules.decoded import GroupData, Packet
 from balisekit.rules.line import Line
-from balisekit.rules.location import BaliseGroup, Location
+from balisekit.rules.location import IN_JUMP, NO_KILOMETRE, BaliseGroup, Location
 from balisekit.rules.meaning.along import FAR, Passed, rear
 from balisekit.rules.passages import WITHOUT_DIRECTION, Chain, Link
 from balisekit.rules.rule import Options, Remark, Result, Rule, Urgency
@@ -51,16 +52,17 @@ Named = Dict[int, Dict[int, Tuple[Chain, Link]]]
 
 def find(line: Line, options: Options) -> Result:
     """Looks at each single balise."""
-    passed, found = Passed(line), []
+    passed, found, lacks = Passed(line), [], Counter[str]()
     single = [data for data in line.decoded.groups if data.group.balises == 1]
     named = _named(line) if single else {}
     all_named = {link.identity for chain in (*line.chains, *line.passages.infill_chains) for link in chain.links}
     for data in single:
         links = named.get(data.group.number, {})
         found += list(_directions(data.group, links))
-        if data.group.linked and data.group.identity not in all_named:
+        if data.group.linked and data.group.identity not in all_named and _of_one_direction(data):
             found += list(_unnamed(line, passed, data))
-    return Result(found, len(single))
+            lacks[NO_KILOMETRE if data.group.km is None else IN_JUMP] += data.place is None
+    return Result(found, len(single) - sum(lacks.values()), lacks)
 
 
 def _named(line: Line) -> Named:
@@ -102,7 +104,7 @@ def _source(chain: Chain) -> str:
 
 def _unnamed(line: Line, passed: Passed, data: GroupData) -> Iterator[Remark]:
     """A packet for one direction of a balise that no packet 5 names."""
-    packet = next((each for each in _packets(data) if each.form.get("q_dir", 2) != 2), None)
+    packet = _of_one_direction(data)
     if packet is None or packet.row is None:
         return
     direction = DIRECTIONS[1 - packet.form["q_dir"]]
@@ -122,6 +124,11 @@ def _unnamed(line: Line, passed: Passed, data: GroupData) -> Iterator[Remark]:
     )
     where = Location(data.group, packet.row, None, packet.place, direction, None, packet.number, packet.n_pig)
     yield Remark("E16", where, sentence, values={"km": Decimal(place) / 10_000})
+
+
+def _of_one_direction(data: GroupData) -> Optional[Packet]:
+    """The first packet that holds in one direction only."""
+    return next((each for each in _packets(data) if each.form.get("q_dir", 2) != 2), None)
 
 
 def _packets(data: GroupData) -> Iterator[Packet]:

@@ -39,7 +39,7 @@ from balisekit.etcs.variables import metres
 from balisekit.rules.decoded import LINKING, Decoded, GroupData, Passage
 from balisekit.rules.line import Line
 from balisekit.rules.location import NOT_KNOWN
-from balisekit.rules.meaning.along import FAR, End, ends_of, lane_of, leaves, rear, unread_of
+from balisekit.rules.meaning.along import FAR, End, ends_of, is_authority, lane_of, leaves, passed_over, rear, unread_of
 from balisekit.rules.meaning.reach import LESS, Reach, lanes_of_links
 from balisekit.rules.meaning.words import merged
 from balisekit.rules.rule import Options, Remark, Result, Rule, Urgency
@@ -49,15 +49,16 @@ def find(line: Line, options: Options) -> Result:
     """Compares each end of authority with the links."""
     decoded = line.decoded
     ends = [end for end in ends_of(decoded) if end.packet.number == 12]
+    lacks = passed_over(decoded, lambda packet: packet.number == 12 and is_authority(packet))
     if ends and _is_without_links(decoded):
         if line.lost_messages or any(unread_of(decoded)):
-            return Result([], 0)
+            return Result([], 0, lacks)
         before = " before a packet 136" if LINKING in decoded.sent else ""
         sentence = f"no group or message has a packet 5 (linking){before}, and authorities have a V_MAIN above 0"
-        return Result([Remark("E17", ends[0].passage.at(), sentence)], len(ends))
+        return Result([Remark("E17", ends[0].passage.at(), sentence)], len(ends), lacks)
     lanes, known = lanes_of_links(decoded), [end for end in ends if not _may_be_linked(line, end)]
     found = [remark for end in known for remark in _look_at(decoded, options, lanes[lane_of(end.passage)], end)]
-    return Result(merged(found), len(known))
+    return Result(merged(found), len(known), lacks)
 
 
 def _may_be_linked(line: Line, end: End) -> bool:

@@ -36,13 +36,14 @@ How sure. 88 %, by practice and memory of the standard.
 from __future__ import annotations
 
 from collections import Counter
-from typing import Iterator, List, Optional, Sequence, Tuple
+from typing import Iterator, Optional, Sequence, Tuple
 
 from balisekit.etcs.variables import metres
 from balisekit.rules.decoded import Decoded
 from balisekit.rules.line import Line
-from balisekit.rules.meaning.along import unread_of
-from balisekit.rules.meaning.orders import NEAR, Order, orders_of, without_direction
+from balisekit.rules.location import ANOTHER_TRACK
+from balisekit.rules.meaning.along import parts, unread_of
+from balisekit.rules.meaning.orders import NEAR, Order, orders_of, unplaced_orders, without_direction
 from balisekit.rules.meaning.words import at_place, merged, source
 from balisekit.rules.rule import Options, Remark, Result, Rule, Urgency
 
@@ -53,27 +54,17 @@ Unknown = Sequence[Tuple[str, Optional[int]]]
 def find(line: Line, options: Options) -> Result:
     """Compares the orders for one place."""
     decoded, found, looked_at = line.decoded, [], 0
+    leaving: Counter[str] = Counter()
     unknown = [*without_direction(decoded), *unread_of(decoded)]
     for orders in orders_of(decoded).values():
         staying = [order for order in orders if not _leaves(decoded, order)]
         looked_at += len(staying)
-        for part in _parts(staying):
+        leaving[ANOTHER_TRACK] += len(orders) - len(staying)
+        for part in parts(staying, NEAR):
             usual = _usual(part)
             found += list(_compare(decoded, options, part, usual, unknown))
             found += [] if usual.is_now else list(_unordered(decoded, usual, unknown))
-    return Result(merged(found), looked_at)
-
-
-def _parts(orders: Sequence[Order]) -> Iterator[List[Order]]:
-    """The orders of one transition, together."""
-    part: List[Order] = []
-    for order in orders:
-        if part and order.place - part[-1].place > NEAR:
-            yield part
-            part = []
-        part.append(order)
-    if part:
-        yield part
+    return Result.of_places(merged(found), looked_at, unplaced_orders(decoded), leaving)
 
 
 def _leaves(decoded: Decoded, order: Order) -> bool:

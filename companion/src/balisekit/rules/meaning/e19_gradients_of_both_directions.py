@@ -28,14 +28,16 @@ How sure. 87 %, by practice and memory of the standard.
 """
 from __future__ import annotations
 
+from collections import Counter
 from decimal import Decimal
 from typing import Iterator, Optional
 
+from balisekit.etcs.geometry import NOMINAL, REVERSE
 from balisekit.etcs.variables import metres
 from balisekit.rules.decoded import GRADIENTS, Decoded, allowance
 from balisekit.rules.line import Line
 from balisekit.rules.meaning.both_ways import DOWN, UP, Both, joined, least, may_differ, steps
-from balisekit.rules.meaning.profiles import lanes_of
+from balisekit.rules.meaning.profiles import lanes_of, unplaced_of
 from balisekit.rules.meaning.words import source
 from balisekit.rules.rule import Options, Remark, Result, Rule, Urgency
 
@@ -54,7 +56,15 @@ def find(line: Line, options: Options) -> Result:
             own = [[step for each in some for step in steps(each.longest, way)] for some, way in zip(both, (1, -1))]
             found += list(_uphill(decoded, options, least(own[0], own[1], True)))
             found += list(_downhill(decoded, least(own[0], own[1], False)))
-    return Result(found, looked_at)
+    return Result.of_places(found, looked_at, _unplaced(decoded))
+
+
+def _unplaced(decoded: Decoded) -> Counter[str]:
+    """How many groups have gradients for both directions, and none of them at a known place."""
+    why = unplaced_of(decoded, GRADIENTS)
+    return Counter(
+        each for (number, data, way), each in why.items() if way == NOMINAL and (number, data, REVERSE) in why
+    )
 
 
 def _uphill(decoded: Decoded, options: Options, stretches: Iterator[Both]) -> Iterator[Remark]:

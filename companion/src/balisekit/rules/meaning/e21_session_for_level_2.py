@@ -32,7 +32,7 @@ from typing import Dict, List, Optional, Sequence, Tuple
 from balisekit.etcs.variables import Around, value_words
 from balisekit.rules.decoded import LEVELS, Decoded, Packet, Passage
 from balisekit.rules.line import NOWHERE, Line
-from balisekit.rules.meaning.along import Lane, lane_of, unread_of
+from balisekit.rules.meaning.along import Lane, lane_of, passed_over, unread_of
 from balisekit.rules.rule import Options, Remark, Result, Rule, Urgency
 
 SESSION, CONDITIONAL, BY_RADIO = 42, 46, (3, 4)
@@ -43,17 +43,23 @@ def find(line: Line, options: Options) -> Result:
     decoded = line.decoded
     sessions = _sessions(decoded)
     lacking: Dict[Lane, List[Tuple[int, Passage, Packet]]] = {}
+    lacks = passed_over(decoded, lambda packet: packet.number in (LEVELS, CONDITIONAL) and _is_by_radio(packet))
     looked_at = 0
     for passage in decoded.passages:
         place, way = passage.group.place if passage.group else None, passage.way
         if place is None or way is None:
             continue
         for packet in passage.of(LEVELS, CONDITIONAL):
-            if any(each["m_leveltr"] in BY_RADIO for each in packet.form.get("transitions", ())):
+            if _is_by_radio(packet):
                 looked_at += 1
                 if sessions.get(lane_of(passage), place * way + 1) > place * way:
                     lacking.setdefault(lane_of(passage), []).append((place * way, passage, packet))
-    return Result([_remark(line, lane[1], some) for lane, some in lacking.items()], looked_at)
+    return Result([_remark(line, lane[1], some) for lane, some in lacking.items()], looked_at, lacks)
+
+
+def _is_by_radio(packet: Packet) -> bool:
+    """Whether it names level 2 or 3."""
+    return any(each["m_leveltr"] in BY_RADIO for each in packet.form.get("transitions", ()))
 
 
 def _sessions(decoded: Decoded) -> Dict[Lane, int]:

@@ -33,7 +33,7 @@ from typing import Dict, Iterator, List, NamedTuple, Sequence, Tuple
 from balisekit.etcs.variables import Values, metres
 from balisekit.rules.decoded import Decoded, Packet, Passage, tolerance_of_lengths
 from balisekit.rules.line import Line
-from balisekit.rules.meaning.along import lane_of
+from balisekit.rules.meaning.along import lane_of, parts, passed_over
 from balisekit.rules.meaning.words import at_place, merged, source
 from balisekit.rules.rule import Options, Remark, Result, Rule, Urgency
 
@@ -77,9 +77,15 @@ def find(line: Line, options: Options) -> Result:
     decoded, found, looked_at = line.decoded, [], 0
     for some in _restrictions(decoded).values():
         looked_at += len(some)
-        for part in _parts(some):
+        for part in parts(some, NEAR):
             found += list(_compare(decoded, options, part))
-    return Result(merged(found), looked_at)
+    return Result(merged(found), looked_at, passed_over(decoded, _is_restriction))
+
+
+def _is_restriction(packet: Packet) -> bool:
+    """Whether it is a packet 65 that can be revoked."""
+    fields: Values = packet.form
+    return packet.number == RESTRICTION and fields.get("nid_tsr", NOT_REVOCABLE) != NOT_REVOCABLE
 
 
 def _restrictions(decoded: Decoded) -> Dict[Tuple[str, int, int], List[Restriction]]:
@@ -88,24 +94,13 @@ def _restrictions(decoded: Decoded) -> Dict[Tuple[str, int, int], List[Restricti
     for passage in decoded.passages:
         for packet in passage.said:
             form: Values = packet.form
-            if packet.number == RESTRICTION and form.get("nid_tsr", NOT_REVOCABLE) != NOT_REVOCABLE:
+            if _is_restriction(packet):
                 place = passage.place(form["d_tsr"] * packet.unit) if passage.way is not None else None
                 if place is not None:
                     own = found.setdefault((*lane_of(passage), form["nid_tsr"]), {})
                     restriction = Restriction(place, form["l_tsr"] * packet.unit, form["v_tsr"] * 5, passage, packet)
                     own[id(packet), passage.direction] = restriction
     return {lane: sorted(own.values(), key=lambda each: each.place) for lane, own in found.items()}
-
-
-def _parts(some: Sequence[Restriction]) -> Iterator[List[Restriction]]:
-    """Those near each other, together."""
-    part: List[Restriction] = []
-    for each in some:
-        if part and each.place - part[-1].place > NEAR:
-            yield part
-            part = []
-        part.append(each)
-    yield part
 
 
 def _is_rest(one: Restriction, other: Restriction, tolerance: int) -> bool:

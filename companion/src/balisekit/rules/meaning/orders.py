@@ -1,12 +1,14 @@
 """The orders of level transitions, packets 41, at their places."""
 from __future__ import annotations
 
+from collections import Counter
 from decimal import Decimal
 from typing import Dict, Iterator, List, NamedTuple, Optional, Sequence, Tuple
 
 from balisekit.etcs.geometry import NOMINAL
 from balisekit.etcs.variables import Around, value_words
 from balisekit.rules.decoded import LEVELS, Decoded, Packet, Passage
+from balisekit.rules.location import NO_DIRECTION
 from balisekit.rules.meaning.along import Lane
 
 BOTH_DIRECTIONS, NOW, NEAR = 2, 32_767, 5000
@@ -24,7 +26,7 @@ class Order(NamedTuple):
     @property
     def is_now(self) -> bool:
         """Whether it is for the place of its group."""
-        return self.packet.form["d_leveltr"] in (0, NOW)
+        return is_now(self.packet)
 
     @property
     def along(self) -> int:
@@ -52,6 +54,11 @@ class Order(NamedTuple):
         )
 
 
+def is_now(packet: Packet) -> bool:
+    """Whether a packet 41 is for the place of its group."""
+    return packet.form["d_leveltr"] in (0, NOW)
+
+
 def orders_of(decoded: Decoded) -> Dict[Lane, List[Order]]:
     """All orders of each track and way: what several aspects have in common once."""
     found: Dict[Lane, Dict[Tuple[int, str], Order]] = {}
@@ -66,11 +73,25 @@ def orders_of(decoded: Decoded) -> Dict[Lane, List[Order]]:
     return {lane: sorted(own.values(), key=lambda each: each.place) for lane, own in found.items()}
 
 
+def unplaced_orders(decoded: Decoded) -> Counter[str]:
+    """How many orders are in no lane because their place is not known, each once in each direction, by the reason.
+
+    An order for both directions needs no direction of its group, and E5 reports it if it gives a distance.
+    """
+    lost: Dict[Tuple[int, str], str] = {}
+    for passage in decoded.unplaced:
+        for packet in passage.of(LEVELS):
+            is_both = packet.form["q_dir"] == BOTH_DIRECTIONS
+            if not is_both or passage.lacks != NO_DIRECTION and is_now(packet):
+                lost[id(packet), passage.direction] = passage.lacks
+    return Counter(lost.values())
+
+
 def without_direction(decoded: Decoded) -> Iterator[Tuple[str, Optional[int]]]:
     """Tracks and places of groups that have an order at once, and a direction or place that the table does not show."""
     for passage in decoded.passages:
         group = passage.group.group if passage.group else None
         is_known = passage.way is not None and passage.place(0) is not None
         if group and not is_known and (group.linked or group.balises > 1):
-            if any(packet.form["d_leveltr"] in (0, NOW) for packet in passage.of(LEVELS)):
+            if any(map(is_now, passage.of(LEVELS))):
                 yield passage.track, passage.place(0)

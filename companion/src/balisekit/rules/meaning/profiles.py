@@ -148,6 +148,13 @@ def lanes_of(decoded: Decoded, number: int) -> Lanes:
     return found[number]
 
 
+def unplaced_of(decoded: Decoded, *numbers: int) -> Mapping[Tuple[int, GroupData, str], str]:
+    """Why profiles of groups are in no lane: by NID_PACKET, group and direction."""
+    own = ((number, passage) for passage in decoded.unplaced for number in numbers if passage.of(number))
+    groups = ((number, passage.group, passage) for number, passage in own if not passage.message)
+    return {(number, data, passage.direction): passage.lacks for number, data, passage in groups if data}
+
+
 def _of_group(data: GroupData) -> Iterator[Tuple[int, Profiles]]:
     """The profiles of a group with their NID_PACKET."""
     sayings: Dict[Tuple[int, int], List[Tuple[Passage, Packet]]] = {}
@@ -241,6 +248,18 @@ def _continues(before: Piece, piece: Piece) -> bool:
         one.value_at(before.low) == other.value_at(piece.low)
         for one, other in ((before.rear, piece.rear), (before.ahead, piece.ahead))
     )
+
+
+def cause_of(own: Profiles, other: Profiles, piece: Piece, is_rear: bool) -> str:
+    """What looks like the cause, if the first group is the wrong one."""
+    aspects = (piece.rear, piece.ahead) if is_rear else (piece.ahead, piece.rear)
+    value, other_value = (each.value_at(piece.low) for each in aspects)
+    if aspects[0].packet.number == SPEEDS and value == 5 * other_value:
+        return ": is V_STATIC in km/h instead of steps of 5 km/h?"
+    if aspects[0].packet.number == GRADIENTS and value == -other_value:
+        return ": is Q_GDIR wrong?"
+    factor = own.longest.scale_of(other.longest)
+    return f": are its distances {factor}, by Q_SCALE?" if factor else ""
 
 
 def _names(decoded: Decoded, passage: Passage, data: GroupData) -> bool:

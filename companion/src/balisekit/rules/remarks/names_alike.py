@@ -1,7 +1,8 @@
 """names alike: two names look alike and differ.
 
 What it says. Two groups, aspects or tracks of the table have names that differ by characters without ink, by letters of
-another script or by the way an accent is written. Names that differ in case or blanks only have a note of their own.
+another script or by the way an accent is written. Two tracks have names that differ in case or blanks only. Groups of
+which that holds have a note of their own.
 
 Why it matters. To be looked at: what reads as one group or aspect is checked as two.
 
@@ -13,6 +14,7 @@ from __future__ import annotations
 
 import re
 import unicodedata
+from collections import Counter
 from typing import Dict, Iterable, Iterator, Tuple
 
 from balisekit.rules.line import Line
@@ -21,6 +23,7 @@ from balisekit.rules.rule import Options, Remark, Result, Rule
 from balisekit.tables.model import Row
 from balisekit.tables.names import BLANK, quoted
 
+TRACKS = "tracks"
 LOOK_ALIKE = str.maketrans(
     "АВЕЅЗІЈКМНОРСТУХаеѕіјорсухԁԛԝΑΒΕΖΗΙΚΜΝΟΡΤΥΧοѵ‐‑‒–—−", "ABES3IJKMHOPCTYXaesijopcyxdqwABEZHIKMNOPTYXov------"
 )
@@ -33,20 +36,23 @@ def find(line: Line, options: Options) -> Result:
     names = {
         "groups": {group.name: group.aspects[0].rows[0] for group in reversed(line.table_groups)},
         "aspects": {row.aspect: row for row in reversed(rows)},
-        "tracks": {row.track: row for row in reversed(rows)},
+        TRACKS: {row.track: row for row in reversed(rows)},
     }
     found = [remark for what, named in names.items() for remark in _compare(what, named)]
     return Result(sorted(found, key=lambda each: each.location.order), sum(map(len, names.values())))
 
 
 def _compare(what: str, named: Dict[str, Row]) -> Iterator[Remark]:
-    if all(name.isascii() and name.isprintable() for name in named):
+    if what != TRACKS and all(name.isascii() and name.isprintable() for name in named):
         return
     first: Dict[str, str] = {}
     for name, row in reversed(list(named.items())):
         other = first.setdefault(_look(name), name)
         if _folded(other) != _folded(name):
             sentence = f"{what} {quoted(other)} and {quoted(name)} look alike, and differ by {_differing(other, name)}"
+            yield Remark(RULE.name, Location(row=row), sentence)
+        elif what == TRACKS and other != name:
+            sentence = f"{what} {quoted(other)} and {quoted(name)} differ only in case or blanks"
             yield Remark(RULE.name, Location(row=row), sentence)
 
 
@@ -61,8 +67,11 @@ def _look(name: str) -> str:
 
 
 def _differing(one: str, other: str) -> str:
-    """The characters that one of the two has only, apart from those of ASCII."""
-    letters = sorted(each for each in set(one) ^ set(other) if not each.isascii())
+    """The characters of which one of the two has more, apart from visible ones of ASCII."""
+    more = (Counter(one) - Counter(other)) + (Counter(other) - Counter(one))
+    letters = sorted(each for each in more if not (each.isascii() and each.isprintable()))
+    if not letters and not more[" "]:
+        return "the order of their characters"
     named: Iterable[Tuple[str, str]] = ((each, unicodedata.name(each, "")) for each in letters or [" "])
     return ", ".join(f"U+{ord(each):04X} {name}".strip() for each, name in named)
 

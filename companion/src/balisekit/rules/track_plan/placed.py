@@ -13,15 +13,16 @@ from typing import Dict, Iterable, Iterator, Mapping, NamedTuple, Optional, Sequ
 from balisekit.rules.chainage import Chainage
 from balisekit.rules.decoded import Packet, Passage
 from balisekit.rules.line import Line
+from balisekit.rules.location import BEHIND_POINT
 from balisekit.rules.rule import Options, Remark, Result, Urgency
-from balisekit.tables.names import kilometre, rows_words
+from balisekit.tables.names import clean, kilometre, rows_words
 from balisekit.tables.plan import Lane, Plan, PlanRow
 
+__all__ = ["BEHIND_POINT", "Placed", "Saying", "Spot", "nearest", "plan_words", "remark"]
 COMPARED = ("speed", "gradient", "signal", "aspect", "level", "rbc")
 """The kinds of rows that rules compare."""
 SAYS_NOTHING = "the plan says nothing"
 NO_PLACE = "no kilometre or direction"
-BEHIND_POINT = "behind a point of the plan"
 Values = Mapping[str, Decimal]
 Counts = Dict[str, int]
 """How many things were compared, by no reason, and how many were not, by the reason."""
@@ -56,6 +57,8 @@ class Placed:
 
     def __init__(self, line: Line, options: Options) -> None:
         self.decoded, self.plan = line.decoded, options.plan or Plan()
+        self._chainages = {clean(track): chainage for track, chainage in self.decoded.chainages.items()}
+        """By the names of tracks as a plan has them."""
         self._parts: Dict[Lane, Sequence[Part]] = {}
         self._begins: Dict[Lane, Sequence[int]] = {}
         self._limits: Dict[Passage, Optional[int]] = {}
@@ -99,20 +102,20 @@ class Placed:
     def _places(self, row: PlanRow, kind: str) -> Sequence[int]:
         """The place of a row, if it has one. A point where the kilometres are repeated may be at each of its places."""
         if kind == "point":
-            return self.decoded.chainages.get(row.track, Chainage()).places(row.km)
+            return self._chainages.get(row.track, Chainage()).places(row.km)
         place = self.place(row.track, row.km)
         return [] if place is None else [place]
 
     def is_lost(self, kind: str, passage: Passage, place: int, tolerance: int) -> bool:
         """Whether a row without one place may be at this place: a jump repeats its kilometre."""
-        chainage = self.decoded.chainages.get(passage.track, Chainage())
+        chainage = self._chainages.get(clean(passage.track), Chainage())
         rows = self.plan.places(kind, passage.track, passage.way or 0)
         lost = [row for row in rows if chainage.place(row.km) is None]
         return any(abs(each - place) <= tolerance for row in lost for each in chainage.places(row.km))
 
     def place(self, track: str, km: Optional[Decimal]) -> Optional[int]:
         """The place of a kilometre, if it has one."""
-        return self.decoded.chainages.get(track, Chainage()).place(km)
+        return self._chainages.get(clean(track), Chainage()).place(km)
 
     def known_to(self, passage: Passage) -> Optional[int]:
         """The first point at which the train may leave its track, or None if there is none.
@@ -162,7 +165,7 @@ class Placed:
 
     def _notes(self, kinds: Sequence[str]) -> Iterator[str]:
         """The rows of these kinds that no rule can compare."""
-        tracks = {data.group.track for data in self.decoded.groups}
+        tracks = {clean(data.group.track) for data in self.decoded.groups}
         rows = [row for kind in kinds for row in self.plan.of_kind(kind) if kind != "aspect"]
         strange = [row.number for row in rows if row.track not in tracks]
         if strange:

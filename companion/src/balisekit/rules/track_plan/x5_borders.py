@@ -5,11 +5,11 @@ one of its borders. A packet 41 or 131 is compared with the nearest border of it
 46 is compared with the levels beyond the last border in rear. A packet 42 that establishes a session is compared with
 the RBCs beyond the next border ahead and beyond the last one in rear. NID_RBC 16,383 (the last known RBC) is not
 compared. Places may differ by `--tolerance` (0 without it), by one unit of Q_SCALE and by one unit of the last decimal
-of the kilometres. As soon as the plan has one border of a kind for a track and way, it must have all of them. If the
-track begins in the area of an RBC, the plan also needs a row `rbc` in rear of the first group. A border of the plan
-within the table that no packet names is reported at the nearest group. It is not reported if the track has a refused
-telegram, or a packet of its kind without a direction, beyond a `point` or after a packet 136. What follows a packet 136
-is not compared (SUBSET-026, 7.4.2 and 7.5.1).
+of the kilometres, at most 1 m. As soon as the plan has one border of a kind for a track and way, it must have all of
+them. If the track begins in the area of an RBC, the plan also needs a row `rbc` in rear of the first group. A border of
+the plan within the table that no packet names is reported at the nearest group. It is not reported if the track has a
+refused telegram, or a packet of its kind without a direction, beyond a `point` or after a packet 136. What follows a
+packet 136 is not compared (SUBSET-026, 7.4.2 and 7.5.1).
 
 Why it matters. At worst the train gets wrong information. It is in a level that the track does not support there, or
 asks the wrong RBC for its authority.

@@ -1,0 +1,24 @@
+"""Finds the rules of a family: each module `e24_what_is_wrong.py` in its folder has one, called RULE."""
+from __future__ import annotations
+
+import re
+from importlib import import_module
+from pkgutil import iter_modules
+from typing import Iterable, Sequence, Tuple
+
+from balisekit.rules.rule import Rule
+
+MODULE = re.compile(r"[a-z]([1-9][0-9]*)_")
+"""How the name of a module with a rule begins: the letter of its family, and its number."""
+
+
+def rules_of(package: str, folders: Iterable[str]) -> Tuple[Rule, ...]:
+    """The rules in the modules of a package, in the order of their numbers."""
+    names = [module.name for module in iter_modules(folders)]
+    numbers = {name: int(found[1]) for name, found in ((name, MODULE.match(name)) for name in names) if found}
+    return tuple(import_module(f"{package}.{name}").RULE for name in sorted(numbers, key=numbers.__getitem__))
+
+
+def first_to_last(rules: Sequence[Rule]) -> str:
+    """The rules of a family in words: `E1 to E23`."""
+    return f"{rules[0].name} to {rules[-1].name}"

@@ -1,0 +1,83 @@
+"""The groups and messages that rules pass over, because the table does not show where they are along its tracks."""
+from __future__ import annotations
+
+from typing import Callable, Dict, Iterable, Iterator, List, NamedTuple, Union
+
+from balisekit.rules.line import Line
+from balisekit.rules.location import IN_JUMP, BaliseGroup
+from balisekit.tables.model import Group, Message
+from balisekit.tables.names import clean, describe_message, listed
+
+NAMED = 10
+"""How many groups and messages with one reason are named. The others are counted."""
+
+
+class PassedOver(NamedTuple):
+    """A group or message that some rules of a family have not looked at, and why."""
+
+    about: Union[Group, Message]
+    why: str
+
+
+Find = Callable[[Line], Iterator[PassedOver]]
+"""Which groups and messages of a line the rules of a family pass over."""
+
+
+class Rules(NamedTuple):
+    """Rules of a family in words, by what they need of a group."""
+
+    place: str
+    """Those that need its kilometre."""
+    direction: str
+    """Those that need its direction along the kilometres."""
+    others: str = ""
+    """Those that need other groups on its track."""
+
+    def find(self, line: Line) -> Iterator[PassedOver]:
+        """What these rules pass over. A table without kilometres has a line of its own."""
+        for group in line.groups if line.along else ():
+            why = self._of_group(line, group)
+            if why:
+                yield PassedOver(group.group, why)
+        for message, form in line.messages if line.along else ():
+            if form["nid_message"] == 3:
+                named = line.passages.by_identity.get((form["nid_c"], form["nid_bg"]))
+                not_there = f"its group is not in the table, so {self.place} do not place it"
+                why = self._lacks(line, named) if named else not_there
+                if why:
+                    yield PassedOver(message, why)
+
+    def notes(self, line: Line) -> Iterator[str]:
+        """A note for each reason, with the first groups and messages that it is about."""
+        return notes_of(self.find(line))
+
+    def _of_group(self, line: Line, group: BaliseGroup) -> str:
+        why = self._lacks(line, group)
+        is_alone = self.others and any(group.says) and len(line.along.get(group.track, ())) == 1 < len(line.along)
+        if why or not is_alone:
+            return why
+        return f"the only group with a kilometre on its track, so {self.others} compare it with no other group"
+
+    def _lacks(self, line: Line, group: BaliseGroup) -> str:
+        if line.places[group.number] is None:
+            why = "no kilometre" if group.km is None else IN_JUMP
+            return f"{why}, so {self.place} compare no place of the group"
+        if group.rising is None and any(group.says):
+            return (
+                f"direction along the kilometres not known, so {self.direction} compare no place ahead of the group: "
+                "write rising or falling in the column nominal"
+            )
+        return ""
+
+
+def nothing(line: Line) -> Iterator[PassedOver]:
+    """What rules pass over that look at all groups."""
+    return iter(())
+
+
+def notes_of(some: Iterable[PassedOver]) -> Iterator[str]:
+    """A note for each reason."""
+    names: Dict[str, List[str]] = {}
+    for about, why in some:
+        names.setdefault(why, []).append(clean(about.name) if isinstance(about, Group) else describe_message(about))
+    yield from (f"{listed(own, NAMED)}: {why}" for why, own in names.items())
