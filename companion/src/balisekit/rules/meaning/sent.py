@@ -3,7 +3,20 @@ from __future__ import annotations
 
 from collections import Counter
 from decimal import Decimal
-from typing import Callable, Dict, Iterable, Iterator, List, Mapping, NamedTuple, Optional, Sequence, Tuple, TypeVar, Union
+from typing import (
+    Callable,
+    Dict,
+    Iterable,
+    Iterator,
+    List,
+    Mapping,
+    NamedTuple,
+    Optional,
+    Sequence,
+    Tuple,
+    TypeVar,
+    Union,
+)
 
 from balisekit.etcs.geometry import ELEMENT_KEYS
 from balisekit.rules.decoded import Decoded, GroupData, Packet, Passage, Stretch, allowance, tolerance_of_lengths
