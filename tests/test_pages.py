@@ -1,15 +1,13 @@
-"""Pages for people: the numbers that they state, their sentences, and the site that mkdocs makes of them."""
-import html
+"""Pages for people: the numbers that they state, and their sentences."""
 import os
 import re
-import shutil
 
 import pytest
 
 import readability
 from edition.definitions import key_of, lines
 from hostile import GROUPS, STACK
-from runner import TOP, Answer, crate_uses, run
+from runner import TOP, crate_uses
 from variables.table import read_rows
 
 LONGEST = 30
@@ -119,28 +117,3 @@ def test_numbers():
         found = re.findall(text.replace("{}", r"([\d.,]*\d)"), PAGES[page])
         assert {*found} == {str(number)}, (page, text)
     assert len([*TOP.glob("crates/*/must-fail/*.edit")]) <= 6
-
-
-@pytest.mark.slow
-def test_site(tmp_path):
-    """Each link leads to a page and a heading, nothing is fetched from a network, and the search knows each page."""
-    if not shutil.which("mkdocs"):
-        pytest.skip("the site of the pages (mkdocs)")
-    site = tmp_path / "a site"
-    words = "build", "--quiet", "--strict", "--site-dir", site
-    assert run(words, path="mkdocs", cwd=TOP, timeout=None) == Answer(0, "", "")
-    (site / "404.html").unlink()
-    texts = {path: path.read_text("utf-8") for path in site.rglob("*.html")}
-    places = {path: {"", *re.findall(r'\bid="([^"]+)"', text)} for path, text in texts.items()}
-    # (the script of a report of balisekit unpacks what its links lead to)
-    pages = {path: text for path, text in texts.items() if not (TOP / path.relative_to(site)).is_file()}
-    for path, text in pages.items():
-        for link in re.findall(r'<a\b[^>]*? href="(?![a-z]+:|#")([^"]+)"', html.unescape(text)):
-            name, _, place = link.partition("#")
-            target = (path.parent / name).resolve() if name else path
-            assert target.exists() and place in places.get(target, {place}), (path, link)
-    tag = r'<(?:link(?![^>]* rel="canonical")|script|img|iframe)\b[^>]*? (?:href|src)='
-    for path in (*texts, *site.rglob("*.css")):
-        assert not re.search(rf"(?:{tag}|@import|url\()\s*[\"']?(?:https?:)?//", path.read_text("utf-8")), path
-    found = (site / "search/search_index.json").read_text("utf-8")
-    assert "supervised location" in found and all(f'"{path.relative_to(site)}"' in found for path in pages)
