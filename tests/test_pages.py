@@ -11,13 +11,6 @@ from runner import TOP, crate_uses
 from variables.table import read_rows
 
 LONGEST = 30
-# Pages with too many short or long sentences. Rewrite one and remove it here: no page is added.
-TO_REWRITE = frozenset()
-# Pages with words that neither Debian's lists of English words nor the glossary has. No page is added here either.
-WITH_OTHER_WORDS = {
-    "CHANGELOG.md", "SECURITY.md", "docs/assurance/proofs.md", "docs/contributing/architecture.md",
-    "docs/contributing/decisions.md", "docs/contributing/testing.md", "docs/guide.md", "docs/performance.md",
-    "examples/README.md"}
 # A list of licences, and a table that scripts/from_trace.py makes.
 NOT_COUNTED = ("THIRD-PARTY.md", "docs/variables.md")
 PAGES = {name: path.read_text("utf-8") for pattern in ("*.md", "dist/**/*.md", "docs/**/*.md", "examples/**/*.md")
@@ -46,19 +39,18 @@ def test_sentences(name):
 
 @pytest.mark.parametrize("name", PAGES)
 def test_lengths_of_sentences(name):
-    """At most one of ten sentences is short and one of 33 long, apart from pages that are still to be rewritten."""
+    """At most one of ten sentences is short and one of 33 long."""
     shares = readability.of_page(MADE.sub("", PAGES[name]))
     odd = [it for it in shares.sentences if not readability.SHORT <= readability.words(it) <= readability.LONG]
-    assert shares.is_readable == (name not in TO_REWRITE), odd
+    assert shares.is_readable, odd
 
 
 @pytest.mark.parametrize("name", PAGES)
 def test_words(name):
-    """Each word is English or explained in the glossary, apart from pages that are still to be rewritten."""
+    """Each word is English, or the glossary explains it."""
     if not all(path.exists() for path in readability.DICTIONARIES):
         pytest.skip("the words of pages (wamerican, wbritish)")
-    words = readability.unknown(MADE.sub("", PAGES[name]))
-    assert bool(words) == (name in WITH_OTHER_WORDS), words
+    assert readability.unknown(MADE.sub("", PAGES[name])) == set()
 
 
 def test_words_are_found():
