@@ -27,6 +27,7 @@ def on_config(config: Any) -> Any:
     for name in names():
         copy(name)
     write(ROOM / "docs" / "rules.md", rules())
+    shutil.copyfile(Path(__file__).with_name("site.css"), ROOM / "site.css")
     config["docs_dir"] = str(ROOM)
     return config
 
@@ -46,7 +47,7 @@ def copy(name: str) -> None:
         place = ROOM / path.resolve().relative_to(TOP)
         if path.is_dir() and not (path / "README.md").exists():
             shutil.copytree(path, place, dirs_exist_ok=True, ignore=shutil.ignore_patterns("__pycache__"))
-            write(place / "README.md", listing(place))
+            write(place / "README.md", listing(path))
         elif path.is_file() and path.suffix != ".md":
             place.parent.mkdir(parents=True, exist_ok=True)
             shutil.copyfile(path, place)
@@ -66,7 +67,8 @@ def to_a_page(folder: Path, link: "re.Match[str]") -> str:
 
 def listing(folder: Path) -> str:
     """The page of a folder that has none of its own."""
-    files = sorted(path.relative_to(folder).as_posix() for path in folder.rglob("*") if path.is_file())
+    every = (path for path in folder.rglob("*") if path.is_file() and path.parent.name != "__pycache__")
+    files = sorted(path.relative_to(folder).as_posix() for path in every)
     return f"# {folder.name}\n\n" + "".join(f"- [{name}]({name})\n" for name in files)
 
 

@@ -1,8 +1,6 @@
-"""Pages for people: the numbers that they state, their sentences, and the site that mkdocs makes of them."""
-import html
+"""Pages for people: the numbers that they state, and their sentences."""
 import os
 import re
-import shutil
 
 import pytest
 
@@ -10,17 +8,10 @@ import readability
 from edition.definitions import key_of
 from edition.proofs import fewest
 from hostile import GROUPS, STACK
-from runner import TOP, Answer, crate_uses, run
+from runner import TOP, crate_uses
 from variables.table import read_rows
 
 LONGEST = 30
-# Pages with too many short or long sentences. Rewrite one and remove it here: no page is added.
-TO_REWRITE = frozenset()
-# Pages with words that neither Debian's lists of English words nor the glossary has. No page is added here either.
-WITH_OTHER_WORDS = {
-    "CHANGELOG.md", "SECURITY.md", "docs/assurance/proofs.md", "docs/contributing/architecture.md",
-    "docs/contributing/decisions.md", "docs/contributing/testing.md", "docs/guide.md", "docs/performance.md",
-    "examples/README.md"}
 # A list of licences, and a table that scripts/from_trace.py makes.
 NOT_COUNTED = ("THIRD-PARTY.md", "docs/variables.md")
 PAGES = {name: path.read_text("utf-8") for pattern in ("*.md", "dist/**/*.md", "docs/**/*.md", "examples/**/*.md")
@@ -49,19 +40,18 @@ def test_sentences(name):
 
 @pytest.mark.parametrize("name", PAGES)
 def test_lengths_of_sentences(name):
-    """At most one of ten sentences is short and one of 33 long, apart from pages that are still to be rewritten."""
+    """At most one of ten sentences is short and one of 33 long."""
     shares = readability.of_page(MADE.sub("", PAGES[name]))
     odd = [it for it in shares.sentences if not readability.SHORT <= readability.words(it) <= readability.LONG]
-    assert shares.is_readable == (name not in TO_REWRITE), odd
+    assert shares.is_readable, odd
 
 
 @pytest.mark.parametrize("name", PAGES)
 def test_words(name):
-    """Each word is English or explained in the glossary, apart from pages that are still to be rewritten."""
+    """Each word is English, or the glossary explains it."""
     if not all(path.exists() for path in readability.DICTIONARIES):
         pytest.skip("the words of pages (wamerican, wbritish)")
-    words = readability.unknown(MADE.sub("", PAGES[name]))
-    assert bool(words) == (name in WITH_OTHER_WORDS), words
+    assert readability.unknown(MADE.sub("", PAGES[name])) == set()
 
 
 def test_words_are_found():
@@ -120,28 +110,3 @@ def test_numbers():
         found = re.findall(text.replace("{}", r"([\d.,]*\d)"), PAGES[page])
         assert {*found} == {str(number)}, (page, text)
     assert len([*TOP.glob("crates/*/must-fail/*.edit")]) <= 6
-
-
-@pytest.mark.slow
-def test_site(tmp_path):
-    """Each link leads to a page and a heading, nothing is fetched from a network, and the search knows each page."""
-    if not shutil.which("mkdocs"):
-        pytest.skip("the site of the pages (mkdocs)")
-    site = tmp_path / "a site"
-    words = "build", "--quiet", "--strict", "--site-dir", site
-    assert run(words, path="mkdocs", cwd=TOP, timeout=None) == Answer(0, "", "")
-    (site / "404.html").unlink()
-    texts = {path: path.read_text("utf-8") for path in site.rglob("*.html")}
-    places = {path: {"", *re.findall(r'\bid="([^"]+)"', text)} for path, text in texts.items()}
-    # (the script of a report of balisekit unpacks what its links lead to)
-    pages = {path: text for path, text in texts.items() if not (TOP / path.relative_to(site)).is_file()}
-    for path, text in pages.items():
-        for link in re.findall(r'<a\b[^>]*? href="(?![a-z]+:|#")([^"]+)"', html.unescape(text)):
-            name, _, place = link.partition("#")
-            target = (path.parent / name).resolve() if name else path
-            assert target.exists() and place in places.get(target, {place}), (path, link)
-    tag = r'<(?:link(?![^>]* rel="canonical")|script|img|iframe)\b[^>]*? (?:href|src)='
-    for path in (*texts, *site.rglob("*.css")):
-        assert not re.search(rf"(?:{tag}|@import|url\()\s*[\"']?(?:https?:)?//", path.read_text("utf-8")), path
-    found = (site / "search/search_index.json").read_text("utf-8")
-    assert "supervised location" in found and all(f'"{path.relative_to(site)}"' in found for path in pages)
