@@ -2,14 +2,13 @@
 
 The site is made of a copy of the repository's pages beside it, in out/pages, in which each keeps its folder. So their
 links lead to the same files as in the repository. Files and folders that a page links to are copied too, and a folder
-gets a list of its files. The page docs/rules.md is made of the texts of balisekit's rules.
+gets a list of its files.
 """
 from __future__ import annotations
 
 import re
 import shutil
 import subprocess
-import sys
 from pathlib import Path
 from typing import Any, Iterator, List
 
@@ -26,7 +25,6 @@ def on_config(config: Any) -> Any:
     shutil.rmtree(ROOM, ignore_errors=True)
     for name in names():
         copy(name)
-    write(ROOM / "docs" / "rules.md", rules())
     shutil.copyfile(Path(__file__).with_name("site.css"), ROOM / "site.css")
     config["docs_dir"] = str(ROOM)
     return config
@@ -70,24 +68,6 @@ def listing(folder: Path) -> str:
     every = (path for path in folder.rglob("*") if path.is_file() and path.parent.name != "__pycache__")
     files = sorted(path.relative_to(folder).as_posix() for path in every)
     return f"# {folder.name}\n\n" + "".join(f"- [{name}]({name})\n" for name in files)
-
-
-def rules() -> str:
-    """The page of each rule, as `balisekit check --explain` has them."""
-    sys.dont_write_bytecode = True
-    sys.path.insert(0, str(TOP / "companion" / "src"))
-    from balisekit.present.explanations import pages, with_assumptions
-    from balisekit.rules.families import FAMILIES
-
-    parts = ["# Every rule in full\n", "For engineers who look for the cause of a finding or remark.\n"]
-    for family in FAMILIES.values():
-        for name, page in pages(family):
-            parts.append(f"## {name}: {page.title}\n")
-            for head, text in page.parts.items():
-                first, *assumptions = with_assumptions(head, text)
-                parts.append(first.replace(f"{head}.", f"**{head}.**", 1) + "\n")
-                parts += ["".join(f"- {each}\n" for each in assumptions)] if assumptions else []
-    return "\n".join(parts)
 
 
 def write(path: Path, text: str) -> None:

@@ -7,6 +7,7 @@ import re
 import shutil
 from hashlib import sha256
 from pathlib import Path
+from urllib.parse import unquote
 
 import pytest
 
@@ -80,6 +81,17 @@ def has_live_pages(folder, is_installed=True):
         assert [link for link in links if "://" not in link and not (page.parent / link).exists()] == [], page
         for line in re.findall(r"(?m)^(?:.*[^.\n])?\./balise.*$", text_of(page)) if is_installed else ():
             assert line[0] != "$" and re.search("clone|repository", line), (page, line)
+
+
+def links_pages_of_rules(room, prefix):
+    """SARIF of what is installed leads from each rule to its page."""
+    status, said = attempt(room, f"'{prefix}/bin/balisekit' check '{TOP}/examples/links/line.csv' --sarif - 2>/dev/null")
+    rules = json.loads(said)["runs"][0]["tool"]["driver"]["rules"]
+    named = {it["id"]: unquote(it["helpUri"]) for it in rules if it["id"] not in ("refused", "not-judged")}
+    assert status == 0 and len(named) > 40
+    for name, address in named.items():
+        assert address == f"file://{prefix}/share/doc/balisecheck/docs/rules/{name}.md"
+        assert text_of(Path(address[7:])).startswith(f"# {name}: ")
 
 
 @pytest.fixture(scope="module", name="made")
@@ -185,6 +197,7 @@ def test_wheel(made, venv):
     assert sum_of(venv / "bin/balisekit") == sum_of(tree / "balisekit") and [*venv.rglob("entry_points.txt")] == []
     assert all([*venv.rglob(name)] for name in ("LICENSE-MIT", "THIRD-PARTY.md"))
     has_live_pages(venv)
+    links_pages_of_rules(made, venv)
     (metadata,) = map(text_of, venv.rglob("balisekit-*.dist-info/METADATA"))
     # An expression of licences would need version 2.4: twine of Debian 13 refuses it here, that of Debian 12 does not.
     assert metadata.startswith("Metadata-Version: 2.1\n") and "\nLicense: MIT OR Apache-2.0\n" in metadata
@@ -268,6 +281,7 @@ def test_deb(made, root):
     assert all((docs / name).stat().st_size for name in ("copyright", "THIRD-PARTY.md"))
     shows(docs / "README.md", docs, root / "usr/bin")
     has_live_pages(root)
+    links_pages_of_rules(made, root / "usr")
     serves(made, root / "usr")
     assert all((root / name).exists() for name in re.findall(r"COPY --from=kit /(usr/\S*)", recipe))
     assert f"\nCOPY balisecheck_{VERSION}_amd64.deb " in recipe.replace("*", VERSION)

@@ -1,19 +1,24 @@
-"""Makes the tables of rules in docs/links.md, remarks.md and track-plan.md: `python3 companion/tests/rules_page.py`.
+"""Makes docs/rules, and the tables of rules in docs/links.md, remarks.md and track-plan.md, which link its pages.
 
-Each row is made of the page of its rule: the title, the first sentences of what it says and of its usual cause, and how
-sure it is. All else of a document is its own and stays as it is.
+Run `python3 companion/tests/rules_page.py` after each change of the text of a rule.
+
+A page has what `balisekit check --explain` prints. A row is made of the page of its rule: the title, the first
+sentences of what it says and of its usual cause, and how sure it is. All else of a document is its own and stays as it
+is.
 """
 from __future__ import annotations
 
 import re
 import sys
 from pathlib import Path
-from typing import Dict, List, Sequence
+from typing import Dict, Iterator, List, Sequence, Tuple
 
 HERE = Path(__file__).resolve().parent
 sys.path.insert(0, str(HERE.parent / "src"))
 
-from balisekit.rules import links, meaning, track_plan  # noqa: E402  (the path comes first)
+from balisekit.present.explanations import Page, pages, with_assumptions  # noqa: E402  (the path comes first)
+from balisekit.rules import links, meaning, track_plan  # noqa: E402
+from balisekit.rules.families import FAMILIES  # noqa: E402
 from balisekit.rules.rule import Rule  # noqa: E402
 
 DOCS = HERE.parents[1] / "docs"
@@ -23,6 +28,36 @@ DOCUMENTS: Dict[Path, Sequence[Rule]] = {
     DOCS / "track-plan.md": track_plan.RULES,
 }
 SURE = "How sure"
+OWN = "This rule is balisekit's own, and not proved."
+TITLES = {
+    "F": ("Findings", "findings.md", "The program's findings by this rule are proved."),
+    "L": ("Links", "links.md", OWN),
+    "E": ("Remarks", "remarks.md", OWN),
+    "X": ("Track plan", "track-plan.md", OWN),
+}
+"""The heading of each family, the page about it, and what its rules are."""
+
+
+def files() -> Iterator[Tuple[str, str]]:
+    """The page of each rule, and the list of them, by the names of their files in docs/rules."""
+    listed = "# Every rule in full\n\nFor engineers who look for the cause of a finding, link or remark.\n"
+    for letter, family in FAMILIES.items():
+        heading, about, _ = TITLES[letter]
+        listed += f"\n## {heading}\n\n[{about}](../{about}) has what these rules have in common.\n\n"
+        for name, own in pages(family):
+            listed += f"- [{name}: {own.title}]({name}.md)\n"
+            yield f"{name}.md", file(name, own)
+    yield "README.md", listed
+
+
+def file(name: str, own: Page) -> str:
+    """The page of a rule in Markdown. It has no links, because not every package has the other pages."""
+    parts = [f"# {name}: {own.title}", f"For engineers whose data got {name}. {TITLES[name[0]][2]}"]
+    for head, text in own.parts.items():
+        first, *assumptions = with_assumptions(head, text)
+        parts.append(first.replace(f"{head}.", f"**{head}.**", 1))
+        parts += ["\n".join(f"- {each}" for each in assumptions)] if assumptions else []
+    return "\n\n".join(parts) + "\n"
 
 
 def page(text: str, rules: Sequence[Rule] = links.RULES) -> str:
@@ -43,7 +78,7 @@ def cells(rule: Rule) -> List[str]:
     """What a row has of the page of its rule."""
     said = [_first(rule.parts[head]) for head in ("What it says", "Usual cause")]
     sure = [f"{rule.parts[SURE].split(' %')[0]} %{_off(rule)}"] if SURE in rule.parts else []
-    return [f"{rule.name}: {rule.title}", *said, *sure]
+    return [f"[{rule.name}: {rule.title}](rules/{rule.name}.md)", *said, *sure]
 
 
 def _off(rule: Rule) -> str:
@@ -62,3 +97,5 @@ def _first(text: str) -> str:
 if __name__ == "__main__":
     for document, own in DOCUMENTS.items():
         document.write_text(page(document.read_text("utf-8"), own), "utf-8")
+    for name, text in files():
+        (DOCS / "rules" / name).write_text(text, "utf-8")

@@ -91,6 +91,9 @@ def test_each_example_is_as_the_schemas_say(run: Run, tmp_path: Path, path: Path
     names = [*(f"F{number}" for number in range(1, 17)), *(f"L{number}" for number in range(1, 10))]
     names += [rule.name for rule in meaning.RULES if rule.is_default]
     assert [rule["id"] for rule in rules] == ["refused", "not-judged", *names]
+    pages = {rule["id"]: TOP / "docs" / "rules" / f"{rule['id']}.md" for rule in rules[2:]}
+    assert {rule["id"]: rule.get("helpUri") for rule in rules[2:]} == {it: pages[it].as_uri() for it in pages}
+    assert all(path.is_file() for path in pages.values()) and not any("helpUri" in rule for rule in rules[:2])
 
 
 @pytest.mark.uncovered

@@ -8,6 +8,7 @@ from pathlib import Path
 from typing import Dict
 
 import pytest
+import rules_page
 from cases_of_program import TOP
 from meaning_mistakes_of_groups import MISTAKES_FOLDER
 
@@ -81,7 +82,7 @@ def test_what_is_off_by_default() -> None:
     assert asking == {rule.name for rule in OWN if rule.optional_part}
     page = (TOP / "docs" / "remarks.md").read_text("utf-8")
     for rule in REMARKS:
-        (row,) = re.findall(rf"^\| {rule.name}: .*$", page, re.MULTILINE)
+        (row,) = re.findall(rf"^\| \[{rule.name}: .*$", page, re.MULTILINE)
         assert ("; off" in row) == (not rule.is_default or bool(rule.optional_part)), rule.name
         assert rule.optional_part in row and (f"`--rules {rule.name}`" in rule.page) >= bool(rule.optional_part)
 
@@ -103,6 +104,15 @@ def test_assumptions_are_a_list() -> None:
     lines = [*page_of("E12")]
     at = lines.index(f"    {FALSE_ALARM}.")
     assert lines[at + 1].startswith("    - The rule assumes that all authorities to one group end at one place. ")
+
+
+def test_each_rule_has_a_file() -> None:
+    """Which is up to date and whose heading names the rule: `python3 companion/tests/rules_page.py` makes it."""
+    folder = TOP / "docs" / "rules"
+    made = dict(rules_page.files())
+    assert {path.name: path.read_text("utf-8") for path in folder.iterdir()} == made
+    assert [f"{name}.md" for name in readability.of_rules()] == [name for name in made if name != "README.md"]
+    assert all(text.startswith(f"# {name[:-3]}: ") for name, text in made.items() if name != "README.md")
 
 
 def test_the_order_of_urgencies_is_that_of_the_page() -> None:

@@ -7,7 +7,8 @@ from __future__ import annotations
 import json
 import os
 import re
-from typing import Dict, Iterable, Iterator, Mapping, NamedTuple, Sequence, Tuple
+from pathlib import Path
+from typing import Dict, Iterable, Iterator, Mapping, NamedTuple, Optional, Sequence, Tuple
 
 from balisekit.rules.families import FAMILIES, Family
 from balisekit.rules.rule import FALSE_ALARM
@@ -31,6 +32,8 @@ ASSUMPTION = re.compile(
     r"(?<=\.) (?=(?:The rule|It|Finally, it)(?: also)? (?:assumes|takes|relies)\b|On a track for one direction)"
 )
 """Where the next assumption of a rule begins."""
+FOLDERS = ("docs/rules", "share/doc/balisecheck/docs/rules")
+"""Where the page of each rule is as a file: in a clone or tarball, and below the prefix of a .deb or wheel."""
 KEYS = ("says", "matters", "example", "false_alarm", "cause", "remedy", "acceptance")
 """The keys in `findings.json` of the paragraphs that each finding has, in the order of WHOLE."""
 
@@ -56,6 +59,13 @@ def pages(family: Family) -> Iterator[Tuple[str, Page]]:
             yield f"F{number}", Page(page["name"], dict(zip(WHOLE, (page[key] for key in KEYS))))
     for rule in family.rules:
         yield rule.name, Page(rule.title, {head: _plain(rule.parts[head]) for head in WHOLE if head in rule.parts})
+
+
+def address_of_page(name: str) -> Optional[str]:
+    """The address of the file with the page of a rule, if it was installed with this balisekit."""
+    tops = Path(__file__).resolve().parents[2:7]
+    places = (top / folder / f"{name}.md" for top in tops for folder in FOLDERS)
+    return next((place.as_uri() for place in places if place.is_file()), None)
 
 
 def page_of(name: str) -> Iterator[str]:

@@ -18,7 +18,7 @@ from balisekit.io import inputs
 from balisekit.present import NOT_PROVED
 from balisekit.present.accepted_text import accepted_words
 from balisekit.present.account_text import account_json, not_judged_lines
-from balisekit.present.explanations import Page, pages
+from balisekit.present.explanations import Page, address_of_page, pages
 from balisekit.present.headings import entry_lines
 from balisekit.present.opening import opening, paths_from, settings_json
 from balisekit.present.outcome_text import closing_lines, not_looked_at, notes_of
@@ -105,12 +105,14 @@ def _pages(outcome: Outcome) -> Iterator[Tuple[str, Page]]:
 
 
 def _rule(name: str, page: Page) -> Object:
-    """A rule with its help: what its page says."""
+    """A rule with its help: what its page says, and where the page is, if it is installed."""
     says = "\n\n".join(f"{head}. {text}" for head, text in page.parts.items())
     marked = "\n\n".join(f"**{head}.** {text}" for head, text in page.parts.items())
     is_proved = name == REFUSED or name[0] == PROVED
+    address = address_of_page(name)
     return {
         "id": name,
+        **({"helpUri": address} if address else {}),
         "shortDescription": {"text": page.title},
         "fullDescription": {"text": page.parts.get("What it says", page.title)},
         "help": {"text": says, "markdown": marked},

@@ -23,12 +23,13 @@ SENTENCES: Mapping[str, str] = {
     ),
     "exact": (
         "The rule assumes that profiles state the values and places of the track. A profile whose elements were merged "
-        "or rounded can differ although it is right. So can one that is on the safe side, such as for an overlap."
+        "or rounded can differ although it is right. One that is more restrictive on purpose, such as for an overlap, "
+        "can differ too."
     ),
     "track speed": (
         "It takes V_STATIC for the speed of the track. That is not so if V_STATIC includes the speed of the route, of "
-        "the aspect or of a temporary restriction, or if it is for limited supervision. Nor is it so if no train uses "
-        "V_STATIC, for example if it is 0 because each train category has its own V_DIFF."
+        "the aspect or of a temporary restriction, or if it is for limited supervision. The same holds if no train "
+        "uses V_STATIC, for example if it is 0 because each train category has its own V_DIFF."
     ),
 }
 

@@ -1,10 +1,10 @@
 """E10: aspects that contradict each other about the track.
 
 What it says. Two aspects of a group that lead to one place state different V_STATIC, or gradients more than 5 ‰ apart,
-on a stretch longer than `--tolerance` and rounding. Gradients have their sign. The two aspects are compared as far as
-the packets 5 of both name the same groups, also beyond an end of authority. Without packets 5 they are compared if both
-authorities end at the same place. What lies beyond a `point` of the track plan is passed over. One remark names the
-aspect that most others disagree with, and the longest stretch (SUBSET-026, 3.11).
+on a stretch longer than `--tolerance` and rounding. A rise and a fall are different gradients. The two aspects are
+compared as far as the packets 5 of both name the same groups, also beyond an end of authority. Without packets 5 they
+are compared if both authorities end at the same place. The rule passes over everything beyond a `point` of the track
+plan. One remark names the aspect that most others disagree with, and the longest stretch (SUBSET-026, 3.11).
 
 Why it matters. At worst the train gets wrong information. At one of the aspects it gets a speed that is too great, or a
 gradient that is too favourable.
@@ -13,14 +13,14 @@ Example. Before (`examples/meaning/mistakes/E10.csv`): from km 13.000 to km 14.7
 km/h, and "green" has 140 km/h. After: both have 140 km/h there.
 
 When it is a false alarm. The rule assumes that aspects which name the same groups belong to one route. That is not so
-if the routes part before the last of these groups. Nor is it so if two routes without packets 5 end at one distance.
-{exact} {track speed} The profile of a stop aspect can differ too, because no train uses it.
+if the routes part before the last of these groups. Two routes without packets 5 might also end at the same distance by
+chance. {exact} {track speed} The profile of a stop aspect can differ too, because no train uses it.
 
 Usual cause. The profile of one aspect was not made anew. It has a wrong sign, scale or unit.
 
 How to correct it. Correct the wrong profile by the track plan.
 
-How to accept it. Name the routes of the two aspects, or what V_STATIC of the one includes.
+How to accept it. Name the routes of the two aspects, or state what V_STATIC of one of them includes.
 
 How sure. 87 %, by practice and memory of the standard.
 """

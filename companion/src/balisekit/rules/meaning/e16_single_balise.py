@@ -1,15 +1,16 @@
 """E16: direction of a single balise.
 
 What it says. Packets 5 lead past a single balise that none of them names, or they disagree about the direction of a
-single balise. The balise that is not named has Q_LINK 1 and packets for one direction. A direction other than that of
-the column `nominal` is reported too. Packets 44, 145 and 254 do not count. A packet 5 leads past the balise if it holds
-for that way, and reaches beyond the kilometre of the balise. The rule passes over a balise with packet 16 within 500 m
-of a link to NID_BG 16,383, or on another track than this link. It also passes over a balise with a refused telegram at
-most 10 km in rear of it. Single balises with Q_LINK 0 are L5 (SUBSET-026, 3.4.2 and 3.4.4).
+single balise. A balise that is not named is reported only if it has Q_LINK 1 and packets for only one direction. The
+rule also reports a direction that differs from the column `nominal`. Packets 44, 145 and 254 do not count. A packet 5
+leads past the balise if it holds for that way, and reaches beyond the kilometre of the balise. The rule passes over a
+balise with packet 16 within 500 m of a link to NID_BG 16,383, or on another track than this link. It also passes over a
+balise with a refused telegram at most 10 km in rear of it. Rule L5 reports single balises with Q_LINK 0 (SUBSET-026,
+3.4.2 and 3.4.4).
 
 Why it matters. At worst the train gets wrong information. It learns the direction of a single balise by linking, or by
-radio in level 2. Without it the train ignores what is for one direction. With the wrong direction it takes what is for
-the other one.
+radio in level 2. If it does not know the direction, it ignores packets that hold in only one direction. If it has the
+wrong direction, it uses the packets for the other one.
 
 Example. Before (`examples/meaning/mistakes/E16.csv`): a single balise at km 15.600 has a packet 12 for the nominal
 direction, and packets 5 of other groups lead past it without its name. After: the packets 5 of Signals 3 and 4 name the

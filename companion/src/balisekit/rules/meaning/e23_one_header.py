@@ -1,10 +1,10 @@
 """E23: one line, one header.
 
 What it says. A telegram has another M_VERSION than most of the table, or a group has another NID_C than its neighbours
-on the track. Most of the table is the most frequent M_VERSION. NID_C is compared between the first and the last group
-that have the most frequent NID_C of the track. If two values are equally frequent, the first one counts. Groups are in
-the order of their kilometres, or in that of the table if one is missing. Refused telegrams do not count. The rule is
-off unless you ask for it (SUBSET-026, 7.5.1 and 8.4.2).
+on the track. Each M_VERSION is compared with the most frequent one of the table. NID_C is compared between the first
+and the last group that have the most frequent NID_C of the track. If two values are equally frequent, the first one
+counts. Groups are in the order of their kilometres, or in that of the table if one is missing. Refused telegrams do not
+count. The rule is off unless you ask for it (SUBSET-026, 7.5.1 and 8.4.2).
 
 Why it matters. To be looked at: a train with the older version ignores what the later one has added. A group with a
 wrong NID_C is another group for the train. L1 finds links that name the group by another NID_C.

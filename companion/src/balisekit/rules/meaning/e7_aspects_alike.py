@@ -6,8 +6,8 @@ M_MCOUNT may differ. If no packet 12 of such aspects has a V_MAIN above 0, one n
 Why it matters. At worst the train gets wrong information: at the more restrictive aspect it gets the authority and the
 speed of the other one. The urgency is lowest if the authority ends within 50 m of the last group of its track and way,
 and no other signal is in between. The last group is the last one that has packets other than 0, 145, 254 and 255 for
-trains that run this way. A group of unknown direction, or with a refused telegram, counts for both ways. Infill has the
-lowest urgency if its signal has it.
+trains that run this way. A group of unknown direction, or with a refused telegram, counts for both ways. A remark about
+infill has the lowest urgency if the remark about its signal has it.
 
 Example. Before (`examples/meaning/mistakes/E7.csv`): the aspects "yellow" and "green" of Signal 3 (km 13.003) have the
 same packets, with V_MAIN 140 km/h. After: the authority of "yellow" ends at the next signal, and that of "green" at the

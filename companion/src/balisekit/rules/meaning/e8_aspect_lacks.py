@@ -2,13 +2,13 @@
 
 What it says. Only one of three or more proceed aspects lacks a packet 5, 12, 21 or 27, or a stop aspect lacks a usual
 packet 137 or 132. The proceed aspects are compared in each direction. A proceed aspect has a V_MAIN above 0 in that
-direction, or in either direction if it is packet 12 that is missing. One of these packets might also be for the wrong
-direction. The rule reports an aspect that alone has it for one direction, if at least two others have it only for the
-other one. A stop aspect has a packet 12 with V_MAIN 0 that does not follow a packet 136. It is reported if it has no
-packet 137, although at least four of five stop aspects of the table have one with "stop". The table must have at least
-five stop aspects for this. A stop aspect is also reported if it is the only one of three or more in its group without a
-packet 132. A stop aspect of its name must have one elsewhere. Aspects with a refused telegram do not count, and their
-group is compared only for packet 137 (SUBSET-026, 3.8).
+direction, or in either direction if it is packet 12 that is missing. Such a packet might also be there for the wrong
+direction. So the rule reports the only aspect that has the packet for one direction, if at least two others have it for
+the other direction only. A stop aspect has a packet 12 with V_MAIN 0 that does not follow a packet 136. It is reported
+if it has no packet 137, although at least four of five stop aspects of the table have one with "stop". The table must
+have at least five stop aspects for this. A stop aspect is also reported if it is the only one of three or more aspects
+in its group without a packet 132. This applies only if a stop aspect of the same name has one elsewhere. Aspects with a
+refused telegram do not count, and their group is compared only for packet 137 (SUBSET-026, 3.8).
 
 Why it matters. At worst the train gets wrong information, or lacks what it needs. Without profiles it might refuse the
 authority. Without linking nothing shows that it missed a group. Without packet 137 a train in staff responsible mode
@@ -19,10 +19,10 @@ the reverse direction. "Red" and "yellow" have them for the nominal one. After: 
 nominal.
 
 When it is a false alarm. The rule assumes that the aspects of a group need the same packets for one direction. An
-aspect for calling-on or for another route might need fewer, and so might one for another direction which only stops
-trains there. The rule also assumes that all stop aspects of the table, in both directions, stop trains in staff
-responsible mode too. At some signals these trains are allowed to pass. Finally, it assumes that stop aspects of one
-name treat shunting alike, which is not so if shunting is allowed at some.
+aspect for calling-on or for another route might need fewer. An aspect that only stops trains in the other direction
+might also need fewer. The rule also assumes that all stop aspects of the table, in both directions, stop trains in
+staff responsible mode too. At some signals these trains are allowed to pass. Finally, it assumes that stop aspects of
+one name treat shunting alike, which is not so if shunting is allowed at some.
 
 Usual cause. A packet was lost, or its Q_DIR is wrong. The aspect was added later.
 

@@ -14,8 +14,8 @@ has V_MAIN 140 km/h, and the plan has 100 km/h. After: both have the speed of th
 When it is a false alarm. The rule assumes that the plan has the values of the packet. It might have those of the route,
 and the packet might reduce one, state one that does not restrict, or be for limited supervision. The rule assumes that
 each aspect of the plan has a packet 12. An aspect might lack it on purpose, such as one that stops trains by other
-packets. It assumes that a row has the way of its packet. That is not so if rows for a group with both directions state
-no `way`. Finally, it assumes that lengths are rounded as Q_SCALE states.
+packets. It assumes that a row of the plan and the packet are for the same way. That is not so if a group has packets
+for both directions, and its rows state no `way`. Finally, it assumes that lengths are rounded as Q_SCALE states.
 
 Usual cause. The telegrams of two aspects were exchanged. Or a value was copied from another signal. Or the route table
 has changed since the telegrams were made.
