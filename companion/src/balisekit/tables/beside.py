@@ -67,14 +67,14 @@ def telegrams(sheet: Sheet, begin: int, column: int) -> Dict[int, List[int]]:
         for at, cell in enumerate(row):
             if at == column or len(cell) < LEAST_DIGITS and not LARGE.fullmatch(cell):
                 continue
-            is_plain = is_telegram(cell) and not LINE_END.search(cell.strip())
-            if LINE_END.search(cell) and not is_plain and in_part(cell):
+            count = telegrams_in(cell, sheet.separator)
+            if count and LINE_END.search(cell) and not (is_telegram(cell) and not LINE_END.search(cell.strip())):
                 faults.append(TableError(f"cell {at + 1} has line ends and a telegram in it: {SWALLOWED}", number))
-            else:
-                found.setdefault(at, []).extend([number] * telegrams_in(cell, sheet.separator))
+            elif count:
+                found.setdefault(at, []).extend([number] * count)
     if faults:
         raise TableErrors(faults)
-    return {at: numbers for at, numbers in found.items() if numbers}
+    return found
 
 
 def account(
