@@ -217,6 +217,32 @@ def test_parts_of_one_name(table: Write) -> None:
     assert refusal(table(content=out.getvalue())) == f"it has the part xl/worksheets/sheet1.xml twice: {SAVE}"
 
 
+BOOK = workbook(sheet(HEADING, GOOD))
+FURTHER = "it has another workbook or other bytes "
+
+
+AROUND = {
+    "a workbook in front": (workbook(sheet(HEADING, row("B", OTHER))) + BOOK, "in front of byte "),
+    "a row in front": (b"PK\x03\x04" + row("B", OTHER).encode() + BOOK, "in front of byte "),
+    "a row behind": (BOOK + row("B", OTHER).encode(), "behind byte "),
+    "a byte behind": (BOOK + b"\0", "behind byte "),
+}
+
+
+@pytest.mark.parametrize("content, wanted", AROUND.values(), ids=AROUND)
+def test_more_than_a_workbook(table: Write, content: bytes, wanted: str) -> None:
+    """Readers of zips find the last workbook of a file, and see nothing of what is around it."""
+    assert refusal(table(content=content)).startswith(FURTHER + wanted)
+
+
+def test_a_comment_of_the_zip(table: Write) -> None:
+    """It belongs to the workbook."""
+    out = io.BytesIO(BOOK)
+    with zipfile.ZipFile(out, "a") as file:
+        file.comment = b"PK of the office"
+    assert len(tables.read(str(table(content=out.getvalue()))).rows) == 1
+
+
 KM = "<row>" + "".join(map(text, ["group", "telegram", "km"])) + "</row>"
 
 

@@ -19,6 +19,8 @@ from balisekit.tables.headings import SEARCHED, Headings, is_data
 
 CONTENTS = "[Content_Types].xml"
 """A part that each workbook has."""
+END_OF_ZIP, LENGTH_OF_END = b"PK\x05\x06", 22
+"""How the last record of a zip begins, and how long it is without a comment."""
 GREATEST, GREATEST_PART = 200_000_000, 100_000_000
 """The most bytes of an unpacked workbook, and of one part of it. 100,000 rows have up to 55,000,000."""
 GREATEST_RATIO, SMALL_PART = 100, 1_000_000
@@ -94,6 +96,7 @@ def _look_at_parts(content: bytes) -> None:
     try:
         with zipfile.ZipFile(io.BytesIO(content)) as parts:
             members = parts.infolist()
+            _look_at_ends(content, parts)
             _look_at_names("part", [part.filename for part in members])
             for part in members:
                 _look_at_size(part)
@@ -108,6 +111,15 @@ def _look_at_parts(content: bytes) -> None:
         raise TableError(f"it is cut short or damaged ({error}): copy it again, or save it as CSV") from error
     except Exception as error:  # zipfile raises whatever its decompressors raise
         raise _unreadable(error) from error
+
+
+def _look_at_ends(content: bytes, parts: zipfile.ZipFile) -> None:
+    """TableError is raised for bytes in front of the zip or behind it: a zip is read from its end, and hides them."""
+    begin = min((part.header_offset for part in parts.infolist()), default=0)
+    end = content.rfind(END_OF_ZIP) + LENGTH_OF_END + len(parts.comment)
+    if begin or end != len(content):
+        where = f"in front of byte {begin}" if begin else f"behind byte {end}"
+        raise TableError(f"it has another workbook or other bytes {where}: {SHORT_WAY_OUT}")
 
 
 def _look_at_names(what: str, names: Sequence[str]) -> None:
