@@ -309,6 +309,44 @@ def test_formulas_that_may_be_telegrams(
     assert run("check", path, *option)[0] == (0 if more else 2)
 
 
+LEFT_TO_THE_SPREADSHEET = ["<calcPr fullCalcOnLoad='1'/>", "<calcPr calcId='1' calcCompleted='false'/>", ""]
+ZEROS = ["<f>A1</f><v>0</v>", "<f>A1</f><v>0.0</v>", "<f t='shared' si='0'/><v>-0E0</v>"]
+
+
+@pytest.mark.parametrize("calculation", LEFT_TO_THE_SPREADSHEET)
+def test_formulas_that_a_library_has_given_a_zero(calculation: str, run: Run, table: Write) -> None:
+    """Some libraries store 0 or an empty text, and leave the calculation to the spreadsheet that opens the workbook."""
+    empty = "<row><c t='str'><f>D3</f><v></v></c></row>"
+    for body in ZEROS:
+        path = table(content=workbook(sheet(KM, cell(body)), calculation=calculation))
+        assert run("check", path)[2] == [f"balisekit: {path}: row 2, column km: {NOT_CALCULATED}"]
+        path = table(content=workbook(sheet(X, cell(body)), calculation=calculation))
+        assert (
+            f'not judged: 1 formula in sheet "S1", column "x", row 2: {SAVED}, or give --skip-column x'
+            in run("check", path)[1]
+        )
+        path = table(content=workbook(sheet(HEADING, GOOD), sheet(cell(body), empty), calculation=calculation))
+        status, out, _ = run("check", path)
+        assert status == 2 and f'not judged: 2 formulas in sheet "S2", rows 1 to 2: {SAVED}, or give --sheet' in out
+    path = table(content=workbook(sheet(HEADING, GOOD, empty), calculation=calculation))
+    assert refusal(path) == f"row 3: {NOT_CALCULATED}"
+
+
+@pytest.mark.parametrize("calculation", LEFT_TO_THE_SPREADSHEET)
+def test_values_beside_such_zeros(calculation: str, table: Write) -> None:
+    """Other values are those of the formulas, and a zero without a formula is one."""
+    rows = [cell("<f>A1</f><v>7</v>"), cell("<v>0</v>", "C3").replace(">A<", ">B<")]
+    read = tables.read(str(table(content=workbook(sheet(KM, *rows), calculation=calculation))))
+    assert [str(each.km) for each in read.rows] == ["7.0", "0.0"]
+
+
+def test_a_zero_that_a_spreadsheet_has_calculated(table: Write) -> None:
+    """It is the value of the formula, as at the beginning of a line."""
+    for body in ZEROS:
+        read = tables.read(str(table(content=workbook(sheet(KM, cell(body))))))
+        assert [str(each.km) for each in read.rows] == ["0.0"]
+
+
 def test_lines_of_a_csv_in_one_column(run: Run, table: Write) -> None:
     """Somebody has pasted them into a sheet or a column. Each telegram counts."""
     lines = f"B;{OTHER};12.3", f"B|{OTHER}|{ALONE}"

@@ -10,7 +10,7 @@ import zipfile
 from decimal import Decimal
 from itertools import islice
 from typing import Any, Callable, Dict, Iterable, Iterator, List, Optional, Pattern, Sequence, Tuple
-from xml.etree.ElementTree import Element, ParseError, iterparse
+from xml.etree.ElementTree import Element, ParseError, fromstring, iterparse
 
 from balisekit.errors import KitError, TableError, needed
 from balisekit.tables.cells import GREATEST_NAME, Area, Found, Place, Sheet, fill_heads, of_kind, telegrams_in
@@ -63,6 +63,7 @@ def read(content: bytes, name: Optional[str], headings: Headings = Headings(), f
             reader = openpyxl.reader.excel.ExcelReader(file, read_only=True, data_only=True, keep_links=False)
             reader.read()
             book, named = reader.wb, len(reader.parser.sheets)
+            zeros = _may_lack_values(reader.archive.read(reader.parser.workbook_part_name))
         except Exception as error:
             raise _unreadable(error) from error
         all_sheets = [*book.worksheets, *book.chartsheets]
@@ -72,11 +73,11 @@ def read(content: bytes, name: Optional[str], headings: Headings = Headings(), f
         sheet, note = _chosen(book, name, headings, fill_merged)
         merged = _merged(sheet)
         not_calculated: List[Place] = []
-        rows, areas = _cells(_rows(sheet, not_calculated)), _areas(merged)
+        rows, areas = _cells(_rows(sheet, zeros, not_calculated)), _areas(merged)
         beside = _telegrams_beside_cells(content) if "telegram" in headings.needed else []
         notes = (note, *_notes(beside, BESIDE), *_notes(merged, FILLED if fill_merged else MERGED))
         others = tuple(other.title for other in all_sheets if other is not sheet)
-        found = _found_in_others(book, sheet) if "telegram" in headings.needed else {}
+        found = _found_in_others(book, sheet, zeros) if "telegram" in headings.needed else {}
         is_chosen = name is not None
         return Sheet("xlsx", "", rows, notes, sheet.title, others, areas, fill_merged, found, is_chosen, not_calculated)
 
@@ -171,10 +172,23 @@ def _tag(name: bytes, xml: bytes) -> Pattern[bytes]:
     return re.compile(b"<" + prefix + name + rb"(?=[\s/>])")
 
 
-def _rows(sheet: Any, not_calculated: Optional[List[Place]] = None) -> Iterator[List[Any]]:
+def _may_lack_values(workbook: bytes) -> bool:
+    """Whether a stored zero or empty text may stand for the value of a formula, by the part of the workbook.
+
+    Spreadsheets then calculate all formulas when they open it: libraries that calculate none ask for that, or have not
+    said how formulas were calculated.
+    """
+    stated = next((each for each in fromstring(workbook) if each.tag == f"{NAMESPACE}calcPr"), None)
+    if stated is None:
+        return True
+    return stated.get("fullCalcOnLoad") in ("1", "true") or stated.get("calcCompleted") in ("0", "false")
+
+
+def _rows(sheet: Any, zeros: bool = False, not_calculated: Optional[List[Place]] = None) -> Iterator[List[Any]]:
     """The values of each row of a sheet, also of rows that it skips. TableError is raised for what openpyxl raises.
 
-    `not_calculated` gets the cells that are empty only because the values of their formulas are not stored.
+    `not_calculated` gets the cells that are empty only because the values of their formulas are not stored. With
+    `zeros` these are also formulas whose stored value is 0 or an empty text.
     """
     formulas = [] if not_calculated is None else not_calculated
     number = 0
@@ -186,7 +200,7 @@ def _rows(sheet: Any, not_calculated: Optional[List[Place]] = None) -> Iterator[
                 why = f"it follows row {before} in the workbook, which is damaged: save it again"
                 raise TableError(why, row=number)
             yield from ([] for _ in range(before + 1, number))
-            yield _values(row, number, parse_cell, formulas)
+            yield _values(row, number, parse_cell, zeros, formulas)
     except Exception as error:
         raise _unreadable(error, number) from error
 
@@ -215,7 +229,7 @@ def _number(text: str) -> int:
     return int(text) if re.fullmatch(r"\s*-?[0-9]{1,20}\s*", text) else 0
 
 
-def _values(row: Element, number: int, parse_cell: ParseCell, not_calculated: List[Place]) -> List[Any]:
+def _values(row: Element, number: int, parse_cell: ParseCell, zeros: bool, not_calculated: List[Place]) -> List[Any]:
     """The values of a row. `not_calculated` gets its cells with formulas whose values are not stored."""
     from openpyxl.utils import column_index_from_string
 
@@ -225,8 +239,10 @@ def _values(row: Element, number: int, parse_cell: ParseCell, not_calculated: Li
         skipped = column_index_from_string(column) - len(values) - 1 if column else 0
         if skipped < 0:
             raise TableError("its cells are not in the order of their columns: save the workbook again", row=number)
-        values += [*[None] * skipped, _value(cell, parse_cell)]
-        if values[-1] is None and _is_not_calculated(cell):
+        value = _value(cell, parse_cell)
+        missing = (value is None or zeros) and _is_not_calculated(cell, value, zeros)
+        values += [*[None] * skipped, None if missing else value]
+        if missing:
             not_calculated.append((number, len(values) - 1))
     return values
 
@@ -246,11 +262,17 @@ def _texts(cell: Element) -> Iterator[str]:
     return ((part.text or "").strip() for part in cell.iter() if part.tag != f"{NAMESPACE}f")
 
 
-def _is_not_calculated(cell: Element) -> bool:
-    """Whether a cell has a formula whose value is not stored. That of an empty text is stored as an empty one."""
-    value = cell.find(f"{NAMESPACE}v")
-    is_empty_text = value is not None and cell.get("t") == "str"
-    return cell.find(f"{NAMESPACE}f") is not None and not is_empty_text and not (value is not None and value.text)
+def _is_not_calculated(cell: Element, value: Any, zeros: bool) -> bool:
+    """Whether a cell has a formula whose value is not stored. That of an empty text is stored as an empty one.
+
+    With `zeros` the values 0 and "" are not taken for values.
+    """
+    if (value is not None and not zeros) or cell.find(f"{NAMESPACE}f") is None:
+        return False
+    kind, text = cell.get("t", "n"), cell.findtext(f"{NAMESPACE}v")
+    if value is None:
+        return zeros or kind != "str" or text is None
+    return kind == "n" and text is not None and float(text) == 0
 
 
 class _Strings(List[str]):
@@ -282,19 +304,19 @@ def _chosen(book: Any, name: Optional[str], headings: Headings, fill_merged: boo
     return sheet, f"the sheet is {sheet.title}{', which is hidden' * hidden}; hidden and filtered rows are read as well"
 
 
-def _found_in_others(book: Any, chosen: Any) -> Dict[str, Found]:
+def _found_in_others(book: Any, chosen: Any, zeros: bool) -> Dict[str, Found]:
     """What is found in the sheets that are not read, hidden ones among them."""
     found: Dict[str, Found] = {}
     for sheet in book.worksheets:
         try:
-            found.update({sheet.title: _found(sheet)} if sheet is not chosen else {})
+            found.update({sheet.title: _found(sheet, zeros)} if sheet is not chosen else {})
         except Exception as error:
             fault = _unreadable(error)
             raise TableError(f"sheet {sheet.title}: {fault}") if isinstance(fault, TableError) else fault from error
     return found
 
 
-def _found(sheet: Any) -> Found:
+def _found(sheet: Any, zeros: bool) -> Found:
     """What is found in a sheet whose rows and cells may be in any order."""
     found, number = Found([], []), 0
     for row, parse_cell in _elements(sheet):
@@ -302,7 +324,7 @@ def _found(sheet: Any) -> Found:
         for cell in row.iterfind(f"{NAMESPACE}c"):
             value = _value(cell, parse_cell)
             found.telegrams.extend([number] * telegrams_in(_text(value)))
-            found.formulas.extend([number] * (value is None and _is_not_calculated(cell)))
+            found.formulas.extend([number] * _is_not_calculated(cell, value, zeros))
     return found
 
 
