@@ -3,6 +3,7 @@
 from __future__ import annotations
 
 import io
+import json
 import random
 import sys
 import time
@@ -21,7 +22,7 @@ from balisekit.tables.cells import COVERED, NOT_CALCULATED
 
 pytest.importorskip("openpyxl")
 sys.path.insert(0, str(Path(__file__).parent))
-from workbooks import HEADING, MAIN, row, sheet, text, workbook  # noqa: E402  (the path comes first)
+from workbooks import HEADING, MAIN, OFFICE, row, sheet, text, workbook  # noqa: E402  (the path comes first)
 
 Write = Callable[..., Path]
 GOOD = row("A", ALONE)
@@ -368,6 +369,90 @@ def test_telegrams_in_comments(table: Write) -> None:
     notes = tables.read(str(table(content=workbook(sheet(HEADING, GOOD), more=[part])))).notes
     said = "telegrams in comments, text boxes and other parts that are not read: 1, the first in xl/comments1.xml"
     assert said in notes
+
+
+HALVES = {"{B}": OTHER, "{B1}": OTHER[:20], "{B2}": OTHER[20:], "{main}": MAIN}
+OTHER_PARTS: Dict[str, Dict[str, str]] = json.loads(Path(__file__).with_name("other_parts.json").read_text("utf-8"))
+
+
+def filled(xml: str) -> str:
+    """The XML with the telegrams that it names."""
+    for name, telegram in HALVES.items():
+        xml = xml.replace(name, telegram)
+    return xml
+
+
+@pytest.mark.parametrize("name", OTHER_PARTS)
+def test_telegrams_in_other_parts(name: str, table: Write) -> None:
+    """Each part of a workbook is searched, and a note names the one that has a telegram (other_parts.json)."""
+    case = OTHER_PARTS[name]
+    xml, rows, part = filled(case["xml"]), [HEADING, GOOD], case["part"]
+    if part == "xl/worksheets/sheet1.xml":
+        in_rows = [xml] if xml.startswith("<row") else []
+        content = workbook(sheet(*rows, *in_rows, behind="" if in_rows else xml))
+    else:
+        content = workbook(sheet(*rows), more=[(part, "other", xml)] if xml else [])
+    notes = tables.read(str(table(content=content))).notes
+    said = f"telegrams in comments, text boxes and other parts that are not read: 1, the first in {part}"
+    assert [note for note in notes if note.startswith("telegrams in ")] == ([said] if case["is found"] == "yes" else [])
+
+
+def strings_of(part: str, *texts: str) -> Any:
+    """A part with these shared strings."""
+    body = "".join(f"<si><t>{each}</t></si>" for each in texts)
+    return part, "sharedStrings", f"<sst xmlns='{MAIN}'>{body}</sst>"
+
+
+SHARED = "<row><c t='s'><v>0</v></c><c t='s'><v>1</v></c></row>"
+
+
+@pytest.mark.parametrize("part", ["xl/sharedStrings.xml", "xl/texts.xml", "sst/1.xml"])
+def test_shared_strings_of_another_name(part: str, table: Write) -> None:
+    """They are cells, whatever their part is called. A string that no cell has is none."""
+    read = tables.read(str(table(content=workbook(sheet(HEADING, SHARED), more=[strings_of(part, "A", ALONE)]))))
+    assert [each.telegram for each in read.rows] == [ALONE] and len(read.notes) == 1
+    more = [strings_of(part, "A", ALONE, "x", OTHER)]
+    notes = tables.read(str(table(content=workbook(sheet(HEADING, SHARED), more=more)))).notes
+    assert notes[1:] == (
+        f"telegrams in comments, text boxes and other parts that are not read: 1, the first in {part}",
+    )
+
+
+def replaced(content: bytes, part: str, old: str, new: str) -> bytes:
+    """The workbook with another text in one of its parts."""
+    out = io.BytesIO()
+    with zipfile.ZipFile(io.BytesIO(content)) as book, zipfile.ZipFile(out, "w", zipfile.ZIP_DEFLATED) as file:
+        for name in book.namelist():
+            xml = book.read(name).decode()
+            assert name != part or old in xml
+            file.writestr(name, xml.replace(old, new) if name == part else xml)
+    return out.getvalue()
+
+
+def test_two_parts_with_shared_strings(table: Write) -> None:
+    """A spreadsheet follows the relationship of the workbook, and openpyxl the kind of the part."""
+    more = [strings_of("xl/sharedStrings.xml", "A", ALONE), ("xl/b.xml", "other", strings_of("", "A", OTHER)[2])]
+    related = f"<Relationship Id='s' Type='{OFFICE}/sharedStrings' Target='b.xml'/></Relationships>"
+    book = workbook(sheet(HEADING, SHARED), more=more)
+    path = table(content=replaced(book, "xl/_rels/workbook.xml.rels", "</Relationships>", related))
+    assert refusal(path) == f"its shared strings are in xl/b.xml, which is not the part of this kind: {SAVE}"
+
+
+@pytest.mark.parametrize(
+    "inner, is_searched",
+    [(BOOK, True), (BOOK[:-1], False), (b"\xd0\xcf\x11\xe0", False)],
+    ids=["a workbook", "a damaged one", "an object"],
+)
+def test_embedded_files(inner: bytes, is_searched: bool, table: Write) -> None:
+    """The cells of an embedded workbook are searched. What cannot be searched is named."""
+    out = io.BytesIO(BOOK)
+    with zipfile.ZipFile(out, "a") as file:
+        file.writestr("xl/embeddings/1.bin", inner)
+        file.writestr("xl/media/1.png", b"\x89PNG")
+    notes = tables.read(str(table(content=out.getvalue()))).notes
+    said = "telegrams in comments, text boxes and other parts that are not read: 1, the first in xl/embeddings/1.bin"
+    parts = "macros, embedded objects and other parts that are not searched for telegrams: 1, the first "
+    assert notes[1:] == ((said,) if is_searched else (f"{parts}xl/embeddings/1.bin",))
 
 
 def merged(*ranges: str) -> str:

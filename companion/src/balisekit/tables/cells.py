@@ -176,6 +176,11 @@ def telegrams_in(cell: str, separator: str = "") -> int:
     return sum(map(is_telegram, parts)) or int(is_telegram(cell) or has_swallowed(cell))
 
 
+def telegrams_among(text: str) -> int:
+    """How many telegrams a text has that is in no cell, whatever words are around them."""
+    return telegrams_in(text) or int(len(text) >= LEAST_DIGITS and _is_within(text))
+
+
 def _may_have_one(text: str) -> bool:
     """Whether a text has enough digits for a telegram, eight of them without other letters between them."""
     return sum(map(text.count, hexdigits)) >= LEAST_DIGITS * 9 // 10 and bool(SPREAD_RUN.search(text))

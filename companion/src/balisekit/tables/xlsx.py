@@ -9,13 +9,14 @@ import warnings
 import zipfile
 from decimal import Decimal
 from itertools import islice
-from typing import Any, Callable, Dict, Iterable, Iterator, List, Optional, Pattern, Sequence, Tuple
+from typing import Any, Callable, Dict, Iterable, Iterator, List, Optional, Pattern, Sequence, Set, Tuple
 from xml.etree.ElementTree import Element, ParseError, fromstring, iterparse
 
 from balisekit.errors import KitError, TableError, needed
 from balisekit.tables.cells import GREATEST_NAME, Area, Found, Place, Sheet, fill_heads, of_kind, telegrams_in
 from balisekit.tables.encoding import OLD_WORKBOOK
 from balisekit.tables.headings import SEARCHED, Headings, is_data
+from balisekit.tables.other_parts import Beside, beside_cells
 
 CONTENTS = "[Content_Types].xml"
 """A part that each workbook has."""
@@ -41,9 +42,11 @@ MERGED = (
 )
 FILLED = "merged ranges, whose empty cells are read with the value of the first one: {count}, the first {first}"
 BESIDE = "telegrams in comments, text boxes and other parts that are not read: {count}, the first in {first}"
-CELLS = re.compile(r"xl/(worksheets/[^/]*|sharedStrings)\.xml", re.IGNORECASE)
-"""The parts of a workbook that have cells."""
-TEXT = re.compile(""">([^<]{40,})<|"([^"<]{40,})"|'([^'<]{40,})'""")
+NOT_SEARCHED = (
+    "macros, embedded objects and other parts that are not searched for telegrams: {count}, the first {first}"
+)
+STRINGS = "http://schemas.openxmlformats.org/officeDocument/2006/relationships/sharedStrings"
+"""The kind of the relationship of a workbook to its shared strings."""
 CELL_TAGS = ("}c", "c")
 """How the name of the element of a cell ends, whatever its namespace."""
 DATES = (datetime.date, datetime.time, datetime.timedelta)
@@ -63,9 +66,12 @@ def read(content: bytes, name: Optional[str], headings: Headings = Headings(), f
             reader = openpyxl.reader.excel.ExcelReader(file, read_only=True, data_only=True, keep_links=False)
             reader.read()
             book, named = reader.wb, len(reader.parser.sheets)
+            part_of_strings, strings = _part_of_strings(reader), _Strings(reader.shared_strings)
             zeros = _may_lack_values(reader.archive.read(reader.parser.workbook_part_name))
         except Exception as error:
             raise _unreadable(error) from error
+        for each in book.worksheets:
+            each._shared_strings = strings
         all_sheets = [*book.worksheets, *book.chartsheets]
         if len(all_sheets) < named:
             raise TableError(f"{named - len(all_sheets)} of its {named} sheets cannot be found in it: {SHORT_WAY_OUT}")
@@ -74,10 +80,16 @@ def read(content: bytes, name: Optional[str], headings: Headings = Headings(), f
         merged = _merged(sheet)
         not_calculated: List[Place] = []
         rows, areas = _cells(_rows(sheet, zeros, not_calculated)), _areas(merged)
-        beside = _telegrams_beside_cells(content) if "telegram" in headings.needed else []
-        notes = (note, *_notes(beside, BESIDE), *_notes(merged, FILLED if fill_merged else MERGED))
+        found: Dict[str, Found] = {}
+        beside = Beside([], [])
+        if "telegram" in headings.needed:
+            found = _found_in_others(book, sheet, zeros)
+            names = [each._worksheet_path for each in book.worksheets]
+            beside = beside_cells(content, names, part_of_strings, _look_at_parts)
+            beside.telegrams.extend([part_of_strings] * strings.telegrams_of_no_cell())
+        notes = (note, *_notes(beside.telegrams, BESIDE), *_notes(beside.not_searched, NOT_SEARCHED))
+        notes += tuple(_notes(merged, FILLED if fill_merged else MERGED))
         others = tuple(other.title for other in all_sheets if other is not sheet)
-        found = _found_in_others(book, sheet, zeros) if "telegram" in headings.needed else {}
         is_chosen = name is not None
         return Sheet("xlsx", "", rows, notes, sheet.title, others, areas, fill_merged, found, is_chosen, not_calculated)
 
@@ -172,6 +184,18 @@ def _tag(name: bytes, xml: bytes) -> Pattern[bytes]:
     return re.compile(b"<" + prefix + name + rb"(?=[\s/>])")
 
 
+def _part_of_strings(reader: Any) -> str:
+    """The part with the shared strings. openpyxl finds it by its kind, and a spreadsheet by its relationship."""
+    from openpyxl.xml.constants import SHARED_STRINGS
+
+    kind = reader.package.find(SHARED_STRINGS)
+    part = kind.PartName[1:] if kind is not None else ""
+    others = [one.target for one in reader.parser.rels.find(STRINGS) if one.target != part]
+    if others:
+        raise TableError(f"its shared strings are in {others[0]}, which is not the part of this kind: {SHORT_WAY_OUT}")
+    return str(part)
+
+
 def _may_lack_values(workbook: bytes) -> bool:
     """Whether a stored zero or empty text may stand for the value of a formula, by the part of the workbook.
 
@@ -209,8 +233,10 @@ def _elements(sheet: Any) -> Iterator[Tuple[Element, ParseCell]]:
     """The elements of the rows of a sheet, each with what reads one of its cells."""
     from openpyxl.worksheet._reader import WorkSheetParser
 
-    book, strings = sheet.parent, _Strings(sheet._shared_strings)
-    parser = WorkSheetParser(None, strings, data_only=True, epoch=book.epoch, date_formats=book._date_formats)
+    book = sheet.parent
+    parser = WorkSheetParser(
+        None, sheet._shared_strings, data_only=True, epoch=book.epoch, date_formats=book._date_formats
+    )
     outside = 0
     with sheet._get_source() as part:
         for _, element in iterparse(part):
@@ -276,12 +302,21 @@ def _is_not_calculated(cell: Element, value: Any, zeros: bool) -> bool:
 
 
 class _Strings(List[str]):
-    """Shared strings, of which none is counted from the end."""
+    """Shared strings, of which none is counted from the end, and which of them a cell has."""
+
+    def __init__(self, strings: Iterable[str]) -> None:
+        super().__init__(strings)
+        self.used: Set[int] = set()
 
     def __getitem__(self, index: Any) -> Any:
         if index < 0:
             raise IndexError(f"shared string {index}")
+        self.used.add(index)
         return super().__getitem__(index)
+
+    def telegrams_of_no_cell(self) -> int:
+        """How many telegrams are in strings that no cell has."""
+        return sum(telegrams_in(text) for index, text in enumerate(self) if index not in self.used)
 
 
 def _chosen(book: Any, name: Optional[str], headings: Headings, fill_merged: bool) -> Tuple[Any, str]:
@@ -348,17 +383,6 @@ def _cells(values_of_rows: Iterable[List[Any]], widest: Optional[int] = GREATEST
             raise TableError(f"it has more than {widest} columns: {SHORT_WAY_OUT}", row=number)
         rows.append([value if type(value) is str else _text(value) for value in values])
     return rows
-
-
-def _telegrams_beside_cells(content: bytes) -> List[str]:
-    """The part of each telegram that is in no cell, but in a comment or a text box, for example."""
-    found: List[str] = []
-    with zipfile.ZipFile(io.BytesIO(content)) as parts:
-        for name in parts.namelist():
-            if name.endswith(".xml") and not CELLS.fullmatch(name):
-                texts = TEXT.findall(parts.read(name).decode("utf-8", "replace"))
-                found += [name] * sum(telegrams_in("".join(text)) for text in texts)
-    return found
 
 
 def _merged(sheet: Any) -> List[str]:
