@@ -499,6 +499,25 @@ def test_expected_contents_below_a_merged_cell(table: Write) -> None:
     assert raised.value.lines() == [f"{path}: row 3, column raw: {COVERED}"]
 
 
+@pytest.mark.parametrize("short", ["a100", ALONE[:20], "a1 04 7f", "0xA104"])
+def test_a_short_telegram_below_a_merged_heading(short: str, run: Run, table: Write) -> None:
+    """It is a row of the table, and would be refused in any other row."""
+    rows = row("group", "telegram", "km"), row("A", short), GOOD.replace(">A<", ">B<")
+    path = table(content=workbook(sheet(*rows, behind=merged("C1:C2"))))
+    why = "merged headings cover its row, and it has digits as a telegram has: unmerge the headings"
+    assert run("check", path, "--fill-merged")[::2] == (2, [f"balisekit: {path}: row 2, column telegram: {why}"])
+
+
+@pytest.mark.parametrize("below", ["hex", "2", "user bits"])
+def test_headings_of_two_rows(below: str, table: Write) -> None:
+    """Words and numbers of columns below a heading are noted. A row without anything is not."""
+    rows = row("group", "telegram", "km"), row("", below), row("", "").replace("<t></t>", ""), GOOD
+    path = table(content=workbook(sheet(*rows, behind=merged("A1:A3"))))
+    read = tables.read(str(path), fill_merged=True)
+    assert [each.group for each in read.rows] == ["A"]
+    assert read.notes[-1] == "row 2 is passed over: merged headings cover it"
+
+
 @pytest.mark.parametrize("state", ["hidden", "veryHidden"])
 def test_hidden_sheets(table: Write, state: str) -> None:
     """A sheet that nobody sees is read only if it is named, and a note says that it is hidden."""
