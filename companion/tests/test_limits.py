@@ -22,6 +22,7 @@ from test_browser import CHROMIUM, browse
 
 from balisekit.engine.program import Program
 from balisekit.rules import checking
+from balisekit.tables import reader as tables
 
 Write = Callable[..., Path]
 Releases = Callable[[int, str], Path]
@@ -157,6 +158,21 @@ def test_10000_rows_with_100_bad_ones(table: Write, run: Run) -> None:
         )
 
     assert is_within(2, check)
+
+
+@pytest.mark.slow
+def test_20000_remarks_of_two_lines(table: Write) -> None:
+    """Words with line ends take a fifth of a second: only digits that may be a telegram are looked at closely."""
+    remarks = (
+        "see drawing 7, sheet 2\nchecked on 2024-05-01 by A. Doe",
+        "Süd: Abnahme am 01.05.2024\ndurch Prüfer, keiner",
+    )
+    path = table("group,telegram,remark", *(f'G{row},{ALONE},"{remarks[row % 2]}"' for row in range(20_000)))
+
+    def read() -> None:
+        assert len(tables.read(str(path)).rows) == 20_000
+
+    assert is_within(0.4, read)
 
 
 def test_the_limit_is_10000() -> None:

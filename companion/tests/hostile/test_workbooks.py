@@ -3,6 +3,7 @@
 from __future__ import annotations
 
 import io
+import json
 import random
 import sys
 import time
@@ -21,7 +22,7 @@ from balisekit.tables.cells import COVERED, NOT_CALCULATED
 
 pytest.importorskip("openpyxl")
 sys.path.insert(0, str(Path(__file__).parent))
-from workbooks import HEADING, MAIN, row, sheet, text, workbook  # noqa: E402  (the path comes first)
+from workbooks import HEADING, MAIN, OFFICE, row, sheet, text, workbook  # noqa: E402  (the path comes first)
 
 Write = Callable[..., Path]
 GOOD = row("A", ALONE)
@@ -217,6 +218,32 @@ def test_parts_of_one_name(table: Write) -> None:
     assert refusal(table(content=out.getvalue())) == f"it has the part xl/worksheets/sheet1.xml twice: {SAVE}"
 
 
+BOOK = workbook(sheet(HEADING, GOOD))
+FURTHER = "it has another workbook or other bytes "
+
+
+AROUND = {
+    "a workbook in front": (workbook(sheet(HEADING, row("B", OTHER))) + BOOK, "in front of byte "),
+    "a row in front": (b"PK\x03\x04" + row("B", OTHER).encode() + BOOK, "in front of byte "),
+    "a row behind": (BOOK + row("B", OTHER).encode(), "behind byte "),
+    "a byte behind": (BOOK + b"\0", "behind byte "),
+}
+
+
+@pytest.mark.parametrize("content, wanted", AROUND.values(), ids=AROUND)
+def test_more_than_a_workbook(table: Write, content: bytes, wanted: str) -> None:
+    """Readers of zips find the last workbook of a file, and see nothing of what is around it."""
+    assert refusal(table(content=content)).startswith(FURTHER + wanted)
+
+
+def test_a_comment_of_the_zip(table: Write) -> None:
+    """It belongs to the workbook."""
+    out = io.BytesIO(BOOK)
+    with zipfile.ZipFile(out, "a") as file:
+        file.comment = b"PK of the office"
+    assert len(tables.read(str(table(content=out.getvalue()))).rows) == 1
+
+
 KM = "<row>" + "".join(map(text, ["group", "telegram", "km"])) + "</row>"
 
 
@@ -283,6 +310,44 @@ def test_formulas_that_may_be_telegrams(
     assert run("check", path, *option)[0] == (0 if more else 2)
 
 
+LEFT_TO_THE_SPREADSHEET = ["<calcPr fullCalcOnLoad='1'/>", "<calcPr calcId='1' calcCompleted='false'/>", ""]
+ZEROS = ["<f>A1</f><v>0</v>", "<f>A1</f><v>0.0</v>", "<f t='shared' si='0'/><v>-0E0</v>"]
+
+
+@pytest.mark.parametrize("calculation", LEFT_TO_THE_SPREADSHEET)
+def test_formulas_that_a_library_has_given_a_zero(calculation: str, run: Run, table: Write) -> None:
+    """Some libraries store 0 or an empty text, and leave the calculation to the spreadsheet that opens the workbook."""
+    empty = "<row><c t='str'><f>D3</f><v></v></c></row>"
+    for body in ZEROS:
+        path = table(content=workbook(sheet(KM, cell(body)), calculation=calculation))
+        assert run("check", path)[2] == [f"balisekit: {path}: row 2, column km: {NOT_CALCULATED}"]
+        path = table(content=workbook(sheet(X, cell(body)), calculation=calculation))
+        assert (
+            f'not judged: 1 formula in sheet "S1", column "x", row 2: {SAVED}, or give --skip-column x'
+            in run("check", path)[1]
+        )
+        path = table(content=workbook(sheet(HEADING, GOOD), sheet(cell(body), empty), calculation=calculation))
+        status, out, _ = run("check", path)
+        assert status == 2 and f'not judged: 2 formulas in sheet "S2", rows 1 to 2: {SAVED}, or give --sheet' in out
+    path = table(content=workbook(sheet(HEADING, GOOD, empty), calculation=calculation))
+    assert refusal(path) == f"row 3: {NOT_CALCULATED}"
+
+
+@pytest.mark.parametrize("calculation", LEFT_TO_THE_SPREADSHEET)
+def test_values_beside_such_zeros(calculation: str, table: Write) -> None:
+    """Other values are those of the formulas, and a zero without a formula is one."""
+    rows = [cell("<f>A1</f><v>7</v>"), cell("<v>0</v>", "C3").replace(">A<", ">B<")]
+    read = tables.read(str(table(content=workbook(sheet(KM, *rows), calculation=calculation))))
+    assert [str(each.km) for each in read.rows] == ["7.0", "0.0"]
+
+
+def test_a_zero_that_a_spreadsheet_has_calculated(table: Write) -> None:
+    """It is the value of the formula, as at the beginning of a line."""
+    for body in ZEROS:
+        read = tables.read(str(table(content=workbook(sheet(KM, cell(body))))))
+        assert [str(each.km) for each in read.rows] == ["0.0"]
+
+
 def test_lines_of_a_csv_in_one_column(run: Run, table: Write) -> None:
     """Somebody has pasted them into a sheet or a column. Each telegram counts."""
     lines = f"B;{OTHER};12.3", f"B|{OTHER}|{ALONE}"
@@ -304,6 +369,90 @@ def test_telegrams_in_comments(table: Write) -> None:
     notes = tables.read(str(table(content=workbook(sheet(HEADING, GOOD), more=[part])))).notes
     said = "telegrams in comments, text boxes and other parts that are not read: 1, the first in xl/comments1.xml"
     assert said in notes
+
+
+HALVES = {"{B}": OTHER, "{B1}": OTHER[:20], "{B2}": OTHER[20:], "{main}": MAIN}
+OTHER_PARTS: Dict[str, Dict[str, str]] = json.loads(Path(__file__).with_name("other_parts.json").read_text("utf-8"))
+
+
+def filled(xml: str) -> str:
+    """The XML with the telegrams that it names."""
+    for name, telegram in HALVES.items():
+        xml = xml.replace(name, telegram)
+    return xml
+
+
+@pytest.mark.parametrize("name", OTHER_PARTS)
+def test_telegrams_in_other_parts(name: str, table: Write) -> None:
+    """Each part of a workbook is searched, and a note names the one that has a telegram (other_parts.json)."""
+    case = OTHER_PARTS[name]
+    xml, rows, part = filled(case["xml"]), [HEADING, GOOD], case["part"]
+    if part == "xl/worksheets/sheet1.xml":
+        in_rows = [xml] if xml.startswith("<row") else []
+        content = workbook(sheet(*rows, *in_rows, behind="" if in_rows else xml))
+    else:
+        content = workbook(sheet(*rows), more=[(part, "other", xml)] if xml else [])
+    notes = tables.read(str(table(content=content))).notes
+    said = f"telegrams in comments, text boxes and other parts that are not read: 1, the first in {part}"
+    assert [note for note in notes if note.startswith("telegrams in ")] == ([said] if case["is found"] == "yes" else [])
+
+
+def strings_of(part: str, *texts: str) -> Any:
+    """A part with these shared strings."""
+    body = "".join(f"<si><t>{each}</t></si>" for each in texts)
+    return part, "sharedStrings", f"<sst xmlns='{MAIN}'>{body}</sst>"
+
+
+SHARED = "<row><c t='s'><v>0</v></c><c t='s'><v>1</v></c></row>"
+
+
+@pytest.mark.parametrize("part", ["xl/sharedStrings.xml", "xl/texts.xml", "sst/1.xml"])
+def test_shared_strings_of_another_name(part: str, table: Write) -> None:
+    """They are cells, whatever their part is called. A string that no cell has is none."""
+    read = tables.read(str(table(content=workbook(sheet(HEADING, SHARED), more=[strings_of(part, "A", ALONE)]))))
+    assert [each.telegram for each in read.rows] == [ALONE] and len(read.notes) == 1
+    more = [strings_of(part, "A", ALONE, "x", OTHER)]
+    notes = tables.read(str(table(content=workbook(sheet(HEADING, SHARED), more=more)))).notes
+    assert notes[1:] == (
+        f"telegrams in comments, text boxes and other parts that are not read: 1, the first in {part}",
+    )
+
+
+def replaced(content: bytes, part: str, old: str, new: str) -> bytes:
+    """The workbook with another text in one of its parts."""
+    out = io.BytesIO()
+    with zipfile.ZipFile(io.BytesIO(content)) as book, zipfile.ZipFile(out, "w", zipfile.ZIP_DEFLATED) as file:
+        for name in book.namelist():
+            xml = book.read(name).decode()
+            assert name != part or old in xml
+            file.writestr(name, xml.replace(old, new) if name == part else xml)
+    return out.getvalue()
+
+
+def test_two_parts_with_shared_strings(table: Write) -> None:
+    """A spreadsheet follows the relationship of the workbook, and openpyxl the kind of the part."""
+    more = [strings_of("xl/sharedStrings.xml", "A", ALONE), ("xl/b.xml", "other", strings_of("", "A", OTHER)[2])]
+    related = f"<Relationship Id='s' Type='{OFFICE}/sharedStrings' Target='b.xml'/></Relationships>"
+    book = workbook(sheet(HEADING, SHARED), more=more)
+    path = table(content=replaced(book, "xl/_rels/workbook.xml.rels", "</Relationships>", related))
+    assert refusal(path) == f"its shared strings are in xl/b.xml, which is not the part of this kind: {SAVE}"
+
+
+@pytest.mark.parametrize(
+    "inner, is_searched",
+    [(BOOK, True), (BOOK[:-1], False), (b"\xd0\xcf\x11\xe0", False)],
+    ids=["a workbook", "a damaged one", "an object"],
+)
+def test_embedded_files(inner: bytes, is_searched: bool, table: Write) -> None:
+    """The cells of an embedded workbook are searched. What cannot be searched is named."""
+    out = io.BytesIO(BOOK)
+    with zipfile.ZipFile(out, "a") as file:
+        file.writestr("xl/embeddings/1.bin", inner)
+        file.writestr("xl/media/1.png", b"\x89PNG")
+    notes = tables.read(str(table(content=out.getvalue()))).notes
+    said = "telegrams in comments, text boxes and other parts that are not read: 1, the first in xl/embeddings/1.bin"
+    parts = "macros, embedded objects and other parts that are not searched for telegrams: 1, the first "
+    assert notes[1:] == ((said,) if is_searched else (f"{parts}xl/embeddings/1.bin",))
 
 
 def merged(*ranges: str) -> str:
@@ -348,6 +497,25 @@ def test_expected_contents_below_a_merged_cell(table: Write) -> None:
     with pytest.raises(KitError) as raised:
         expected.read(str(path))
     assert raised.value.lines() == [f"{path}: row 3, column raw: {COVERED}"]
+
+
+@pytest.mark.parametrize("short", ["a100", ALONE[:20], "a1 04 7f", "0xA104"])
+def test_a_short_telegram_below_a_merged_heading(short: str, run: Run, table: Write) -> None:
+    """It is a row of the table, and would be refused in any other row."""
+    rows = row("group", "telegram", "km"), row("A", short), GOOD.replace(">A<", ">B<")
+    path = table(content=workbook(sheet(*rows, behind=merged("C1:C2"))))
+    why = "merged headings cover its row, and it has digits as a telegram has: unmerge the headings"
+    assert run("check", path, "--fill-merged")[::2] == (2, [f"balisekit: {path}: row 2, column telegram: {why}"])
+
+
+@pytest.mark.parametrize("below", ["hex", "2", "user bits"])
+def test_headings_of_two_rows(below: str, table: Write) -> None:
+    """Words and numbers of columns below a heading are noted. A row without anything is not."""
+    rows = row("group", "telegram", "km"), row("", below), row("", "").replace("<t></t>", ""), GOOD
+    path = table(content=workbook(sheet(*rows, behind=merged("A1:A3"))))
+    read = tables.read(str(path), fill_merged=True)
+    assert [each.group for each in read.rows] == ["A"]
+    assert read.notes[-1] == "row 2 is passed over: merged headings cover it"
 
 
 @pytest.mark.parametrize("state", ["hidden", "veryHidden"])

@@ -9,6 +9,8 @@ from typing import Dict, Sequence, Tuple, Union
 MAIN = "http://schemas.openxmlformats.org/spreadsheetml/2006/main"
 OFFICE = "http://schemas.openxmlformats.org/officeDocument/2006/relationships"
 PACKAGE = "http://schemas.openxmlformats.org/package/2006"
+CALCULATED = "<calcPr calcId='191029'/>"
+"""What a spreadsheet writes of its formulas, which it has calculated."""
 KIND = "application/vnd.openxmlformats-officedocument.spreadsheetml"
 HEADING = "<row><c t='inlineStr'><is><t>group</t></is></c><c t='inlineStr'><is><t>telegram</t></is></c></row>"
 
@@ -29,7 +31,10 @@ def sheet(*rows: str, behind: str = "") -> str:
 
 
 def workbook(
-    *sheets: Union[str, bytes], states: Sequence[str] = (), more: Sequence[Tuple[str, str, str]] = ()
+    *sheets: Union[str, bytes],
+    states: Sequence[str] = (),
+    more: Sequence[Tuple[str, str, str]] = (),
+    calculation: str = CALCULATED,
 ) -> bytes:
     """A workbook of these sheets. Each of the other parts has a name, the kind of its contents and its XML."""
     names = [f"xl/worksheets/sheet{number}.xml" for number in range(1, len(sheets) + 1)]
@@ -44,7 +49,7 @@ def workbook(
             f"<sheet name='S{number}' sheetId='{number}' r:id='r{number}' state='{state}'/>"
             for number, state in enumerate([*states, *["visible"] * (len(sheets) - len(states))], 1)
         )
-        + "</sheets></workbook>",
+        + f"</sheets>{calculation}</workbook>",
         "xl/_rels/workbook.xml.rels": f"<Relationships xmlns='{PACKAGE}/relationships'>"
         + "".join(
             f"<Relationship Id='r{number}' Type='{OFFICE}/worksheet' Target='worksheets/sheet{number}.xml'/>"

@@ -1,6 +1,7 @@
 """Telegrams of a table outside of the column and the rows that are read. None of them is lost without a word."""
 from __future__ import annotations
 
+import re
 import shlex
 from functools import partial
 from itertools import islice
@@ -15,14 +16,19 @@ from balisekit.tables.cells import (
     LINE_END,
     NEEDED,
     Sheet,
+    digits,
     has_telegram,
     is_telegram,
+    kind_and_text,
     telegrams_in,
 )
 from balisekit.tables.headings import compared, shown
 
 ABOVE = "it has a telegram, and is not below the headings: put one row with headings above all telegrams"
+COVERED = "merged headings cover its row, and it has digits as a telegram has: unmerge the headings"
 SWALLOWED = "is a quote missing, or one too many?"
+SHORT = re.compile("[0-9A-Fa-f]{4,}")
+"""What may be a telegram below a heading, and no number of a column."""
 NOT_READ = "only the column telegram is read"
 OTHER_SHEET = "the sheet is not read: give --sheet if only one sheet is to be judged"
 UNKNOWN = "their values are not stored, and may be telegrams: open the workbook in a spreadsheet, and save it"
@@ -67,14 +73,28 @@ def telegrams(sheet: Sheet, begin: int, column: int) -> Dict[int, List[int]]:
         for at, cell in enumerate(row):
             if at == column or len(cell) < LEAST_DIGITS and not LARGE.fullmatch(cell):
                 continue
-            is_plain = is_telegram(cell) and not LINE_END.search(cell.strip())
-            if LINE_END.search(cell) and not is_plain and in_part(cell):
+            count = telegrams_in(cell, sheet.separator)
+            if count and LINE_END.search(cell) and not (is_telegram(cell) and not LINE_END.search(cell.strip())):
                 faults.append(TableError(f"cell {at + 1} has line ends and a telegram in it: {SWALLOWED}", number))
-            else:
-                found.setdefault(at, []).extend([number] * telegrams_in(cell, sheet.separator))
+            elif count:
+                found.setdefault(at, []).extend([number] * count)
     if faults:
         raise TableErrors(faults)
-    return {at: numbers for at, numbers in found.items() if numbers}
+    return found
+
+
+def covered_rows(sheet: Sheet, heading: int, begin: int, column: int) -> List[str]:
+    """A note on the rows that merged headings cover. TableErrors is raised for digits in the column of telegrams.
+
+    The headings are in row `heading` and cover all rows up to `begin`, counted from 1.
+    """
+    rows = enumerate(islice(sheet.rows, heading, begin), heading + 1)
+    filled = {number: row for number, row in rows if any(map(str.strip, row))}
+    texts = {number: kind_and_text(row[column])[1] for number, row in filled.items() if column < len(row)}
+    faults = [TableError(COVERED, number, "telegram") for number in texts if SHORT.fullmatch(digits(texts[number]))]
+    if faults:
+        raise TableErrors(faults)
+    return [f"row {number} is passed over: merged headings cover it" for number in filled]
 
 
 def account(

@@ -62,12 +62,13 @@ def read(
         place, places = head_of(cells, headings)
         not_there = beside.skip(cells.rows[place], places, skip_columns, place + 1)
         begin = end_of_heading(place + 1, cells.filled, places.values())
-        named = _take_names(cells, place, places)
-        passed_over = _passed_over(cells, place, places)
+        named, passed_over = _take_names(cells, place, places), _passed_over(cells, place, places)
         meant = tuple(_meant(name, places) for name in passed_over[:COMPARED])
         try:
             cells.look_at_calculated(begin, len(cells.rows[place]), places)
             in_columns = beside.telegrams(cells, begin, places["telegram"])
+            of_heading = _notes_on_heading(place, headings.used(cells.rows[place]), named)
+            of_heading += beside.covered_rows(cells, place + 1, begin, places["telegram"])
             rows = _rows(cells, places, begin, len(cells.rows[place]))
             grouped = groups_of(rows, by_position, place + 1)
         except (TableError, TableErrors) as error:
@@ -75,11 +76,10 @@ def read(
     about = path, file.sha256, cells.encoding, cells.separator
     not_judged = beside.of_columns(cells, cells.rows[place], begin, places, in_columns, skip_columns)
     account = beside.account(cells, [row.number for row in rows], passed_over, not_judged)
-    of_heading = _notes_on_heading(place, headings.used(cells.rows[place]), named)
     of_file, ordered = (*cells.notes, *own_headings.not_read(path, columns)), [BY_POSITION] if by_position else []
     notes = (*of_file, *of_heading, *not_there, *ordered, *grouped.notes)
-    own = tuple(headings.of_row(cells.rows[place]).values())
-    return Table(*about, passed_over, grouped.rows, grouped.groups, account, notes, own, meant)
+    own = headings.of_row(cells.rows[place])
+    return Table(*about, passed_over, grouped.rows, grouped.groups, account, notes, tuple(own.values()), meant)
 
 
 def _hints(passed_over: Sequence[str], meant: Sequence[str], place: int, named: bool) -> List[TableError]:

@@ -9,16 +9,19 @@ import warnings
 import zipfile
 from decimal import Decimal
 from itertools import islice
-from typing import Any, Callable, Dict, Iterable, Iterator, List, Optional, Pattern, Sequence, Tuple
-from xml.etree.ElementTree import Element, ParseError, iterparse
+from typing import Any, Callable, Dict, Iterable, Iterator, List, Optional, Pattern, Sequence, Set, Tuple
+from xml.etree.ElementTree import Element, ParseError, fromstring, iterparse
 
 from balisekit.errors import KitError, TableError, needed
 from balisekit.tables.cells import GREATEST_NAME, Area, Found, Place, Sheet, fill_heads, of_kind, telegrams_in
 from balisekit.tables.encoding import OLD_WORKBOOK
 from balisekit.tables.headings import SEARCHED, Headings, is_data
+from balisekit.tables.other_parts import Beside, beside_cells
 
 CONTENTS = "[Content_Types].xml"
 """A part that each workbook has."""
+END_OF_ZIP, LENGTH_OF_END = b"PK\x05\x06", 22
+"""How the last record of a zip begins, and how long it is without a comment."""
 GREATEST, GREATEST_PART = 200_000_000, 100_000_000
 """The most bytes of an unpacked workbook, and of one part of it. 100,000 rows have up to 55,000,000."""
 GREATEST_RATIO, SMALL_PART = 100, 1_000_000
@@ -39,9 +42,11 @@ MERGED = (
 )
 FILLED = "merged ranges, whose empty cells are read with the value of the first one: {count}, the first {first}"
 BESIDE = "telegrams in comments, text boxes and other parts that are not read: {count}, the first in {first}"
-CELLS = re.compile(r"xl/(worksheets/[^/]*|sharedStrings)\.xml", re.IGNORECASE)
-"""The parts of a workbook that have cells."""
-TEXT = re.compile(""">([^<]{40,})<|"([^"<]{40,})"|'([^'<]{40,})'""")
+NOT_SEARCHED = (
+    "macros, embedded objects and other parts that are not searched for telegrams: {count}, the first {first}"
+)
+STRINGS = "http://schemas.openxmlformats.org/officeDocument/2006/relationships/sharedStrings"
+"""The kind of the relationship of a workbook to its shared strings."""
 CELL_TAGS = ("}c", "c")
 """How the name of the element of a cell ends, whatever its namespace."""
 DATES = (datetime.date, datetime.time, datetime.timedelta)
@@ -61,8 +66,12 @@ def read(content: bytes, name: Optional[str], headings: Headings = Headings(), f
             reader = openpyxl.reader.excel.ExcelReader(file, read_only=True, data_only=True, keep_links=False)
             reader.read()
             book, named = reader.wb, len(reader.parser.sheets)
+            part_of_strings, strings = _part_of_strings(reader), _Strings(reader.shared_strings)
+            zeros = _may_lack_values(reader.archive.read(reader.parser.workbook_part_name))
         except Exception as error:
             raise _unreadable(error) from error
+        for each in book.worksheets:
+            each._shared_strings = strings
         all_sheets = [*book.worksheets, *book.chartsheets]
         if len(all_sheets) < named:
             raise TableError(f"{named - len(all_sheets)} of its {named} sheets cannot be found in it: {SHORT_WAY_OUT}")
@@ -70,11 +79,17 @@ def read(content: bytes, name: Optional[str], headings: Headings = Headings(), f
         sheet, note = _chosen(book, name, headings, fill_merged)
         merged = _merged(sheet)
         not_calculated: List[Place] = []
-        rows, areas = _cells(_rows(sheet, not_calculated)), _areas(merged)
-        beside = _telegrams_beside_cells(content) if "telegram" in headings.needed else []
-        notes = (note, *_notes(beside, BESIDE), *_notes(merged, FILLED if fill_merged else MERGED))
+        rows, areas = _cells(_rows(sheet, zeros, not_calculated)), _areas(merged)
+        found: Dict[str, Found] = {}
+        beside = Beside([], [])
+        if "telegram" in headings.needed:
+            found = _found_in_others(book, sheet, zeros)
+            names = [each._worksheet_path for each in book.worksheets]
+            beside = beside_cells(content, names, part_of_strings, _look_at_parts)
+            beside.telegrams.extend([part_of_strings] * strings.telegrams_of_no_cell())
+        notes = (note, *_notes(beside.telegrams, BESIDE), *_notes(beside.not_searched, NOT_SEARCHED))
+        notes += tuple(_notes(merged, FILLED if fill_merged else MERGED))
         others = tuple(other.title for other in all_sheets if other is not sheet)
-        found = _found_in_others(book, sheet) if "telegram" in headings.needed else {}
         is_chosen = name is not None
         return Sheet("xlsx", "", rows, notes, sheet.title, others, areas, fill_merged, found, is_chosen, not_calculated)
 
@@ -94,6 +109,7 @@ def _look_at_parts(content: bytes) -> None:
     try:
         with zipfile.ZipFile(io.BytesIO(content)) as parts:
             members = parts.infolist()
+            _look_at_ends(content, parts)
             _look_at_names("part", [part.filename for part in members])
             for part in members:
                 _look_at_size(part)
@@ -108,6 +124,15 @@ def _look_at_parts(content: bytes) -> None:
         raise TableError(f"it is cut short or damaged ({error}): copy it again, or save it as CSV") from error
     except Exception as error:  # zipfile raises whatever its decompressors raise
         raise _unreadable(error) from error
+
+
+def _look_at_ends(content: bytes, parts: zipfile.ZipFile) -> None:
+    """TableError is raised for bytes in front of the zip or behind it: a zip is read from its end, and hides them."""
+    begin = min((part.header_offset for part in parts.infolist()), default=0)
+    end = content.rfind(END_OF_ZIP) + LENGTH_OF_END + len(parts.comment)
+    if begin or end != len(content):
+        where = f"in front of byte {begin}" if begin else f"behind byte {end}"
+        raise TableError(f"it has another workbook or other bytes {where}: {SHORT_WAY_OUT}")
 
 
 def _look_at_names(what: str, names: Sequence[str]) -> None:
@@ -159,10 +184,35 @@ def _tag(name: bytes, xml: bytes) -> Pattern[bytes]:
     return re.compile(b"<" + prefix + name + rb"(?=[\s/>])")
 
 
-def _rows(sheet: Any, not_calculated: Optional[List[Place]] = None) -> Iterator[List[Any]]:
+def _part_of_strings(reader: Any) -> str:
+    """The part with the shared strings. openpyxl finds it by its kind, and a spreadsheet by its relationship."""
+    from openpyxl.xml.constants import SHARED_STRINGS
+
+    kind = reader.package.find(SHARED_STRINGS)
+    part = kind.PartName[1:] if kind is not None else ""
+    others = [one.target for one in reader.parser.rels.find(STRINGS) if one.target != part]
+    if others:
+        raise TableError(f"its shared strings are in {others[0]}, which is not the part of this kind: {SHORT_WAY_OUT}")
+    return str(part)
+
+
+def _may_lack_values(workbook: bytes) -> bool:
+    """Whether a stored zero or empty text may stand for the value of a formula, by the part of the workbook.
+
+    Spreadsheets then calculate all formulas when they open it: libraries that calculate none ask for that, or have not
+    said how formulas were calculated.
+    """
+    stated = next((each for each in fromstring(workbook) if each.tag == f"{NAMESPACE}calcPr"), None)
+    if stated is None:
+        return True
+    return stated.get("fullCalcOnLoad") in ("1", "true") or stated.get("calcCompleted") in ("0", "false")
+
+
+def _rows(sheet: Any, zeros: bool = False, not_calculated: Optional[List[Place]] = None) -> Iterator[List[Any]]:
     """The values of each row of a sheet, also of rows that it skips. TableError is raised for what openpyxl raises.
 
-    `not_calculated` gets the cells that are empty only because the values of their formulas are not stored.
+    `not_calculated` gets the cells that are empty only because the values of their formulas are not stored. With
+    `zeros` these are also formulas whose stored value is 0 or an empty text.
     """
     formulas = [] if not_calculated is None else not_calculated
     number = 0
@@ -174,7 +224,7 @@ def _rows(sheet: Any, not_calculated: Optional[List[Place]] = None) -> Iterator[
                 why = f"it follows row {before} in the workbook, which is damaged: save it again"
                 raise TableError(why, row=number)
             yield from ([] for _ in range(before + 1, number))
-            yield _values(row, number, parse_cell, formulas)
+            yield _values(row, number, parse_cell, zeros, formulas)
     except Exception as error:
         raise _unreadable(error, number) from error
 
@@ -183,8 +233,10 @@ def _elements(sheet: Any) -> Iterator[Tuple[Element, ParseCell]]:
     """The elements of the rows of a sheet, each with what reads one of its cells."""
     from openpyxl.worksheet._reader import WorkSheetParser
 
-    book, strings = sheet.parent, _Strings(sheet._shared_strings)
-    parser = WorkSheetParser(None, strings, data_only=True, epoch=book.epoch, date_formats=book._date_formats)
+    book = sheet.parent
+    parser = WorkSheetParser(
+        None, sheet._shared_strings, data_only=True, epoch=book.epoch, date_formats=book._date_formats
+    )
     outside = 0
     with sheet._get_source() as part:
         for _, element in iterparse(part):
@@ -203,7 +255,7 @@ def _number(text: str) -> int:
     return int(text) if re.fullmatch(r"\s*-?[0-9]{1,20}\s*", text) else 0
 
 
-def _values(row: Element, number: int, parse_cell: ParseCell, not_calculated: List[Place]) -> List[Any]:
+def _values(row: Element, number: int, parse_cell: ParseCell, zeros: bool, not_calculated: List[Place]) -> List[Any]:
     """The values of a row. `not_calculated` gets its cells with formulas whose values are not stored."""
     from openpyxl.utils import column_index_from_string
 
@@ -213,8 +265,10 @@ def _values(row: Element, number: int, parse_cell: ParseCell, not_calculated: Li
         skipped = column_index_from_string(column) - len(values) - 1 if column else 0
         if skipped < 0:
             raise TableError("its cells are not in the order of their columns: save the workbook again", row=number)
-        values += [*[None] * skipped, _value(cell, parse_cell)]
-        if values[-1] is None and _is_not_calculated(cell):
+        value = _value(cell, parse_cell)
+        missing = (value is None or zeros) and _is_not_calculated(cell, value, zeros)
+        values += [*[None] * skipped, None if missing else value]
+        if missing:
             not_calculated.append((number, len(values) - 1))
     return values
 
@@ -234,20 +288,35 @@ def _texts(cell: Element) -> Iterator[str]:
     return ((part.text or "").strip() for part in cell.iter() if part.tag != f"{NAMESPACE}f")
 
 
-def _is_not_calculated(cell: Element) -> bool:
-    """Whether a cell has a formula whose value is not stored. That of an empty text is stored as an empty one."""
-    value = cell.find(f"{NAMESPACE}v")
-    is_empty_text = value is not None and cell.get("t") == "str"
-    return cell.find(f"{NAMESPACE}f") is not None and not is_empty_text and not (value is not None and value.text)
+def _is_not_calculated(cell: Element, value: Any, zeros: bool) -> bool:
+    """Whether a cell has a formula whose value is not stored. That of an empty text is stored as an empty one.
+
+    With `zeros` the values 0 and "" are not taken for values.
+    """
+    if (value is not None and not zeros) or cell.find(f"{NAMESPACE}f") is None:
+        return False
+    kind, text = cell.get("t", "n"), cell.findtext(f"{NAMESPACE}v")
+    if value is None:
+        return zeros or kind != "str" or text is None
+    return kind == "n" and text is not None and float(text) == 0
 
 
 class _Strings(List[str]):
-    """Shared strings, of which none is counted from the end."""
+    """Shared strings, of which none is counted from the end, and which of them a cell has."""
+
+    def __init__(self, strings: Iterable[str]) -> None:
+        super().__init__(strings)
+        self.used: Set[int] = set()
 
     def __getitem__(self, index: Any) -> Any:
         if index < 0:
             raise IndexError(f"shared string {index}")
+        self.used.add(index)
         return super().__getitem__(index)
+
+    def telegrams_of_no_cell(self) -> int:
+        """How many telegrams are in strings that no cell has."""
+        return sum(telegrams_in(text) for index, text in enumerate(self) if index not in self.used)
 
 
 def _chosen(book: Any, name: Optional[str], headings: Headings, fill_merged: bool) -> Tuple[Any, str]:
@@ -270,19 +339,19 @@ def _chosen(book: Any, name: Optional[str], headings: Headings, fill_merged: boo
     return sheet, f"the sheet is {sheet.title}{', which is hidden' * hidden}; hidden and filtered rows are read as well"
 
 
-def _found_in_others(book: Any, chosen: Any) -> Dict[str, Found]:
+def _found_in_others(book: Any, chosen: Any, zeros: bool) -> Dict[str, Found]:
     """What is found in the sheets that are not read, hidden ones among them."""
     found: Dict[str, Found] = {}
     for sheet in book.worksheets:
         try:
-            found.update({sheet.title: _found(sheet)} if sheet is not chosen else {})
+            found.update({sheet.title: _found(sheet, zeros)} if sheet is not chosen else {})
         except Exception as error:
             fault = _unreadable(error)
             raise TableError(f"sheet {sheet.title}: {fault}") if isinstance(fault, TableError) else fault from error
     return found
 
 
-def _found(sheet: Any) -> Found:
+def _found(sheet: Any, zeros: bool) -> Found:
     """What is found in a sheet whose rows and cells may be in any order."""
     found, number = Found([], []), 0
     for row, parse_cell in _elements(sheet):
@@ -290,7 +359,7 @@ def _found(sheet: Any) -> Found:
         for cell in row.iterfind(f"{NAMESPACE}c"):
             value = _value(cell, parse_cell)
             found.telegrams.extend([number] * telegrams_in(_text(value)))
-            found.formulas.extend([number] * (value is None and _is_not_calculated(cell)))
+            found.formulas.extend([number] * _is_not_calculated(cell, value, zeros))
     return found
 
 
@@ -314,17 +383,6 @@ def _cells(values_of_rows: Iterable[List[Any]], widest: Optional[int] = GREATEST
             raise TableError(f"it has more than {widest} columns: {SHORT_WAY_OUT}", row=number)
         rows.append([value if type(value) is str else _text(value) for value in values])
     return rows
-
-
-def _telegrams_beside_cells(content: bytes) -> List[str]:
-    """The part of each telegram that is in no cell, but in a comment or a text box, for example."""
-    found: List[str] = []
-    with zipfile.ZipFile(io.BytesIO(content)) as parts:
-        for name in parts.namelist():
-            if name.endswith(".xml") and not CELLS.fullmatch(name):
-                texts = TEXT.findall(parts.read(name).decode("utf-8", "replace"))
-                found += [name] * sum(telegrams_in("".join(text)) for text in texts)
-    return found
 
 
 def _merged(sheet: Any) -> List[str]:
