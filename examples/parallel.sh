@@ -12,7 +12,7 @@
 # check_documents writes the report of each document, each line after the name of the document. A status counts only with
 # the line of the report that goes with it, such as `yes: groups 2, messages 0` with status 0. In each document groups
 # and messages count from 0. It checks as many documents at once as there are processors, which all take memory:
-# `export PARALLEL=-j2` makes it two at once.
+# `export PARALLEL=-j2` makes it two at once. From PARALLEL the functions take only `-j` or `--jobs`, and no other option.
 #
 # shared_identities compares NID_C and NID_BG of the first balise in the first aspect of each group. All documents
 # together are sound if it and check_documents end with 0. For 100,000 groups it took 3.1 s and 160 MiB, most of it in jq
@@ -62,6 +62,8 @@
 #   another program ends with 0, and writes no line of a yes        0                                 3
 #   the answers cannot be written, as on a full disk                0                                 3
 
+# With a CDPATH cd could lead to another folder, and writes its name.
+unset CDPATH
 # check_tables runs this.
 check_tables_hook=$(cd "$(dirname "${BASH_SOURCE[0]}")" && pwd)/hooks/check-tables
 
@@ -72,6 +74,18 @@ the_program() {
     else
         echo "${BALISECHECK:-./balisecheck}"
     fi
+}
+
+# shared_out OPTION..: parallel with the number of jobs that PARALLEL has. Its other options, and those of its files of
+# settings, could run nothing or something else.
+shared_out() {
+    local jobs=()
+    if [[ ${PARALLEL:-} =~ ^(-j|--jobs[ =])\ *([0-9]+%?)$ ]]; then
+        jobs=(-j "${BASH_REMATCH[2]}")
+    elif [ -n "${PARALLEL:-}" ]; then
+        echo "PARALLEL=$PARALLEL is not used: these functions take only -j or --jobs with a number from it" >&2
+    fi
+    PARALLEL_SHELL=$BASH parallel --plain "${jobs[@]}" "$@"
 }
 
 # status_of_parts LOG COLUMN WHOLE PARALLEL CAT: ends with the greatest status in parallel's log. This column of the log
@@ -112,7 +126,7 @@ check_documents() (
     BALISECHECK=$(the_program)
     export BALISECHECK
     export -f report_of
-    printf '%s\0' "$@" | PARALLEL_SHELL=$BASH parallel -0 -k --tag --joblog "$log" report_of {} | cat
+    printf '%s\0' "$@" | shared_out -0 -k --tag --joblog "$log" report_of {} | cat
     status_of_parts "$log" 0 $# "${PIPESTATUS[@]:1}"
 )
 
@@ -125,7 +139,7 @@ run_in_blocks() (
     [ $# -eq 1 ] || set -- "${*@Q}"
     bytes=$(wc -c <"$file") && log=$(mktemp) && trap 'rm -f "$log"' EXIT || exit 3
     # What a refused block leaves is read too. Else parallel cannot hand it over, and logs a signal instead of status 2.
-    PARALLEL_SHELL=$BASH parallel --pipe --block "$size" -k --joblog "$log" "$1; ended=\$?; cat >/dev/null; exit \$ended" <"$file" | cat
+    shared_out --pipe --block "$size" -k --joblog "$log" "$1; ended=\$?; cat >/dev/null; exit \$ended" <"$file" | cat
     status_of_parts "$log" 5 "$bytes" "${PIPESTATUS[@]}"
 )
 
@@ -181,7 +195,7 @@ check_tables() (
     # Without the test a file that cannot be written would end with 1, as a table with findings does.
     # shellcheck disable=SC2016
     printf '%s\0' "${tables[@]}" |
-        PARALLEL_SHELL=$BASH parallel -0 --joblog "$folder/jobs" 'file=$folder/{#}-{/.}.txt; true >"$file" || exit 3
+        shared_out -0 --joblog "$folder/jobs" 'file=$folder/{#}-{/.}.txt; true >"$file" || exit 3
             "$check_tables_hook" $words -- {} >"$file" 2>&1 </dev/null'
     [ $? -le 101 ] || exit 3
     summary_of_tables "$folder" "${tables[@]}"

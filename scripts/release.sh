@@ -27,6 +27,7 @@
 # SPDX, but their wheels name different versions of hatchling. They need git, python3-hatchling, help2man, dpkg-deb, and
 # ssh-keygen to sign.
 set -euo pipefail
+unset CDPATH
 
 cd "$(dirname "${BASH_SOURCE[0]}")/.."
 room=$(mktemp -d)

@@ -66,3 +66,14 @@ def test_texts():
         text = (TOP / name).read_bytes().decode("utf-8")
         assert "\r" not in text and (text[-1:] in ("", "\n") or name.endswith((".svg", "report.html"))), name
         assert name.endswith(".edits") or not re.search(r"(?m)[ \t]$", text), name
+
+
+def test_folders():
+    """Each script that changes its folder unsets CDPATH: by it cd leads to a folder of that name elsewhere."""
+    listed = run(("grep", "-IlzE", "^#!.*sh$|^# shellcheck shell=", "--", ":!dist"), path="git", cwd=TOP)
+    if listed.status:
+        pytest.skip("the folders of all scripts (git)")
+    scripts = {name: (TOP / name).read_text("utf-8") for name in listed.stdout.split("\0")[:-1]}
+    moving = {name for name, text in scripts.items() if re.search(r"(?m)^[^#\n]*\bcd [^ ]", text)}
+    assert "examples/parallel.sh" in moving
+    assert not [name for name in moving if not re.search("(?m)^unset CDPATH$", scripts[name])]

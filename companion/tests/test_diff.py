@@ -9,7 +9,7 @@ import re
 import shutil
 import subprocess
 from pathlib import Path
-from typing import Any, Callable, List
+from typing import Any, Callable, Dict, List
 
 import link_tables
 import pytest
@@ -143,6 +143,31 @@ def test_another_kilometre_is_noted(run: Run, table: Write) -> None:
     assert status == 0 and [line for line in out if line.startswith("note: ")] == [
         "note: A  (group 1 of country or region 1): km 10.003 -> 10.004"
     ]
+
+
+@pytest.mark.parametrize(
+    "changes, notes",
+    [
+        ({"A,A1": "A,A2", "A,A2": "A,A1"}, [", row 2: balise A1 -> A2"]),
+        ({"A,A2": "A,"}, [", row 3: balise A2 -> none"]),
+        ({"rising": "falling"}, [": nominal rising -> falling"]),
+        ({"10.003,Up": "10.004,Down", "10.000,Up": "10.000,Down"}, [": km 10.003 -> 10.004", ": track Up -> Down"]),
+    ],
+)
+def test_cells_beside_telegrams_are_noted(run: Run, table: Write, changes: Dict[str, str], notes: List[str]) -> None:
+    """Of each column the first one that differs, in any aspect and balise. They are no difference."""
+    lines = [
+        "group,name,aspect,km,track,nominal,telegram",
+        f"A,A1,red,10.000,Up,rising,{FIRST}",
+        f"A,A2,red,10.003,Up,rising,{SECOND}",
+        f"A,A1,green,10.000,Up,rising,{FIRST}",
+        f"A,A2,green,10.003,Up,rising,{SECOND}",
+    ]
+    changed = [next((line.replace(*one) for one in changes.items() if one[0] in line), line) for line in lines]
+    old, new = table(*lines, name="old.csv"), table(*changed, name="new.csv")
+    status, out, _ = run("diff", old, new)
+    group = "A  (group 1 of country or region 1)"
+    assert status == 0 and [line for line in out if line.startswith("note: ")] == [f"note: {group}{it}" for it in notes]
 
 
 def test_what_is_refused_is_not_compared(run: Run, table: Write) -> None:

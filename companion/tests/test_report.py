@@ -448,7 +448,7 @@ def test_messages_are_drawn_and_shown(tmp_path: Path, capsys: pytest.CaptureFixt
     sections = page.split('<section class="group" id="m')[1:]
     assert [section.count("<figure") for section in sections] == [1, 1, 0, 0]
     assert "km " not in sections[1] and "metres from the group of NID_LRBG (NID_C 352, NID_BG 9)" in sections[1]
-    assert cli.main(["draw", str(LINE), *words, "--message", "1", "--svg", str(tmp_path / "m.svg")]) == 0
+    assert cli.main(["draw", str(LINE), *words, "--message", "1", "--svg", str(tmp_path / "m.svg")]) == 2  # (row 26)
     assert any(title.startswith("F13: 500 m are missing") for title in _titles(tmp_path / "m.svg"))
     capsys.readouterr()
     cli.main(["show", str(LINE), *words])
@@ -524,7 +524,7 @@ def test_texts_are_within_the_picture(length: int, direction: int, tmp_path: Pat
     messages = _messages(tmp_path / "m.txt", *forms)
     for line in ("1", "2"):
         words = ["--messages", str(messages), "--message", line, "--svg", str(tmp_path / f"{line}.svg")]
-        assert cli.main(["draw", str(LINE), *words]) == 0
+        assert cli.main(["draw", str(LINE), *words]) == 2  # (row 26 is refused)
         assert not faults(tmp_path / f"{line}.svg")
 
 

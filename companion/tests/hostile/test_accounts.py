@@ -99,13 +99,17 @@ COMMANDS: Dict[str, str] = {
     "show": "show TABLE",
     "report": "report TABLE --html OUT",
     "track": "draw TABLE --track --svg OUT",
+    "group": "draw TABLE --group A --svg OUT",
 }
+
+
+PICTURES = ("track", "group")
 
 
 @pytest.mark.parametrize("name", COMMANDS)
 def test_no_command_hides_a_column(run: Run, table: Write, tmp_path: Path, name: str) -> None:
     """Each command names what is not read, and ends with 2, unless --skip-column leaves it out: then with 0."""
-    if name in ("report", "track") and not find_spec("jinja2"):
+    if name in ("report", *PICTURES) and not find_spec("jinja2"):
         pytest.skip("jinja2")
     path, sheet = table(*OLD), tmp_path / "sheet.csv"
     assert run("table", path, "--skip-column", "old", "--csv", sheet)[0] == 0
@@ -116,7 +120,7 @@ def test_no_command_hides_a_column(run: Run, table: Write, tmp_path: Path, name:
         got, said, err = run(*words, *options)
         named = [line for line in said if "not judged: 1 telegram in column" in line]
         assert got == status and named and (status == 0 or NAMED in named[0]), (said, err)
-        assert any(NOT_READ in line and "INCOMPLETE" in line for line in said) == (status == 2 and name != "track")
+        assert any(NOT_READ in line and "INCOMPLETE" in line for line in said) == (status == 2 and name not in PICTURES)
         assert any(NOT_READ in line for line in [*said, *err]) == (status == 2)
 
 

@@ -96,7 +96,7 @@ def test_a_message_whose_group_is_not_in_the_table(run: Run, table: Write) -> No
     messages = table(f"{MESSAGE};far away", name="messages.txt")
     _, out, answer, junit, _ = outputs(run, path, "--messages", messages, "--only", "F,E")
     assert [(each["message"], each["group"]) for each in answer["passed_over"]] == [(1, None)]
-    why = "its group is not in the table, so E12 to E19 and E22 do not place it"
+    why = "its group is not in the table, so E12 to E19 and E22 compare no place of it"
     assert skipped(junit.findall("testsuite")[-1]) == {"line 1  far away": f"passed over: {why}"}
     assert f"note: line 1  far away: {why}" in out
 
@@ -121,3 +121,34 @@ def test_a_kilometre_in_a_jump(run: Run, table: Write) -> None:
     assert f"note: Signal 3: {why}, so E12 to E19 and E22 compare no place of the group" in out
     assert [(each["family"], each["group"]) for each in answer["passed_over"]] == [("L", "Signal 3"), ("E", "Signal 3")]
     assert f"not compared by E12: 2 of 12 ends of authority ({why}: 2)" in out
+
+
+PLACED = [
+    ("km", {"Signal 2": ""}, ["Signal 2: no kilometre, so the plan has no place of the group"]),
+    (
+        "track",
+        {f"Signal {number}": "Up" for number in range(3, 99)},
+        ["Signal 1, Signal 2: no track, although other groups have one: its rows of the plan have none either"],
+    ),
+]
+
+
+@pytest.mark.parametrize("column, cells, wanted", PLACED)
+def test_groups_that_a_plan_does_not_place_are_named(
+    run: Run, table: Write, column: str, cells: Dict[str, str], wanted: List[str]
+) -> None:
+    """The plan that is written lacks places of groups without kilometre, and has no track for those without one."""
+    rows = list(csv.DictReader((TOP / "examples/meaning/line.csv").read_text("utf-8").splitlines()))
+    rows = [{**row, column: cells.get(row["group"], row[column])} for row in rows if row["group"].startswith("Signal")]
+    lines = [",".join(row.values()) for row in rows]
+    notes = [line for line in run("plan", table(",".join(rows[0]), *lines))[2] if line.startswith("note: Signal")]
+    assert notes == [f"note: {each}" for each in wanted]
+
+
+def test_a_single_balise_without_direction_is_named_by_plan(run: Run, table: Write) -> None:
+    """Its packets are not in the plan. So are those of each group of a table without kilometres, which has one note."""
+    text = (TOP / "examples/links/direction-not-known.csv").read_text("utf-8").replace("rising", "").splitlines()
+    why = "direction along the kilometres not known, so the plan has no place ahead of the group"
+    assert any(line.startswith(f"note: D: {why}") for line in run("plan", table(*text))[2])
+    without = [",".join(cell for place, cell in enumerate(line.split(",")) if place != 2) for line in text]
+    assert "note: no row has a kilometre: the plan has only aspects" in run("plan", table(*without))[2]

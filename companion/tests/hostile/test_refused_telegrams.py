@@ -30,6 +30,7 @@ COMMANDS = [
     "draw --all pictures",
     "draw --all pictures --messages m.txt",
     "draw --track --svg t.svg",
+    "draw --message 1 --svg m.svg --messages m.txt",
     "show --messages m.txt",
     "table --csv t.csv",
 ]

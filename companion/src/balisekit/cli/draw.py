@@ -20,7 +20,7 @@ from balisekit.io.outputs import Output
 from balisekit.present.account_text import overlooked_lines
 from balisekit.present.opening import opening, opening_of
 from balisekit.present.pictures import message_picture, picture_page, track_page, written
-from balisekit.present.refusals import not_looked_at, refused
+from balisekit.present.refusals import not_looked_at, overlooked, refused
 from balisekit.rules import checking
 from balisekit.rules.checking import Checked
 from balisekit.rules.families import FAMILIES, apply
@@ -59,10 +59,12 @@ def run(options: argparse.Namespace) -> int:
     notes: Sequence[str] = ()
     keys = tuple(settings.KINDS) if options.group is None and options.message is None else ()
     in_use = in_force(options, [table], keys)
+    lacks: Sequence[object] = overlooked(table)
     if options.group is not None:
         picture, notes = _group(options, program, table)
     elif options.message is not None:
-        picture = _message(checking.check(program, table, _only_message(messages, options.message)))
+        checked = checking.check(program, table, _only_message(messages, options.message))
+        picture, lacks = _message(checked), _lacking(checked)
     else:
         check_aspect(table, options.aspect)
         of_line = settings.of_line(options)
@@ -71,7 +73,19 @@ def run(options: argparse.Namespace) -> int:
     options.svg.write(picture_page(picture))
     head = [*opening_of(program, in_use), *(f"note: {note}" for note in notes)]
     shared.say([*head, *overlooked_lines(table), f"written: {clean(str(options.svg))}"], options.svg)
-    return 0
+    return _status(lacks)
+
+
+def _lacking(checked: Checked) -> Sequence[object]:
+    """What was refused, and what was not looked at."""
+    return [*refused(checked), *not_looked_at(checked)]
+
+
+def _status(lacks: Sequence[object]) -> int:
+    """Names what the picture lacks. The answer is the exit status."""
+    for item in lacks:
+        print(f"balisekit: {item}", file=sys.stderr)
+    return 2 if lacks else 0
 
 
 def _group(options: argparse.Namespace, program: Program, table: Table) -> Tuple[Picture, Sequence[str]]:
@@ -87,7 +101,7 @@ def _group(options: argparse.Namespace, program: Program, table: Table) -> Tuple
 
 
 def _message(checked: Checked) -> Picture:
-    """The picture of the only message of a file. Refused telegrams of the table do not matter to it."""
+    """The picture of the only message of a file. It is drawn if telegrams of the table are refused."""
     for item in refused(replace(checked, refused=())):
         raise TableError(str(item))
     message = checked.accepted_messages[0]
@@ -106,8 +120,7 @@ def _track(options: argparse.Namespace, checked: Checked, of_line: Options) -> i
     line, name = links.line, "" if options.track is True else options.track
     track = _chosen_track(line, table, name)
     options.svg.write(track_page(outcome, links, track, options.aspect))
-    for item in [*refused(checked), *not_looked_at(checked)]:
-        print(f"balisekit: {item}", file=sys.stderr)
+    _status(_lacking(checked))
     lines = [*opening(checked), *notes_on(table), *overlooked_lines(table)]
     lines += written(line, track, options.aspect, clean(str(options.svg)))
     count = len(checked.accepted_messages)

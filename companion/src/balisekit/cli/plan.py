@@ -4,7 +4,7 @@ from __future__ import annotations
 import argparse
 from collections import Counter
 from dataclasses import replace
-from typing import List
+from typing import Iterator, List
 
 from balisekit.cli import options as shared, settings
 from balisekit.cli.in_force import in_force
@@ -17,10 +17,15 @@ from balisekit.present.refusals import lacking, refused_lines
 from balisekit.rules import checking
 from balisekit.rules.checking import Checked
 from balisekit.rules.line import Line
+from balisekit.rules.passed_over import PassedOver, Rules, notes_of
 from balisekit.rules.rule import Options
 from balisekit.rules.track_plan.implied import Made, implied
 from balisekit.tables.names import clean, notes_on
 from balisekit.tables.plan import COLUMNS, cells
+
+OF_PLAN = Rules("the plan", "the plan", compare="has")
+"""What the plan needs of a group."""
+NO_TRACK = "no track, although other groups have one: its rows of the plan have none either"
 
 
 def add_options(parser: argparse.ArgumentParser) -> None:
@@ -37,10 +42,22 @@ def run(options: argparse.Namespace) -> int:
     jumps = settings.jumps(options)
     checked = checking.check(*shared.inputs(options), options.by_position, options.all)
     checked = replace(checked, settings=in_force(options, [checked.table], ("jumps", "plan")))
-    made = implied(Line.of(checked, jumps, in_full=True), Options(jumps=jumps))
+    line = Line.of(checked, jumps, in_full=True)
+    made = implied(line, Options(jumps=jumps))
+    made = made._replace(notes=[*made.notes, *_left_out(line)])
     options.csv.write(csv_writing.pieces(COLUMNS, map(cells, made.rows)))
     shared.say(_lines(options, checked, made), options.csv)
     return 0 if checked.whole else 2
+
+
+def _left_out(line: Line) -> Iterator[str]:
+    """Notes on what the plan does not place: groups and messages, or all of them."""
+    if not line.along:
+        yield "no row has a kilometre: the plan has only aspects"
+    yield from OF_PLAN.notes(line)
+    tracks = {group.track for group in line.groups}
+    without = [PassedOver(group.group, NO_TRACK) for group in line.groups if not group.track]
+    yield from notes_of(without) if len(tracks) > 1 else ()
 
 
 def _lines(options: argparse.Namespace, checked: Checked, made: Made) -> List[str]:

@@ -22,6 +22,8 @@ from balisekit.tables.names import clean, describe_message
 
 BY_ORDER = (3, 14, 15, 16)
 """The rules whose findings depend on the order of groups or aspects: one is compared with an earlier one."""
+BESIDE_TELEGRAMS = {"name": "balise", "km": "km", "track": "track", "nominal": "nominal"}
+"""The columns that no telegram has, and what a note calls them."""
 OTHER_ORDER = (
     "F3, F14, F15 and F16 depend on which group or aspect comes first: the new release was checked for them in the "
     "order of the old release, with additions last"
@@ -186,15 +188,23 @@ def _compare_group(answer: Difference, before: Group, after: Group, moved: Seque
 
 
 def _renamed(new: Side, before: Group, after: Group) -> Iterator[str]:
-    """What the table has of a group that differs, without any telegram: of its kilometres the first that differs."""
-    one, other = before.aspects[0].rows[0], after.aspects[0].rows[0]
-    kilometres = [(was.km, now.km) for was, now in zip(before.aspects[0].rows, after.aspects[0].rows)]
-    km = next((pair for pair in kilometres if pair[0] != pair[1]), kilometres[0])
-    columns = (("name", before.name, after.name), ("km", *km), ("track", one.track, other.track))
-    for column, was, now in columns:
-        if was != now:
-            values = ["none" if value in (None, "") else clean(str(value)) for value in (was, now)]
-            yield f"{new.describe(after)}: {column} {values[0]} -> {values[1]}"
+    """What the table has of a group that differs, without any telegram: of each column the first cell that differs."""
+    if before.name != after.name:
+        yield _note(new.describe(after), "name", before.name, after.name)
+    first = before.aspects[0]._replace(name=after.aspects[0].name)  # (the first ones are compared whatever their names)
+    partners = {aspect.name: aspect for aspect in (first, *before.aspects)}
+    pairs = [pair for own in after.aspects if own.name in partners for pair in zip(partners[own.name].rows, own.rows)]
+    for column, words in BESIDE_TELEGRAMS.items():
+        cells = ((getattr(was, column), getattr(now, column), now.number) for was, now in pairs)
+        was, now, number = next((each for each in cells if each[0] != each[1]), (None, None, 0))
+        if number:
+            yield _note(new.describe(after) + (f", row {number}" if column == "name" else ""), words, was, now)
+
+
+def _note(words: str, column: str, was: object, now: object) -> str:
+    """That a column differs."""
+    values = ["none" if value in (None, "") else clean(str(value)) for value in (was, now)]
+    return f"{words}: {column} {values[0]} -> {values[1]}"
 
 
 def _compare_messages(answer: Difference) -> None:

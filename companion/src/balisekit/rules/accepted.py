@@ -2,7 +2,8 @@
 
 An entry names a group by its identity, a message by its name in the messages' file, an aspect by its name in the table,
 and a balise and packet by their places. So a group that is put in before moves nothing. Names have the escapes of all
-outputs. The checksum of an entry holds the telegrams that were looked at: it accepts no other ones.
+outputs. The checksum of an entry holds the telegrams that were looked at, and what a sentence says of other ones: its
+numbers, and the names of aspects and tracks. The entry accepts no others.
 """
 from __future__ import annotations
 
@@ -60,6 +61,8 @@ ON_CORRECT_DATA = ("F6", "F9", "F10", "F11", "F12", "F13", "F14", "F16", *OWN_ON
 ROW_NUMBERS = re.compile(r"\brow \d+|\brows \d+(?:(?: to |, | and )\d+)*")
 """Numbers of rows in a sentence: a row that is added elsewhere changes them."""
 ANY_NUMBER = re.compile(r"[+-]?\d(?:[\d.,]*\d)?")
+QUOTED, OF_ASPECT = re.compile('"[^"]*"'), re.compile('aspect ("[^"]*")')
+"""The names in the sentence of a remark, and those of aspects in the statement of a finding."""
 Key = Tuple[str, ...]
 Item = Union[Place, Remark]
 """What one entry accepts: a finding of the program, or a remark of a rule of balisekit."""
@@ -120,12 +123,18 @@ class Acceptance(NamedTuple):
             return []
         fitted = f"the {len(items)} findings" if len(items) > 1 else "the finding"
         hint = f": the sha256 of {fitted} that it fits is {now}" if self.is_wide else ""
+        since = f" since {self.date}" if self.date else ""
         if not self.sha256:
             return [f"no sha256{hint}"]
+        if self.sha256 == checksum(items, with_names=False):
+            names = "names of aspects or tracks in the sentence"
+            return [
+                f"its sha256 is of an earlier balisekit, and does not cover {names}: have they changed{since}?{hint}"
+            ]
         what = "telegram has" if len(_texts(items[0])) == 1 else "telegrams have"
         what = "message has" if _message(items[0]) else what
         what = "telegrams or values have" if isinstance(items[0], Remark) else what
-        return [f"the {what} changed{f' since {self.date}' if self.date else ''}{hint}"]
+        return [f"the {what} changed{since}{hint}"]
 
 
 class Entries(NamedTuple):
@@ -307,12 +316,16 @@ def _message(item: Item) -> Optional[Message]:
     return item.location.message if isinstance(item, Remark) else item.message
 
 
-def checksum(items: Sequence[Item]) -> str:
+def checksum(items: Sequence[Item], with_names: bool = True) -> str:
     """The SHA-256 of the telegrams or messages that items are about: their digits in small letters, a line each.
 
-    For a remark the values that its rule has compared and the numbers of its sentence follow, a line each.
+    For a remark the values that its rule has compared and the numbers of its sentence follow, a line each. Then come
+    names, which balisekit up to 0.5.16 left out.
     """
-    blocks = {"".join(f"{text.lower()}\n" for text in (*_texts(item), *_values(item))) for item in items}
+    lines = (
+        [*map(str.lower, (*_texts(item), *_values(item))), *(_names(item) if with_names else ())] for item in items
+    )
+    blocks = {"".join(f"{line}\n" for line in own) for own in lines}
     return hashlib.sha256("".join(sorted(blocks)).encode("utf-8", "surrogatepass")).hexdigest()
 
 
@@ -323,6 +336,20 @@ def _values(item: Item) -> List[str]:
     named = [f"group {identity[0]} {identity[1]}" for identity in (each.identity for each in item.named) if identity]
     numbers = ANY_NUMBER.findall(ROW_NUMBERS.sub("", item.sentence))
     return [*(f"{name} {value.normalize():f}" for name, value in item.values.items()), *named, *numbers]
+
+
+def _names(item: Item) -> List[str]:
+    """The names in its sentence, the aspects of its rows, and the other places that it is about.
+
+    Of a finding that compares aspects, also which of their telegrams it blames, and the values that it compares.
+    """
+    if not isinstance(item, Remark):
+        names = OF_ASPECT.findall(str(item.statement))
+        if not names or f"F{item.finding.rule}" not in ALL_ASPECTS:
+            return names
+        return [*names, *([item.row.telegram.lower()] if item.row else []), *item.statement.values.values()]
+    own = item.location.row.aspect if item.location.row else ""
+    return [*QUOTED.findall(item.sentence), *(name for name in item.aspects if name != own), *item.places]
 
 
 def _texts(item: Item) -> List[str]:

@@ -32,6 +32,8 @@ class Rules(NamedTuple):
     """Those that need its direction along the kilometres."""
     others: str = ""
     """Those that need other groups on its track."""
+    compare: str = "compare"
+    """What they do with places."""
 
     def find(self, line: Line) -> Iterator[PassedOver]:
         """What these rules pass over. A table without kilometres has a line of its own."""
@@ -42,7 +44,7 @@ class Rules(NamedTuple):
         for message, form in line.messages if line.along else ():
             if form["nid_message"] == 3:
                 named = line.passages.by_identity.get((form["nid_c"], form["nid_bg"]))
-                not_there = f"its group is not in the table, so {self.place} do not place it"
+                not_there = f"its group is not in the table, so {self.place} {self.compare} no place of it"
                 why = self._lacks(line, named) if named else not_there
                 if why:
                     yield PassedOver(message, why)
@@ -61,11 +63,11 @@ class Rules(NamedTuple):
     def _lacks(self, line: Line, group: BaliseGroup) -> str:
         if line.places[group.number] is None:
             why = "no kilometre" if group.km is None else IN_JUMP
-            return f"{why}, so {self.place} compare no place of the group"
+            return f"{why}, so {self.place} {self.compare} no place of the group"
         if group.rising is None and any(group.says):
             return (
-                f"direction along the kilometres not known, so {self.direction} compare no place ahead of the group: "
-                "write rising or falling in the column nominal"
+                f"direction along the kilometres not known, so {self.direction} {self.compare} no place ahead of the "
+                "group: write rising or falling in the column nominal"
             )
         return ""
 

@@ -102,6 +102,8 @@ class Remark(NamedTuple):
     """The fields that look wrong, as far as the rule knows them."""
     beside: Sequence[Field] = ()
     """The fields with which it has compared them."""
+    places: Sequence[str] = ()
+    """The rows of other groups that it is about, by identity, aspect and balise: an entry accepts no others."""
 
 
 class Result(NamedTuple):

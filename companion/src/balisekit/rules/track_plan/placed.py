@@ -208,6 +208,7 @@ def remark(
     groups = {each.passage.group.group.number: each.passage.group.group for each in sayings if each.passage.group}
     named = [group for group in groups.values() if not first.group or group is not first.group.group]
     also = f"; {rows_words(others)} too" if others and not first.message else ""
+    places = {_place_words(each) for each in sayings if each.packet.row and each.packet.row.number in others}
     return Remark(
         rule,
         first.at(packet),
@@ -218,7 +219,17 @@ def remark(
         rows=() if first.message else tuple(sorted(own)),
         others=tuple(sorted(others)),
         aspects=tuple(dict.fromkeys(row.aspect for row in rows if row.number in own and row.aspect not in ("", "*"))),
+        places=sorted(places),
     )
+
+
+def _place_words(saying: Saying) -> str:
+    """The row of a packet by identity, aspect and balise."""
+    row, data = saying.packet.row, saying.passage.group
+    if row is None or data is None:
+        return ""
+    group = data.group
+    return f"{group.identity} {row.aspect} {group.group.places[row.number]}"
 
 
 def plan_words(row: PlanRow, with_km: bool = True) -> str:
