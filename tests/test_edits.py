@@ -132,6 +132,20 @@ def test_stale_edit(monkeypatch, tmp_path):
     assert found == [(f"tiny/stale, {LOG}", f"next is {STALE}")]
 
 
+def test_libraries_of_a_copy(monkeypatch, tmp_path):
+    """A copy of the crates has the libraries that are built here, and nothing else that `rt` made."""
+    names = "src/lib.rt", "out/rlib/stamp", "out/rlib/tiny.rlib/format"
+    for path in (*names, "out/incremental/one", "edits/lib.edits"):
+        write(tmp_path / "here/crates/tiny" / path, path)
+    write(tmp_path / "here/crates.txt", "tiny:\n")
+    monkeypatch.setitem(EDITS["copy_crates"].__globals__, "TOP", tmp_path / "here")
+    (tmp_path / "copy").mkdir()
+    EDITS["copy_crates"](tmp_path / "copy")
+    made_of = {it for it in (tmp_path / "copy/crates").rglob("*") if it.is_file()}
+    assert made_of == {tmp_path / "copy/crates/tiny" / it for it in names}
+    assert all(it.read_text("utf-8") == it.relative_to(tmp_path / "copy/crates/tiny").as_posix() for it in made_of)
+
+
 @pytest.mark.skipif(not shutil.which("git"), reason="tests of edits (git)")
 def test_judged_crates(monkeypatch, capsys, tmp_path):
     """The crates are named if all edits passed and crates/ is committed."""
