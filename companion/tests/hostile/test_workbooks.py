@@ -22,7 +22,7 @@ from balisekit.tables.cells import COVERED, NOT_CALCULATED
 
 pytest.importorskip("openpyxl")
 sys.path.insert(0, str(Path(__file__).parent))
-from workbooks import HEADING, MAIN, OFFICE, row, sheet, text, workbook  # noqa: E402  (the path comes first)
+from workbooks import HEADING, MAIN, OFFICE, PACKAGE, row, sheet, text, workbook  # noqa: E402  (the path comes first)
 
 Write = Callable[..., Path]
 GOOD = row("A", ALONE)
@@ -75,7 +75,7 @@ LARGE: Dict[str, Any] = {
         f"xl/sharedStrings.xml in it has more than 1,048,576 strings: {SAVE}",
     ),
     "a cell XFD in each row": (
-        lambda: workbook(sheet(HEADING, GOOD, *[f"<row>{text(f'{n:x}', 'XFD1')}</row>" for n in range(20_000)])),
+        lambda: workbook(sheet(HEADING, GOOD, *[f"<row>{text(f'{n:x}', f'XFD{n + 3}')}</row>" for n in range(20_000)])),
         f"row 3: it has more than 200 columns: {SAVE}",
     ),
     "300 cells in a row": (
@@ -143,6 +143,13 @@ DISORDER = "in the workbook, which is damaged: save it again"
         (["<row><c r='A3' t='str'><is><t>B</t></is></c></row>"], "its cell A3 has a text that is not its value: save"),
         (["<row><c r='A3'><f>D3</f></c><c r='B3'><f>E3</f><v/></c></row>"], f"row 3: {NOT_CALCULATED}"),
         (["<row><c><f>D3</f></c><c t='str'><f>E3</f></c></row>"], f"row 3: {NOT_CALCULATED}"),
+        ([f"<row>{text('B', 'A3')}{text(OTHER, 'B7')}</row>"], "row 3: its cell B7 belongs to another row: save the"),
+        ([f"<row r='3'>{text('B', 'A')}</row>"], "row 3: its cell A belongs to another row: save the workbook again"),
+        *[
+            ([f"<row>{text('B')}<c r='B3' t='str'><v>a1</v>{more}</c></row>"], "its cell B3 has a text that is not its")
+            for more in (f"<v>{OTHER}</v>", f"<is><t>{OTHER}</t></is>", f"<extLst><ext><y>{OTHER}</y></ext></extLst>")
+        ],
+        ([f"<row>{text('B')}{text('a1', 'B3').replace('</c>', '<is><r><t>x</t></r></is></c>')}</row>"], "its cell B3 "),
         (["<row><c t='s'><v>-1</v></c></row>"], "row 3: openpyxl cannot read it (IndexError: shared string -1): "),
     ],
 )
@@ -427,6 +434,26 @@ def replaced(content: bytes, part: str, old: str, new: str) -> bytes:
             assert name != part or old in xml
             file.writestr(name, xml.replace(old, new) if name == part else xml)
     return out.getvalue()
+
+
+def test_two_workbooks_in_a_package(table: Write) -> None:
+    """A spreadsheet opens the one that the package names."""
+    related = f"<Relationship Id='r' Type='{OFFICE}/officeDocument' Target='{{}}'/>"
+    for part in ("xl/workbook.xml", "/xl/workbook.xml", "xl/other.xml"):
+        xml = f"<Relationships xmlns='{PACKAGE}/relationships'>{related.format(part)}</Relationships>"
+        path = table(content=workbook(sheet(HEADING, GOOD), more=[("_rels/.rels", "other", xml)]))
+        if part != "xl/other.xml":
+            assert len(tables.read(str(path)).rows) == 1
+    assert refusal(path) == f"its workbook is xl/other.xml, which is not the part of this kind: {SAVE}"
+
+
+@pytest.mark.parametrize("length", [9, 16, 27])
+def test_carriage_returns(length: int, run: Run, table: Write) -> None:
+    """Excel stores one by its number. With it, or without, a telegram of several lines is refused."""
+    lines = [OTHER[at : at + length] for at in range(0, len(OTHER), length)]
+    for end in ("_x000D_\n", "_x000d_", "\n"):
+        path = table(content=workbook(sheet(X, row("A", ALONE, end.join(lines)))))
+        assert run("check", path)[0] == 2 and "cell 3 has line ends and a telegram in it" in refusal(path)
 
 
 def test_two_parts_with_shared_strings(table: Write) -> None:

@@ -1,6 +1,7 @@
 """Telegrams in a workbook that are in no cell: in comments, text boxes, headers of pages, lists, embedded files."""
 from __future__ import annotations
 
+import html
 import io
 import re
 import zipfile
@@ -17,6 +18,10 @@ ROWS = re.compile(rb"<(?:[^\s<>/:]+:)?sheetData(?=[\s>])")
 END_OF_ROWS = re.compile(rb"</(?:[^\s<>/:]+:)?sheetData\s*>")
 PHONETIC = re.compile(rb"<(?:[^\s<>/:]+:)?rPh[\s>].*?</(?:[^\s<>/:]+:)?rPh\s*>", re.DOTALL)
 """How a text is pronounced."""
+FORMULA = re.compile(
+    rb"<(?:[^\s<>/:]+:)?f(?:\s[^>]*)?>([^<]{40,})</(?:[^\s<>/:]+:)?f\s*>\s*(?:<(?:[^\s<>/:]+:)?v[^>]*>([^<]*))?"
+)
+"""A formula that has room for a telegram, and its value."""
 WITHOUT_TEXT = re.compile(r".*\.rels|xl/(media|printerSettings|fonts)/.*|docProps/thumbnail\..*", re.IGNORECASE)
 """Addresses of parts, pictures, and the settings of printers."""
 LookAtParts = Callable[[bytes], None]
@@ -75,6 +80,8 @@ def _beside_values(part: bytes, is_sheet: bool) -> Iterator[str]:
     """The texts of a sheet or of the shared strings that are no values of cells."""
     for phonetic in PHONETIC.findall(part) if b"rPh" in part else ():
         yield from _texts(phonetic)
+    for formula, value in FORMULA.findall(part):
+        yield _decoded(formula.replace(value, b"") if value else formula)
     begin, end = ROWS.search(part), END_OF_ROWS.search(part, max(0, part.rfind(b"sheetData") - 100))
     if is_sheet:
         yield from _texts(part[: begin.start()] + part[end.end() :] if begin and end else part)
@@ -90,8 +97,12 @@ def _texts(part: bytes) -> List[str]:
                 texts.append("".join(_runs(element)))
                 element.clear()
     except ParseError:  # (old drawings need not be well-formed)
-        return [TAG.sub(b"", part).decode("utf-8", "replace")]
+        return [_decoded(TAG.sub(b"", part))]
     return texts
+
+
+def _decoded(text: bytes) -> str:
+    return html.unescape(text.decode("utf-8", "replace"))
 
 
 def _runs(element: Element) -> Iterator[str]:

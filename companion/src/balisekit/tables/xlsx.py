@@ -9,7 +9,7 @@ import warnings
 import zipfile
 from decimal import Decimal
 from itertools import islice
-from typing import Any, Callable, Dict, Iterable, Iterator, List, Optional, Pattern, Sequence, Set, Tuple
+from typing import Any, Callable, Dict, Iterable, Iterator, List, Match, Optional, Pattern, Sequence, Set, Tuple
 from xml.etree.ElementTree import Element, ParseError, fromstring, iterparse
 
 from balisekit.errors import KitError, TableError, needed
@@ -45,8 +45,12 @@ BESIDE = "telegrams in comments, text boxes and other parts that are not read: {
 NOT_SEARCHED = (
     "macros, embedded objects and other parts that are not searched for telegrams: {count}, the first {first}"
 )
+PACKAGE, DOCUMENT = "_rels/.rels", "/officeDocument"
+"""The part that names the workbook, and how the kind of that relationship ends."""
 STRINGS = "http://schemas.openxmlformats.org/officeDocument/2006/relationships/sharedStrings"
 """The kind of the relationship of a workbook to its shared strings."""
+ESCAPED = re.compile("_x(00(?:0[1-9A-Fa-f]|1[0-9A-Fa-f]))_")
+"""A control character in a text, such as a carriage return. XML has none."""
 CELL_TAGS = ("}c", "c")
 """How the name of the element of a cell ends, whatever its namespace."""
 DATES = (datetime.date, datetime.time, datetime.timedelta)
@@ -66,6 +70,7 @@ def read(content: bytes, name: Optional[str], headings: Headings = Headings(), f
             reader = openpyxl.reader.excel.ExcelReader(file, read_only=True, data_only=True, keep_links=False)
             reader.read()
             book, named = reader.wb, len(reader.parser.sheets)
+            _look_at_workbook(reader)
             part_of_strings, strings = _part_of_strings(reader), _Strings(reader.shared_strings)
             zeros = _may_lack_values(reader.archive.read(reader.parser.workbook_part_name))
         except Exception as error:
@@ -196,6 +201,15 @@ def _part_of_strings(reader: Any) -> str:
     return str(part)
 
 
+def _look_at_workbook(reader: Any) -> None:
+    """TableError is raised if the package names another part for its workbook than openpyxl has found by its kind."""
+    if PACKAGE in reader.valid_files:
+        named = [each for each in fromstring(reader.archive.read(PACKAGE)) if each.get("Type", "").endswith(DOCUMENT)]
+        others = {each.get("Target", "").lstrip("/") for each in named} - {reader.parser.workbook_part_name}
+        if others:
+            raise TableError(f"its workbook is {min(others)}, which is not the part of this kind: {SHORT_WAY_OUT}")
+
+
 def _may_lack_values(workbook: bytes) -> bool:
     """Whether a stored zero or empty text may stand for the value of a formula, by the part of the workbook.
 
@@ -261,7 +275,10 @@ def _values(row: Element, number: int, parse_cell: ParseCell, zeros: bool, not_c
 
     values: List[Any] = []
     for cell in row.iterfind(f"{NAMESPACE}c"):
-        column = cell.get("r", "").rstrip("0123456789")
+        place = cell.get("r", "")
+        column = place.rstrip("0123456789")
+        if column and place[len(column) :] != str(number):
+            raise TableError(f"its cell {place[:40]} belongs to another row: save the workbook again", row=number)
         skipped = column_index_from_string(column) - len(values) - 1 if column else 0
         if skipped < 0:
             raise TableError("its cells are not in the order of their columns: save the workbook again", row=number)
@@ -278,14 +295,19 @@ def _value(cell: Element, parse_cell: ParseCell) -> Any:
     child = cell.find(f"{NAMESPACE}is") if cell.get("t") == "inlineStr" else None
     text = child.findtext(f"{NAMESPACE}t") if child is not None and len(child) == 1 else None
     value = parse_cell(cell)["value"] if text is None else text
-    if value is None and len(cell) and any(_texts(cell)):
+    if len(cell) > (value is not None) and _texts(cell) > (value is not None):
         raise TableError(f"its cell {cell.get('r', '')} has a text that is not its value: save the workbook again")
-    return value
+    return ESCAPED.sub(_character, value) if isinstance(value, str) and "_x00" in value else value
 
 
-def _texts(cell: Element) -> Iterator[str]:
-    """The texts in the element of a cell, except its formula."""
-    return ((part.text or "").strip() for part in cell.iter() if part.tag != f"{NAMESPACE}f")
+def _texts(cell: Element) -> int:
+    """How many elements of a cell have a text, except its formula."""
+    return sum(any(map(str.strip, part.itertext())) for part in cell if part.tag != f"{NAMESPACE}f")
+
+
+def _character(found: Match[str]) -> str:
+    """The control character that a workbook has as its number."""
+    return chr(int(found[1], 16))
 
 
 def _is_not_calculated(cell: Element, value: Any, zeros: bool) -> bool:
