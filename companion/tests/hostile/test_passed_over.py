@@ -152,3 +152,26 @@ def test_a_single_balise_without_direction_is_named_by_plan(run: Run, table: Wri
     assert any(line.startswith(f"note: D: {why}") for line in run("plan", table(*text))[2])
     without = [",".join(cell for place, cell in enumerate(line.split(",")) if place != 2) for line in text]
     assert "note: no row has a kilometre: the plan has only aspects" in run("plan", table(*without))[2]
+
+
+OTHER_NAMES = {
+    "case": lambda row: row["aspect"].upper() if row["group"] == "Signal 3" else row["aspect"],
+    "prefix": lambda row: f"S3 {row['aspect']}" if row["group"] == "Signal 3" else row["aspect"],
+    "prefixes": lambda row: f"{row['group'][-1]} {row['aspect']}",
+}
+
+
+@pytest.mark.parametrize("kind", OTHER_NAMES)
+def test_e9_names_what_it_does_not_compare(run: Run, table: Write, kind: str) -> None:
+    """Two aspects of Signal 3 are exchanged, and have names that no other signal has: E9 finds nothing."""
+    with open(EXAMPLE.with_name("E9.csv"), encoding="utf-8", newline="") as file:
+        rows = list(csv.DictReader(file))
+    for row in rows:
+        row["aspect"] = OTHER_NAMES[kind](row) if row["aspect"] != "*" else "*"
+    _, out, _ = run("check", table(",".join(rows[0]), *(",".join(row.values()) for row in rows)))
+    assert not any(line.startswith("E9 ") for line in out)
+    count = 6 if kind == "prefixes" else 1
+    why = f"no aspect with a name that three cases have: {count}"
+    assert f"not compared by E9: {count} of 6 groups with several aspects ({why})" in out
+    looks = [line for line in out if line.startswith("look: Signal 3 has the aspects ")]
+    assert len(looks) == (kind != "prefixes") and all('5 groups have "green", "red", "yellow"' in it for it in looks)

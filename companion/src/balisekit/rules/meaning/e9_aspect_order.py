@@ -30,23 +30,28 @@ How sure. 86 %, by practice and memory of the standard.
 """
 from __future__ import annotations
 
+from collections import Counter
 from typing import Dict, Iterator, List, Optional, Sequence, Tuple
 
 from balisekit.etcs.variables import metres
 from balisekit.rules.line import Line
 from balisekit.rules.meaning.sent import by_culprit, distance, kmh, speed
-from balisekit.rules.meaning.siblings import Case, Counts, Pair, against_the_order, cases_of, is_usual, pairs_of
+from balisekit.rules.meaning.siblings import LEAST, Case, Counts, Pair, against_the_order, cases_of, is_usual, pairs_of
 from balisekit.rules.rule import Options, Remark, Result, Rule, Urgency
 from balisekit.tables.names import listed, quoted
 
 NAMED = 5
+RARE = "no aspect with a name that three cases have"
 
 
 def find(line: Line, options: Options) -> Result:
     """Compares the aspects of each name over the table."""
     cases = cases_of(line)
     groups = {id(own[0].passage.group) for own in cases}
-    return Result([*_ends(options, cases), *_stops(cases)], len(groups))
+    counts = Counter(case.passage.aspect for own in cases for case in own)
+    looked_at = {id(own[0].passage.group) for own in cases if any(counts[case.passage.aspect] >= LEAST for case in own)}
+    rare = {RARE: len(groups - looked_at)} if groups - looked_at else {}
+    return Result([*_ends(options, cases), *_stops(cases)], len(looked_at), rare, is_optional=True)
 
 
 def _ends(options: Options, cases: Sequence[Sequence[Case]]) -> Iterator[Remark]:
