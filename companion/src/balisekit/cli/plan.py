@@ -37,7 +37,7 @@ def run(options: argparse.Namespace) -> int:
     jumps = settings.jumps(options)
     checked = checking.check(*shared.inputs(options), options.by_position, options.all)
     checked = replace(checked, settings=in_force(options, [checked.table], ("jumps", "plan")))
-    made = implied(Line.of(checked, jumps, in_full=True), Options(jumps=jumps))
+    made = implied(Line.of(checked, jumps), Options(jumps=jumps))
     options.csv.write(csv_writing.pieces(COLUMNS, map(cells, made.rows)))
     shared.say(_lines(options, checked, made), options.csv)
     return 0 if checked.whole else 2
