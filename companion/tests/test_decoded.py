@@ -4,17 +4,19 @@ from __future__ import annotations
 import json
 from decimal import Decimal
 from pathlib import Path
-from typing import List
+from typing import Any, List
 
 import pytest
 from meaning_line import Line, Row, random_line
 from test_meaning import written
 
+from balisekit.drawing import ways
 from balisekit.engine.program import Program
-from balisekit.etcs import geometry
-from balisekit.rules import checking, decoded
-from balisekit.rules.decoded import Decoded, allowance
+from balisekit.etcs.geometry import DIRECTIONS
+from balisekit.rules import checking, telegrams
+from balisekit.rules.decoded import Decoded
 from balisekit.rules.line import Line as LineOfTable
+from balisekit.rules.telegrams import allowance
 from balisekit.tables import reader
 
 pytestmark = pytest.mark.uncovered
@@ -26,18 +28,20 @@ def data_of(program: Program, path: Path) -> Decoded:
 
 
 @pytest.mark.parametrize("seed", range(3))
-def test_it_is_what_geometry_says(program: Program, tmp_path: Path, seed: int) -> None:
-    """Each passage has the packets, authorities and profiles of `geometry.way`, in its order."""
+def test_it_is_what_pictures_show(program: Program, tmp_path: Path, seed: int) -> None:
+    """Each passage has the packets, authorities and profiles that pictures of the same telegrams have, in order."""
     data = data_of(program, written(program, tmp_path / "t.csv", random_line(seed)))
     for group in data.groups:
         for passage in group.passages:
             (aspect,) = [each for each in group.group.group.aspects if each.name == passage.aspect]
-            forms = [group.telegrams[row.number] for row in aspect.rows]
-            records = [{"m_dup": each.m_dup, "packets": list(each.forms)} for each in forms]
-            packets = [packet for _, packet in geometry.passed(records, passage.direction)]  # type: ignore[arg-type]
-            own = [*passage.said, *([passage.reference] if passage.reference else []), *passage.infill]
-            assert [each.form for each in own] == packets
-            way = geometry.way(records, passage.direction)  # type: ignore[arg-type]
+            own = [group.telegrams[row.number] for row in aspect.rows]
+            records: List[Any] = [
+                {"m_dup": each.header.m_dup, "packets": [packet.form for packet in each.packets]} for each in own
+            ]
+            said, infill = ways.passages(records, passage.direction)
+            assert [each.form for each in passage.said] == [packet for _, packet in said]
+            assert [each.form for each in passage.infill] == [packet for _, packet in infill]
+            way = ways.ways(records)[DIRECTIONS.index(passage.direction)]
             assert [each.authority.end for each in passage.authorities] == [each.end for each in way.authorities]
             for number, profiles in ((21, way.gradients), (27, way.speeds)):
                 made = [[(each.begin, each.end) for each in packet.stretches] for packet in passage.of(number)]
@@ -57,8 +61,9 @@ def test_places_and_links(program: Program, tmp_path: Path, way: int) -> None:
     near = data.nearest("", end + 20)
     assert near is not None and near.place == end and data.between("", end, end) == [near]
     assert data.km("", end) == f"km {Decimal(end).scaleb(-4):.3f}"
-    for reached in data.reached(green):
-        assert reached.target is not None and reached.target.place == green.place(reached.distance)
+    assert list(green.links)
+    for link in green.links:
+        assert link.target is not None and link.target.place == green.place(link.total)
     assert data.resolution == 10 and data.tolerance(Decimal("1.5"), allowance(authority, 3)) == 15 + 10 + 20
     gradient = green.of(21)[0].stretches[0]
     assert gradient.value == (1 if gradient.element["q_gdir"] else -1) * gradient.element["g_a"]
@@ -68,7 +73,7 @@ def test_places_and_links(program: Program, tmp_path: Path, way: int) -> None:
 
 def test_infill_and_raw_packets(program: Program, tmp_path: Path, monkeypatch: pytest.MonkeyPatch) -> None:
     """What follows a packet 136 is separate. A packet that is kept as bits has fields in addition to its body."""
-    monkeypatch.setattr(decoded, "FIELDS_OF", lambda packet: {"nid_bg": int(packet["body"], 16) >> 1})
+    monkeypatch.setattr(telegrams, "FIELDS_OF", lambda packet: {"nid_bg": int(packet["body"], 16) >> 1})
     data = data_of(program, written(program, tmp_path / "t.csv", Line(infill=(3,))))
     group = next(each for each in data.groups if each.group.group.name == "Infill of Signal 4")
     for passage in group.passages:

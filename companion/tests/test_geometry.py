@@ -8,6 +8,7 @@ from typing import Any, List, Optional, Tuple
 import pytest
 from cases_of_program import TOP
 
+from balisekit.drawing.ways import passages, ways
 from balisekit.engine.records import Form
 from balisekit.etcs.geometry import (
     DIRECTIONS,
@@ -16,11 +17,9 @@ from balisekit.etcs.geometry import (
     Kilometres,
     Site,
     authority,
-    infill,
     kilometre,
     kilometres,
     profile,
-    way,
 )
 from balisekit.tables.model import Aspect, Group, Row
 
@@ -115,23 +114,22 @@ def test_silent_balises_and_directions() -> None:
     """Only the balise of a pair that is passed first counts, and each packet counts only in its directions."""
     one = _gradients(1, (0, 5), (50, 255))
     pair = [_telegram(1, one), _telegram(2, one)]
-    assert [profile.site for profile in way(pair, NOMINAL).gradients] == [Site(0, 0)]
-    assert not way(pair, REVERSE)
-    both = [_telegram(1, {**one, "q_dir": 2}), _telegram(2, {**one, "q_dir": 2})]
-    for balise, direction in enumerate(DIRECTIONS):
-        assert [profile.site.balise for profile in way(both, direction).gradients] == [balise]
-    assert [one.value for one in way(both, NOMINAL).gradients[0].elements] == [
-        one.value for one in way(both, REVERSE).gradients[0].elements
-    ]
+    nominal, reverse = ways(pair)
+    assert [profile.site for profile in nominal.gradients] == [Site(0, 0)] and not reverse
+    both = ways([_telegram(1, {**one, "q_dir": 2}), _telegram(2, {**one, "q_dir": 2})])
+    assert [[profile.site.balise for profile in each.gradients] for each in both] == [[0], [1]]
+    assert [each.direction for each in both] == list(DIRECTIONS)
+    values = [[element.value for element in each.gradients[0].elements] for each in both]
+    assert values[0] == values[1]
 
 
 def test_infill_counts_from_another_group() -> None:
     """What is passed after a packet 136 has a row of its own."""
     one = _gradients(1, (0, 5), (50, 255))
     forms = [_telegram(0, one, {"nid_packet": 136, "q_dir": 1}, one), _telegram(0, one)]
-    assert infill(forms, NOMINAL) == {Site(0, 2), Site(1, 0)}
-    assert [profile.site for profile in way(forms, NOMINAL).gradients] == [Site(0, 0)]
-    assert [profile.site for profile in way(forms, NOMINAL, True).gradients] == [Site(0, 2), Site(1, 0)]
+    assert [[site for site, _ in each] for each in passages(forms, NOMINAL)] == [[Site(0, 0)], [Site(0, 2), Site(1, 0)]]
+    assert [profile.site for profile in ways(forms)[0].gradients] == [Site(0, 0)]
+    assert [profile.site for profile in ways(forms, True)[0].gradients] == [Site(0, 2), Site(1, 0)]
 
 
 def _group(kms: List[Optional[str]], nominal: str = "") -> Group:

@@ -24,7 +24,7 @@ from balisekit.engine.program import Program, Text
 from balisekit.io import csv_writing
 from balisekit.present import links_text
 from balisekit.present.explanations import WHOLE
-from balisekit.rules import checking, decoded, track_plan
+from balisekit.rules import checking, telegrams, track_plan
 from balisekit.rules.chainage import Jump
 from balisekit.rules.line import Line as LineOfTable
 from balisekit.rules.rule import Options, Remark, Result
@@ -461,7 +461,7 @@ def test_x5_of_packets_that_are_not_decoded(
     program: Program, tmp_path: Path, monkeypatch: pytest.MonkeyPatch, sound: Tuple[LineOfTable, List[Cells]]
 ) -> None:
     """They are counted, and no border is reported as missing because of them."""
-    monkeypatch.setattr(decoded, "FIELDS_OF", lambda packet: None)
+    monkeypatch.setattr(telegrams, "FIELDS_OF", lambda packet: None)
     line = read(program, tmp_path / "t.csv")
     result = results(line, sound[1], tmp_path)["X5"]
     assert not result.found and result.looked_at == 3 and result.not_looked_at == {"not decoded": 3}

@@ -20,12 +20,6 @@ from balisekit.engine.program import Program
 from balisekit.errors import NoAnswer, TableError
 from balisekit.io import workers
 from balisekit.io.workers import copies, shared
-from balisekit.rules import checking, meaning
-from balisekit.rules.applied import look_for
-from balisekit.rules.line import Line
-from balisekit.rules.results import read, results
-from balisekit.rules.rule import Options
-from balisekit.tables import messages as messages_file, reader
 
 Write = Callable[..., Path]
 FEW, MANY = 100, 600
@@ -156,24 +150,6 @@ def _runs(pid: int) -> bool:
         return Path(f"/proc/{pid}/stat").read_text().rsplit(") ", 1)[1][0] != "Z"
     except OSError:
         return False
-
-
-def test_results_as_bytes(program: Program, tmp_path: Path) -> None:
-    """What rules find in a line is read as about the groups, rows and messages of another line of the same table."""
-    (tmp_path / "m.txt").write_text(f"{MESSAGE}\n")
-    table = reader.read(str(table_of(tmp_path / "table.csv", program, 20)))
-    checked = checking.check(program, table, messages_file.read(str(tmp_path / "m.txt")))
-    options, line = Options(line_speed=80), Line.of(checked)
-    found = read(line, [each for part in (0, 1) for each in results(checked, options, meaning.RULES, part, 2)])
-    wanted = look_for(Line.of(checked, in_full=True), options, meaning.RULES)
-    assert repr({rule.name: found[rule.name] for rule in meaning.RULES}) == repr(
-        {rule.name: result for rule, result in wanted.results.items()}
-    )
-    locations = [remark.location for result in found.values() for remark in result.found]
-    assert len(locations) > 20 and all(line.groups[each.group.number] is each.group for each in locations if each.group)
-    assert look_for(line, options, meaning.RULES, known=found).results == {
-        rule: found[rule.name] for rule in meaning.RULES
-    }
 
 
 def test_few_items_threads_and_one_processor(monkeypatch: pytest.MonkeyPatch) -> None:

@@ -30,7 +30,7 @@ def run(options: argparse.Namespace) -> int:
     shared.refuse_without_kilometres(table)
     checked = checking.check(program, table, messages, options.by_position)
     checked = replace(checked, settings=in_force(options, [table], ("tolerance", "jumps", "plan")))
-    outcome = apply(checked, LETTERS, line, in_copy=False)
+    outcome = apply(checked, LETTERS, line)
     links = next(part.applied for part in outcome.parts if part.applied)
     if options.json:
         write_json(options.json, {**as_json(checked, links), "entries": entries_json(outcome)})

@@ -65,7 +65,7 @@ def outcome(options: argparse.Namespace, line: Options, keep: bool = False) -> O
     if keep:
         checked.accepted.keep()
     signed = (entries, clock.today()) if entries else None
-    return apply(checked, asked, line, signed, began, in_copy=keep)
+    return apply(checked, asked, line, signed, began)
 
 
 def links_of(outcome: Outcome, options: Options) -> Links:

@@ -42,7 +42,7 @@ def run(options: argparse.Namespace) -> int:
     jumps = settings.jumps(options)
     checked = checking.check(*shared.inputs(options), options.by_position, options.all)
     checked = replace(checked, settings=in_force(options, [checked.table], ("jumps", "plan")))
-    line = Line.of(checked, jumps, in_full=True)
+    line = Line.of(checked, jumps)
     made = implied(line, Options(jumps=jumps))
     made = made._replace(notes=[*made.notes, *_left_out(line)])
     options.csv.write(csv_writing.pieces(COLUMNS, map(cells, made.rows)))

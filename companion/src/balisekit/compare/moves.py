@@ -1,19 +1,17 @@
 """What moved from one release to the other and is otherwise equal: renumbered groups, and exchanged telegrams."""
 from __future__ import annotations
 
-import re
 from collections import Counter
 from collections.abc import Hashable, Iterable, Iterator, Mapping, Sequence
 from dataclasses import dataclass
 from typing import Dict, List, NamedTuple, Optional, Set, Tuple
 
 from balisekit.compare.sides import Pairs, Side, paired
+from balisekit.engine.program import Record
 from balisekit.tables.grouping import EVERY
 from balisekit.tables.model import Group, Row
 from balisekit.tables.names import NAMED, describe_balise, describe_rows, listed, quoted
 
-IDENTITY = re.compile(r'"nid_bg":\d+,"nid_c":\d+,')
-"""The identity in the header of a record, which comes before those of links."""
 Identity = Tuple[int, ...]
 Content = Tuple[Hashable, ...]
 
@@ -86,12 +84,15 @@ def _left(side: Side, groups: Sequence[Group]) -> Iterator[Left]:
 
 def _content(side: Side, group: Group) -> Content:
     return tuple(
-        (
-            aspect.name,
-            *((IDENTITY.sub("", side.records[row.number].line, 1), row.aspect == EVERY) for row in aspect.rows),
-        )
+        (aspect.name, *((_without_identity(side.records[row.number]), row.aspect == EVERY) for row in aspect.rows))
         for aspect in group.aspects
     )
+
+
+def _without_identity(record: Record) -> Hashable:
+    """What a telegram says apart from NID_BG and NID_C."""
+    header, packets = record.parts
+    return header._replace(nid_bg=0, nid_c=0), packets
 
 
 def _renumbered(new: Side, was: Left, now: Left) -> str:

@@ -8,7 +8,6 @@ from typing import Deque, Dict, List, Optional, Tuple, TypeVar
 
 from balisekit.engine.program import Record
 from balisekit.rules.checking import Checked
-from balisekit.rules.passages import RECORD
 from balisekit.tables.grouping import EVERY
 from balisekit.tables.model import Group, Row
 from balisekit.tables.names import clean, describe_identity, quoted
@@ -40,8 +39,8 @@ class Side:
 
     def head(self, row: Row) -> Tuple[int, ...]:
         """N_PIG, NID_BG and NID_C of a telegram."""
-        _, n_pig, nid_bg, _, nid_c, _ = RECORD.findall(self.records[row.number].line)[0]
-        return int(n_pig), int(nid_bg), int(nid_c)
+        header, _ = self.records[row.number].parts
+        return header.n_pig, header.nid_bg, header.nid_c
 
     def first(self, group: Group) -> Optional[Row]:
         """The first telegram of a group that could be read. It has the identity of the group."""

@@ -22,21 +22,11 @@ from balisekit.drawing.profiles import (
     speed_top,
 )
 from balisekit.drawing.sheet import EDGE, EDGES, LEFT, ROOM, WIDTH, Lane, Picture, Rows, Shape, Sheet, tenths
+from balisekit.drawing.ways import Way, passages, ways
 from balisekit.drawing.words import Describe, area_words, ends, place_words, speed_words, summary
 from balisekit.engine.grammar import Finding
 from balisekit.etcs.areas import Area
-from balisekit.etcs.geometry import (
-    DIRECTIONS,
-    NOMINAL,
-    REVERSE,
-    Authority,
-    Kilometres,
-    Way,
-    has_infill,
-    infill,
-    kilometres,
-    way,
-)
+from balisekit.etcs.geometry import DIRECTIONS, NOMINAL, REVERSE, Authority, Kilometres, kilometres
 from balisekit.etcs.variables import Form, metres
 from balisekit.tables.model import Aspect, Group
 from balisekit.tables.names import NAMED, clean, listed, quoted
@@ -141,9 +131,7 @@ def picture_of_message(
     title: str, form: Form, findings: Sequence[Finding], where: Kilometres, titled: bool = False
 ) -> Optional[Picture]:
     """The picture of a message 3, whose places count from the group of NID_LRBG. A message 136 has none."""
-    if form["nid_message"] == 136 or not any(
-        way([form], direction, elsewhere) for direction in DIRECTIONS for elsewhere in (False, True)
-    ):
+    if form["nid_message"] == 136 or not any((*ways([form]), *ways([form], True))):
         return None
     lrbg = f"NID_C {form['nid_c']}, NID_BG {form['nid_bg']}"
     contents = _contents(f"metres from the group of NID_LRBG ({lrbg})", [form], short_profiles(findings))
@@ -153,7 +141,7 @@ def picture_of_message(
 def _contents(title: str, forms: Sequence[Form], short: Sequence[Finding]) -> List[Content]:
     """The rows for these telegrams: one from their own group, and one from the group of a packet 136, if it has any."""
     contents = [Content(title, forms, short)]
-    if has_infill(forms) and any(infill(forms, direction) for direction in DIRECTIONS):
+    if any(passages(forms, direction)[1] for direction in DIRECTIONS):
         contents.append(Content(f"{title}, infill: metres from the group of packet 136", forms, infill=True))
     return contents
 
@@ -168,26 +156,26 @@ def draw(title: str, contents: Sequence[Content], where: Kilometres, titled: boo
 
 def _drawn(title: str, contents: Sequence[Content], where: Kilometres) -> Picture:
     """The picture without its name. A title is visible if there is one."""
-    rows = [(content, [way(content.forms, each, content.infill) for each in DIRECTIONS]) for content in contents]
+    rows = [(content, ways(content.forms, content.infill)) for content in contents]
     nominal, reverse = (
-        max((place for _, ways in rows for place in places(ways[index])), default=0) for index in range(2)
+        max((place for _, both in rows for place in places(both[index])), default=0) for index in range(2)
     )
     sheet = Sheet(-reverse, max(nominal, 1000 - reverse))
     if title:
         sheet.short("title", clean(title), EDGE, 20, WIDTH * 10 - 2 * EDGE)
         sheet.y = 28
     own, elsewhere = ([_describing(known, each) for each in DIRECTIONS] for known in (where, Kilometres()))
-    top_speed = speed_top([each for _, ways in rows for each in ways])
-    last = max((index for index, (content, ways) in enumerate(rows) if any(ways) and not content.infill), default=None)
-    for index, (content, ways) in enumerate(rows):
+    top_speed = speed_top([each for _, both in rows for each in both])
+    last = max((index for index, (content, both) in enumerate(rows) if any(both) and not content.infill), default=None)
+    for index, (content, both) in enumerate(rows):
         sheet.short("head", clean(content.title), EDGE, sheet.y + 18, WIDTH * 10 - 2 * EDGE)
         sheet.y += 26
-        if not any(ways):
+        if not any(both):
             sheet.text("", NOTHING, LEFT * 10, sheet.y + 10)
             sheet.y += 20
             continue
         begin = sheet.y
-        _row(sheet, content, ways, elsewhere if content.infill else own, top_speed)
+        _row(sheet, content, both, elsewhere if content.infill else own, top_speed)
         sheet.path("group", "the infill's group" * content.infill, f"M{tenths(sheet.x(0))} {begin}V{sheet.y + 4}")
         if content.infill or index == last:
             _axis(sheet, Kilometres() if content.infill else where)
@@ -196,16 +184,16 @@ def _drawn(title: str, contents: Sequence[Content], where: Kilometres) -> Pictur
 
 def _description(rows: Sequence[Tuple[Content, Sequence[Way]]]) -> str:
     """What the picture shows, for those who do not see it: authorities by row, and what all rows have together."""
-    authorities = [f"{clean(content.title)}: {_authority_words(content, ways)}" for content, ways in rows]
-    whole = summary([each for _, ways in rows for each in ways], metres)
+    authorities = [f"{clean(content.title)}: {_authority_words(content, both)}" for content, both in rows]
+    whole = summary([each for _, both in rows for each in both], metres)
     return ". ".join(filter(None, [*authorities, whole]))
 
 
-def _authority_words(content: Content, ways: Sequence[Way]) -> str:
+def _authority_words(content: Content, both: Sequence[Way]) -> str:
     """The authorities and gaps of a row."""
-    if not any(ways):
+    if not any(both):
         return NOTHING
-    said = [f"{each.direction}{_missing(content, each)}, {ends(each, metres)}" for each in ways if each]
+    said = [f"{each.direction}{_missing(content, each)}, {ends(each, metres)}" for each in both if each]
     return "; ".join(said)
 
 
@@ -226,15 +214,15 @@ def _describing(where: Kilometres, direction: str) -> Describe:
     return describe
 
 
-def _row(sheet: Sheet, content: Content, ways: Sequence[Way], describe: Sequence[Describe], top_speed: int) -> None:
-    if ways[1]:
-        _directions(sheet, bool(ways[0]))
+def _row(sheet: Sheet, content: Content, both: Sequence[Way], describe: Sequence[Describe], top_speed: int) -> None:
+    if both[1]:
+        _directions(sheet, bool(both[0]))
     drawings = [
-        WayDrawing(sheet, each, SIZES, describe[index], each.direction if ways[1] else "", 1 - 2 * index)
-        for index, each in enumerate(ways)
+        WayDrawing(sheet, each, SIZES, describe[index], each.direction if both[1] else "", 1 - 2 * index)
+        for index, each in enumerate(both)
     ]
     _profiles(sheet, content, drawings, top_speed)
-    for authorities in zip_longest(*[each.authorities for each in ways]):
+    for authorities in zip_longest(*[each.authorities for each in both]):
         _authorities(sheet, [(drawing, one) for drawing, one in zip(drawings, authorities) if one])
     for number, name in AREAS:
         areas = [(drawing, area) for drawing in drawings for area in drawing.way.areas if area.number == number]

@@ -9,10 +9,11 @@ from typing import Iterator, NamedTuple, Optional, Sequence, Tuple
 
 from balisekit.drawing.letters import width
 from balisekit.drawing.sheet import Lane, Sheet, Spot, tenths
+from balisekit.drawing.ways import Way
 from balisekit.drawing.words import Describe, category_words, is_limit, limit_words, release, timers
 from balisekit.engine.grammar import Finding
 from balisekit.etcs.areas import Area
-from balisekit.etcs.geometry import Authority, Element, Profile, Way
+from balisekit.etcs.geometry import Authority, Element, Profile
 from balisekit.etcs.variables import Around, Form, metres, value_words
 
 MISSING = {10: "no gradient", 12: "no speed profile"}

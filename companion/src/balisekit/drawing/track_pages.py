@@ -13,15 +13,17 @@ from typing import Callable, Dict, Iterable, Iterator, List, NamedTuple, Optiona
 
 from balisekit.drawing.flags import Flag
 from balisekit.drawing.profiles import gap, gap_label, places, short_profiles
+from balisekit.drawing.ways import Way, passages, ways
 from balisekit.drawing.words import ends, summary
 from balisekit.engine.grammar import Finding
-from balisekit.etcs.geometry import DIRECTIONS, Way, end_of, has_infill, infill, kilometre_of, passed, way
+from balisekit.etcs.geometry import DIRECTIONS, end_of, has_infill, kilometre_of
 from balisekit.etcs.variables import Around, Form, value_words
+from balisekit.rules.chains import Chain
 from balisekit.rules.line import Line
 from balisekit.rules.links import Links
 from balisekit.rules.location import BaliseGroup
-from balisekit.rules.passages import Chain, Link
 from balisekit.rules.rule import Remark
+from balisekit.rules.telegrams import Link
 from balisekit.tables.model import Aspect
 from balisekit.tables.names import clean, quoted
 
@@ -190,18 +192,11 @@ def _forms(form_of: FormOf, aspect: Aspect) -> List[Form]:
 
 def _farthest(forms: Sequence[Form]) -> int:
     """The farthest end of authority of an aspect in either direction; -1 if it has none."""
-    ends = [-1]
-    if not has_infill(forms) and not any(form["m_dup"] for form in forms):  # (as most are: then each packet counts)
-        packets = (packet for form in forms for packet in form["packets"] if packet["nid_packet"] in (12, 15))
-        return max(map(end_of, packets), default=-1)
-    for direction in DIRECTIONS:
-        elsewhere = infill(forms, direction)
-        ends += [
-            end_of(packet)
-            for site, packet in passed(forms, direction)
-            if packet["nid_packet"] in (12, 15) and site not in elsewhere
-        ]
-    return max(ends)
+    if not any(form["m_dup"] or has_infill(form) for form in forms):  # (as most are: then each packet counts)
+        packets = [packet for form in forms for packet in form["packets"]]
+    else:
+        packets = [packet for direction in DIRECTIONS for _, packet in passages(forms, direction)[0]]
+    return max((end_of(packet) for packet in packets if packet["nid_packet"] in (12, 15)), default=-1)
 
 
 def undrawn(station: BaliseGroup, aspect: Optional[str]) -> str:
@@ -310,11 +305,11 @@ def _filled(
 
 def _bands(station: BaliseGroup, shown: Aspect, forms: Sequence[Form], findings: Sequence[Finding]) -> Iterator[Band]:
     """A band for each direction for which a group sends an authority, a profile or an area."""
-    ways = [way(forms, direction) for direction in DIRECTIONS]
+    both = ways(forms)
     short = short_profiles(findings, station.group.aspects.index(shown))
-    for each in filter(None, ways):
+    for each in filter(None, both):
         found = [finding for finding in short if finding.direction == each.direction]
-        yield Band(station, shown.name, each, all(ways), found)
+        yield Band(station, shown.name, each, all(both), found)
 
 
 def _arcs(links: Links, track: str, shown: Dict[int, Optional[Aspect]]) -> Iterator[Arc]:

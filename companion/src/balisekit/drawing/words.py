@@ -3,8 +3,9 @@ from __future__ import annotations
 
 from typing import Callable, Iterator, List, Sequence, Tuple
 
+from balisekit.drawing.ways import Way
 from balisekit.etcs.areas import Area
-from balisekit.etcs.geometry import Authority, Element, Profile, Way
+from balisekit.etcs.geometry import Authority, Element, Profile
 from balisekit.etcs.variables import Around, Form, metres, value_words
 from balisekit.tables.names import listed
 

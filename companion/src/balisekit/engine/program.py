@@ -18,7 +18,7 @@ from typing import IO, TYPE_CHECKING, Any, Dict, List, NamedTuple, Optional, Tup
 
 from balisekit.engine import find_program, grammar, records
 from balisekit.engine.grammar import Finding, Refusal, Verdict
-from balisekit.engine.records import Form, shared
+from balisekit.engine.records import Form, Header, shared
 from balisekit.engine.run import HANDSHAKE_LIMIT, Limit, Run
 from balisekit.errors import NoAnswer
 
@@ -66,6 +66,11 @@ class Record(NamedTuple):
     def shared(self) -> Form:
         """The object of the line, which nobody changes: equal packets of several records are one object."""
         return shared(self.line)
+
+    @property
+    def parts(self) -> Tuple[Header, str]:
+        """Of a telegram: its header, and the text of its packets."""
+        return records.parts(self.line)
 
 
 class Text(NamedTuple):

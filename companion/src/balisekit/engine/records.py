@@ -14,8 +14,10 @@ from typing import (
     Dict,
     Iterator,
     List,
+    NamedTuple,
     Optional,
     Pattern,
+    Set,
     Tuple,
     TypedDict,
     Union,
@@ -290,7 +292,43 @@ def _first_keys() -> Iterator[str]:
 
 BETWEEN = re.compile(rf',(?={{"(?:{"|".join(sorted(set(_first_keys())))})":)')
 """What is between two packets. No other object of a record begins with one of these keys."""
+RECORD = re.compile(
+    r'\{"m_dup":(\d),"m_mcount":(\d+),"m_version":(\d+),"n_pig":(\d),"n_total":(\d),"nid_bg":(\d+),"nid_c":(\d+),'
+    r'"packets":\[(.*)\],"q_link":(\d),"user_bits":(\d+)\}'
+)
+"""The record of a telegram: the values of its header, and the text of its packets."""
+KEPT_AS_BITS = re.compile('"body":"[^"]*","l_packet":[0-9]+,"nid_packet":([0-9]+)')
 DECODER = json.JSONDecoder()
+
+
+class Header(NamedTuple):
+    """The header of a telegram, and its number of user bits."""
+
+    m_dup: int
+    m_mcount: int
+    m_version: int
+    n_pig: int
+    n_total: int
+    nid_bg: int
+    nid_c: int
+    q_link: int
+    user_bits: int
+
+
+def parts(line: str) -> Tuple[Header, str]:
+    """The header of a telegram's record that the program has written, and the text of its packets."""
+    *before, packets, q_link, user_bits = RECORD.findall(line)[0]
+    return Header(*map(int, (*before, q_link, user_bits))), packets
+
+
+def packet_texts(packets: str) -> List[str]:
+    """The text of each packet of a record."""
+    return BETWEEN.split(packets) if packets else []
+
+
+def kept_as_bits(line: str) -> Set[int]:
+    """The NID_PACKET of the packets of a record that the program keeps as bits."""
+    return set(map(int, KEPT_AS_BITS.findall(line))) if '"body"' in line else set()
 
 
 @lru_cache(maxsize=KEPT)
@@ -306,5 +344,5 @@ def shared(line: str) -> Form:
     before, _, rest = line.partition('"packets":[')
     packets, _, behind = rest.rpartition("]")
     form = cast(Form, DECODER.raw_decode(f'{before}"packets":[]{behind}')[0])
-    form["packets"] = list(map(_packet, BETWEEN.split(packets))) if packets else []
+    form["packets"] = list(map(_packet, packet_texts(packets)))
     return form

@@ -10,16 +10,14 @@ from decimal import Decimal
 from enum import Enum
 from functools import cached_property, lru_cache
 from itertools import accumulate
-from typing import Dict, FrozenSet, Iterator, List, Literal, Mapping, NamedTuple, Optional, Sequence, Tuple
+from typing import Dict, Iterator, List, Literal, Mapping, NamedTuple, Optional, Sequence, Tuple, TypeVar
 
-from balisekit.etcs.areas import Area, areas
 from balisekit.etcs.variables import Form, unit_dm
 from balisekit.tables.model import Group
 from balisekit.tables.names import kilometre as kilometre
 
 NOMINAL, REVERSE = "nominal", "reverse"
-Part = Literal["danger_point", "overlap", "end_timer"]
-Key = Literal["d_dp", "d_ol", "d_startol", "d_endtimerstartloc"]
+Sent = TypeVar("Sent")
 INFILL = 136
 """The packet after which distances count from another group."""
 DIRECTIONS = (NOMINAL, REVERSE)
@@ -88,24 +86,6 @@ class Profile(NamedTuple):
     """Where the first element begins. The profile does not cover the track before it."""
     reach: Optional[int]
     """Where the first end mark is. A profile without one is open."""
-
-
-class Way(NamedTuple):
-    """What a group or message sends for one direction."""
-
-    direction: str
-    authorities: Tuple[Authority, ...]
-    gradients: Tuple[Profile, ...]
-    speeds: Tuple[Profile, ...]
-    areas: Tuple[Area, ...] = ()
-
-    @property
-    def supervised(self) -> Optional[int]:
-        """The greatest supervised location of all its authorities."""
-        return max((authority.supervised for authority in self.authorities), default=None)
-
-    def __bool__(self) -> bool:
-        return bool(self.authorities or self.gradients or self.speeds or self.areas)
 
 
 @dataclass(frozen=True)
@@ -189,7 +169,11 @@ def authority(site: Site, packet: Form) -> Authority:
     ]
     end = cuts[-1] + packet["l_endsection"]
 
-    def beyond(part: Part, key: Key, sign: int = 1) -> Optional[int]:
+    def beyond(
+        part: Literal["danger_point", "overlap", "end_timer"],
+        key: Literal["d_dp", "d_ol", "d_startol", "d_endtimerstartloc"],
+        sign: int = 1,
+    ) -> Optional[int]:
         return (end + sign * packet[part][key]) * unit if part in packet else None
 
     return Authority(
@@ -219,12 +203,31 @@ def profile(site: Site, packet: Form) -> Profile:
     return Profile(site, packet["nid_packet"], elements[:before], beyond, places[0], places[before])
 
 
-def is_silent(forms: Sequence[Optional[Form]], balise: int, direction: str) -> bool:
-    """Whether a balise is passed after the one that its duplicate flag names, which has the same packets."""
-    flag = (forms[balise] or {}).get("m_dup", 0)
-    if direction == NOMINAL:
-        return bool(flag == 2 and balise > 0)
-    return bool(flag == 1 and balise + 1 < len(forms))
+def is_silent(flag: int, is_first: bool, direction: str) -> bool:
+    """Whether a balise with this M_DUP is passed after the one that it names, which has the same packets."""
+    return flag == (2 if direction == NOMINAL else 1) and not is_first
+
+
+def in_order(flags: Sequence[int], sent: Sequence[Sequence[Sent]], direction: str) -> List[Sent]:
+    """What is passed of several balises, without what silent ones send. `flags` has their M_DUP in nominal order."""
+    order = range(len(flags)) if direction == NOMINAL else range(len(flags) - 1, -1, -1)
+    return [
+        each
+        for passed_before, balise in enumerate(order)
+        if not is_silent(flags[balise], passed_before == 0, direction)
+        for each in sent[balise]
+    ]
+
+
+def until_infill(passed: Sequence[Sent], numbers: Sequence[int]) -> Tuple[Sequence[Sent], Sequence[Sent]]:
+    """What is passed before the first packet 136, and that packet with what follows it, by their NID_PACKET."""
+    place = numbers.index(INFILL) if INFILL in numbers else len(numbers)
+    return passed[:place], passed[place:]
+
+
+def has_infill(form: Form) -> bool:
+    """Whether a telegram has a packet 136. Most have none."""
+    return any(packet["nid_packet"] == INFILL for packet in form["packets"])
 
 
 def holds(packet: Form, direction: str) -> bool:
@@ -234,15 +237,11 @@ def holds(packet: Form, direction: str) -> bool:
 
 def passed(forms: Sequence[Form], direction: str) -> List[Tuple[Site, Form]]:
     """The packets of a group for one direction in passing order, without those of silent balises."""
-    order = range(len(forms)) if direction == NOMINAL else range(len(forms) - 1, -1, -1)
-    holding = (2, int(direction == NOMINAL))
-    return [
-        (Site(balise, place), packet)
-        for balise in order
-        if not is_silent(forms, balise, direction)
-        for place, packet in enumerate(forms[balise]["packets"])
-        if packet.get("q_dir", 2) in holding
+    sent = [
+        [(Site(balise, place), packet) for place, packet in enumerate(form["packets"]) if holds(packet, direction)]
+        for balise, form in enumerate(forms)
     ]
+    return in_order([form.get("m_dup", 0) for form in forms], sent, direction)
 
 
 class Origin(Enum):
@@ -265,46 +264,10 @@ def origins(forms: Sequence[Optional[Form]], direction: str) -> Iterator[Tuple[S
         if form is None:
             origin = Origin.UNREAD if origin is Origin.OWN else origin
             continue
-        silent = is_silent(forms, balise, direction)
+        silent = is_silent(form.get("m_dup", 0), balise - step not in before, direction)
         here = before[balise - step] if silent else origin
         for place, packet in enumerate(form["packets"]):
             if holds(packet, direction):
                 yield Site(balise, place), here
                 here = Origin.INFILL if packet["nid_packet"] == INFILL else here
         origin = origin if silent else here
-
-
-def infill(forms: Sequence[Form], direction: str) -> FrozenSet[Site]:
-    """The packets that are passed after a packet 136: their distances count from another group."""
-    if not has_infill(forms):
-        return frozenset()
-    known = {site for site, origin in origins(forms, direction) if origin is Origin.INFILL}
-    return frozenset(site for site in known if not is_silent(forms, site.balise, direction))
-
-
-def has_infill(forms: Sequence[Form]) -> bool:
-    """Whether there is a packet 136 at all. Most groups have none."""
-    for form in forms:
-        for packet in form["packets"]:
-            if packet["nid_packet"] == INFILL:
-                return True
-    return False
-
-
-def way(forms: Sequence[Form], direction: str, of_infill: bool = False) -> Way:
-    """What the telegrams of a group send for one direction, from the group itself or from the infill's group."""
-    elsewhere = infill(forms, direction)
-    authorities: List[Authority] = []
-    profiles: Dict[int, List[Profile]] = {21: [], 27: []}
-    found: List[Area] = []
-    for site, packet in passed(forms, direction):
-        number = packet["nid_packet"]
-        if (site in elsewhere) != of_infill:
-            continue
-        if number in profiles:
-            profiles[number].append(profile(site, packet))
-        elif number in (12, 15):
-            authorities.append(authority(site, packet))
-        else:
-            found += areas(packet)
-    return Way(direction, tuple(authorities), tuple(profiles[21]), tuple(profiles[27]), tuple(found))

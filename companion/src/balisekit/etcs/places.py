@@ -296,7 +296,7 @@ def places_of_rows(group: Group, forms: Mapping[int, Form], where: Optional[Kilo
     """
     where, numbers = where or kilometres(group), sorted(group.places)
     passages: Mapping[int, Mapping[int, Sequence[Passage]]] = {}
-    if not all(number in forms and not geometry.has_infill([forms[number]]) for number in numbers):
+    if not all(number in forms and not geometry.has_infill(forms[number]) for number in numbers):
         passages = _passages(
             [(aspect.name, [(row.number, forms.get(row.number)) for row in aspect.rows]) for aspect in group.aspects]
         )

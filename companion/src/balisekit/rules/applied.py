@@ -45,23 +45,13 @@ class Applied:
 
 
 def look_for(
-    line: Line,
-    options: Options,
-    rules: Sequence[Rule],
-    notes: Notes = no_notes,
-    known: Mapping[str, Result] = {},
-    passed_over: Find = nothing,
+    line: Line, options: Options, rules: Sequence[Rule], notes: Notes = no_notes, passed_over: Find = nothing
 ) -> Applied:
-    """Applies these rules to a line. The results of some may be known, by their names."""
-    results = {rule: known.get(rule.name) or result_of(line, options, rule) for rule in rules}
+    """Applies these rules to a line."""
+    results = {rule: _with_causes(line, rule, rule.find(line, options)) for rule in rules}
     _name_causes({rule.name: rule for rule in results}, results)
     said = (*notes(line), *(note for result in results.values() for note in result.notes))
     return Applied(line, results, said, tuple(passed_over(line)))
-
-
-def result_of(line: Line, options: Options, rule: Rule) -> Result:
-    """What a rule finds, and which findings of the program may be the cause."""
-    return _with_causes(line, rule, rule.find(line, options))
 
 
 def _name_causes(rules: Mapping[str, Rule], results: Dict[Rule, Result]) -> None:

@@ -90,12 +90,21 @@ class Chainage(NamedTuple):
 
     def words(self, place: int) -> str:
         """The kilometre of a place as it is written."""
+        return kilometre_of(self._at(place))
+
+    def kilometre(self, place: int) -> Decimal:
+        """The kilometre of a place, with as many decimals as it is written with."""
+        at = self._at(place)
+        return Decimal(at).scaleb(-4) if at % 10 else Decimal(at // 10).scaleb(-3)
+
+    def _at(self, place: int) -> int:
+        """The kilometre of a place in decimetres."""
         shift = 0
         for before, after in self.jumps:
             if place <= before + shift:
                 break
             shift += before - after
-        return kilometre_of(place - shift)
+        return place - shift
 
 
 def read_jumps(path: str) -> Tuple[Jump, ...]:

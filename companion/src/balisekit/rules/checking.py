@@ -3,7 +3,6 @@ from __future__ import annotations
 
 import json
 import os
-import re
 from array import array
 from dataclasses import dataclass, replace
 from functools import cached_property, lru_cache, partial
@@ -12,7 +11,7 @@ from typing import Dict, Iterable, Iterator, List, Mapping, NamedTuple, Optional
 
 from balisekit.engine.grammar import Finding, Refusal, Verdict
 from balisekit.engine.program import Program, Record, Report
-from balisekit.engine.records import Form
+from balisekit.engine.records import Form, kept_as_bits
 from balisekit.errors import NoAnswer
 from balisekit.etcs.geometry import kilometres
 from balisekit.etcs.places import Identities
@@ -30,7 +29,6 @@ NOT_TRIED = f"not tried after {GREATEST_REFUSED:,} refused ones; --all tries the
 LEFT_OUT = "another telegram of the group was refused or not tried"
 ALL_HELP = f"continue after {GREATEST_REFUSED:,} refused telegrams or messages"
 ENCODE = json.JSONEncoder().encode
-BODY = re.compile('"body":"[^"]*","l_packet":[0-9]+,"nid_packet":([0-9]+)')
 Raw = Dict[Tuple[int, bool], List[int]]
 """The rows, or the lines of a file of messages, by packets that the program keeps as bits: by NID_PACKET, and whether
 they go from track to train."""
@@ -41,10 +39,8 @@ Thing = TypeVar("Thing")
 
 def note_raw(raw: Raw, number: int, record: Record) -> None:
     """Puts the packets of a record that are kept as bits beside this row, or line of a file of messages."""
-    if '"body"' in record.line:
-        from_track = '"nid_message":136' not in record.line
-        for packet in set(BODY.findall(record.line)):
-            raw.setdefault((int(packet), from_track), []).append(number)
+    for packet in kept_as_bits(record.line):
+        raw.setdefault((packet, '"nid_message":136' not in record.line), []).append(number)
 
 
 class _Kept:

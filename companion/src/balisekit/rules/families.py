@@ -7,10 +7,9 @@ from __future__ import annotations
 import time
 from dataclasses import dataclass, replace
 from datetime import date
-from functools import cached_property, partial
+from functools import cached_property
 from typing import Iterator, Mapping, NamedTuple, Optional, Sequence, Tuple
 
-from balisekit.io.workers import copies, shared
 from balisekit.rules import links, meaning, track_plan
 from balisekit.rules.accepted import RULES, Acceptance, Entries, Item, Judged, identities, judge
 from balisekit.rules.applied import Applied, Notes, look_for, no_notes
@@ -20,13 +19,10 @@ from balisekit.rules.entries import Entry, entries, kilometre_of
 from balisekit.rules.line import Line
 from balisekit.rules.location import Identity
 from balisekit.rules.passed_over import Find, nothing
-from balisekit.rules.results import read, results
-from balisekit.rules.rule import Options, Remark, Result, Rule
+from balisekit.rules.rule import Options, Remark, Rule
 from balisekit.rules.statements.scene import BaliseName
 from balisekit.tables.account import Account
 
-IN_FULL = 1
-"""How many copies of this process compare the contents of all telegrams: each needs much memory."""
 PROVED, PLAN = "F", "X"
 """The family of the program, and the one that needs a track plan."""
 WITHOUT_F = "--only {} leaves out the program's findings F"
@@ -44,8 +40,6 @@ class Family(NamedTuple):
     """Those of balisekit. The rules F are in the program."""
     notes: Notes = no_notes
     """The notes on a line beside those of the rules."""
-    in_full: bool = False
-    """Whether its rules compare all that telegrams say."""
     passed_over: Find = nothing
     """The groups and messages that its rules pass over. Its notes name them too."""
 
@@ -71,7 +65,6 @@ FAMILIES: Mapping[str, Family] = {
         "remarks",
         meaning.RULES,
         meaning.OF_PLACES.notes,
-        in_full=True,
         passed_over=meaning.OF_PLACES.find,
     ),
     "X": Family(
@@ -80,7 +73,6 @@ FAMILIES: Mapping[str, Family] = {
         "track plan",
         track_plan.RULES,
         track_plan.OF_PLACES.notes,
-        in_full=True,
         passed_over=track_plan.OF_PLACES.find,
     ),
 }
@@ -200,20 +192,18 @@ def apply(
     options: Options,
     signed: Optional[Tuple[Entries, date]] = None,
     began: Optional[float] = None,
-    in_copy: bool = True,
 ) -> Outcome:
     """What the rules of these families find. Rules over the line are not applied to a table without kilometres.
 
     `signed` has the accepted entries, and the day of the run. `began` is when the command began, by
-    time.perf_counter(): that time belongs to the first part. With `in_copy` a copy of this process applies the rules
-    that compare all that telegrams say, whose data take most of the memory, but the copy decodes all telegrams again.
+    time.perf_counter(): that time belongs to the first part.
     """
     has_kilometres = any(row.km is not None for row in checked.table.rows)
     known = [family for letter, family in FAMILIES.items() if letter in letters and (letter != PLAN or options.plan)]
     asked = [_asked_for(family, options) for family in known]
     able = [family if has_kilometres else _without_kilometres(family) for family in asked]
     applied = [family for family in able if family.rules or family.letter == PROVED]
-    parts = list(_looked_at(checked, applied, options, began, in_copy))
+    parts = list(_looked_at(checked, applied, options, began))
     items = [item for part in parts for item in part.items]
     judged = judge(items, checked, signed[0], signed[1], [family.letter for family in applied]) if signed else None
     return Outcome(checked, [_with_entries(checked, part, judged) for part in parts], judged, able != asked)
@@ -229,26 +219,19 @@ def _without_kilometres(family: Family) -> Family:
     return family._replace(rules=[rule for rule in family.rules if not rule.needs_kilometres])
 
 
-def _looked_at(
-    checked: Checked, applied: Sequence[Family], options: Options, began: Optional[float], in_copy: bool
-) -> Iterator[Part]:
+def _looked_at(checked: Checked, applied: Sequence[Family], options: Options, began: Optional[float]) -> Iterator[Part]:
     """What the rules of each family find, as yet without entries."""
-    in_full = [rule for family in applied if family.in_full for rule in family.rules]
-    count = copies(len(checked.table.groups), IN_FULL) if in_full and in_copy else 0
-    with shared([partial(results, checked, options, in_full)], count) as (found_in_full,):
-        line: Optional[Line] = None
-        known: Mapping[str, Result] = {}
-        for family in applied:
-            begin, began = time.perf_counter() if began is None else began, None
-            if family.letter == PROVED:
-                yield Part(family, checked.findings, time.perf_counter() - begin)
-                continue
-            is_first = line is None
-            line = line or Line.of(checked, options.jumps, bool(in_full) and not count)
-            known = known or (read(line, found_in_full) if family.in_full and count else {})
-            found = look_for(line, options, family.rules, family.notes, known, family.passed_over)
-            found = replace(found, notes=(*line.not_applied, *found.notes)) if is_first else found
-            yield Part(family, found.remarks, time.perf_counter() - begin, found)
+    line: Optional[Line] = None
+    for family in applied:
+        begin, began = time.perf_counter() if began is None else began, None
+        if family.letter == PROVED:
+            yield Part(family, checked.findings, time.perf_counter() - begin)
+            continue
+        is_first = line is None
+        line = line or Line.of(checked, options.jumps)
+        found = look_for(line, options, family.rules, family.notes, family.passed_over)
+        found = replace(found, notes=(*line.not_applied, *found.notes)) if is_first else found
+        yield Part(family, found.remarks, time.perf_counter() - begin, found)
 
 
 def _with_entries(checked: Checked, part: Part, judged: Optional[Judged]) -> Part:

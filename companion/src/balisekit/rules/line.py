@@ -1,11 +1,9 @@
-"""The line that rules look at: its balise groups along their tracks, and what they and the messages give a train.
+"""The railway line that rules look at: its groups along their tracks, and what they and the messages give a train.
 
-A `Line` is worked out once, in one pass over the telegrams, and keeps only what rules compare. The telegrams stay with
-whoever has read them: a line of 100,000 rows is asked for each record once.
+What a train gets is worked out once, in one pass over the telegrams (`decoded`).
 """
 from __future__ import annotations
 
-import json
 from bisect import bisect_left, bisect_right
 from dataclasses import dataclass, field
 from decimal import Decimal
@@ -16,30 +14,20 @@ from balisekit.engine.grammar import Finding
 from balisekit.engine.program import Record
 from balisekit.etcs.geometry import kilometres
 from balisekit.etcs.variables import Form
-from balisekit.rules.chainage import Chainage, Jump
+from balisekit.rules.chainage import Jump
+from balisekit.rules.chains import Chain
 from balisekit.rules.checking import Checked, Telegrams
-from balisekit.rules.decoded import (
-    Decoded,
-    Telegram,
-    contents_of_decoded,
-    decode,
-    resolution_of,
-    rounding,
-    telegrams_of,
-)
+from balisekit.rules.decoded import Decoded, decode
 from balisekit.rules.location import IN_JUMP, NOT_KNOWN, BaliseGroup, Identity, incomparable
-from balisekit.rules.passages import Chain, Content, Link, Passages, contents_of
-from balisekit.tables.model import Aspect, Group, Message, Row
+from balisekit.rules.telegrams import Link, Telegram, rounding, telegram_of, telegrams_of
+from balisekit.tables.model import Aspect, Group, Message
 from balisekit.tables.names import clean
 
 AFTER_INFILL = "after packet 136"
 BY_LINKS = "its direction along the kilometres is taken from the links that name it"
-END = (None, None)
 NOWHERE = -(10**12)
 """The place of a group whose place is not known, before all others."""
 Number = Union[int, Decimal]
-Placed = Tuple[int, BaliseGroup]
-"""A group behind its place."""
 
 
 class LinkedGroups(NamedTuple):
@@ -52,16 +40,16 @@ class LinkedGroups(NamedTuple):
     """Of each group of the track, by its number: the first of these groups that is not below it, and above it."""
 
     @classmethod
-    def of(cls, along: Sequence[Placed], way: Optional[int], speaking: bool) -> LinkedGroups:
+    def of(cls, along: Sequence[BaliseGroup], way: Optional[int], speaking: bool) -> LinkedGroups:
         """Those of a track's groups that say anything to a train that goes this way, or the others."""
-        linked = [own for own in along if own[1].linked and own[1].identity and own[1].identity[1] != NOT_KNOWN]
-        linked = [own for own in linked if own[1].speaks_to(way) == speaking]
-        known, groups = [place for place, _ in linked], [each for _, each in linked]
+        linked = [each for each in along if each.linked and each.identity and each.identity[1] != NOT_KNOWN]
+        groups = [each for each in linked if each.speaks_to(way) == speaking]
+        known = [each.place or 0 for each in groups]
         places: Dict[Identity, List[int]] = {}
         for index, group in enumerate(groups):
             places.setdefault(group.identity or (0, 0), []).append(index)
-        bounds = {each.number: (bisect_left(known, place), bisect_right(known, place)) for place, each in along}
-        return cls(groups, places, bounds)
+        own = ((each.number, each.place or 0) for each in along)
+        return cls(groups, places, {number: (bisect_left(known, at), bisect_right(known, at)) for number, at in own})
 
     def between(self, one: BaliseGroup, other: BaliseGroup, chain: Chain) -> Sequence[range]:
         """The places of the groups between two groups that a chain does not name.
@@ -94,13 +82,11 @@ class Line:
     """What the program has found of a group, by the group's name."""
     jumps: Sequence[Jump] = ()
     """Where the kilometres jump."""
-    in_full: bool = False
-    """Whether rules will ask for `decoded`. The telegrams are then decoded once, with all that they say."""
     lost_messages: bool = False
     """Whether there are messages that the program has not read."""
 
     @classmethod
-    def of(cls, checked: Checked, jumps: Sequence[Jump] = (), in_full: bool = False) -> Line:
+    def of(cls, checked: Checked, jumps: Sequence[Jump] = ()) -> Line:
         """The line of a table whose telegrams have been tried. A refused telegram says nothing of its group."""
         kept = {group.name: group for group in checked.kept}
         groups = [kept.get(group.name, group) for group in checked.table.groups]
@@ -110,70 +96,33 @@ class Line:
                 findings.setdefault(place.group.name, []).append(place.finding)
         messages = [(each.message, each.form) for each in checked.accepted_messages]
         lost = bool(checked.refused_messages or checked.messages_not_looked_at)
-        return cls(groups, checked.accepted, messages, findings, jumps, in_full, lost)
-
-    @cached_property
-    def passages(self) -> Passages:
-        """What the telegrams and messages give a train: the one pass over all of them."""
-        passages, contents = Passages(), self._contents()
-        row, content = next(contents, END)
-        for number, group in enumerate(self.table_groups):
-            own: Dict[int, Content] = {}
-            while row is not None and content is not None and row.group == group.name:
-                own[row.number] = content
-                row, content = next(contents, END)
-            passages.add_group(_balise_group(number, group, own), own)
-        for message, form in self.messages:
-            if form["nid_message"] == 3:
-                passages.add_message(message, form)
-        passages.name_targets()
-        passages.take_directions()
-        return passages
-
-    def _contents(self) -> Iterator[Tuple[Optional[Row], Optional[Content]]]:
-        """What rules compare of each telegram, in the order of the table. Those of a table are decoded here."""
-        if self.in_full:
-            yield from contents_of_decoded(self._telegrams)
-            return
-        if isinstance(self.forms, Telegrams):
-            yield from contents_of(self.forms.decoded())
-            return
-        for row in (row for group in self.table_groups for row in group.rows()):
-            if row.number in self.forms:
-                yield row, Content.of(self.forms[row.number])
+        return cls(groups, checked.accepted, messages, findings, jumps, lost)
 
     @cached_property
     def decoded(self) -> Decoded:
-        """All data of the table as a train gets them. Rules that compare more than links and kilometres need them."""
-        return decode(self.groups, self._telegrams, self.messages, self.jumps)
+        """All data of the table as a train gets them: the one pass over its telegrams."""
+        return decode(self.table_groups, self._telegrams(), self.messages, self.jumps)
+
+    def _telegrams(self) -> Iterator[Telegram]:
+        """The telegrams in the order of the table. Those of a table are decoded here."""
+        if isinstance(self.forms, Telegrams):
+            yield from telegrams_of(self.forms.decoded())
+            return
+        rows = {row.number: row for group in self.table_groups for row in group.rows() if row.number in self.forms}
+        for number, row in rows.items():
+            yield telegram_of(row, self.forms[number])
 
     def for_pictures(self) -> None:
         """Works out what pictures need, and lets go of `decoded`, which takes most of the memory."""
         _ = self.along, self.sent, self.directed
-        self.__dict__.pop("_telegrams", None)
-        decoded: Optional[Decoded] = self.__dict__.pop("decoded", None)
-        for data in decoded.groups if decoded else ():
-            for name in ("passages", "first_passages"):
-                data.__dict__.pop(name, None)  # (each passage has this object)
+        for data in self.decoded.groups:
+            data.passages = ()  # (each passage has this object)
+        del self.decoded
 
     @cached_property
-    def _telegrams(self) -> Sequence[Telegram]:
-        """The telegrams with all that they say, in the order of the table."""
-        return list(telegrams_of(self._records()))
-
-    def _records(self) -> Iterator[Tuple[Row, Record]]:
-        """The records of the telegrams, in the order of the table."""
-        if isinstance(self.forms, Telegrams):
-            yield from self.forms.decoded()
-            return
-        rows = {row.number: row for group in self.table_groups for row in group.rows() if row.number in self.forms}
-        for number, row in rows.items():
-            yield row, Record(json.dumps(self.forms[number], sort_keys=True, separators=(",", ":")))
-
-    @property
     def groups(self) -> Sequence[BaliseGroup]:
-        """All groups, in the order of the table."""
-        return self.passages.groups
+        """All groups, in the order of the table. Single balises have the direction of the links that name them."""
+        return [data.group for data in self.decoded.groups]
 
     @cached_property
     def directed(self) -> Sequence[Group]:
@@ -189,7 +138,7 @@ class Line:
     @property
     def chains(self) -> Sequence[Chain]:
         """Each packet 5 once in each direction in which it holds, without those that are passed after a packet 136."""
-        return self.passages.chains
+        return self.decoded.chains.own
 
     @cached_property
     def sent(self) -> Mapping[str, Sequence[Chain]]:
@@ -212,7 +161,7 @@ class Line:
     @cached_property
     def infill_links(self) -> Mapping[str, int]:
         """How many links come after a packet 136, by that reason: rules do not look at them."""
-        links = [link for chain in self.passages.infill_chains for link in chain.links if link.known]
+        links = [link for chain in self.decoded.chains.infill for link in chain.links if link.known]
         return {AFTER_INFILL: len(links)}
 
     @cached_property
@@ -230,18 +179,14 @@ class Line:
         """The groups with a place that say that they are linked, by whether they say anything to such trains."""
         key = track, way, speaking
         if key not in self._linked:
-            self._linked[key] = LinkedGroups.of(self.placed[track], way, speaking)
+            along = [data.group for data in self.decoded.along[track]]
+            self._linked[key] = LinkedGroups.of(along, way, speaking)
         return self._linked[key]
 
     @cached_property
     def places(self) -> Sequence[Optional[int]]:
         """The place of each group along its track in decimetres, in the order of the table, by the jumps."""
-        return [self.chainages[group.track].place(group.km) for group in self.groups]
-
-    @cached_property
-    def chainages(self) -> Mapping[str, Chainage]:
-        """Of each track."""
-        return {track: Chainage.of(self.jumps, track) for track in {group.track for group in self.groups}}
+        return [group.place for group in self.groups]
 
     @cached_property
     def not_applied(self) -> Sequence[str]:
@@ -250,21 +195,10 @@ class Line:
         strange = [jump for jump in self.jumps if clean(jump.track) not in tracks]
         return [f"{jump}: the table has no such track, so the jump is not applied" for jump in strange]
 
-    @cached_property
-    def placed(self) -> Mapping[str, Sequence[Placed]]:
-        """Of each track: its groups that have a place, in the order of the places."""
-        placed: Dict[str, List[Placed]] = {}
-        for place, group in zip(self.places, self.groups):
-            if place is not None:
-                placed.setdefault(group.track, []).append((place, group))
-        for groups in placed.values():
-            groups.sort(key=lambda each: each[0])
-        return placed
-
     def incomparable(self, one: Optional[BaliseGroup], other: Optional[BaliseGroup]) -> str:
         """Why the places of two groups cannot be compared, or nothing."""
         why = incomparable(one, other)
-        lost = one and other and None in (self.places[one.number], self.places[other.number])
+        lost = one and other and None in (one.place, other.place)
         return IN_JUMP if lost and not why else why
 
     def allowed(self, link: Link, lengths: int, tolerance: Decimal) -> Decimal:
@@ -276,7 +210,7 @@ class Line:
 
     @cached_property
     def _resolution(self) -> int:
-        return resolution_of(self.groups)
+        return self.decoded.resolution
 
     def may_be_refused(self, track: str, low: Number, high: Number, nameless: bool = False) -> bool:
         """Whether a group with a refused telegram, or a `nameless` one, may be from one place of a track to another."""
@@ -295,8 +229,7 @@ class Line:
         found: Tuple[Dict[str, List[int]], ...] = ({}, {})
         for group in self.groups:
             for own in found[: 1 + (group.identity is None)] if group.unread else ():
-                place = self.places[group.number]
-                own.setdefault(group.track, []).append(NOWHERE if place is None else place)
+                own.setdefault(group.track, []).append(NOWHERE if group.place is None else group.place)
         return [{track: sorted(places) for track, places in own.items()} for own in found]
 
     @cached_property
@@ -323,16 +256,6 @@ class Line:
         """The identities of the groups with a finding F14."""
         found = {name for name, some in self.findings.items() if any(finding.rule == 14 for finding in some)}
         return frozenset(group.identity for group in self.groups if group.group.name in found)
-
-    def nearest(self, track: str, place: int) -> Placed:
-        """The group that is nearest to a place of a track on which one has a place."""
-        groups, at = self.placed[track], bisect_left(self._known[track], place)
-        return min(groups[max(at - 1, 0) : at + 1], key=lambda each: abs(each[0] - place))
-
-    @cached_property
-    def _known(self) -> Mapping[str, Sequence[int]]:
-        """The places of the groups of each track, in their order."""
-        return {track: [place for place, _ in groups] for track, groups in self.placed.items()}
 
 
 class Records(Mapping[int, Form]):
@@ -377,17 +300,3 @@ def _directed(group: Group, rising: Optional[int]) -> Group:
     word = "rising" if rising == 1 else "falling"
     aspects = (Aspect(each.name, tuple(row._replace(nominal=word) for row in each.rows)) for each in group.aspects)
     return Group(group.name, tuple(aspects))
-
-
-def _balise_group(number: int, group: Group, contents: Mapping[int, Content]) -> BaliseGroup:
-    rows = {row.number: row for row in group.rows()}
-    first = next((contents[row] for row in rows if row in contents), None)
-    identity, linked = (first.identity, first.linked) if first else (None, None)
-    balises, where = len(group.aspects[0].rows), kilometres(group)
-    track = next((row.track for row in rows.values() if row.track), "")
-    unread = tuple(sorted(rows.keys() - contents.keys())) if len(contents) < len(rows) else ()
-    if first and len(contents) == 1:
-        says = first.says
-    else:
-        says = tuple(any(each.says[index] for each in contents.values()) for index in range(2))
-    return BaliseGroup(number, group, balises, identity, linked, where.group, where.rising, track, unread, says=says)

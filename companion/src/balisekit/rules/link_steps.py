@@ -10,9 +10,10 @@ from typing import Dict, Iterator, List, NamedTuple, Optional, Sequence, Tuple
 
 from balisekit.etcs.geometry import NOMINAL, REVERSE
 from balisekit.rules.chainage import Chainage
+from balisekit.rules.chains import Chain
 from balisekit.rules.line import Line
 from balisekit.rules.location import NO_DIRECTION, BaliseGroup
-from balisekit.rules.passages import Chain, Link
+from balisekit.rules.telegrams import Link
 
 
 class Step(NamedTuple):
@@ -81,16 +82,16 @@ class Counted(NamedTuple):
     """Of how many D_LINK the distance is the sum."""
 
 
-def counted(line: Line, chain: Chain) -> Iterator[Tuple[Link, Counted]]:
+def counted(chain: Chain) -> Iterator[Tuple[Link, Counted]]:
     """The links of a chain. On another track Q_LINKORIENTATION shows the way of the train."""
     base, summed, lengths = chain.sender, 0, 0
     along = base.along(chain.direction) if base else None
     for link in chain.links:
         summed, lengths, here = summed + link.distance, lengths + 1, link.target
-        begin = line.places[base.number] if base else None
+        begin = base.place if base else None
         yield link, Counted(base, None if begin is None or along is None else begin + along * summed, lengths)
         stays = base is not None and here is not None and base.track == here.track
-        if here is not None and not (stays and line.places[here.number] is None):
+        if here is not None and not (stays and here.place is None):
             if along is None or not stays:
                 along = here.along(NOMINAL if link.nominal else REVERSE)
             base, summed, lengths = here, 0, 0
@@ -98,7 +99,7 @@ def counted(line: Line, chain: Chain) -> Iterator[Tuple[Link, Counted]]:
 
 def steps_of(line: Line, skipped: Optional[Counter[str]] = None) -> Iterator[Step]:
     """All steps between groups of one track whose places are known. `skipped` gets why there is none to a link."""
-    places, skipped = line.places, Counter[str]() if skipped is None else skipped
+    skipped = Counter[str]() if skipped is None else skipped
     for chains in line.alike:
         chain = chains[0]
         base, distance, lengths = chain.sender, 0, 0
@@ -109,7 +110,7 @@ def steps_of(line: Line, skipped: Optional[Counter[str]] = None) -> Iterator[Ste
             if base is None or here is None or why:
                 skipped[why] += len(chains) * link.known
                 continue
-            begin, end = places[base.number] or 0, places[here.number] or 0
+            begin, end = base.place or 0, here.place or 0
             if way is None:
                 way = (end > begin) - (end < begin) or None
             skipped[NO_DIRECTION] += len(chains) if way is None else 0

@@ -44,6 +44,8 @@ class BaliseGroup:
     """Whether these links disagree about it."""
     says: Tuple[bool, ...] = (True, True)
     """Whether it says anything of the track in nominal and in reverse direction."""
+    place: Optional[int] = None
+    """The place of its first balise along the track, in decimetres, by the jumps of the kilometres."""
 
     def speaks_to(self, way: Optional[int]) -> bool:
         """Whether it sends anything to a train that passes it in this way: 1 if the kilometres rise for the train.

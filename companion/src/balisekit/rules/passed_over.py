@@ -43,9 +43,9 @@ class Rules(NamedTuple):
                 yield PassedOver(group.group, why)
         for message, form in line.messages if line.along else ():
             if form["nid_message"] == 3:
-                named = line.passages.by_identity.get((form["nid_c"], form["nid_bg"]))
+                named = line.decoded.by_identity.get((form["nid_c"], form["nid_bg"]))
                 not_there = f"its group is not in the table, so {self.place} {self.compare} no place of it"
-                why = self._lacks(line, named) if named else not_there
+                why = self._lacks(named.group) if named else not_there
                 if why:
                     yield PassedOver(message, why)
 
@@ -54,14 +54,14 @@ class Rules(NamedTuple):
         return notes_of(self.find(line))
 
     def _of_group(self, line: Line, group: BaliseGroup) -> str:
-        why = self._lacks(line, group)
+        why = self._lacks(group)
         is_alone = self.others and any(group.says) and len(line.along.get(group.track, ())) == 1 < len(line.along)
         if why or not is_alone:
             return why
         return f"the only group with a kilometre on its track, so {self.others} compare it with no other group"
 
-    def _lacks(self, line: Line, group: BaliseGroup) -> str:
-        if line.places[group.number] is None:
+    def _lacks(self, group: BaliseGroup) -> str:
+        if group.place is None:
             why = "no kilometre" if group.km is None else IN_JUMP
             return f"{why}, so {self.place} {self.compare} no place of the group"
         if group.rising is None and any(group.says):

@@ -12,10 +12,10 @@ from functools import cached_property
 from typing import Callable, Dict, FrozenSet, Iterator, List, Mapping, NamedTuple, Optional, Sequence, Tuple, Union
 
 from balisekit.rules.chainage import Jump
+from balisekit.rules.chains import Chain
 from balisekit.rules.line import Line
 from balisekit.rules.location import BaliseGroup, Location
 from balisekit.rules.page_sentences import filled_in
-from balisekit.rules.passages import Chain
 from balisekit.tables.model import Row
 from balisekit.tables.plan import Plan
 

@@ -59,11 +59,11 @@ def _all(line: Line) -> Iterator[Note]:
         why = _lacks(line, group) or (BY_LINKS if group.by_links else "")
         if why:
             yield describe_group(group.group), why
-        first = line.passages.by_identity.get(group.identity) if group.identity else None
-        if first is not None and first.number != group.number:
-            why = f"links to its identity count for {clean(first.group.name)}, which has it too"
+        first = line.decoded.by_identity.get(group.identity) if group.identity else None
+        if first is not None and first.group is not group:
+            why = f"links to its identity count for {clean(first.group.group.name)}, which has it too"
             yield describe_group(group.group), why
-    yield from ((str(chain.location), INFILL) for chain in line.passages.infill_chains)
+    yield from ((str(chain.location), INFILL) for chain in line.decoded.chains.infill)
     for chain in line.chains:
         if chain.sender is None:
             yield str(chain.location), NOT_THERE
@@ -72,7 +72,7 @@ def _all(line: Line) -> Iterator[Note]:
 def _lacks(line: Line, group: BaliseGroup) -> str:
     if group.identity is None:
         return "no telegram of it could be read, so its identity is not known: L1 counts links that may be to it"
-    if line.places[group.number] is None:
+    if group.place is None:
         return f"it has {'no kilometre' if group.km is None else IN_JUMP}: L2 and L9 do not look at it"
     if group.rising is None:
         differ = ", because the links that name it disagree" if group.links_differ else ""

@@ -36,11 +36,12 @@ from __future__ import annotations
 from decimal import Decimal
 from typing import Dict, Iterator, List, Mapping, Optional, Set, Tuple, Union
 
+from balisekit.rules.chains import Chain
 from balisekit.rules.line import Line
 from balisekit.rules.link_steps import counted
 from balisekit.rules.location import BaliseGroup, Identity
-from balisekit.rules.passages import Chain, Link
 from balisekit.rules.rule import REFUSED, Options, Remark, Result, Rule, Urgency
+from balisekit.rules.telegrams import Link
 from balisekit.tables.names import describe_identity, listed, quoted
 
 NAMED = 3
@@ -70,7 +71,7 @@ def _look_at(
     line: Line, chain: Chain, alike: Alike, leading: Set[Tuple[int, int]], tolerance: Decimal
 ) -> Iterator[Union[Remark, str, None]]:
     """Each link to a group that is not in the table, and to no end of a track."""
-    for link, (base, at, lengths) in counted(line, chain):
+    for link, (base, at, lengths) in counted(chain):
         if link.target is not None or not link.known or (id(chain), link.number) in leading:
             yield None if link.known else ""
             continue
@@ -92,27 +93,30 @@ def _may_be_refused(line: Line, base: Optional[BaliseGroup], at: Optional[int], 
     if base is None or at is None or line.may_be_refused(base.track, at - allowed, at + allowed, True):
         return True
     others = [track for track in line.nameless if track != base.track]
-    is_far = abs(line.nearest(base.track, at)[0] - at) > allowed
+    near = line.decoded.nearest(base.track, at)
+    is_far = near is None or abs((near.place or 0) - at) > allowed
     return any(is_far or line.may_be_refused(track, at - allowed, at + allowed, True) for track in others)
 
 
 def _there(line: Line, base: BaliseGroup, place: int, within: Decimal, other: Optional[BaliseGroup]) -> str:
     """The group of the table that is at the place to which D_LINK leads, or within `within` metres of it."""
-    near, group = line.nearest(base.track, place)
-    if group is other or group.identity is None or abs(near - place) > within * 10:
+    near = line.decoded.nearest(base.track, place)
+    group = near.group if near else None
+    if group is None or group is other or group.identity is None or abs((group.place or 0) - place) > within * 10:
         return ""
     twice = ", which F14 finds used twice" if line.has(14, group) else ""
-    km, own = line.chainages[base.track].words(place), describe_identity(group.identity)
+    km, own = line.decoded.chainages[base.track].words(place), describe_identity(group.identity)
     track = f"track {quoted(base.track)}" if base.track else "the track"
     return f"; along {track} D_LINK leads from {base} to km {km}, where the table has {group} as {own}{twice}"
 
 
 def _beyond(line: Line, chain: Chain, alike: Alike, tolerance: Decimal) -> Iterator[Tuple[End, Link]]:
     """The links of a chain to groups that are not in the table, and by D_LINK are beyond the end of their track."""
-    for link, (base, at, _) in counted(line, chain):
+    for link, (base, at, _) in counted(chain):
         if base is None or at is None or link.target is not None or not link.known or link.identity[1] in alike:
             continue
-        (least, _), (greatest, _) = line.placed[base.track][0], line.placed[base.track][-1]
+        places = line.decoded.places[base.track]
+        least, greatest = places[0], places[-1]
         allowed = (link.accuracy + tolerance) * 10
         if not least - allowed <= at <= greatest + allowed:
             yield (base.track, at > greatest), link
@@ -121,7 +125,7 @@ def _beyond(line: Line, chain: Chain, alike: Alike, tolerance: Decimal) -> Itera
 def _notes(line: Line, ends: Mapping[End, List[Identity]]) -> Iterator[str]:
     """A note for each end of a track over which links lead."""
     for (track, is_high), links in ends.items():
-        last = line.placed[track][-1 if is_high else 0][1]
+        last = line.decoded.along[track][-1 if is_high else 0].group
         where = f" of track {quoted(track)}" if track else ""
         numbers = listed([str(number) for _, number in dict.fromkeys(links)], NAMED)
         words = "1 link leads" if len(links) == 1 else f"{len(links)} links lead"

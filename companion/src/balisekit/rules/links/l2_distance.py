@@ -35,10 +35,10 @@ from decimal import Decimal
 from typing import Iterator, Optional, Sequence, Set, Union
 
 from balisekit.rules.chainage import Chainage
+from balisekit.rules.chains import Chain
 from balisekit.rules.line import Line
 from balisekit.rules.link_steps import jumps_of, steps_of
 from balisekit.rules.location import IN_JUMP, BaliseGroup, incomparable
-from balisekit.rules.passages import Chain
 from balisekit.rules.rule import Options, Remark, Result, Rule, Urgency
 
 DECIMETRES = 10_000
@@ -50,15 +50,12 @@ JUMP = 20
 
 def find(line: Line, options: Options) -> Result:
     """Compares each link to a group of the table."""
-    places = line.places if line.jumps else None
-    result = Result.of_chains(line, lambda chain: compare(line, chain, options.tolerance, places))
+    result = Result.of_chains(line, lambda chain: compare(line, chain, options.tolerance))
     return result._replace(found=_with_jumps(line, options, result.found)) if len(result.found) > 1 else result
 
 
-def compare(
-    line: Line, chain: Chain, tolerance: Decimal, places: Optional[Sequence[Optional[int]]] = None
-) -> Iterator[Union[Remark, str, None]]:
-    """After a wrong distance the sum begins anew. `places` has those of the groups, if the kilometres jump.
+def compare(line: Line, chain: Chain, tolerance: Decimal) -> Iterator[Union[Remark, str, None]]:
+    """After a wrong distance the sum begins anew.
 
     If the direction of the sender along the kilometres is not known, the first link that is compared shows it.
     """
@@ -71,7 +68,7 @@ def compare(
         if base is None or here is None or why:
             yield why
             continue
-        wanted = _apart(base, here, places)
+        wanted = _apart(line, base, here)
         if wanted is None:
             yield IN_JUMP
             continue
@@ -94,12 +91,11 @@ def compare(
         base, summed, lengths = here, 0, 0
 
 
-def _apart(base: BaliseGroup, here: BaliseGroup, places: Optional[Sequence[Optional[int]]]) -> Optional[Decimal]:
+def _apart(line: Line, base: BaliseGroup, here: BaliseGroup) -> Optional[Decimal]:
     """From a group to another one by the kilometres, in decimetres."""
-    if places is None:
+    if not line.jumps:
         return ((here.km or ZERO) - (base.km or ZERO)) * DECIMETRES
-    begin, end = places[base.number], places[here.number]
-    return None if begin is None or end is None else Decimal(end - begin)
+    return None if base.place is None or here.place is None else Decimal(here.place - base.place)
 
 
 def _with_jumps(line: Line, options: Options, found: Sequence[Remark]) -> Sequence[Remark]:

@@ -30,9 +30,9 @@ from __future__ import annotations
 from typing import Iterator, Union
 
 from balisekit.etcs.geometry import NOMINAL, REVERSE
+from balisekit.rules.chains import Chain
 from balisekit.rules.line import Line
 from balisekit.rules.location import ANOTHER_TRACK, NO_DIRECTION, NOT_IN_TABLE
-from balisekit.rules.passages import Chain
 from balisekit.rules.rule import Options, Remark, Result, Rule, Urgency
 
 

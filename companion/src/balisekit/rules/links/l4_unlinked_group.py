@@ -23,9 +23,9 @@ from __future__ import annotations
 
 from typing import Dict, Mapping, Optional
 
+from balisekit.rules.chains import Chain
 from balisekit.rules.line import AFTER_INFILL, Line
 from balisekit.rules.location import BaliseGroup, Location
-from balisekit.rules.passages import Chain
 from balisekit.rules.rule import Options, Remark, Result, Rule, Urgency
 from balisekit.tables.names import clean, describe_message, listed
 
@@ -41,7 +41,7 @@ def find(line: Line, options: Options) -> Result:
                 names = senders.setdefault(link.target.number, {})
                 if not link.target.linked:
                     names[_sender(chain)] = chain.sender
-    infill = {link.target.number for chain in line.passages.infill_chains for link in chain.links if link.target}
+    infill = {link.target.number for chain in line.decoded.chains.infill for link in chain.links if link.target}
     found = [_remark(line.groups[number], names) for number, names in senders.items() if names]
     return Result(found, len(senders), {AFTER_INFILL: len(infill - set(senders))})
 

@@ -23,26 +23,32 @@ How to accept it. There is no usual reason to accept it. Give the balise a direc
 """
 from __future__ import annotations
 
+from typing import Optional
+
+from balisekit.etcs.geometry import DIRECTIONS
 from balisekit.etcs.packets import packet_name
 from balisekit.rules.line import Line
+from balisekit.rules.passages import GroupData
 from balisekit.rules.rule import REFUSED, Options, Remark, Result, Rule, Urgency
 
 
 def find(line: Line, options: Options) -> Result:
     """Looks at each group of one balise that has Q_LINK 0."""
-    single = [group for group in line.groups if group.balises == 1 and not group.linked]
-    unread = sum(group.identity is None for group in single)
-    found = [
-        Remark(
-            "L5",
-            location,
-            f"the group has one balise and Q_LINK 0, and packet {number} ({packet_name(number, True)}) holds only "
-            f"in {direction} direction: a train cannot tell its direction by it",
-            location.group,
-        )
-        for location, (number, direction) in line.passages.one_way
-    ]
+    single = [data for data in line.decoded.groups if data.group.balises == 1 and not data.group.linked]
+    unread = sum(data.group.identity is None for data in single)
+    found = [remark for remark in map(_look_at, single) if remark]
     return Result(found, len(single) - unread, {REFUSED: unread})
+
+
+def _look_at(data: GroupData) -> Optional[Remark]:
+    packet = data.of_one_direction
+    if packet is None:
+        return None
+    sentence = (
+        f"the group has one balise and Q_LINK 0, and packet {packet.number} ({packet_name(packet.number, True)}) holds "
+        f"only in {DIRECTIONS[1 - packet.form['q_dir']]} direction: a train cannot tell its direction by it"
+    )
+    return Remark("L5", data.location(packet.row), sentence, data.group)
 
 
 RULE = Rule("L5", "single balises", __doc__ or "", find, Urgency.WRONG_INFORMATION, needs_kilometres=True)

@@ -20,14 +20,22 @@ How to accept it. There is no usual reason to accept it. Give the group its numb
 from __future__ import annotations
 
 from balisekit.rules.line import Line
+from balisekit.rules.location import NOT_KNOWN
 from balisekit.rules.rule import REFUSED, Options, Remark, Result, Rule, Urgency
 
 
 def find(line: Line, options: Options) -> Result:
     """Looks at the header of each telegram."""
     sentence = "the header has NID_BG 16383, which says that the identity is not known"
-    found = [Remark("L6", location, sentence, location.group) for location in line.passages.unknown]
-    return Result(found, line.passages.headers, {REFUSED: sum(len(group.unread) for group in line.groups)})
+    groups = line.decoded.groups
+    found = [
+        Remark("L6", data.location(telegram.row), sentence, data.group)
+        for data in groups
+        for telegram in data.telegrams.values()
+        if telegram.header.nid_bg == NOT_KNOWN
+    ]
+    unread = sum(len(data.group.unread) for data in groups)
+    return Result(found, sum(len(data.telegrams) for data in groups), {REFUSED: unread})
 
 
 RULE = Rule("L6", "headers", __doc__ or "", find, Urgency.WRONG_PLACE, needs_kilometres=True)

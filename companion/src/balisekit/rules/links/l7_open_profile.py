@@ -23,20 +23,21 @@ How to accept it. Give the reason why the profile is open, and where the train g
 """
 from __future__ import annotations
 
+from balisekit.rules.chains import PROFILES
 from balisekit.rules.line import Line
-from balisekit.rules.passages import PROFILES
 from balisekit.rules.rule import Options, Remark, Result, Rule, Urgency
 
 
 def find(line: Line, options: Options) -> Result:
     """Looks at each profile that is given with an authority, those after a packet 136 too."""
     sentence = "the {} is open, and an authority rests on it: it has no end mark"
+    profiles = line.decoded.chains.profiles
     found = [
         Remark("L7", each.location, sentence.format(PROFILES[each.packet.number]))
-        for each in line.passages.profiles
+        for each in profiles
         if each.packet.is_open
     ]
-    return Result(found, line.passages.profile_count)
+    return Result(found, len(profiles))
 
 
 RULE = Rule("L7", "profiles", __doc__ or "", find, Urgency.RULE_ONLY, needs_kilometres=True)

@@ -27,8 +27,8 @@ from __future__ import annotations
 from typing import Iterator, Sequence
 
 from balisekit.etcs.variables import metres
+from balisekit.rules.chains import PROFILES, GivenProfile
 from balisekit.rules.line import Line
-from balisekit.rules.passages import PROFILES, Profile
 from balisekit.rules.rule import Options, Remark, Result, Rule, Urgency
 from balisekit.tables.names import listed
 
@@ -39,17 +39,17 @@ def find(line: Line, options: Options) -> Result:
     """Looks at each profile that is given with an authority, those after a packet 136 too."""
     sentence = "the {} under an authority begins at {}: the track before it has none"
     first = next((message for message, form in line.messages if form["nid_message"] == 3), None)
-    late = [each for each in line.passages.profiles if each.is_late]
+    late = [each for each in line.decoded.chains.profiles if each.is_late]
     later = [each for each in late if each.location.message not in (None, first)]
     found = [
         Remark("L8", each.location, sentence.format(PROFILES[each.packet.number], metres(each.packet.begin)))
         for each in late
         if each.location.message in (None, first)
     ]
-    return Result(found, line.passages.profile_count, notes=list(_note(later)))
+    return Result(found, len(line.decoded.chains.profiles), notes=list(_note(later)))
 
 
-def _note(later: Sequence[Profile]) -> Iterator[str]:
+def _note(later: Sequence[GivenProfile]) -> Iterator[str]:
     """How many profiles begin late whose track may have a profile of the message before."""
     if later:
         numbers = list(dict.fromkeys(each.location.message.number for each in later if each.location.message))

@@ -35,9 +35,9 @@ from decimal import Decimal
 from itertools import accumulate, chain as joined, islice
 from typing import Dict, Iterator, List, Optional, Sequence, Set, Tuple, Union
 
+from balisekit.rules.chains import Chain
 from balisekit.rules.line import Line
 from balisekit.rules.location import BaliseGroup
-from balisekit.rules.passages import Chain
 from balisekit.rules.rule import Options, Remark, Result, Rule, Urgency
 from balisekit.tables.names import listed
 

@@ -3,7 +3,6 @@ from __future__ import annotations
 
 from bisect import bisect_left
 from collections import Counter
-from decimal import Decimal
 from typing import (
     Callable,
     Dict,
@@ -20,14 +19,14 @@ from typing import (
     TypeVar,
 )
 
-from balisekit.rules.decoded import LINKING, Decoded, GroupData, Packet, Passage, allowance
+from balisekit.rules.decoded import Decoded, once
 from balisekit.rules.line import Line
+from balisekit.rules.passages import Passage
 from balisekit.rules.rule import Options
+from balisekit.rules.telegrams import Packet, allowance
 
 Lane = Tuple[str, int]
 """A track, and 1 if the trains go towards greater kilometres, else -1."""
-Name = Tuple[int, Optional[GroupData]]
-"""The distance of a linked group, and the group of the table."""
 Extent = Tuple[int, int]
 """The least and the greatest place."""
 NEAR = 500
@@ -74,12 +73,10 @@ class End(NamedTuple):
         return abs(self.place - other.place) > decoded.tolerance(options.tolerance_of_places, *parts)
 
 
+@once
 def ends_of(decoded: Decoded) -> Sequence[End]:
     """The ends of packets 12 with a V_MAIN above 0, and of packets 15, if their places are known."""
-    if ends_of not in decoded.worked_out:
-        decoded.worked_out[ends_of] = list(_ends(decoded))
-    found: Sequence[End] = decoded.worked_out[ends_of]
-    return found
+    return list(_ends(decoded))
 
 
 def _ends(decoded: Decoded) -> Iterator[End]:
@@ -95,34 +92,11 @@ def _ends(decoded: Decoded) -> Iterator[End]:
                     yield End(place, passage, packet)
 
 
-def names_of(decoded: Decoded, passage: Passage) -> Sequence[Name]:
-    """All that the packets 5 of a passage name, in their order."""
-    packets = [packet for packet in passage.said if packet.number == LINKING]
-    if len(packets) == 1:
-        return _names(decoded, passage, packets[0])
-    return [name for packet in packets for name in _names(decoded, passage, packet)]
-
-
-def _names(decoded: Decoded, passage: Passage, packet: Packet) -> Sequence[Name]:
-    """Those of one packet, worked out once: aspects share the packets of fixed balises."""
-    known: Dict[int, Sequence[Name]] = decoded.worked_out.setdefault(names_of, {})
-    found = known.get(id(packet))
-    if found is None:
-        country = passage.group.group.identity[0] if passage.group and passage.group.group.identity else 0
-        unit, distance, by_identity, made = packet.unit, 0, decoded.by_identity, []
-        for link in packet.form["links"]:
-            distance += link["d_link"] * unit
-            country = link.get("nid_c", country)
-            made.append((distance, by_identity.get((country, link["nid_bg"]))))
-        found = known[id(packet)] = made
-    return found
-
-
 def is_named(decoded: Decoded, options: Options, end: End, within: int) -> bool:
     """Whether packets 5 name a group at an end of authority whose place on the track the table does not show."""
     within += decoded.tolerance(options.tolerance_of_places, allowance(end.packet, end.packet.lengths))
-    near = (each for at, each in names_of(decoded, end.passage) if abs(at - end.distance) <= within)
-    return any(each is None or each.place is None or each.group.track != end.passage.track for each in near)
+    near = (link.target for link in end.passage.links if abs(link.total - end.distance) <= within)
+    return any(each is None or each.place is None or each.track != end.passage.track for each in near)
 
 
 def passed_over(decoded: Decoded, is_meant: Callable[[Packet], bool]) -> Counter[str]:
@@ -155,13 +129,12 @@ def ends_the_line(decoded: Decoded, end: End) -> bool:
     """Whether an authority ends at the last group of its track and way, without a signal in between."""
     lane = lane_of(end.passage)
     begin, at = ((place or 0) * lane[1] for place in (end.passage.place(0), end.place))
-    if ends_the_line not in decoded.worked_out:
-        decoded.worked_out[ends_the_line] = _lasts_and_signals(decoded)
-    last, signals = decoded.worked_out[ends_the_line][lane]
+    last, signals = _lasts_and_signals(decoded)[lane]
     ahead = bisect_left(signals, begin + 1)
     return abs(last - at) <= NEAR and not (ahead < len(signals) and signals[ahead] < at - NEAR)
 
 
+@once
 def _lasts_and_signals(decoded: Decoded) -> Dict[Lane, Tuple[int, List[int]]]:
     """Of each track and way, along it: the last group that says something, and all that give an authority.
 
@@ -211,7 +184,7 @@ def leaves(options: Options, decoded: Decoded, passage: Passage, place: int) -> 
     group = passage.group.group if passage.group else None
     if options.plan is None or group is None or group.km is None or not options.plan.of_kind("point"):
         return False
-    km = Decimal(decoded.chainages[group.track].words(place))
+    km = decoded.chainages[group.track].kilometre(place)
     return bool(options.plan.points_between(group.track, group.km, km, passage.way or 0))
 
 
@@ -223,9 +196,9 @@ class Passed:
         self._unknown: List[Tuple[str, Optional[int]]] = []
         for chain in line.chains:
             sender = chain.sender
-            way, place = (sender.along(chain.direction), line.places[sender.number]) if sender else (None, None)
+            way, place = (sender.along(chain.direction), sender.place) if sender else (None, None)
             if sender and way is not None and place is not None:
-                end = place * way + sum(link.distance for link in chain.links)
+                end = place * way + chain.links[-1].total
                 if not chain.links[-1].known:
                     self._unknown.append((sender.track, end * way))
                 self._spans.setdefault((sender.track, way), []).append((place * way, end))

@@ -31,13 +31,15 @@ from itertools import chain, product
 from typing import Dict, Iterable, Iterator, List, NamedTuple, Sequence, Tuple
 
 from balisekit.etcs.variables import metres
-from balisekit.rules.decoded import GRADIENTS, LINKING, SPEEDS, Decoded, Packet, Passage
+from balisekit.rules.decoded import Decoded
 from balisekit.rules.line import Line
 from balisekit.rules.meaning.along import leaves
 from balisekit.rules.meaning.sent import are_contrary, by_culprit, contrary, distance, field_at, speed, tolerance
 from balisekit.rules.meaning.siblings import common_reach, with_common_reach
 from balisekit.rules.meaning.words import between, more_stretches
+from balisekit.rules.passages import Passage
 from balisekit.rules.rule import Options, Remark, Result, Rule, Urgency
+from balisekit.rules.telegrams import GRADIENTS, LINKING, SPEEDS, Packet
 from balisekit.tables.names import listed, quoted, rows_words
 
 APART = {SPEEDS: 0, GRADIENTS: 5}

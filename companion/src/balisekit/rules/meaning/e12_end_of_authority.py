@@ -38,9 +38,9 @@ from decimal import Decimal
 from typing import Dict, Iterator, List, Optional, Sequence, Tuple
 
 from balisekit.etcs.variables import metres
-from balisekit.rules.decoded import Decoded, GroupData, allowance
+from balisekit.rules.decoded import Decoded
 from balisekit.rules.line import Line
-from balisekit.rules.location import BEHIND_POINT
+from balisekit.rules.location import BEHIND_POINT, BaliseGroup
 from balisekit.rules.meaning.along import (
     End,
     Lane,
@@ -50,12 +50,12 @@ from balisekit.rules.meaning.along import (
     is_named,
     lane_of,
     leaves,
-    names_of,
     parts,
     passed_over,
 )
 from balisekit.rules.meaning.words import at_place, merged, source
 from balisekit.rules.rule import Options, Remark, Result, Rule, Urgency
+from balisekit.rules.telegrams import allowance
 
 NOWHERE = (1, 0)
 NEAR, STANDS, ALONE = 2000, 500, 200
@@ -65,7 +65,7 @@ NEAR, STANDS, ALONE = 2000, 500, 200
 def find(line: Line, options: Options) -> Result:
     """Compares the ends that lead to one group, and each end with the groups."""
     decoded, looked_at = line.decoded, 0
-    linked: Dict[Tuple[Lane, GroupData], List[End]] = {}
+    linked: Dict[Tuple[Lane, BaliseGroup], List[End]] = {}
     unlinked: Dict[Lane, List[End]] = {}
     ends: List[Tuple[Lane, End]] = []  # (those that are not at the group to which they lead)
     beyond: Counter[str] = Counter()
@@ -74,7 +74,7 @@ def find(line: Line, options: Options) -> Result:
             beyond[BEHIND_POINT] += 1
             continue
         lane, looked_at = lane_of(end.passage), looked_at + 1
-        target = _target(decoded, end)
+        target = _target(end)
         is_at = target is not None and target.place is not None and abs(target.place - end.place) <= STANDS
         if not is_at and not is_named(decoded, options, end, STANDS):
             ends.append((lane, end))
@@ -96,26 +96,26 @@ def find(line: Line, options: Options) -> Result:
     return Result.of_places(merged(found.values()), looked_at, passed_over(decoded, is_authority), beyond)
 
 
-def _target(decoded: Decoded, end: End) -> Optional[GroupData]:
+def _target(end: End) -> Optional[BaliseGroup]:
     """The group to which the authority leads, by its packets 5. One that is elsewhere by the kilometres is none."""
-    named = names_of(decoded, end.passage)
-    if not named:
+    links = list(end.passage.links)
+    if not links:
         return None
     distance = end.distance
-    at, target = min(named, key=lambda each: abs(each[0] - distance))
-    if abs(at - distance) > NEAR:
-        before = [each for each in named if each[0] <= distance]
-        if not before or len(before) == len(named):
+    link = min(links, key=lambda each: abs(each.total - distance))
+    if abs(link.total - distance) > NEAR:
+        before = [each for each in links if each.total <= distance]
+        if not before or len(before) == len(links):
             return None
-        at, target = before[-1]
-    by_links = end.passage.place(at)
+        link = before[-1]
+    by_links, target = end.passage.place(link.total), link.target
     if target is None or target.place is None or by_links is None or abs(by_links - target.place) > NEAR:
         return None
     return target
 
 
 def _compare(
-    decoded: Decoded, options: Options, ends: Sequence[End], target: Optional[GroupData] = None
+    decoded: Decoded, options: Options, ends: Sequence[End], target: Optional[BaliseGroup] = None
 ) -> Iterator[Tuple[End, Remark]]:
     """The ends that differ from the most frequent one, of equally frequent ones from that nearest to the group."""
     if len({end.place for end in ends}) < 2:
@@ -124,7 +124,7 @@ def _compare(
     at = target.place if target and target.place is not None else ends[0].place
     usual = max(ends, key=lambda each: (counts[each.place], -abs(each.place - at)))
     same = counts[usual.place]
-    where = f" that lead{'s' if same == 1 else ''} to {target.group}" if target else " nearby"
+    where = f" that lead{'s' if same == 1 else ''} to {target}" if target else " nearby"
     for end in (each for each in ends if each.differs(usual, decoded, options)):
         sentence = (
             f"the authority ends at {at_place(decoded, end.passage, end.place)} by L_SECTION and L_ENDSECTION; {same} "

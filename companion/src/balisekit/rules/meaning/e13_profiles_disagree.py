@@ -31,7 +31,7 @@ from dataclasses import dataclass
 from decimal import Decimal
 from typing import Dict, Iterator, List, Sequence, Tuple
 
-from balisekit.rules.decoded import GRADIENTS, SPEEDS, Decoded, Packet, allowance
+from balisekit.rules.decoded import Decoded
 from balisekit.rules.line import Line
 from balisekit.rules.meaning.along import leaves
 from balisekit.rules.meaning.profiles import (
@@ -47,6 +47,7 @@ from balisekit.rules.meaning.profiles import (
 from balisekit.rules.meaning.sent import field_at
 from balisekit.rules.meaning.words import more_stretches, source
 from balisekit.rules.rule import Options, Remark, Result, Rule, Urgency
+from balisekit.rules.telegrams import GRADIENTS, SPEEDS, Packet, allowance
 
 
 ALONE = "the only group of its track"
@@ -68,7 +69,7 @@ def find(line: Line, options: Options) -> Result:
     decoded, found, looked_at = line.decoded, [], 0
     alone: Counter[str] = Counter()
     for number in (SPEEDS, GRADIENTS):
-        for (track, _), lane in lanes_of(decoded, number).items():
+        for (track, _), lane in lanes_of(decoded)[number].items():
             if len(decoded.along[track]) == 1 < len(decoded.along):
                 alone[ALONE] += len(lane)
                 continue

@@ -33,12 +33,12 @@ from decimal import Decimal
 from typing import Iterator, Optional
 
 from balisekit.etcs.variables import metres
-from balisekit.rules.decoded import rounding
 from balisekit.rules.line import Line
 from balisekit.rules.link_steps import Jump, Step, jumps_of, steps_of
 from balisekit.rules.links import l2_distance
 from balisekit.rules.meaning.words import balises_of
 from balisekit.rules.rule import Options, Remark, Result, Rule, Urgency
+from balisekit.rules.telegrams import rounding
 
 LEAST, SHARE = 5, 5
 """One note counts the links of a track if they are at least LEAST, and more than one in SHARE of all its links."""
@@ -82,8 +82,7 @@ def _is_far(line: Line, jump: Jump, options: Options) -> bool:
 def _is_by_l2(line: Line, step: Step, options: Options) -> bool:
     """Whether L2 remarks on the link: it counts from the sender on, as long as nothing differs."""
     chain = step.chains[0]
-    places = line.places if line.jumps else None
-    for link, found in zip(chain.links, l2_distance.compare(line, chain, options.tolerance, places)):
+    for link, found in zip(chain.links, l2_distance.compare(line, chain, options.tolerance)):
         if link is step.link:
             return isinstance(found, Remark)
     return False
@@ -109,7 +108,7 @@ def _other_balise(line: Line, step: Step) -> Optional[str]:
     found = []
     for group, sign, which in ((step.here, 1, "to"), (step.base, -1, "from")):
         for position, row in list(enumerate(balises_of(group)))[1:]:
-            own, place = line.places[group.number], chainage.place(row.km) if row else None
+            own, place = group.place, chainage.place(row.km) if row else None
             if row is not None and own is not None and place is not None:
                 distance = step.by_kilometres + sign * step.way * (place - own)
                 balise = f"balise {position} of {group}, row {row.number}"

@@ -38,13 +38,15 @@ from typing import Dict, Iterator, List, Optional, Tuple
 
 from balisekit.etcs.geometry import DIRECTIONS, NOMINAL, REVERSE
 from balisekit.etcs.variables import metres
-from balisekit.rules.decoded import Decoded, GroupData, Packet, Passage
+from balisekit.rules.decoded import Decoded
 from balisekit.rules.line import NOWHERE, Line
 from balisekit.rules.location import NOT_KNOWN, Identity
 from balisekit.rules.meaning.along import Extent, extents_of, lane_of, rear
 from balisekit.rules.meaning.fields import fields_apart
 from balisekit.rules.meaning.words import merged, source
+from balisekit.rules.passages import GroupData, Passage
 from balisekit.rules.rule import Field, Options, Remark, Result, Rule, Urgency
+from balisekit.rules.telegrams import Packet
 from balisekit.tables.names import clean, describe_identity
 
 COMPARED = (12, 21, 27, 80)
@@ -119,8 +121,8 @@ def _signal(decoded: Decoded, passage: Passage, target: GroupData) -> Optional[P
         way = 1 if (target.place or 0) > (here.place or 0) else -1
     shown = next((each for each in DIRECTIONS if way and target.group.along(each) == way), passage.direction)
     if not on_track or way is None or target.group.rising is None:
-        links = (each.form for each in decoded.reached(passage) if each.target is target)
-        shown = next((NOMINAL if each["q_linkorientation"] else REVERSE for each in links), shown)
+        links = (link for link in passage.links if link.target is target.group)
+        shown = next((NOMINAL if link.nominal else REVERSE for link in links), shown)
     same = (each for each in target.passages if each.aspect == passage.aspect and each.direction == shown)
     return next(same, None)
 

@@ -34,15 +34,16 @@ from __future__ import annotations
 
 from collections import Counter
 from decimal import Decimal
-from typing import Dict, Iterator, Optional, Tuple
+from typing import Dict, Iterator, Tuple
 
 from balisekit.etcs.geometry import DIRECTIONS
-from balisekit.rules.decoded import GroupData, Packet
+from balisekit.rules.chains import Chain
 from balisekit.rules.line import Line
 from balisekit.rules.location import IN_JUMP, NO_KILOMETRE, BaliseGroup, Location
 from balisekit.rules.meaning.along import FAR, Passed, rear
-from balisekit.rules.passages import WITHOUT_DIRECTION, Chain, Link
+from balisekit.rules.passages import GroupData
 from balisekit.rules.rule import Options, Remark, Result, Rule, Urgency
+from balisekit.rules.telegrams import Link
 from balisekit.tables.names import rows_words
 
 REPOSITIONING = 16
@@ -56,11 +57,11 @@ def find(line: Line, options: Options) -> Result:
     passed, found, lacks = Passed(line), [], Counter[str]()
     single = [data for data in line.decoded.groups if data.group.balises == 1]
     named = _named(line) if single else {}
-    all_named = {link.identity for chain in (*line.chains, *line.passages.infill_chains) for link in chain.links}
+    all_named = {link.identity for chain in (*line.chains, *line.decoded.chains.infill) for link in chain.links}
     for data in single:
         links = named.get(data.group.number, {})
         found += list(_directions(data.group, links))
-        if data.group.linked and data.group.identity not in all_named and _of_one_direction(data):
+        if data.group.linked and data.group.identity not in all_named and data.of_one_direction:
             found += list(_unnamed(line, passed, data))
             lacks[NO_KILOMETRE if data.group.km is None else IN_JUMP] += data.place is None
     return Result(found, len(single) - sum(lacks.values()), lacks)
@@ -105,7 +106,7 @@ def _source(chain: Chain) -> str:
 
 def _unnamed(line: Line, passed: Passed, data: GroupData) -> Iterator[Remark]:
     """A packet for one direction of a balise that no packet 5 names."""
-    packet = _of_one_direction(data)
+    packet = data.of_one_direction
     if packet is None or packet.row is None:
         return
     direction = DIRECTIONS[1 - packet.form["q_dir"]]
@@ -116,7 +117,7 @@ def _unnamed(line: Line, passed: Passed, data: GroupData) -> Iterator[Remark]:
     ways = [each for each in ((1, -1) if way is None else (way,)) if passed.is_passed(track, place, each)]
     if not ways or any(line.may_be_refused(track, *rear(place, each, FAR)) for each in ways):
         return
-    is_repositioning = any(each.number == REPOSITIONING for each in _packets(data))
+    is_repositioning = any(each.number == REPOSITIONING for own in data.telegrams.values() for each in own.packets)
     if is_repositioning and passed.leads_to_repositioning(track, place):
         return
     sentence = (
@@ -125,16 +126,6 @@ def _unnamed(line: Line, passed: Passed, data: GroupData) -> Iterator[Remark]:
     )
     where = Location(data.group, packet.row, None, packet.place, direction, None, packet.number, packet.n_pig)
     yield Remark("E16", where, sentence, values={"km": Decimal(place) / 10_000})
-
-
-def _of_one_direction(data: GroupData) -> Optional[Packet]:
-    """The first packet that holds in one direction only."""
-    return next((each for each in _packets(data) if each.form.get("q_dir", 2) != 2), None)
-
-
-def _packets(data: GroupData) -> Iterator[Packet]:
-    for telegram in data.telegrams.values():
-        yield from (packet for packet in telegram.packets if packet.number not in WITHOUT_DIRECTION)
 
 
 RULE = Rule("E16", "single balises", __doc__ or "", find, Urgency.WRONG_INFORMATION, needs_kilometres=True)

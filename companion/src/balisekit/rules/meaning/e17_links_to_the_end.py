@@ -36,13 +36,15 @@ from decimal import Decimal
 from typing import Iterator
 
 from balisekit.etcs.variables import metres
-from balisekit.rules.decoded import LINKING, Decoded, GroupData, Passage
+from balisekit.rules.decoded import Decoded
 from balisekit.rules.line import Line
 from balisekit.rules.location import NOT_KNOWN
 from balisekit.rules.meaning.along import FAR, End, ends_of, is_authority, lane_of, leaves, passed_over, rear, unread_of
 from balisekit.rules.meaning.reach import LESS, Reach, lanes_of_links
 from balisekit.rules.meaning.words import merged
+from balisekit.rules.passages import GroupData, Passage
 from balisekit.rules.rule import Options, Remark, Result, Rule, Urgency
+from balisekit.rules.telegrams import LINKING
 
 
 def find(line: Line, options: Options) -> Result:

@@ -73,8 +73,8 @@ def _leaves(decoded: Decoded, order: Order) -> bool:
     if order.is_now or data is None:
         return False
     own = (each for each in data.passages if each.direction == order.passage.direction)
-    reached = (each for passage in own if order.packet in passage.said for each in decoded.reached(passage))
-    tracks = {each.target.group.track for each in reached if each.target and each.distance <= distance}
+    links = (link for passage in own if order.packet in passage.said for link in passage.links)
+    tracks = {link.target.track for link in links if link.target and link.total <= distance}
     return not tracks <= {data.group.track}
 
 
@@ -119,8 +119,7 @@ def _unordered(decoded: Decoded, usual: Order, unknown: Unknown) -> Iterator[Rem
     track = usual.passage.track
     places = [place for own, place in unknown if own == track]
     is_near = any(place is None or abs(place - usual.place) <= NEAR for place in places)
-    targets = (each.target for each in decoded.reached(usual.passage))
-    may_leave = any(each and each.group.track != track for each in targets)
+    may_leave = any(link.target and link.target.track != track for link in usual.passage.links)
     if decoded.is_inside(track, usual.place) and not is_near and not may_leave:
         sentence = (
             f"it announces {usual.words} at {decoded.km(track, usual.place)}, and no group within {NEAR // 10} m of "

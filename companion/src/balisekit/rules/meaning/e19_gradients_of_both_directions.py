@@ -34,12 +34,13 @@ from typing import Iterator, Optional
 
 from balisekit.etcs.geometry import NOMINAL, REVERSE
 from balisekit.etcs.variables import metres
-from balisekit.rules.decoded import GRADIENTS, Decoded, allowance
+from balisekit.rules.decoded import Decoded
 from balisekit.rules.line import Line
 from balisekit.rules.meaning.both_ways import DOWN, UP, Both, joined, least, may_differ, steps
 from balisekit.rules.meaning.profiles import lanes_of, unplaced_of
 from balisekit.rules.meaning.words import source
 from balisekit.rules.rule import Options, Remark, Result, Rule, Urgency
+from balisekit.rules.telegrams import GRADIENTS, allowance
 
 LONG = 10_000
 """In decimetres: from which length on stretches count on which both ways go down."""
@@ -48,7 +49,7 @@ LONG = 10_000
 def find(line: Line, options: Options) -> Result:
     """Compares the gradients of both ways."""
     decoded, found, looked_at = line.decoded, [], 0
-    lanes = lanes_of(decoded, GRADIENTS)
+    lanes = lanes_of(decoded)[GRADIENTS]
     for track in {track for track, _ in lanes}:
         both = [lanes.get((track, way), ()) for way in (1, -1)]
         looked_at += min(map(len, both))

@@ -26,33 +26,40 @@ from __future__ import annotations
 
 from collections import Counter
 from decimal import Decimal
-from typing import Dict, Iterator, List, Literal, NamedTuple, Optional, Tuple
+from typing import Dict, Iterator, List, NamedTuple, Optional, Tuple
 
 from balisekit.etcs.geometry import DIRECTIONS
-from balisekit.etcs.variables import Around, Form, value_words
-from balisekit.rules.decoded import LINKING, Decoded, Packet
+from balisekit.etcs.variables import Around, value_words
+from balisekit.rules.decoded import Owner
 from balisekit.rules.line import Line
-from balisekit.rules.location import NOT_KNOWN, BaliseGroup, Identity, Location
-from balisekit.rules.meaning.sent import Owner, located, sent
+from balisekit.rules.location import BaliseGroup, Identity, Location
+from balisekit.rules.meaning.sent import located, sent
 from balisekit.rules.meaning.words import merged
-from balisekit.rules.passages import HOLDING
 from balisekit.rules.rule import Options, Remark, Result, Rule, Urgency
+from balisekit.rules.telegrams import HOLDING, LINKING, Link, Packet
 from balisekit.tables.names import describe_identity, ordinal, rows_words
 
 
-class Link(NamedTuple):
-    """A link, and the packet that has it."""
+class Naming(NamedTuple):
+    """A link that names a group, and the packet that has it."""
 
     owner: Owner
     packet: Packet
-    place: int
-    identity: Identity
-    form: Form
+    link: Link
+
+    @property
+    def identity(self) -> Identity:
+        """That of the group."""
+        return self.link.identity
 
     @property
     def location(self) -> Location:
         """Where it is."""
-        return located(self.owner, self.packet)._replace(link=self.place)
+        return located(self.owner, self.packet)._replace(link=self.link.number)
+
+    def value(self, key: str) -> int:
+        """Q_LOCACC or Q_LINKREACTION, as it is sent."""
+        return self.link.accuracy if key == "q_locacc" else self.link.reaction
 
     @property
     def sender(self) -> Optional[BaliseGroup]:
@@ -60,10 +67,10 @@ class Link(NamedTuple):
         data = self.owner.group
         return data if data is None or isinstance(data, BaliseGroup) else data.group
 
-    def name(self, decoded: Decoded) -> str:
+    @property
+    def name(self) -> str:
         """The group that it names."""
-        target = decoded.by_identity.get(self.identity)
-        return str(target.group) if target else describe_identity(self.identity)
+        return str(self.link.target) if self.link.target else describe_identity(self.identity)
 
     @property
     def source(self) -> str:
@@ -74,13 +81,13 @@ class Link(NamedTuple):
 
 def find(line: Line, options: Options) -> Result:
     """Looks at all links."""
-    decoded, found, looked_at = line.decoded, [], 0
-    described: Dict[Tuple[str, Identity, int], List[Link]] = {}
+    found, looked_at = [], 0
+    described: Dict[Tuple[str, Identity, int], List[Naming]] = {}
     is_asked = options.asks_for("E20")
-    for owner, packet in sent(decoded, LINKING):
-        links = list(_links(owner, packet))
+    for owner, packet in sent(line.decoded, LINKING):
+        links = [Naming(owner, packet, link) for link in packet.links if link.known]
         looked_at += len(links)
-        found += list(_repeated(decoded, links))
+        found += list(_repeated(links))
         for link in links if is_asked else ():
             described.setdefault(("q_locacc", link.identity, 0), []).append(link)
             for index in HOLDING[packet.form["q_dir"]]:
@@ -88,22 +95,11 @@ def find(line: Line, options: Options) -> Result:
                 if way is not None:
                     described.setdefault(("q_linkreaction", link.identity, way), []).append(link)
     for (key, _, _), links in described.items():
-        found += list(_differing(decoded, "q_locacc" if key == "q_locacc" else "q_linkreaction", links))
+        found += list(_differing(key, links))
     return Result(merged(found), looked_at)
 
 
-def _links(owner: Owner, packet: Packet) -> Iterator[Link]:
-    """The links of a packet that name a group. A link inherits NID_C."""
-    data = owner.group
-    group = data if data is None or isinstance(data, BaliseGroup) else data.group
-    country = group.identity[0] if group and group.identity else 0
-    for place, form in enumerate(packet.form["links"]):
-        country = form.get("nid_c", country)
-        if form["nid_bg"] != NOT_KNOWN:
-            yield Link(owner, packet, place, (country, form["nid_bg"]), form)
-
-
-def _repeated(decoded: Decoded, links: List[Link]) -> Iterator[Remark]:
+def _repeated(links: List[Naming]) -> Iterator[Remark]:
     """Links to the own group, and second links to one group."""
     own = links[0].sender.identity if links and links[0].sender else None
     first: Dict[Identity, int] = {}
@@ -111,24 +107,24 @@ def _repeated(decoded: Decoded, links: List[Link]) -> Iterator[Remark]:
         if link.identity == own or link.identity in first:
             by = "which sends it" if link.identity == own else f"as its {ordinal(first[link.identity])} link does"
             values = {"nid_c": Decimal(link.identity[0]), "nid_bg": Decimal(link.identity[1])}
-            yield Remark("E20", link.location, f"it names {link.name(decoded)}, {by}", None, values)
-        first.setdefault(link.identity, link.place)
+            yield Remark("E20", link.location, f"it names {link.name}, {by}", None, values)
+        first.setdefault(link.identity, link.link.number)
 
 
-def _differing(decoded: Decoded, key: Literal["q_locacc", "q_linkreaction"], links: List[Link]) -> Iterator[Remark]:
+def _differing(key: str, links: List[Naming]) -> Iterator[Remark]:
     """The links whose value is not the most frequent one."""
-    counts = Counter(link.form[key] for link in links)
+    counts = Counter(link.value(key) for link in links)
     if len(counts) < 2:
         return
-    usual = max(links, key=lambda link: counts[link.form[key]])
+    usual = max(links, key=lambda link: counts[link.value(key)])
     for link in links:
-        if link.form[key] != usual.form[key]:
-            own, other = (value_words(key, each.form[key], Around()) for each in (link, usual))
+        if link.value(key) != usual.value(key):
+            own, other = (value_words(key, each.value(key), Around()) for each in (link, usual))
             sentence = (
-                f"{key.upper()} of {link.name(decoded)} is {own}, and {other} in {counts[usual.form[key]]} of "
-                f"{len(links)} links to it, such as that of {usual.source}"
+                f"{key.upper()} of {link.name} is {own}, and {other} in {counts[usual.value(key)]} of {len(links)} "
+                f"links to it, such as that of {usual.source}"
             )
-            values = {key: Decimal(link.form[key]), f"other_{key}": Decimal(usual.form[key])}
+            values = {key: Decimal(link.value(key)), f"other_{key}": Decimal(usual.value(key))}
             others = (usual.packet.row.number,) if usual.packet.row else ()
             yield Remark("E20", link.location, sentence, None, values, urgency=Urgency.RULE_ONLY, others=others)
 

@@ -30,10 +30,12 @@ from decimal import Decimal
 from typing import Dict, List, Optional, Sequence, Tuple
 
 from balisekit.etcs.variables import Around, value_words
-from balisekit.rules.decoded import LEVELS, Decoded, Packet, Passage
+from balisekit.rules.decoded import Decoded
 from balisekit.rules.line import NOWHERE, Line
 from balisekit.rules.meaning.along import Lane, lane_of, passed_over, unread_of
+from balisekit.rules.passages import Passage
 from balisekit.rules.rule import Options, Remark, Result, Rule, Urgency
+from balisekit.rules.telegrams import LEVELS, Packet
 
 SESSION, CONDITIONAL, BY_RADIO = 42, 46, (3, 4)
 

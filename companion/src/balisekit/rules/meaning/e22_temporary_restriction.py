@@ -31,11 +31,13 @@ from decimal import Decimal
 from typing import Dict, Iterator, List, NamedTuple, Sequence, Tuple
 
 from balisekit.etcs.variables import Values, metres
-from balisekit.rules.decoded import Decoded, Packet, Passage, tolerance_of_lengths
+from balisekit.rules.decoded import Decoded, tolerance_of_lengths
 from balisekit.rules.line import Line
 from balisekit.rules.meaning.along import lane_of, parts, passed_over
 from balisekit.rules.meaning.words import at_place, merged, source
+from balisekit.rules.passages import Passage
 from balisekit.rules.rule import Options, Remark, Result, Rule, Urgency
+from balisekit.rules.telegrams import Packet
 
 RESTRICTION, NOT_REVOCABLE, NEAR = 65, 255, 20_000
 """NID_PACKET, NID_TSR without an identity, and how near in decimetres two places of one restriction are."""

@@ -31,8 +31,8 @@ from decimal import Decimal
 from typing import Dict, Iterator, List
 
 from balisekit.etcs.variables import Around, value_words
-from balisekit.rules.decoded import GroupData
 from balisekit.rules.line import Line
+from balisekit.rules.passages import GroupData
 from balisekit.rules.rule import Options, Remark, Result, Rule, Urgency
 
 
@@ -48,15 +48,16 @@ def find(line: Line, options: Options) -> Result:
 
 def _versions(groups: List[GroupData]) -> Iterator[Remark]:
     """The telegrams whose M_VERSION is not the most frequent one."""
-    counts = Counter(telegram.m_version for data in groups for telegram in data.telegrams.values())
+    counts = Counter(telegram.header.m_version for data in groups for telegram in data.telegrams.values())
     usual = max(counts, key=lambda version: counts[version], default=0)
     for data in groups if len(counts) > 1 else ():
         for telegram in data.telegrams.values():
-            if telegram.m_version != usual:
-                words = [value_words("m_version", each, Around()) or str(each) for each in (telegram.m_version, usual)]
+            if telegram.header.m_version != usual:
+                own = telegram.header.m_version
+                words = [value_words("m_version", each, Around()) or str(each) for each in (own, usual)]
                 others = f"{counts[usual]} other telegram{'s' * (counts[usual] > 1)}"
                 sentence = f"M_VERSION is {words[0]}, and {words[1]} in {others} of the table"
-                values = {"m_version": Decimal(telegram.m_version), "other_m_version": Decimal(usual)}
+                values = {"m_version": Decimal(own), "other_m_version": Decimal(usual)}
                 yield Remark("E23", data.location(telegram.row), sentence, None, values)
 
 

@@ -33,10 +33,11 @@ from decimal import Decimal
 from typing import Any, Dict, Iterator, List, Mapping, Optional, Sequence, Set, Tuple
 
 from balisekit.etcs.variables import Form
-from balisekit.rules.decoded import GRADIENTS, SPEEDS, Packet, Passage
 from balisekit.rules.line import Line
 from balisekit.rules.meaning.sent import Fault, kmh, of_packets, remark, speed
+from balisekit.rules.passages import Passage
 from balisekit.rules.rule import Options, Remark, Result, Rule, Urgency
+from balisekit.rules.telegrams import GRADIENTS, SPEEDS, Packet
 from balisekit.tables.names import ordinal
 
 GREATEST_SPEED, STEEPEST = 120, 40

@@ -34,10 +34,10 @@ from decimal import Decimal
 from typing import Iterator, List
 
 from balisekit.etcs.variables import Form, metres
-from balisekit.rules.decoded import AUTHORITIES, Packet
 from balisekit.rules.line import Line
 from balisekit.rules.meaning.sent import Fault, distance, kmh, of_packets, speed
 from balisekit.rules.rule import Options, Result, Rule, Urgency
+from balisekit.rules.telegrams import AUTHORITIES, Packet
 from balisekit.tables.names import ordinal
 
 ENDLESS = 1023

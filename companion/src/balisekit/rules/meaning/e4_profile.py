@@ -37,10 +37,10 @@ from typing import Iterator, List, Optional, Sequence, Tuple
 
 from balisekit.etcs.geometry import ELEMENT_KEYS
 from balisekit.etcs.variables import CANT, Form, Values
-from balisekit.rules.decoded import GRADIENTS, SPEEDS, Packet
 from balisekit.rules.line import Line
 from balisekit.rules.meaning.sent import Fault, kmh, of_packets, speed
 from balisekit.rules.rule import Options, Result, Rule, Urgency
+from balisekit.rules.telegrams import GRADIENTS, SPEEDS, Packet
 from balisekit.tables.names import ordinal
 
 CANT_DEFICIENCY = 0

@@ -36,11 +36,12 @@ from typing import Any, Dict, List, Mapping, Tuple
 from balisekit.etcs.packets import packet_name
 from balisekit.etcs.raw_packets import content_of
 from balisekit.etcs.variables import metres
-from balisekit.rules.decoded import AUTHORITIES, LEVELS, Packet
+from balisekit.rules.decoded import Owner
 from balisekit.rules.line import Line
 from balisekit.rules.location import Location
-from balisekit.rules.meaning.sent import Owner, distance, located, sent
+from balisekit.rules.meaning.sent import distance, located, sent
 from balisekit.rules.rule import Options, Remark, Result, Rule, Urgency
+from balisekit.rules.telegrams import AUTHORITIES, LEVELS, Packet
 
 WITH_DISTANCES = (5, 12, 15, 16, 21, 27, 39, 40, 51, 52, 65, 67, 68, 69, 70, 71, 80, 88, 131, 138)
 HERE = (0, 32_767)

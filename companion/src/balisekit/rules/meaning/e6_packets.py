@@ -32,10 +32,12 @@ from decimal import Decimal
 from typing import Dict, FrozenSet, Iterator, List, Sequence, Tuple
 
 from balisekit.etcs.packets import packet_name
-from balisekit.rules.decoded import LINKING, Packet, Passage
+from balisekit.rules.decoded import Owner
 from balisekit.rules.line import Line
-from balisekit.rules.meaning.sent import Fault, Owner, located, remark, sent
+from balisekit.rules.meaning.sent import Fault, located, remark, sent
+from balisekit.rules.passages import Passage
 from balisekit.rules.rule import Options, Remark, Result, Rule, Urgency
+from balisekit.rules.telegrams import LINKING, Packet
 from balisekit.tables.names import ordinal, rows_words
 
 COVER_MARKER = 0

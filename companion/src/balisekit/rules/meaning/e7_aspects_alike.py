@@ -35,11 +35,14 @@ from itertools import chain
 from typing import Dict, Iterator, List, Mapping, NamedTuple, Optional, Sequence, Tuple
 
 from balisekit.etcs.geometry import INFILL
-from balisekit.rules.decoded import AUTHORITIES, Decoded, GroupData, Packet, Telegram
+from balisekit.etcs.variables import Form
+from balisekit.rules.decoded import Decoded
 from balisekit.rules.line import Line
 from balisekit.rules.location import Location
 from balisekit.rules.meaning.along import End, ends_of, ends_the_line
+from balisekit.rules.passages import GroupData
 from balisekit.rules.rule import Options, Remark, Result, Rule, Urgency
+from balisekit.rules.telegrams import AUTHORITIES, Packet, Telegram
 from balisekit.tables.model import Aspect
 from balisekit.tables.names import clean, listed, quoted
 
@@ -99,12 +102,16 @@ def _alike(data: GroupData) -> Iterator[Alike]:
 
 def _are_alike(some: Sequence[Telegram], others: Sequence[Telegram]) -> bool:
     """Whether the packets of all balises are the same. A fixed balise has one row for all aspects."""
-    return all(one is other or one.forms == other.forms for one, other in zip(some, others))
+    return all(one is other or _forms(one.packets) == _forms(other.packets) for one, other in zip(some, others))
+
+
+def _forms(packets: Sequence[Packet]) -> List[Form]:
+    return [packet.form for packet in packets]
 
 
 def _ends_of(alike: Alike, known: Mapping[Tuple[int, int], Sequence[End]]) -> Sequence[End]:
     """Where their authorities end that count from their group. `known` has all ends by group and length."""
-    own = [packet.form for packet in alike.packets]
+    own = _forms(alike.packets)
     lengths = {packet.end for packet in alike.packets if packet.number in AUTHORITIES}
     return [end for length in lengths for end in known.get((id(alike.data), length), ()) if end.packet.form in own]
 

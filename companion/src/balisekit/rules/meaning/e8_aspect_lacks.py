@@ -38,11 +38,12 @@ from decimal import Decimal
 from typing import Dict, Iterator, List, Sequence, Set, Tuple
 
 from balisekit.etcs.packets import packet_name
-from balisekit.rules.decoded import GroupData, Packet, Passage
 from balisekit.rules.line import Line
 from balisekit.rules.location import Location
 from balisekit.rules.meaning.siblings import AUTHORITY, SIBLINGS, lacking_in, said_of, turned_in
+from balisekit.rules.passages import GroupData, Passage
 from balisekit.rules.rule import Options, Remark, Result, Rule, Urgency
+from balisekit.rules.telegrams import Packet
 from balisekit.tables.names import listed, quoted
 
 STOP_IN_SR, DANGER_FOR_SH = 137, 132

@@ -5,8 +5,8 @@ from decimal import Decimal
 from typing import AbstractSet, Any, Iterator, List, Mapping, NamedTuple, Optional, Sequence, Tuple
 
 from balisekit.etcs.variables import Around, Form, value_words, variable_name
-from balisekit.rules.decoded import AUTHORITIES, Packet
 from balisekit.rules.rule import Field
+from balisekit.rules.telegrams import AUTHORITIES, Packet
 from balisekit.tables.names import ordinal
 
 NOT_COMPARED = {"q_dir", "q_scale", "l_packet", "body", "nid_packet"}

@@ -7,9 +7,11 @@ from typing import Dict, Iterator, List, NamedTuple, Optional, Sequence, Tuple
 
 from balisekit.etcs.geometry import NOMINAL
 from balisekit.etcs.variables import Around, value_words
-from balisekit.rules.decoded import LEVELS, Decoded, Packet, Passage
+from balisekit.rules.decoded import Decoded
 from balisekit.rules.location import NO_DIRECTION
 from balisekit.rules.meaning.along import Lane
+from balisekit.rules.passages import Passage
+from balisekit.rules.telegrams import LEVELS, Packet
 
 BOTH_DIRECTIONS, NOW, NEAR = 2, 32_767, 5000
 """Q_DIR, D_LEVELTR for at once, and in decimetres how near two announcements of one transition are."""

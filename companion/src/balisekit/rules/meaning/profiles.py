@@ -7,7 +7,9 @@ from __future__ import annotations
 from typing import Dict, Iterator, List, Mapping, NamedTuple, Optional, Sequence, Tuple
 
 from balisekit.etcs.geometry import ELEMENT_KEYS
-from balisekit.rules.decoded import GRADIENTS, LINKING, SPEEDS, Decoded, GroupData, Packet, Passage
+from balisekit.rules.decoded import Decoded, once
+from balisekit.rules.passages import GroupData, Passage
+from balisekit.rules.telegrams import GRADIENTS, LINKING, SPEEDS, Packet
 
 APART = 5
 """By how many per mille gradients of two groups may differ."""
@@ -133,19 +135,17 @@ class Piece(NamedTuple):
                 yield each
 
 
-def lanes_of(decoded: Decoded, number: int) -> Lanes:
-    """The profiles of this NID_PACKET, by track and way, in the order of passing."""
-    if lanes_of not in decoded.worked_out:
-        made: Dict[int, Dict[Tuple[str, int], List[Profiles]]] = {SPEEDS: {}, GRADIENTS: {}}
-        for data in decoded.groups:
-            for kind, profiles in _of_group(data) if data.place is not None and not data.group.unread else ():
-                made[kind].setdefault((profiles.track, profiles.way), []).append(profiles)
-        for lanes in made.values():
-            for lane in lanes.values():
-                lane.sort(key=lambda each: each.begin)
-        decoded.worked_out[lanes_of] = made
-    found: Mapping[int, Lanes] = decoded.worked_out[lanes_of]
-    return found[number]
+@once
+def lanes_of(decoded: Decoded) -> Mapping[int, Lanes]:
+    """By NID_PACKET: the profiles by track and way, in the order of passing."""
+    made: Dict[int, Dict[Tuple[str, int], List[Profiles]]] = {SPEEDS: {}, GRADIENTS: {}}
+    for data in decoded.groups:
+        for kind, profiles in _of_group(data) if data.place is not None and not data.group.unread else ():
+            made[kind].setdefault((profiles.track, profiles.way), []).append(profiles)
+    for lanes in made.values():
+        for lane in lanes.values():
+            lane.sort(key=lambda each: each.begin)
+    return made
 
 
 def unplaced_of(decoded: Decoded, *numbers: int) -> Mapping[Tuple[int, GroupData, str], str]:
@@ -264,4 +264,4 @@ def cause_of(own: Profiles, other: Profiles, piece: Piece, is_rear: bool) -> str
 
 def _names(decoded: Decoded, passage: Passage, data: GroupData) -> bool:
     """Whether a packet 5 of a passage names a group."""
-    return any(each.target is data for each in decoded.reached(passage))
+    return any(link.target is data.group for link in passage.links)

@@ -5,8 +5,11 @@ from bisect import bisect_left
 from collections import defaultdict
 from typing import Dict, List, Mapping, Optional, Sequence, Tuple
 
-from balisekit.rules.decoded import Decoded, GroupData
-from balisekit.rules.meaning.along import Lane, Name, names_of
+from balisekit.rules.decoded import Decoded
+from balisekit.rules.location import BaliseGroup
+from balisekit.rules.meaning.along import Lane
+from balisekit.rules.passages import GroupData, Passage
+from balisekit.rules.telegrams import LINKING, Packet
 
 LESS = 500
 """In decimetres."""
@@ -48,11 +51,11 @@ def lanes_of_links(decoded: Decoded) -> Dict[Lane, Reach]:
     """The links and groups of each track and way."""
     lanes: Dict[Lane, Reach] = defaultdict(Reach)
     known = set()
-    last: Dict[Tuple[GroupData, int], Sequence[Name]] = {}  # (aspects share the packets 5 of fixed balises)
-    unplaced: Dict[GroupData, List[Tuple[Lane, int]]] = {}
+    last: Dict[Tuple[GroupData, int], Sequence[Packet]] = {}  # (aspects share the packets 5 of fixed balises)
+    unplaced: Dict[int, List[Tuple[Lane, int]]] = {}
     for passage in decoded.passages:
-        data, named = passage.group, names_of(decoded, passage)
-        way = passage.way or _shown_by(named, data)
+        data, linking = passage.group, passage.of(LINKING)
+        way = passage.way or _shown_by(passage)
         if way is None or data is None or data.place is None:
             continue
         lane = lanes[passage.track, way]
@@ -60,44 +63,42 @@ def lanes_of_links(decoded: Decoded) -> Dict[Lane, Reach]:
         if is_new and data.group.linked and passage.speaks:
             known.add((data, way))
             lane.groups.append(data.place * way)
-        if named and last.get((data, way)) is not named:
-            last[data, way] = named
+        if linking and last.get((data, way)) != linking:
+            last[data, way] = linking
             begin = data.place * way
             own = [
-                (begin + distance, each if each and each.group.track == passage.track else None)
-                for distance, each in named
+                (begin + link.total, link.target if link.target and link.target.track == passage.track else None)
+                for link in passage.links
             ]
             lane.links.append((begin, max(_linked(each, way, at) for at, each in own)))
             for at, each in own:
                 if each and each.place is None:
-                    unplaced.setdefault(each, []).append(((passage.track, way), at))
+                    unplaced.setdefault(each.number, []).append(((passage.track, way), at))
     _continue(decoded, lanes, unplaced)
     for lane in lanes.values():
         lane.sort()
     return lanes
 
 
-def _continue(
-    decoded: Decoded, lanes: Dict[Lane, Reach], unplaced: Mapping[GroupData, Sequence[Tuple[Lane, int]]]
-) -> None:
+def _continue(decoded: Decoded, lanes: Dict[Lane, Reach], unplaced: Mapping[int, Sequence[Tuple[Lane, int]]]) -> None:
     """Adds the links of groups without a kilometre that are named by others: D_LINK shows where these are."""
-    for data, places in unplaced.items():
-        for passage in data.passages:
-            named = names_of(decoded, passage)
-            for lane, begin in places if named else ():
+    for number, places in unplaced.items():
+        for passage in decoded.groups[number].passages:
+            reach = max((link.total for link in passage.links), default=None)
+            for lane, begin in places if reach is not None else ():
                 if passage.way in (None, lane[1]):
-                    lanes[lane].links.append((begin, begin + max(distance for distance, _ in named)))
+                    lanes[lane].links.append((begin, begin + (reach or 0)))
 
 
-def _shown_by(named: Sequence[Name], data: Optional[GroupData]) -> Optional[int]:
+def _shown_by(passage: Passage) -> Optional[int]:
     """The way of a passage by the first group that its packets 5 name and whose place on the track is known."""
-    track, begin = (data.group.track, data.place) if data else ("", None)
-    places = (each.place for _, each in named if each and each.group.track == track)
+    begin = passage.group.place if passage.group else None
+    places = (link.target.place for link in passage.links if link.target and link.target.track == passage.track)
     place = next((each for each in places if each is not None), begin)
     return None if begin is None or place is None else (place > begin) - (place < begin) or None
 
 
-def _linked(target: Optional[GroupData], way: int, place: int) -> int:
+def _linked(target: Optional[BaliseGroup], way: int, place: int) -> int:
     """Where a link leads: to the kilometre of its group too, which may be rounded to a place beyond that of D_LINK."""
     by_kilometre = place if target is None or target.place is None else target.place * way
     return by_kilometre if 0 < by_kilometre - place <= LESS else place

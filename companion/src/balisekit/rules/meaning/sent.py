@@ -3,29 +3,16 @@ from __future__ import annotations
 
 from collections import Counter
 from decimal import Decimal
-from typing import (
-    Callable,
-    Dict,
-    Iterable,
-    Iterator,
-    List,
-    Mapping,
-    NamedTuple,
-    Optional,
-    Sequence,
-    Tuple,
-    TypeVar,
-    Union,
-)
+from typing import Callable, Dict, Iterable, Iterator, List, Mapping, NamedTuple, Optional, Sequence, Tuple, TypeVar
 
 from balisekit.etcs.geometry import ELEMENT_KEYS
-from balisekit.rules.decoded import Decoded, GroupData, Packet, Passage, Stretch, allowance, tolerance_of_lengths
+from balisekit.rules.decoded import Decoded, Owner, tolerance_of_lengths
 from balisekit.rules.line import Line
 from balisekit.rules.location import Location
+from balisekit.rules.passages import GroupData, Passage
 from balisekit.rules.rule import Field, Options, Remark, Result
+from balisekit.rules.telegrams import Packet, Stretch, allowance
 
-Owner = Union[GroupData, Passage]
-"""The group, or the message, that sends a packet."""
 Key = TypeVar("Key")
 FAR = 10**12
 """The end of a profile without an end, beyond all others."""
@@ -60,16 +47,16 @@ def of_packets(rule: str, line: Line, numbers: Sequence[int], look_at: Callable[
         count += 1
         faults = look_at(packet)
         if faults:
-            places = [_place(owner, packet, fault) for fault in faults]
+            passage = _passage(line.decoded, owner, packet)
+            places = [_place(passage, packet, fault) for fault in faults]
             placed = [_with_km(line.decoded, fault, at) for fault, at in zip(faults, places)]
             marks = [(packet.row, at[0].direction, at[1]) for at in places if at]
             found.append(remark(rule, located(owner, packet), placed)._replace(marks=marks))
     return Result(found, count)
 
 
-def _place(owner: Owner, packet: Packet, fault: Fault) -> Optional[Tuple[Passage, int]]:
+def _place(passage: Optional[Passage], packet: Packet, fault: Fault) -> Optional[Tuple[Passage, int]]:
     """In which direction a fault is, and how far from the group, if it is about a field in one direction."""
-    passage = owner.first_passages.get(id(packet)) if isinstance(owner, GroupData) else _saying(owner, packet)
     if passage is None or not fault.fields or packet.form.get("q_dir") == 2:
         return None
     element, keys = fault.fields[0][1], ELEMENT_KEYS.get(packet.number)
@@ -80,9 +67,11 @@ def _place(owner: Owner, packet: Packet, fault: Fault) -> Optional[Tuple[Passage
     return passage, sum(each[keys[0]] for each in packet.form["elements"][: element + 1]) * packet.unit
 
 
-def _saying(passage: Passage, packet: Packet) -> Optional[Passage]:
-    """The passage of a message, if a packet counts from its group."""
-    return passage if packet in passage.said else None
+def _passage(decoded: Decoded, owner: Owner, packet: Packet) -> Optional[Passage]:
+    """The first passage in which a packet counts from the group that sends it, or from the group of its message."""
+    if isinstance(owner, GroupData):
+        return decoded.first_passages.get(id(packet))
+    return owner if packet in owner.said else None
 
 
 def _with_km(decoded: Decoded, fault: Fault, at: Optional[Tuple[Passage, int]]) -> Fault:

@@ -6,11 +6,12 @@ from itertools import combinations
 from typing import Dict, FrozenSet, Iterator, List, Mapping, NamedTuple, Sequence, Set, Tuple
 
 from balisekit.etcs.geometry import DIRECTIONS
-from balisekit.rules.decoded import GRADIENTS, LINKING, SPEEDS, GroupData, Packet, Passage, allowance
 from balisekit.rules.line import Line
 from balisekit.rules.location import NOT_KNOWN, Identity
 from balisekit.rules.meaning.sent import tolerance
+from balisekit.rules.passages import GroupData, Passage
 from balisekit.rules.rule import Options
+from balisekit.rules.telegrams import GRADIENTS, LINKING, SPEEDS, Packet, allowance
 
 AUTHORITY = 12
 NUMBERS = frozenset({LINKING, AUTHORITY, GRADIENTS, SPEEDS})
@@ -75,7 +76,7 @@ def with_common_reach(line: Line, options: Options, some: Sequence[Linked]) -> I
     named: Dict[Identity, List[int]] = {}
     ends: List[Tuple[int, int, int]] = []
     for place, (passage, linking) in enumerate(some):
-        first = next(line.decoded.reached(passage), None) if linking else None
+        first = next(passage.links, None) if linking else None
         if first:
             named.setdefault(first.identity, []).append(place)
         elif passage.authorities:
@@ -106,10 +107,10 @@ def common_reach(line: Line, options: Options, one: Linked, other: Linked) -> in
         return max([sum([link["d_link"] for link in links]) * each.unit for links, each in zip(known, mine)])
     if mine or its:
         reach = 0
-        for own, theirs in zip(line.decoded.reached(here), line.decoded.reached(there)):
-            if own.identity != theirs.identity or own.identity[1] == NOT_KNOWN:
+        for own, theirs in zip(here.links, there.links):
+            if own.identity != theirs.identity or not own.known:
                 break
-            reach = min(own.distance, theirs.distance)
+            reach = min(own.total, theirs.total)
         return reach
     if not (here.authorities and there.authorities):
         return 0

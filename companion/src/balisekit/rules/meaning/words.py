@@ -4,9 +4,11 @@ from __future__ import annotations
 from typing import Dict, Iterable, List, Optional, Sequence, Tuple
 
 from balisekit.etcs.variables import metres
-from balisekit.rules.decoded import Decoded, Packet, Passage
+from balisekit.rules.decoded import Decoded
 from balisekit.rules.location import BaliseGroup
+from balisekit.rules.passages import Passage
 from balisekit.rules.rule import Remark
+from balisekit.rules.telegrams import Packet
 from balisekit.tables.model import Row
 from balisekit.tables.names import describe_message, quoted, rows_words
 

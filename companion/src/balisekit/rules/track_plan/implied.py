@@ -10,9 +10,9 @@ from collections import Counter
 from decimal import Decimal
 from typing import Dict, Iterator, List, NamedTuple, Optional, Sequence, Set, Tuple
 
-from balisekit.rules.decoded import AUTHORITIES, allowance
 from balisekit.rules.line import Line
 from balisekit.rules.rule import Options
+from balisekit.rules.telegrams import AUTHORITIES, allowance
 from balisekit.rules.track_plan.borders import NOT_DECODED, NUMBERS, Border, border_of
 from balisekit.rules.track_plan.placed import NO_PLACE, Placed, Saying
 from balisekit.rules.track_plan.stretches import KINDS, span

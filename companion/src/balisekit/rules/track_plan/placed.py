@@ -11,10 +11,11 @@ from itertools import takewhile
 from typing import Dict, Iterable, Iterator, Mapping, NamedTuple, Optional, Sequence, Set, Tuple
 
 from balisekit.rules.chainage import Chainage
-from balisekit.rules.decoded import Packet, Passage
 from balisekit.rules.line import Line
 from balisekit.rules.location import BEHIND_POINT
+from balisekit.rules.passages import Passage
 from balisekit.rules.rule import Options, Remark, Result, Urgency
+from balisekit.rules.telegrams import Packet
 from balisekit.tables.names import clean, kilometre, rows_words
 from balisekit.tables.plan import Lane, Plan, PlanRow
 
@@ -131,8 +132,8 @@ class Placed:
         points = self.spots("point", passage.track, way)
         if not points or start is None:
             return None
-        targets = (each.target for each in self.decoded.reached(passage))
-        own = takewhile(lambda each: each is None or each.group.track == passage.track, targets)
+        targets = (link.target for link in passage.links)
+        own = takewhile(lambda each: each is None or each.track == passage.track, targets)
         places = (each.place for each in own if each)
         sure = max([way * start, *(way * place for place in places if place is not None)])
         ahead = [way * spot.place for spot in points if way * spot.place > sure]
@@ -185,7 +186,7 @@ class Placed:
 
     def kilometre(self, track: str, place: int) -> Decimal:
         """The kilometre of a place of a track."""
-        return Decimal(self.decoded.km(track, place).split(" ")[-1])
+        return self.decoded.chainages.get(track, Chainage()).kilometre(place)
 
 
 def nearest(spots: Sequence[Spot], place: int) -> Spot:

@@ -5,9 +5,9 @@ from collections import Counter
 from dataclasses import dataclass, field
 from typing import Dict, List, NamedTuple, Optional, Tuple
 
-from balisekit.rules.decoded import GRADIENTS, SPEEDS, Stretch, allowance
 from balisekit.rules.track_plan.placed import BEHIND_POINT, NO_PLACE, SAYS_NOTHING, Counts, Part, Placed, Saying
 from balisekit.rules.rule import Options
+from balisekit.rules.telegrams import GRADIENTS, SPEEDS, Stretch, allowance
 
 KINDS = {SPEEDS: "speed", GRADIENTS: "gradient"}
 """The kinds of rows of the plan, by NID_PACKET of the profiles that are compared with them."""

@@ -29,11 +29,11 @@ from __future__ import annotations
 from decimal import Decimal
 from typing import Sequence
 
-from balisekit.rules.decoded import GRADIENTS
 from balisekit.rules.line import Line
 from balisekit.rules.track_plan.placed import Placed, plan_words, remark
 from balisekit.rules.track_plan.stretches import Difference, compare
 from balisekit.rules.rule import Options, Remark, Result, Rule, Urgency
+from balisekit.rules.telegrams import GRADIENTS
 
 
 def find(line: Line, options: Options) -> Result:

@@ -35,7 +35,6 @@ from collections import Counter
 from decimal import Decimal
 from typing import Dict, List, NamedTuple, Optional, Sequence, Tuple
 
-from balisekit.rules.decoded import AUTHORITIES, Packet, allowance
 from balisekit.rules.line import Line
 from balisekit.rules.track_plan.placed import (
     BEHIND_POINT,
@@ -49,6 +48,7 @@ from balisekit.rules.track_plan.placed import (
     remark,
 )
 from balisekit.rules.rule import Options, Remark, Result, Rule, Urgency
+from balisekit.rules.telegrams import AUTHORITIES, Packet, allowance
 from balisekit.tables.names import clean
 from balisekit.tables.plan_values import metres
 

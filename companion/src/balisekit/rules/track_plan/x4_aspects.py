@@ -30,10 +30,12 @@ from collections import Counter
 from decimal import Decimal
 from typing import Dict, Iterator, List, NamedTuple, Optional, Set
 
-from balisekit.rules.decoded import Decoded, GroupData, Packet, Passage, allowance
+from balisekit.rules.decoded import Decoded
 from balisekit.rules.line import Line
+from balisekit.rules.passages import GroupData, Passage
 from balisekit.rules.track_plan.placed import NO_PLACE, SAYS_NOTHING, Placed, Saying, plan_words, remark
 from balisekit.rules.rule import Options, Remark, Result, Rule, Urgency
+from balisekit.rules.telegrams import Packet, allowance
 from balisekit.tables.names import rows_words
 from balisekit.tables.plan import WAY_WORDS, PlanRow, aspect_name
 from balisekit.tables.plan_values import LENGTHS, STEP, Terms, term_words

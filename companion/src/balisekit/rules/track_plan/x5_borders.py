@@ -36,7 +36,6 @@ from __future__ import annotations
 from collections import Counter
 from typing import Dict, Iterator, List, Optional, Sequence, Set, Tuple
 
-from balisekit.rules.decoded import allowance
 from balisekit.rules.line import Line
 from balisekit.rules.meaning.along import unread_of
 from balisekit.rules.track_plan.borders import NOT_DECODED, NUMBERS, Border, border_of, numbers
@@ -51,6 +50,7 @@ from balisekit.rules.track_plan.placed import (
     remark,
 )
 from balisekit.rules.rule import Options, Remark, Result, Rule, Urgency
+from balisekit.rules.telegrams import allowance
 from balisekit.tables.names import kilometre
 from balisekit.tables.plan import BORDERS, PlanRow
 from balisekit.tables.plan_values import metres
