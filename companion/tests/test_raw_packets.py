@@ -637,7 +637,7 @@ def test_each_answer_names_packets_that_are_not_decoded(
     """Whichever rules and outputs are asked for, and whether or not anything else needs the decoded telegrams."""
     packets = [packet(33, "101"), packet(65, spelled(TSR.format(16)))]
     path = table(HEAD, row_of(program, *packets), f"B,14.850,rising,B0,{OTHER}")
-    files = {name: tmp_path / f"out.{name}" for name in ("json", "sarif")}
+    files = {name: tmp_path / f"out.{name}" for name in ("json", "junit", "sarif")}
     wanted = [
         "not decoded: packet 33 in 1 telegram (row 2)",
         "decoded only by balisekit: packet 65 in 1 telegram (row 2)",
