@@ -370,7 +370,7 @@ def test_a_document_without_refused_telegrams(run: Run, table: Write, tmp_path: 
 
 
 def test_explain_of_a_rule(run: Run, tmp_path: Path, monkeypatch: pytest.MonkeyPatch) -> None:
-    """Its whole page is written, also if a file has its name: that file is a table by its path."""
+    """Its whole page is written, unless a file has its name, or an option is given that a page does not use."""
     monkeypatch.chdir(tmp_path)
     names = ["F1", "F16", "L1", "L9", "E1", "E23", "X1", "X5"]
     for name in names:
@@ -380,11 +380,23 @@ def test_explain_of_a_rule(run: Run, tmp_path: Path, monkeypatch: pytest.MonkeyP
     heads = [*explain.WHOLE]
     assert [head for line in out for head in heads if line.startswith(f"    {head}.")] == heads
     assert run("check", "--explain", "E24")[0] == run("check", "E9")[0] == 2
-    unused = ["balisekit: --json is not used with the page of a rule"]
-    assert run("check", "--explain", "E9", "--json", "j.json") == (2, [], unused)
-    (tmp_path / "E9").write_text("", "utf-8")
-    assert run("check", "--explain", "E9") == (0, out, [])
-    assert run("check", "--explain", "./E9")[0] == run("check", "E9")[0] == 2
+    unused = ["--json=j", "--messages=m", "--only=F", "--tolerance=3", "--skip-column=old", "--by-position", "--force"]
+    for word in unused:
+        said = f"balisekit: {word.partition('=')[0]} is not used with the page of a rule"
+        assert run("check", "--explain", "E9", word) == (2, [], [said])
+    assert run("check", "--explain", "E9", "--debug") == (0, out, [])
+
+
+def test_explain_of_a_table_with_the_name_of_a_rule(
+    run: Run, table: Write, tmp_path: Path, monkeypatch: pytest.MonkeyPatch
+) -> None:
+    """Its findings would get no line and no status if it was taken for the rule."""
+    monkeypatch.chdir(tmp_path)
+    table("group,telegram", f"A,{SPARE}", name="e9")
+    said = "e9 is a file and the name of a rule: write ./e9 for the file, or ask for the page in another folder"
+    assert run("check", "e9", "--explain") == (2, [], [f"balisekit: {said}"])
+    assert run("check", "./e9", "--explain")[1][-1] == run("check", "e9")[1][-1]
+    assert run("check", "E9", "--explain")[0] == 0
 
 
 def test_explain_is_what_the_document_says(run: Run, table: Write) -> None:

@@ -70,6 +70,7 @@ def test_aspects_with_one_picture_share_it(run: Run, table: Write, program: Prog
     assert status == 0 and out == [
         f'written: {tmp_path}/out/group-A-0.svg: rows 2 to 5  A  aspects "0", "1", "3"',
         f'written: {tmp_path}/out/group-A-2.svg: row 4  A  aspect "2"',
+        "on no track, no kilometre: A",
     ]
     heads = [
         [one.text for head in ElementTree.fromstring(text).findall(".//*[@class='head']") for one in head]
@@ -126,9 +127,21 @@ def test_messages_and_tracks(run: Run, table: Write, tmp_path: Path) -> None:
     assert files["message-1-one.svg"] == (tmp_path / "m.svg").read_bytes()
 
 
+def test_groups_on_no_track(run: Run, table: Write, tmp_path: Path) -> None:
+    """They are named once, as `draw --track` names them, however many tracks there are."""
+    rows = [f"G{place},{place if place < 2 else ''},{place},{ALONE}" for place in range(9)]
+    path = table("group,km,track,telegram", *rows)
+    _, out, _ = run("draw", path, "--all", tmp_path / "out")
+    said = [line for line in out if "no kilometre" in line]
+    assert said == ["on no track, no kilometre: G2, G3, G4, G5, G6 and 2 more"]
+    _, out, _ = run("draw", path, "--track", "0", "--svg", tmp_path / "track.svg")
+    assert [line.partition(": ")[2] for line in out if "no kilometre" in line] == [said[0].partition(": ")[2]]
+
+
 def test_nothing_to_draw(run: Run, table: Write, tmp_path: Path) -> None:
     status, out, err = run("draw", table("group,telegram", f"A,{SPARE}"), "--all", tmp_path / "out")
-    assert (status, out, len(err)) == (2, ["left out: row 2  A: refused: row 2"], 1)
+    said = ["left out: row 2  A: refused: row 2", "on no track, no kilometre: A"]
+    assert (status, out, len(err)) == (2, said, 1)
     assert not (tmp_path / "out").exists()
 
 

@@ -9,6 +9,7 @@ from typing import Any, Callable, Dict, List, Optional, Tuple, cast
 import pytest
 from cases_of_program import TOP
 from conftest import Run
+from telegrams import OTHER
 
 from balisekit.engine.program import Program, Text
 from balisekit.engine.records import FROM_TRACK, FROM_TRAIN
@@ -627,6 +628,25 @@ def test_commands(program: Program, run: Run, table: Write, tmp_path: Path) -> N
         "decoded only by balisekit: packet 65 in 1 telegram (row 2)",
         "decoded only by balisekit, layout not certain: packet 88 in 1 telegram (row 2)",
     ]
+
+
+@pytest.mark.parametrize("only", ["F", "L", "E", "F,L,E"])
+def test_each_answer_names_packets_that_are_not_decoded(
+    program: Program, run: Run, table: Write, tmp_path: Path, only: str
+) -> None:
+    """Whichever rules and outputs are asked for, and whether or not anything else needs the decoded telegrams."""
+    packets = [packet(33, "101"), packet(65, spelled(TSR.format(16)))]
+    path = table(HEAD, row_of(program, *packets), f"B,14.850,rising,B0,{OTHER}")
+    files = {name: tmp_path / f"out.{name}" for name in ("json", "junit", "sarif")}
+    wanted = [
+        "not decoded: packet 33 in 1 telegram (row 2)",
+        "decoded only by balisekit: packet 65 in 1 telegram (row 2)",
+    ]
+    _, alone, _ = run("check", path, "--only", only)
+    _, out, _ = run("check", path, "--only", only, *(f"--{name}={file}" for name, file in files.items()))
+    assert alone == out and [line for line in out if "decoded" in line] == wanted
+    texts = {name: file.read_text("utf-8") for name, file in files.items()}
+    assert {(name, line) for name in texts for line in wanted if line not in texts[name]} == set()
 
 
 def test_pictures(program: Program, run: Run, table: Write) -> None:

@@ -2,9 +2,11 @@
 from __future__ import annotations
 
 import argparse
+import os
 
 from balisekit.cli import options as shared, settings
 from balisekit.cli.outcome import add_only, outcome as outcome_of, stated
+from balisekit.errors import TableError
 from balisekit.io import clock
 from balisekit.io.outputs import encode, write_json
 from balisekit.present import accepted_text
@@ -13,8 +15,9 @@ from balisekit.present.outcome_text import lines
 from balisekit.rules import checking
 from balisekit.rules.families import Outcome
 
-FILES = ("messages", "accepted", "propose", "junit", "sarif", "xlsx", "json", "document")
-"""The options that name files to read or write beside the table."""
+OF_PAGE = ("table", "explain", "command", "run", "debug")
+"""What the command line has if it asks for the page of a rule."""
+IS_BOTH = "{} is a file and the name of a rule: write {} for the file, or ask for the page in another folder"
 LACKING = "note: the document lacks what was refused or left out: a yes for it is no yes for the table"
 
 
@@ -40,7 +43,9 @@ def run(options: argparse.Namespace) -> int:
     """Does it. The answer is the exit status."""
     page = list(page_of(options.table)) if options.explain else []
     if page:
-        shared.refuse_unused(options, "with the page of a rule", *FILES)
+        if os.path.lexists(options.table):
+            raise TableError(IS_BOTH.format(options.table, os.path.join(os.curdir, options.table)))
+        shared.refuse_unused(options, "with the page of a rule", *(each for each in vars(options) if each not in OF_PAGE))
         shared.say(page)
         return 0
     clock.now()  # (a SOURCE_DATE_EPOCH that is none is refused before any work)

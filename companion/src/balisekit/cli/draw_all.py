@@ -12,7 +12,15 @@ from balisekit.drawing.track import tracks_of
 from balisekit.io.output_folder import OutputFolder
 from balisekit.present.account_text import overlooked_lines
 from balisekit.present.opening import opening
-from balisekit.present.pictures import MARK_ALONE, FileNames, message_picture, picture_page, track_page, written
+from balisekit.present.pictures import (
+    MARK_ALONE,
+    FileNames,
+    message_picture,
+    on_no_track,
+    picture_page,
+    track_page,
+    written,
+)
 from balisekit.present.refusals import not_looked_at, refused
 from balisekit.rules.checking import Checked
 from balisekit.rules.families import FAMILIES, Outcome, apply
@@ -61,12 +69,13 @@ def _groups(line: Line, checked: Checked, folder: OutputFolder, names: FileNames
 def _tracks(
     outcome: Outcome, links: Links, folder: OutputFolder, names: FileNames, aspect: Optional[str]
 ) -> Iterator[str]:
-    """Draws each track."""
+    """Draws each track, and names the groups that are on none."""
     for track in tracks_of(links.line):
         name = names.svg("track", track)
         folder.write(name, track_page(outcome, links, track, aspect))
         lines = written(links.line, track, aspect, _path(folder, name))
         yield from (text for text in lines if text.startswith(("written", MARK_ALONE)))
+    yield from on_no_track(links.line)
 
 
 def _messages(checked: Checked, folder: OutputFolder, names: FileNames) -> Iterator[str]:

@@ -19,7 +19,7 @@ from balisekit.present.check_text import before_last
 from balisekit.present.headings import finding_lines
 from balisekit.present.links_text import empty_rules, not_compared
 from balisekit.present.opening import Shown, opening, paths_from
-from balisekit.present.outcome_text import item_words, last_lines, not_applied, notes_of
+from balisekit.present.outcome_text import item_words, last_lines, not_applied, not_decoded, notes_of
 from balisekit.present.refusals import message_refused, refused
 from balisekit.rules.accepted import Item, Judged
 from balisekit.rules.checking import Checked, Place
@@ -74,7 +74,7 @@ def _output(outcome: Outcome, part: Part, shown: Shown) -> Iterator[str]:
         yield from own
         return
     yield from opening(outcome.checked, outcome.judged, shown)
-    yield from before_last(outcome.checked.table)
+    yield from (*not_decoded(outcome), *before_last(outcome.checked.table))
     yield from (*own, *not_applied(outcome), *account_lines(outcome), last_lines(outcome)[-1])
 
 

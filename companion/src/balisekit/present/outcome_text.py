@@ -86,10 +86,8 @@ def _listed(entries: Sequence[Entry]) -> Iterator[str]:
 
 
 def not_decoded(outcome: Outcome) -> Iterator[str]:
-    """The packets that are kept as bits. If nothing was found or left out, no telegram is decoded just for them."""
-    checked = outcome.checked
-    if PROVED in outcome.letters and (checked.findings or not checked.whole or checked.accepted.raw is not None):
-        yield from headings.not_decoded(checked)
+    """The packets that are kept as bits: the program's findings do not cover them."""
+    return headings.not_decoded(outcome.checked)
 
 
 def not_applied(outcome: Outcome) -> List[str]:

@@ -64,6 +64,12 @@ def written(line: Line, track: str, aspect: Optional[str], where: str) -> Iterat
     yield from (f"{why}: {listed(names, NAMED)}" for why, names in reasons.items() if why)
 
 
+def on_no_track(line: Line) -> Iterator[str]:
+    """The groups that are on the picture of no track, if there are any."""
+    names = [clean(station.group.name) for station in line.groups if station.km is None]
+    yield from [f"on no track, no kilometre: {listed(names, NAMED)}"] if names else ()
+
+
 def refused_rows(checked: Checked) -> str:
     """Which telegrams and messages are refused, in a line of the picture."""
     parts = [
