@@ -122,7 +122,7 @@ def accepted_wrongly(program: Program, path: Path, text: str, of_line: Options, 
     def outcome(content: str, entries: Optional[Entries] = None) -> Outcome:
         path.write_text(content, "utf-8")
         checked = checking.check(program, reader.read(str(path)))
-        return apply(checked, "FLEX", of_line, (entries, DAY) if entries else None, in_copy=False)
+        return apply(checked, "FLEX", of_line, (entries, DAY) if entries else None)
 
     entries, known = signed(outcome(text))
     wrong = []
@@ -164,7 +164,7 @@ def test_entries_of_earlier_versions(
     set_day(monkeypatch, 1780000000)
     table = EXAMPLES / "meaning/mistakes/E10.csv"
     checked = checking.check(program, reader.read(str(table)))
-    found = apply(checked, "E", Options(), in_copy=False)
+    found = apply(checked, "E", Options())
     (item,) = found.items
     fields = {**dict(zip(accepted.FIELDS, keys(found.items, checked)[0])), "sha256": checksum([item], with_names=False)}
     file = entries(tmp_path / "a.csv", {**fields, **SIGNED})
@@ -173,7 +173,7 @@ def test_entries_of_earlier_versions(
     assert status == 1 and f"{file}: row 2: {why}: have they changed since 2026-01-01?" in out
     for path, letters in ((EXAMPLES / "links/distance-differs.csv", "L"), (EXAMPLES / "meaning/mistakes/E2.csv", "E")):
         checked = checking.check(program, reader.read(str(path)))
-        items = apply(checked, letters, Options(), in_copy=False).items
+        items = apply(checked, letters, Options()).items
         assert items and all(checksum([each]) == checksum([each], with_names=False) for each in items)
 
 
@@ -181,7 +181,7 @@ def test_a_remark_of_several_groups_is_of_their_aspects(program: Program) -> Non
     """Rules X unite what telegrams of several groups say: another aspect of another group is another place."""
     checked = checking.check(program, reader.read(str(PLANNED)))
     stated = Options(plan=plan.read(str(EXAMPLES / "meaning/plan.csv")))
-    found = apply(checked, "X", stated, in_copy=False).items
+    found = apply(checked, "X", stated).items
     united = [item for item in found if isinstance(item, Remark) and item.others]
     assert united and all(len(item.places) == len(item.others) for item in united)
     other = [each._replace(places=[place.replace("green", "yellow") for place in each.places]) for each in united]
