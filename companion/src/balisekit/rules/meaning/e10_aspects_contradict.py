@@ -133,7 +133,8 @@ def _remark(decoded: Decoded, one: Passage, pairs: Pairs, culprit: str, others: 
     fields = [
         [each for some in longest.values() for each in field_at(some.packets[side], some.begin)] for side in (0, 1)
     ]
-    return Remark("E10", one.at(), sentence, None, values, (), None, rows, (), [culprit, *others], (), *fields)
+    remark = Remark("E10", one.at(), sentence, None, values, (), None, rows, (), [culprit, *others])
+    return remark._replace(blamed=fields[0], beside=fields[1])
 
 
 def _words(packet: Packet, value: int) -> str:

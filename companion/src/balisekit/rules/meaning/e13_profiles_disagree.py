@@ -140,7 +140,8 @@ def _remark(decoded: Decoded, some: Sequence[Tuple[Difference, bool]]) -> Remark
     sides = [[(each.packet, piece.low - each.origin) for each in piece.alike(side)] for side in (own, other)]
     fields = ([field for at in some for field in field_at(*at)] for some in sides)
     where = own.passage.at(own.packet)
-    return Remark("E13", where, sentence, None, values, (), None, rows, named, aspects, (), *fields)
+    remark = Remark("E13", where, sentence, None, values, (), None, rows, named, aspects)
+    return remark._replace(blamed=fields[0], beside=fields[1])
 
 
 def _row(difference: Difference, is_rear: bool) -> int:
