@@ -54,9 +54,8 @@ def test_a_tolerance_is_that_of_the_command(program: Program, value: Any) -> Non
     checked = balisekit.check(program, balisekit.read_table(LINE))
     with pytest.raises(balisekit.KitError, match="is no number of metres from 0 to 20: write 5 or 2.5"):
         balisekit.links(checked, value)
-    assert [balisekit.links(checked, good) is not None for good in (0, 20, Decimal("2.5"), Decimal("2.50"))] == [
-        True
-    ] * 4
+    for good in (Decimal(), Decimal(20), Decimal("2.5"), Decimal("2.50")):
+        assert balisekit.links(checked, good) is not None
 
 
 def test_links_need_kilometres(program: Program, tmp_path: Path) -> None:

@@ -140,8 +140,9 @@ def _remark(decoded: Decoded, some: Sequence[Tuple[Difference, bool]]) -> Remark
     sides = [[(each.packet, piece.low - each.origin) for each in piece.alike(side)] for side in (own, other)]
     fields = ([field for at in some for field in field_at(*at)] for some in sides)
     where = own.passage.at(own.packet)
+    blamed, beside = fields
     remark = Remark("E13", where, sentence, None, values, (), None, rows, named, aspects)
-    return remark._replace(blamed=fields[0], beside=fields[1])
+    return remark._replace(blamed=blamed, beside=beside)
 
 
 def _row(difference: Difference, is_rear: bool) -> int:
