@@ -5,10 +5,13 @@ import inspect
 import os
 import subprocess
 import sys
+from decimal import Decimal
 from pathlib import Path
+from typing import Any
 
 import pytest
 from cases_of_program import TOP
+from telegrams import ALONE
 
 import balisekit
 from balisekit.engine.program import Program
@@ -42,6 +45,39 @@ def test_a_line_by_the_interface(program: Program, tmp_path: Path) -> None:
     assert balisekit.links(checked, 5) is not None
     with pytest.raises(balisekit.KitError, match="No such file"):
         balisekit.read_table("/nowhere")
+
+
+@pytest.mark.parametrize(
+    "value", [-5, 21, 10**9, Decimal("inf"), Decimal("nan"), Decimal("-0.5"), float("nan"), True]
+)
+def test_a_tolerance_is_that_of_the_command(program: Program, value: Any) -> None:
+    checked = balisekit.check(program, balisekit.read_table(LINE))
+    with pytest.raises(balisekit.KitError, match="is no number of metres from 0 to 20: write 5 or 2.5"):
+        balisekit.links(checked, value)
+    for good in (Decimal(), Decimal(20), Decimal("2.5"), Decimal("2.50")):
+        assert balisekit.links(checked, good) is not None
+
+
+def test_links_need_kilometres(program: Program, tmp_path: Path) -> None:
+    (tmp_path / "t.csv").write_text(f"group,telegram\nA,{ALONE}\n", "utf-8")
+    checked = balisekit.check(program, balisekit.read_table(str(tmp_path / "t.csv")))
+    with pytest.raises(balisekit.KitError, match="no row has a kilometre: links needs the column km"):
+        balisekit.links(checked)
+
+
+@pytest.mark.parametrize(
+    "options, why",
+    [
+        ({"sheet": ""}, "the name is empty"),
+        ({"columns": ""}, "the name is empty"),
+        ({"skip_columns": ["old", ""]}, "the name is empty"),
+        ({"skip_columns": "km"}, "skip_columns is one text: write"),
+    ],
+)
+def test_names_are_those_of_the_command(options: Any, why: str) -> None:
+    """An empty one is refused. The letters of a text are no headings."""
+    with pytest.raises(balisekit.KitError, match=why):
+        balisekit.read_table(LINE, **options)
 
 
 def test_another_name() -> None:

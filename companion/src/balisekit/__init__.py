@@ -36,8 +36,10 @@ def read_table(
     `columns` is a TOML file with headings of your own, and `fill_merged` fills the cells of merged areas.
     `skip_columns` are the headings of columns that are not to be read, even if they have telegrams.
     """
+    from balisekit.rules import stated
     from balisekit.tables import reader
 
+    stated.reading(sheet, columns, skip_columns)
     return reader.read(path, sheet, by_position, columns, fill_merged, skip_columns)
 
 
@@ -66,14 +68,16 @@ def check(
 
 
 def links(checked: Checked, tolerance: Union[int, Decimal] = 0) -> Links:
-    """What the rules L1 to L9 find, which are balisekit's own. `tolerance` is that of the kilometres, in metres."""
-    from decimal import Decimal
+    """What the rules L1 to L9 find, which are balisekit's own. `tolerance` is that of the kilometres, in metres.
 
-    from balisekit.rules import links as rules
+    A table without kilometres is refused, and so is a tolerance that is no number from 0 to 20.
+    """
+    from balisekit.rules import links as rules, stated
     from balisekit.rules.line import Line
     from balisekit.rules.rule import Options
 
-    return rules.compare(Line.of(checked), Options(Decimal(tolerance)))
+    stated.refuse_without_kilometres(checked.table)
+    return rules.compare(Line.of(checked), Options(stated.tolerance(tolerance)))
 
 
 def diff(old: Checked, new: Checked) -> Difference:

@@ -139,7 +139,7 @@ def accepted_wrongly(program: Program, path: Path, text: str, of_line: Options, 
 
 
 @pytest.mark.slow
-@pytest.mark.parametrize("table", [*TABLES, PLANNED], ids=lambda path: path.stem)
+@pytest.mark.parametrize("table", [pytest.param(path, id=path.stem) for path in (*TABLES, PLANNED)])
 def test_no_entry_outlives_an_exchange(program: Program, tmp_path: Path, table: Path) -> None:
     """Of each rule L, E and X: of aspects, balises, groups, kilometres, directions and tracks."""
     stated = plan.read(str(EXAMPLES / "meaning/plan.csv")) if table == PLANNED else None

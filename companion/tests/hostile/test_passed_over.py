@@ -154,7 +154,7 @@ def test_a_single_balise_without_direction_is_named_by_plan(run: Run, table: Wri
     assert "note: no row has a kilometre: the plan has only aspects" in run("plan", table(*without))[2]
 
 
-OTHER_NAMES = {
+OTHER_NAMES: Dict[str, Callable[[Dict[str, str]], str]] = {
     "case": lambda row: row["aspect"].upper() if row["group"] == "Signal 3" else row["aspect"],
     "prefix": lambda row: f"S3 {row['aspect']}" if row["group"] == "Signal 3" else row["aspect"],
     "prefixes": lambda row: f"{row['group'][-1]} {row['aspect']}",

@@ -11,6 +11,7 @@ from balisekit.present.check_json import entries_json
 from balisekit.present.links_text import as_json, lines, status_of
 from balisekit.rules import checking
 from balisekit.rules.families import apply
+from balisekit.rules.stated import refuse_without_kilometres
 
 LETTERS = ("L",)
 
@@ -27,7 +28,7 @@ def run(options: argparse.Namespace) -> int:
     """Does it. The answer is the exit status."""
     line = settings.of_line(options)
     program, table, messages = shared.inputs(options)
-    shared.refuse_without_kilometres(table)
+    refuse_without_kilometres(table)
     checked = checking.check(program, table, messages, options.by_position)
     checked = replace(checked, settings=in_force(options, [table], ("tolerance", "jumps", "plan")))
     outcome = apply(checked, LETTERS, line)

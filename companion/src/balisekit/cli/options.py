@@ -5,17 +5,16 @@ import argparse
 import re
 import sys
 from decimal import Decimal
-from typing import Any, Callable, Dict, Iterable, Optional, Tuple
+from typing import Any, Callable, Dict, Iterable, Optional, Tuple, TypeVar
 
 from balisekit.cli import console
 from balisekit.engine.program import Program
 from balisekit.errors import TableError
 from balisekit.io.inputs import InputPath
 from balisekit.io.outputs import Output
-from balisekit.rules import checking
+from balisekit.rules import checking, stated
 from balisekit.tables import messages as messages_file, reader
 from balisekit.tables.model import Messages, Table
-from balisekit.tables.names import passed_over
 
 TABLE = "a CSV file or an .xlsx with the columns group and telegram"
 TIMEOUT = "how long to wait for each answer of the program; by default one minute, and longer for a large input"
@@ -25,15 +24,12 @@ SKIP = "the heading of a column that is not to be read, even if it has telegrams
 EXPLAIN = "show cause and remedy of each rule that has found something"
 EXACT = Decimal()
 """The tolerance without --tolerance."""
-GREATEST_TOLERANCE = 20
-"""In metres. With a greater one no distance to a neighbouring balise or stop location would be compared."""
+Value = TypeVar("Value")
 
 
 def name(text: str) -> str:
-    """A name that is not empty, as an unset variable of a shell is."""
-    if not text:
-        raise argparse.ArgumentTypeError("the name is empty")
-    return text
+    """A name that is not empty."""
+    return _stated(stated.name, text)
 
 
 def _seconds(text: str) -> float:
@@ -45,12 +41,15 @@ def _seconds(text: str) -> float:
 
 def tolerance(text: str) -> Decimal:
     """A number of metres that places may differ by."""
-    is_number = re.fullmatch(r"[0-9]{1,5}([.,][0-9])?", text)
-    metres = Decimal(text.replace(",", ".")) if is_number else None
-    if metres is None or metres > GREATEST_TOLERANCE:
-        why = f"{text[:40]} is no number of metres from 0 to {GREATEST_TOLERANCE}: write 5 or 2.5"
-        raise argparse.ArgumentTypeError(why)
-    return metres
+    return _stated(stated.tolerance, text)
+
+
+def _stated(read: Callable[[object], Value], text: str) -> Value:
+    """A value that is read as in Python."""
+    try:
+        return read(text)
+    except TableError as error:
+        raise argparse.ArgumentTypeError(error.why) from error
 
 
 def value(metavar: str, kind: Callable[[str], Any], text: str) -> Dict[str, Any]:
@@ -120,13 +119,6 @@ def inputs(options: argparse.Namespace) -> Tuple[Program, Table, Optional[Messag
     table = reader.read(options.table, by_position=options.by_position, **reading(options))
     messages = messages_file.read(options.messages) if options.messages else None
     return Program.find(options.program, options.timeout), table, messages
-
-
-def refuse_without_kilometres(table: Table) -> None:
-    """Raises TableError if no row of the table has a kilometre, which rules over the line need."""
-    if all(row.km is None for row in table.rows):
-        why = f"{table.path}: no row has a kilometre: links needs the column km"
-        raise TableError("; ".join([why, *passed_over(table)]))
 
 
 def say(lines: Iterable[str], *outputs: Optional[Output]) -> None:

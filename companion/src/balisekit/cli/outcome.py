@@ -15,6 +15,7 @@ from balisekit.rules.families import FAMILIES, PLAN, Outcome, apply
 from balisekit.rules.line import Line
 from balisekit.rules.links import L2, Links, compare
 from balisekit.rules.rule import Options
+from balisekit.rules.stated import refuse_without_kilometres
 
 ONLY = f"apply only these families of rules: {'; '.join(f'{each.letter}, {each.things}' for each in FAMILIES.values())}"
 
@@ -58,7 +59,7 @@ def outcome(options: argparse.Namespace, line: Options, keep: bool = False) -> O
     program, table, messages = shared.inputs(options)
     asked = _letters(options)
     if all(FAMILIES[letter].needs_kilometres for letter in asked if letter != PLAN or line.plan):
-        shared.refuse_without_kilometres(table)
+        refuse_without_kilometres(table)
     checked = checking.check(program, table, messages, options.by_position, options.all)
     keys = settings.used_by([*asked, *("L" if keep else "")])  # (a report has pictures of tracks with links)
     checked = replace(checked, settings=in_force(options, [table], keys, headed=keep))
