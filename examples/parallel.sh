@@ -190,13 +190,14 @@ check_tables() (
         echo "check_tables: $folder is not empty, or cannot be written" >&2
         exit 3
     fi
-    words="${options[*]}" # (bash exports no array)
+    words="${options[*]@Q}" # (bash exports no array)
     export folder words check_tables_hook
     # Without the test a file that cannot be written would end with 1, as a table with findings does.
     # shellcheck disable=SC2016
     printf '%s\0' "${tables[@]}" |
         shared_out -0 --joblog "$folder/jobs" 'file=$folder/{#}-{/.}.txt; true >"$file" || exit 3
-            "$check_tables_hook" $words -- {} >"$file" 2>&1 </dev/null'
+            eval "options=($words)" || exit 3
+            "$check_tables_hook" "${options[@]}" -- {} >"$file" 2>&1 </dev/null'
     [ $? -le 101 ] || exit 3
     summary_of_tables "$folder" "${tables[@]}"
 )

@@ -110,6 +110,63 @@ def test_accepted_findings_alone(tmp_path: Path, tmp_path_factory: pytest.TempPa
     ]
 
 
+def test_settings_and_the_files_that_they_name(tmp_path: Path, tmp_path_factory: pytest.TempPathFactory) -> None:
+    """They stand for the tables of their folder: a tolerance or a plan changes the answers of them all."""
+    for name in (
+        "a.csv",
+        "B.XLSX",
+        "a.accepted.csv",
+        "c.accepted.csv",
+        "plan.csv",
+        "j.csv",
+        "other/plan.csv",
+        "notes.txt",
+    ):
+        put(tmp_path, name, SOUND)
+    put(
+        tmp_path,
+        "balisekit.toml",
+        '[check]\n  jumps = \'./j.csv\' # those of 2026\n# plan = "a.csv"\nplan="plan.csv"\n',
+    )
+    every = [
+        ["check", "--accepted", "./a.accepted.csv", "--", "./a.csv"],
+        ["check", "--", "./c.accepted.csv"],
+        ["check", "--", "./B.XLSX"],
+    ]
+    for words in (["balisekit.toml"], ["plan.csv"], ["j.csv", "plan.csv"], ["balisekit.toml", "a.csv"]):
+        (tmp_path / "calls").unlink(missing_ok=True)
+        assert calls(tmp_path_factory.mktemp("hook"), tmp_path, *arguments(), *words) == every
+    (tmp_path / "calls").unlink()
+    others = (*arguments(), "other/plan.csv", str(tmp_path / "balisekit.toml"))
+    of_folder = [[word.replace("./", f"{tmp_path}/") for word in call] for call in every]
+    called = calls(tmp_path_factory.mktemp("hook"), tmp_path, *others)
+    assert called == [["check", "--", "./other/plan.csv"], *of_folder]
+
+
+def test_settings_without_a_table(tmp_path: Path) -> None:
+    """Nothing was checked, so this is no answer."""
+    put(tmp_path, "balisekit.toml", "[check]\nplan = 'plan.csv'\n")
+    put(tmp_path, "plan.csv", SOUND)
+    for name in ("balisekit.toml", "plan.csv"):
+        said = f"check-tables: ./{name}: there is no table in its folder\ncheck-tables: no table is named\n"
+        assert hook(tmp_path, *arguments(), name) == (3, "", said)
+
+
+def test_a_commit_of_settings_alone(tmp_path: Path) -> None:
+    """It gets the answer of the table beside them. A tolerance that is none is found before the commit."""
+    put(tmp_path, "line.csv", SOUND)
+    put(tmp_path, "balisekit.toml", "[check]\ntolerance = 3\n")
+    assert hook(tmp_path, *arguments(), "balisekit.toml")[0] == 0
+    put(tmp_path, "balisekit.toml", "[check]\ntolerance = 300\n")
+    assert hook(tmp_path, *arguments(), "balisekit.toml")[0] == 2
+
+
+def test_settings_are_handed_to_the_hook() -> None:
+    found = re.search(r"(?m)^  files: (.*)$", HOOKS.read_text("utf-8"))
+    assert found and all(re.search(found[1], name) for name in ("balisekit.toml", "x/balisekit.toml"))
+    assert not any(re.search(found[1], name) for name in ("mybalisekit.toml", "pyproject.toml", "balisekit.toml.bak"))
+
+
 def test_endings_in_either_case() -> None:
     """As spreadsheets of other systems write them: pre-commit passes over a file that does not match."""
     found = re.search(r"(?m)^  files: (.*)$", HOOKS.read_text("utf-8"))

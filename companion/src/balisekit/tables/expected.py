@@ -24,6 +24,8 @@ OTHER_KINDS = ("date", "truth value")
 VARIABLE = re.compile("[A-Z]+(_[A-Z0-9]+)+|user bits|other data")
 """What a cell of the column variable looks like, wherever it is."""
 SEPARATORS = re.compile("[,;\t]")
+THOUSANDS = re.compile("([-+\u2212]?[1-9][0-9]{0,2})[.,]([0-9]{3})(?![0-9.,])")
+"""A number whose comma or point may separate thousands or decimals. A kilometre always has decimals."""
 Cells = Mapping[str, str]
 """The cells of a row by the names of the columns."""
 
@@ -184,4 +186,13 @@ def _fault(column: str, cell: str) -> str:
         return f"a {kind}: the spreadsheet has changed it; make the column text"
     if ERROR.fullmatch(text.strip()):
         return f"{text.strip()} is an error of the spreadsheet: its formula failed"
+    if column in ONE_OF[1] and THOUSANDS.match(text.strip()):
+        return _two_numbers(text.strip())
     return "no variable" if column == "variable" and not text.strip() else ""
+
+
+def _two_numbers(text: str) -> str:
+    """Why a number is refused that may be one of two."""
+    thousands = THOUSANDS.sub(r"\1\2", text)
+    decimal = THOUSANDS.sub(lambda found: ".".join(filter(None, (found[1], found[2].rstrip("0")))), text)
+    return f"{text} is {thousands} or {decimal}, by what its separator means: write one of these"
