@@ -439,7 +439,7 @@ def replaced(content: bytes, part: str, old: str, new: str) -> bytes:
 def test_two_workbooks_in_a_package(table: Write) -> None:
     """A spreadsheet opens the one that the package names."""
     related = f"<Relationship Id='r' Type='{OFFICE}/officeDocument' Target='{{}}'/>"
-    for part in ("xl/workbook.xml", "/xl/workbook.xml", "xl/other.xml"):
+    for part in ("xl/workbook.xml", "/xl/Workbook.xml", "./xl/workbook.xml", "xl/other.xml"):
         xml = f"<Relationships xmlns='{PACKAGE}/relationships'>{related.format(part)}</Relationships>"
         path = table(content=workbook(sheet(HEADING, GOOD), more=[("_rels/.rels", "other", xml)]))
         if part != "xl/other.xml":

@@ -9,6 +9,7 @@ import warnings
 import zipfile
 from decimal import Decimal
 from itertools import islice
+from posixpath import normpath
 from typing import Any, Callable, Dict, Iterable, Iterator, List, Match, Optional, Pattern, Sequence, Set, Tuple
 from xml.etree.ElementTree import Element, ParseError, fromstring, iterparse
 
@@ -195,9 +196,7 @@ def _part_of_strings(reader: Any) -> str:
 
     kind = reader.package.find(SHARED_STRINGS)
     part = kind.PartName[1:] if kind is not None else ""
-    others = [one.target for one in reader.parser.rels.find(STRINGS) if one.target != part]
-    if others:
-        raise TableError(f"its shared strings are in {others[0]}, which is not the part of this kind: {SHORT_WAY_OUT}")
+    _look_at_part("shared strings are in", [one.target for one in reader.parser.rels.find(STRINGS)], part)
     return str(part)
 
 
@@ -205,9 +204,14 @@ def _look_at_workbook(reader: Any) -> None:
     """TableError is raised if the package names another part for its workbook than openpyxl has found by its kind."""
     if PACKAGE in reader.valid_files:
         named = [each for each in fromstring(reader.archive.read(PACKAGE)) if each.get("Type", "").endswith(DOCUMENT)]
-        others = {each.get("Target", "").lstrip("/") for each in named} - {reader.parser.workbook_part_name}
-        if others:
-            raise TableError(f"its workbook is {min(others)}, which is not the part of this kind: {SHORT_WAY_OUT}")
+        _look_at_part("workbook is", [each.get("Target", "") for each in named], reader.parser.workbook_part_name)
+
+
+def _look_at_part(what: str, named: Iterable[str], part: str) -> None:
+    """TableError is raised if one of the named parts is not this one. Letters of another case are the same."""
+    for name in named:
+        if normpath(name).lstrip("/").casefold() != part.casefold():
+            raise TableError(f"its {what} {name[:40]}, which is not the part of this kind: {SHORT_WAY_OUT}")
 
 
 def _may_lack_values(workbook: bytes) -> bool:
