@@ -38,7 +38,7 @@ def add_options(parser: argparse.ArgumentParser) -> None:
 
 def run(options: argparse.Namespace) -> int:
     """Does it. The answer is the exit status."""
-    page = list(page_of(options.table)) if options.explain else []
+    page = list(page_of(options.table, settings.added(options))) if options.explain else []
     if page:
         shared.refuse_unused(options, "with the page of a rule", *FILES)
         shared.say(page)

@@ -130,10 +130,11 @@ def _remark(decoded: Decoded, one: Passage, pairs: Pairs, culprit: str, others: 
     compared = {f"value_{place}": Decimal(value * step) for place, value in enumerate(sent, 1)}
     values = {"begin_m": distance(begin), "end_m": distance(end), **compared}
     rows = sorted({packet.row.number for each in longest.values() for packet in each.packets if packet.row})
-    fields = [
+    blamed, beside = (
         [each for some in longest.values() for each in field_at(some.packets[side], some.begin)] for side in (0, 1)
-    ]
-    return Remark("E10", one.at(), sentence, None, values, (), None, rows, (), [culprit, *others], (), *fields)
+    )
+    aspects = [culprit, *others]
+    return Remark("E10", one.at(), sentence, None, values, (), None, rows, (), aspects, (), blamed, beside)
 
 
 def _words(packet: Packet, value: int) -> str:

@@ -138,9 +138,9 @@ def _remark(decoded: Decoded, some: Sequence[Tuple[Difference, bool]]) -> Remark
     aspects = tuple(dict.fromkeys(row.aspect for row in alike if row.aspect not in ("", "*")))
     named = tuple(sorted({_row(*each) for each in some} - {0, *rows}))
     sides = [[(each.packet, piece.low - each.origin) for each in piece.alike(side)] for side in (own, other)]
-    fields = ([field for at in some for field in field_at(*at)] for some in sides)
+    blamed, beside = ([field for at in some for field in field_at(*at)] for some in sides)
     where = own.passage.at(own.packet)
-    return Remark("E13", where, sentence, None, values, (), None, rows, named, aspects, (), *fields)
+    return Remark("E13", where, sentence, None, values, (), None, rows, named, aspects, (), blamed, beside)
 
 
 def _row(difference: Difference, is_rear: bool) -> int:
