@@ -35,10 +35,10 @@ print(len(started), said.getvalue(), sep="\\n", end="")
 """
 # A user's script, the last line of which is wrong.
 SCRIPT = """import balisekit
-checked = balisekit.check(balisekit.Program.find(), balisekit.read_table("line.csv"))
-for found in checked.findings:
-    print(found)
-links: int = balisekit.links(checked)
+result = balisekit.check("line.csv", program=balisekit.Program.find())
+for found in result.findings:
+    print(found.rule, found.sentence)
+difference: int = balisekit.diff(result, result)
 """
 
 

@@ -41,8 +41,8 @@ TITLES = {
 def files() -> Iterator[Tuple[str, str]]:
     """The page of each rule, and the list of them, by the names of their files in docs/rules."""
     listed = "# Every rule in full\n\nFor engineers who look for the cause of a finding, link or remark.\n"
-    for letter, family in FAMILIES.items():
-        heading, about, _ = TITLES[letter]
+    for letter, (heading, about, _) in TITLES.items():
+        family = FAMILIES[letter]
         listed += f"\n## {heading}\n\n[{about}](../{about}) has what these rules have in common.\n\n"
         for name, own in pages(family):
             listed += f"- [{name}: {own.title}]({name}.md)\n"

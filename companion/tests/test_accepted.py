@@ -18,6 +18,7 @@ from balisekit.engine.program import Program, Text
 from balisekit.io import csv_writing
 from balisekit.rules import accepted
 from balisekit.rules.accepted import COLUMNS, FIELDS, RULES, VALUES
+from balisekit.rules.discovery import ADDED, ADDED_NAME
 from balisekit.rules.families import FAMILIES
 from balisekit.rules.location import Location
 from balisekit.rules.rule import Remark
@@ -57,8 +58,11 @@ def entry(**fields: str) -> str:
 
 
 def test_entries_know_each_rule() -> None:
-    """And not the rule after the last one of a family."""
+    """And not the rule after the last one of a family. An added rule can have any number."""
+    assert all(re.fullmatch(VALUES["rule"][0], name) for name in ("U1", "ACME-7"))
     for letter, family in FAMILIES.items():
+        if letter == ADDED:
+            continue
         names = [rule.name for rule in family.rules] or [f"F{number}" for number in range(1, 17)]
         assert all(re.fullmatch(VALUES["rule"][0], name) for name in names)
         assert not re.fullmatch(VALUES["rule"][0], f"{letter}{len(names) + 1}")
@@ -66,11 +70,15 @@ def test_entries_know_each_rule() -> None:
 
 @pytest.mark.parametrize("name", ["check", "sarif"])
 def test_schemas_know_each_rule(name: str) -> None:
-    """Of balisekit's own rules also those of later versions: the findings of the program are F1 to F16."""
+    """Of balisekit's own rules also those of later versions: the findings of the program are F1 to F16.
+
+    A name of another family is that of an added rule, which has the same form in the entries.
+    """
     source = (TOP / f"schemas/kit-{name}.json").read_text("utf-8")
     (pattern,) = re.findall(r'"pattern": "(\^\([^"]*F\([^"]*)"', source)
-    assert all(re.search(pattern, name) for name in [*RULES, "F1", "F16", "L10", "E24", "X99"])
-    assert not [name for name in ("F0", "F17", "L0", "G1", "E", "1") if re.search(pattern, name)]
+    assert all(re.search(pattern, name) for name in [*RULES, "F1", "F16", "L10", "E24", "X99", "U1", "ACME-7"])
+    assert not [name for name in ("F0", "F17", "L0", "L-1", "E", "1", "acme-7", "U0") if re.search(pattern, name)]
+    assert ADDED_NAME.replace("\\", "\\\\") in source
 
 
 def test_nothing_open(run: Run, table: Write) -> None:

@@ -1,68 +1,218 @@
-"""The public interface: what balisekit/__init__.py defines, and the page shows."""
+"""The public interface: what `balisekit.__all__` names, its page, and the scripts of examples/python."""
 from __future__ import annotations
 
+import csv
 import inspect
+import io
+import json
 import os
 import subprocess
 import sys
+import typing
 from decimal import Decimal
 from pathlib import Path
-from typing import Any
+from typing import Any, List
 
+import api_page
 import pytest
 from cases_of_program import TOP
-from telegrams import ALONE
+from conftest import Run, set_day
+from telegrams import ALONE, OTHER
+from test_check_outputs import schema
 
 import balisekit
 from balisekit.engine.program import Program
+from balisekit.io import csv_writing
+from balisekit.rules.accepted import COLUMNS
 
-LINE = str(TOP / "examples" / "table" / "line.csv")
-PAGE = (TOP / "docs" / "commands.md").read_text("utf-8").split("## As a Python module")[1].split("\n## ")[0]
+LINE = TOP / "examples" / "table" / "line.csv"
+PLAN = TOP / "examples" / "meaning"
+FUNCTIONS = """\
+check(table, *, messages, only, accepted, plan, jumps, tolerance, line_speed, release_speed, rules, rules_from, \
+columns, by_position, everything, program)
+diff(old, new)
+read_messages(path)
+read_table(path, sheet, by_position, columns, fill_merged, skip_columns)"""
+MEMBERS = {
+    "AddedRule": "name page looks_at sentence find urgency needs_kilometres is_default",
+    "Difference": "unchanged whole status",
+    "Finding": "rule family rows group aspect direction km sentence values urgency expected accepted message program",
+    "GroupView": "name km track identity unread telegrams remark()",
+    "KitError": "lines() status",
+    "LineView": "groups telegrams messages",
+    "MessageView": "line name form packets() remark()",
+    "Messages": "path sha256",
+    "PacketView": "form number metres() remark()",
+    "Program": "find() path sha256",
+    "Result": "findings status last_line lines open of() to_records() to_json()",
+    "Table": "path sha256",
+    "TelegramView": "row group aspect name km form packets() remark()",
+}
+"""What callers may rely on: a change that fails here is announced in the CHANGELOG, as docs/formats.md says."""
 
 
-def test_the_page_has_each_name() -> None:
-    """And the interface has no other function."""
-    assert all(f"`{name}" in PAGE for name in balisekit.__all__)
-    functions = {name for name, _ in inspect.getmembers(balisekit, inspect.isfunction) if not name.startswith("_")}
-    assert functions | {"KitError", "Program"} == set(balisekit.__all__)
+def _names(name: str) -> str:
+    """A function and the names of its arguments."""
+    shown: List[str] = []
+    for argument in inspect.signature(getattr(balisekit, name)).parameters.values():
+        is_first = argument.kind is argument.KEYWORD_ONLY and "*" not in shown
+        shown += [*(["*"] if is_first else []), argument.name]
+    return f"{name}({', '.join(shown)})"
 
 
-def test_the_example_of_the_page() -> None:
-    """Its comments are what it prints."""
-    code = PAGE.split("```python\n")[1].split("```")[0]
+def test_the_interface_stays() -> None:
+    """No name, argument or member changes unnoticed."""
+    functions = [name for name in balisekit.__all__ if inspect.isfunction(getattr(balisekit, name))]
+    assert "\n".join(map(_names, functions)) == FUNCTIONS
+    classes = set(balisekit.__all__) - {*functions, "AddedRemark", "Answer"}
+    assert {name: " ".join(one for one, _ in api_page.members(getattr(balisekit, name))) for name in classes} == MEMBERS
+    assert sorted(balisekit.__all__) == balisekit.__all__ and set(balisekit.__all__) <= set(dir(balisekit))
+
+
+def test_the_page_is_made_of_the_docstrings() -> None:
+    """`python3 companion/tests/api_page.py` makes it, with each name."""
+    page = api_page.PAGE.read_text("utf-8")
+    assert page == api_page.page() and all(f"### `{name}`\n" in page for name in balisekit.__all__)
+
+
+@pytest.mark.parametrize("folder", [TOP, TOP / "docs"], ids=["top", "elsewhere"])
+def test_the_script_of_the_examples(folder: Path) -> None:
+    """In each folder, and with or without pandas, it prints the same."""
     known = {**os.environ, "PYTHONPATH": str(TOP / "companion" / "src")}
-    done = subprocess.run([sys.executable, "-c", code], cwd=TOP, env=known, stdout=subprocess.PIPE, check=True)
-    assert done.stdout.decode().splitlines() == [line.split("# ")[1] for line in code.splitlines() if "# " in line]
+    script = str(TOP / "examples" / "python" / "check_line.py")
+    done = subprocess.run([sys.executable, script], cwd=folder, env=known, stdout=subprocess.PIPE, check=True)
+    said = done.stdout.decode().splitlines()
+    assert said[0] == "status 2" and said[1].startswith("F11 18.253 green {'reach_m': '3250', ")
+    assert said[2:] == [
+        *(f"ACME-7 18.253 {aspect} {{'d_ol_m': '200'}}" for aspect in ("red", "yellow", "green")),
+        "{'F11': 1, 'E15': 1, 'ACME-7': 24, 'F10': 1, 'F9': 1}",
+    ]
 
 
-def test_a_line_by_the_interface(program: Program, tmp_path: Path) -> None:
-    """As the commands answer."""
+def test_a_line(program: Program) -> None:
+    """As the command answers, by a path, a path of pathlib or a table that was read."""
+    tables: List[Any] = [LINE, str(LINE), balisekit.read_table(LINE)]
+    results = [balisekit.check(table, program=program) for table in tables]
+    first = results[0]
+    assert first.status == 2 and first.last_line.startswith("INCOMPLETE: 1 of 34 telegrams refused")
+    assert all(each.findings == first.findings and each.lines == first.lines for each in results)
+    assert [finding.rule for finding in first.findings] == ["F11", "E15", "F10", "F9"]
+    assert first.of("E", "F9") == tuple(first.findings[index] for index in (1, 3)) and first.open == first.findings
+    found = first.findings[0]
+    assert (found.family, found.rows, found.group, found.aspect) == ("F", (23,), "Signal E", "green")
+    assert (found.direction, found.km, found.urgency) == ("nominal", Decimal("18.253"), "wrong_information")
+    assert found.program == ("F11 group 5 aspect 2 balise 1 packet 1 nominal: gradient short",)
+    assert first.findings[2].expected == "stop aspect: expected" and not found.expected
+
+
+def test_the_answer_is_that_of_the_command(run: Run, tmp_path: Path, program: Program) -> None:
+    """In words and as JSON, with all options."""
+    words = ["--plan", PLAN / "plan.csv", "--tolerance", "2.5", "--rules", "E20,E21", "--line-speed", "140"]
+    status, out, _ = run("check", PLAN / "line.csv", *words, "--json", tmp_path / "j.json")
+    more: Any = {"plan": PLAN / "plan.csv", "tolerance": 2.5, "rules": ["E20", "E21"], "line_speed": 140}
+    result = balisekit.check(PLAN / "line.csv", program=program, **more)
+    without_program = [result.lines[0], *result.lines[2:]]
+    assert (status, out) == (result.status, without_program)
+    answer = result.to_json()
+    assert answer == json.loads((tmp_path / "j.json").read_text("utf-8"))
+    assert not [*schema("kit-check").iter_errors(answer)]
+
+
+def test_messages_and_accepted_entries(
+    run: Run, tmp_path: Path, program: Program, monkeypatch: pytest.MonkeyPatch
+) -> None:
+    """A message that was refused makes the status 2, and entries accept findings."""
+    set_day(monkeypatch, 1780000000)
     (tmp_path / "m.txt").write_text("0304\n", "utf-8")
-    table, messages = balisekit.read_table(LINE), balisekit.read_messages(str(tmp_path / "m.txt"))
-    checked = balisekit.check(program, table, messages)
-    assert (checked.status, len(checked.findings), len(checked.refused_messages)) == (2, 5, 1)
-    assert balisekit.diff(checked, checked).status == 2
-    assert balisekit.links(checked, 5) is not None
+    said: List[Any] = [tmp_path / "m.txt", balisekit.read_messages(tmp_path / "m.txt")]
+    assert all(balisekit.check(LINE, messages=messages, program=program).status == 2 for messages in said)
+    table, accepted = tmp_path / "t.csv", tmp_path / "a.csv"
+    table.write_text(f"group,telegram\nA,{ALONE}\nB,{ALONE}\nC,{OTHER}\n", "utf-8")
+    first = balisekit.check(table, only="F", program=program)
+    assert (first.status, [finding.accepted for finding in first.findings]) == (1, [False])
+    run("check", table, "--only", "F", "--propose", accepted)
+    (row,) = csv.DictReader(io.StringIO(accepted.read_text("utf-8")))
+    signed = {**row, "reason": "by design", "who": "J. Doe", "date": "2026-01-02"}
+    accepted.write_text(csv_writing.text(COLUMNS, [[signed[name] for name in COLUMNS]]), "utf-8")
+    second = balisekit.check(table, only="F", accepted=accepted, program=program)
+    assert (second.status, second.open, second.findings[0].accepted) == (0, (), True)
+
+
+def test_records_have_plain_values(program: Program) -> None:
+    """As pandas, csv and others take them."""
+    records = balisekit.check(LINE, program=program).to_records()
+    assert all(set(record) == set(balisekit.Finding._fields) for record in records)
+    plain = (str, int, float, bool, type(None))
+    assert all(isinstance(value, plain) for record in records for value in record.values())
+    assert records[0]["rows"] == "23" and records[0]["km"] == 18.253 and json.dumps(records)
+
+
+def test_a_rule_of_a_script(program: Program) -> None:
+    """An AddedRule that a script defines needs no file of its own. The settings name that of the script."""
+
+    def find(line: balisekit.LineView) -> typing.Iterator[balisekit.Answer]:
+        """Looks at the names of groups."""
+        yield from (group.remark(name=group.name) if " " in group.name else None for group in line.groups)
+
+    page = "U1: a blank.\n\n" + "\n\n".join(
+        f"{head}. Text."
+        for head in ("What it says", "Why it matters", "Example", "When it is a false alarm", "How to correct it")
+    )
+    rule = balisekit.AddedRule("U1", page, "groups", "{name} has a blank", find)
+    result = balisekit.check(LINE, only="U", rules_from=[rule], program=program)
+    assert len(result.findings) == 9 and result.findings[0].sentence == "Signal A has a blank"
+    assert any(line.startswith(f"settings: --only U, --rules-from {__file__} (SHA-256 ") for line in result.lines)
+
+
+def test_errors_are_kit_errors(program: Program) -> None:
+    """Of files that cannot be read, and of values that no option takes."""
     with pytest.raises(balisekit.KitError, match="No such file"):
         balisekit.read_table("/nowhere")
+    more: Any
+    for more, said in (
+        ({"tolerance": 99}, "tolerance: 99 is no number of metres from 0 to 20"),
+        ({"line_speed": 900}, "line_speed: 900 is no speed in km/h"),
+        ({"rules": "E99"}, "rules: E99 is no rule"),
+        ({"only": "Q"}, "only: Q is no list of F, L, E, X, U"),
+        ({"only": "F", "line_speed": 160}, "--line-speed is not used with --only F"),
+        ({"only": "X"}, "--only X needs a track plan"),
+    ):
+        with pytest.raises(balisekit.KitError, match=said) as raised:
+            balisekit.check(LINE, program=program, **more)
+        assert raised.value.status == 2
+
+
+def test_diff(program: Program) -> None:
+    result = balisekit.check(LINE, only="F", program=program)
+    assert balisekit.diff(result, result).status == 2
+
+
+def test_representations_are_short(program: Program) -> None:
+    """None of an object in a notebook fills its pages."""
+    result = balisekit.check(LINE, program=program)
+    table = balisekit.read_table(LINE)
+    some = [result, table, result._outcome.checked, table.groups[0], balisekit.diff(result, result), result._outcome]
+    assert all(len(repr(each)) < 300 for each in some), [repr(each)[:300] for each in some]
 
 
 @pytest.mark.parametrize(
     "value", [-5, 21, 10**9, Decimal("inf"), Decimal("nan"), Decimal("-0.5"), float("nan"), True]
 )
 def test_a_tolerance_is_that_of_the_command(program: Program, value: Any) -> None:
-    checked = balisekit.check(program, balisekit.read_table(LINE))
+    """A value that the command refuses is refused here too."""
     with pytest.raises(balisekit.KitError, match="is no number of metres from 0 to 20: write 5 or 2.5"):
-        balisekit.links(checked, value)
-    for good in (Decimal(), Decimal(20), Decimal("2.5"), Decimal("2.50")):
-        assert balisekit.links(checked, good) is not None
+        balisekit.check(LINE, tolerance=value, program=program)
+
+
+@pytest.mark.parametrize("value", [Decimal(), Decimal(20), Decimal("2.5"), Decimal("2.50"), 5, "2,5"])
+def test_a_tolerance(program: Program, value: Any) -> None:
+    assert balisekit.check(LINE, only="L", tolerance=value, program=program).status == 2
 
 
 def test_links_need_kilometres(program: Program, tmp_path: Path) -> None:
     (tmp_path / "t.csv").write_text(f"group,telegram\nA,{ALONE}\n", "utf-8")
-    checked = balisekit.check(program, balisekit.read_table(str(tmp_path / "t.csv")))
     with pytest.raises(balisekit.KitError, match="no row has a kilometre: links needs the column km"):
-        balisekit.links(checked)
+        balisekit.check(tmp_path / "t.csv", only="L", program=program)
 
 
 @pytest.mark.parametrize(
@@ -86,7 +236,9 @@ def test_another_name() -> None:
 
 
 def test_types_are_stated() -> None:
-    """Each argument and each answer has one, which is there once types are looked at."""
-    for name in set(balisekit.__all__) - {"KitError", "Program"}:
-        annotations = getattr(balisekit, name).__annotations__
-        assert set(annotations) == {*inspect.signature(getattr(balisekit, name)).parameters, "return"}
+    """Each argument and each answer has one."""
+    assert (Path(balisekit.__file__).parent / "py.typed").is_file()
+    for name in balisekit.__all__:
+        found = getattr(balisekit, name)
+        if inspect.isfunction(found):
+            assert set(found.__annotations__) == {*inspect.signature(found).parameters, "return"}

@@ -11,9 +11,10 @@ SHOWN = 20
 
 
 class KitError(Exception):
-    """A command ends with lines and a status."""
+    """There is no answer: an input cannot be read, or the program or a rule fails."""
 
     status = 3
+    """As the command ends: 2 for an input that is refused, 3 if there is no answer."""
 
     def lines(self) -> List[str]:
         """The lines for the user."""

@@ -50,7 +50,7 @@ REFUSED = [
     ("report LINE --html x --html -", "error: argument --html: it is given twice"),
     ("draw LINE --track --svg a --svg -", "error: argument --svg: it is given twice"),
     ("check LINE --only F --tolerance 1", "--tolerance is not used with --only F"),
-    ("check LINE --only Y", "error: argument --only: Y is no list of F, L, E, X: write F or F,L"),
+    ("check LINE --only Y", "error: argument --only: Y is no list of F, L, E, X, U: write F or F,L"),
     ("check LINE --only X", "--only X needs a track plan: give --plan FILE"),
     ("check LINE --only F --only L", "error: argument --only: it is given twice"),
     ("show LINE --tolerance 1", "error: unrecognized arguments: --tolerance 1"),

@@ -41,7 +41,7 @@ def add_options(parser: argparse.ArgumentParser) -> None:
 
 def run(options: argparse.Namespace) -> int:
     """Does it. The answer is the exit status."""
-    page = list(page_of(options.table)) if options.explain else []
+    page = list(page_of(options.table, settings.added(options))) if options.explain else []
     if page:
         if os.path.lexists(options.table):
             raise TableError(IS_BOTH.format(options.table, os.path.join(os.curdir, options.table)))

@@ -9,7 +9,7 @@ from balisekit.cli import settings
 from balisekit.cli.options import EXACT
 from balisekit.io import inputs
 from balisekit.io.output_folder import OutputFolder
-from balisekit.rules.rule import RELEASE_SPEED
+from balisekit.rules.rule import RELEASE_SPEED, Rule
 from balisekit.tables import own_headings
 from balisekit.tables.expected import Expected
 from balisekit.tables.model import Table
@@ -18,6 +18,8 @@ from balisekit.tables.settings import Setting, Settings, Source
 _READING = ("sheet", "skip_column", "by_position", "fill_merged")
 GIVEN = (*_READING, "all", "only", "group", "aspect", "full", *settings.KINDS)
 """The options that change what is judged or shown. Inputs and outputs are named elsewhere."""
+RULES_FROM = ("--rules-from", f"check.{own_headings.RULES_FROM}")
+"""The settings that name added rules."""
 DEFAULT = ("release_speed", RELEASE_SPEED)
 """The only setting that is as if it were not given if it has this value."""
 
@@ -27,15 +29,17 @@ def in_force(
     tables: Iterable[Union[Table, Expected]],
     keys: Sequence[str] = (),
     headed: bool = False,
+    added: Sequence[Rule] = (),
 ) -> Settings:
     """Which settings of a command differ from their defaults, by the command line and by the files of these tables.
 
-    `keys` are those of [check] that the command uses. With `headed` it also uses [report].
+    `keys` are those of [check] that the command uses. With `headed` it also uses [report]. `added` are added rules.
     """
     read = list(tables)
     own = {heading for table in read for heading in table.own}
     files = [_source(file, options, own, keys, headed) for file in _files(options, [table.path for table in read])]
-    given = tuple(_settings_given(options))
+    files = [source._replace(settings=tuple(_with_rules(source.settings, added))) for source in files]
+    given = tuple(_with_rules(_settings_given(options), added))
     return Settings((*([Source(settings=given)] if given else []), *files))
 
 
@@ -64,9 +68,10 @@ def _source(
     """What a file states that is used, and differs from the defaults. `own` are the headings that tables have by it."""
     check, given = file.tables[own_headings.CHECK_TABLE], settings.given(options)
     stated = [
-        _setting(f"check.{key}", check[key], key in own_headings.FILES)
+        _setting(f"check.{key}", each, key in own_headings.FILES)
         for key in keys
         if key in check and key not in given and (key, check[key]) != DEFAULT
+        for each in (check[key] if key == own_headings.RULES_FROM else [check[key]])
     ]
     sheets = [own_headings.COLUMNS_TABLE, *([own_headings.EXPECT_TABLE] if getattr(options, "expect", None) else [])]
     for table in sheets:
@@ -75,6 +80,15 @@ def _source(
     heading = file.tables[own_headings.REPORT_TABLE] if headed else {}
     stated += [_setting(f"report.{key}", value) for key, value in heading.items()]
     return Source(file.path, file.sha256, tuple(stated))
+
+
+def _with_rules(settings: Iterable[Setting], added: Sequence[Rule]) -> Iterator[Setting]:
+    """The settings, and for each that names added rules where these are from, with the checksum of their code."""
+    for setting in settings:
+        origins = [rule.origin for rule in added if rule.origin and setting.name in RULES_FROM]
+        own = [each for each in origins if setting.value in (each.package, each.path)]
+        yield from (Setting(setting.name, str(each), not each.package, each.sha256) for each in own)
+        yield from [] if own else [setting]
 
 
 def _setting(name: str, value: object, is_path: bool = False) -> Setting:

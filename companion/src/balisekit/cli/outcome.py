@@ -4,24 +4,28 @@ from __future__ import annotations
 import argparse
 import time
 from dataclasses import replace
-from typing import Sequence, Tuple
+from typing import Optional, Sequence, Tuple
 
 from balisekit.cli import options as shared, settings
 from balisekit.cli.in_force import in_force
+from balisekit.engine.program import Program
 from balisekit.errors import TableError
 from balisekit.io import clock
 from balisekit.rules import accepted, checking
-from balisekit.rules.families import FAMILIES, PLAN, Outcome, apply
+from balisekit.rules.discovery import ADDED
+from balisekit.rules.families import FAMILIES, PLAN, Outcome, apply, families
 from balisekit.rules.line import Line
 from balisekit.rules.links import L2, Links, compare
 from balisekit.rules.rule import Options
 from balisekit.rules.stated import refuse_without_kilometres
+from balisekit.tables.model import Messages, Table
 
+Inputs = Tuple[Program, Table, Optional[Messages]]
 ONLY = f"apply only these families of rules: {'; '.join(f'{each.letter}, {each.things}' for each in FAMILIES.values())}"
 
 
-def _families(text: str) -> Tuple[str, ...]:
-    """The letters of families, in the order of an answer."""
+def families_of(text: str) -> Tuple[str, ...]:
+    """The letters of families. ArgumentTypeError is raised for a text that is no list of them."""
     letters = [letter.strip().upper() for letter in text.split(",")]
     if not all(letter in FAMILIES for letter in letters):
         raise argparse.ArgumentTypeError(f"{text[:40]} is no list of {', '.join(FAMILIES)}: write F or F,L")
@@ -30,7 +34,7 @@ def _families(text: str) -> Tuple[str, ...]:
 
 def add_only(parser: argparse.ArgumentParser) -> None:
     """The option --only."""
-    parser.add_argument("--only", **shared.value("FAMILIES", _families, ONLY))
+    parser.add_argument("--only", **shared.value("FAMILIES", families_of, ONLY))
 
 
 def _letters(options: argparse.Namespace) -> Sequence[str]:
@@ -45,24 +49,27 @@ def stated(options: argparse.Namespace) -> Options:
     line = settings.of_line(options)
     if set(asked) == {PLAN} and line.plan is None:
         raise TableError("--only X needs a track plan: give --plan FILE")
+    if ADDED in (options.only or ()) and not families(line)[ADDED].rules:
+        raise TableError("--only U needs rules: give --rules-from, and --rules for those that are off")
     return line
 
 
-def outcome(options: argparse.Namespace, line: Options, keep: bool = False) -> Outcome:
+def outcome(options: argparse.Namespace, line: Options, keep: bool = False, inputs: Optional[Inputs] = None) -> Outcome:
     """What the rules find in such a line, and what was accepted by today if there is a file of entries.
 
     With `keep` the records of all telegrams are kept, and other data are not, for a report: it draws pictures of them,
-    and has the heading that the file of settings states.
+    and has the heading that the file of settings states. Without `inputs` those that the options name are read.
     """
     began = time.perf_counter()
-    entries = accepted.read(options.accepted) if options.accepted else None
-    program, table, messages = shared.inputs(options)
+    entries = accepted.read(options.accepted, line.added) if options.accepted else None
+    program, table, messages = inputs or shared.inputs(options)
     asked = _letters(options)
-    if all(FAMILIES[letter].needs_kilometres for letter in asked if letter != PLAN or line.plan):
+    known = families(line)
+    if all(known[letter].needs_kilometres for letter in asked if letter in known):
         refuse_without_kilometres(table)
     checked = checking.check(program, table, messages, options.by_position, options.all)
     keys = settings.used_by([*asked, *("L" if keep else "")])  # (a report has pictures of tracks with links)
-    checked = replace(checked, settings=in_force(options, [table], keys, headed=keep))
+    checked = replace(checked, settings=in_force(options, [table], keys, keep, line.added))
     if keep:
         checked.accepted.keep()
     signed = (entries, clock.today()) if entries else None

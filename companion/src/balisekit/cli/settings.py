@@ -12,9 +12,12 @@ from typing import Any, Callable, Dict, FrozenSet, Mapping, NamedTuple, Optional
 
 from balisekit.cli import options as shared
 from balisekit.errors import TableError, faults_of
+from balisekit.io.inputs import InputPath, is_python
 from balisekit.rules import meaning
+from balisekit.rules.adding import load
 from balisekit.rules.chainage import Jump, look_at, read_jumps
-from balisekit.rules.rule import ALL, LINE_SPEED, RELEASE_SPEED, Options
+from balisekit.rules.discovery import ADDED, ADDED_NAME
+from balisekit.rules.rule import ALL, LINE_SPEED, RELEASE_SPEED, Options, Rule
 from balisekit.tables import own_headings, plan as plan_file
 from balisekit.tables.cells import GREATEST_NAME
 from balisekit.tables.names import clean
@@ -24,7 +27,8 @@ GREATEST_LINE_SPEED, GREATEST_RELEASE_SPEED = 500, 100
 NAMES = [rule.name for rule in meaning.RULES]
 JUMPS = "a CSV file with km, km_after and track: the places at which the kilometres jump"
 PLAN = "a CSV file that describes the track: the rules X compare the telegrams with it"
-RULES = "rules E to apply too, with their parts that are off by default: E2,E20 or all"
+RULES = "rules E or added ones to apply too, with their parts that are off by default: E2,E20 or all"
+RULES_FROM = "a file of Python with a rule of your own, or an installed package with such rules; can be repeated"
 
 
 def _speed(greatest: int, text: str) -> int:
@@ -38,15 +42,20 @@ _line_speed, _release_speed = partial(_speed, GREATEST_LINE_SPEED), partial(_spe
 
 
 def _rules(text: str) -> FrozenSet[str]:
-    """Names of rules E, or `all`."""
+    """Names of rules E and of added rules, or `all`. Whether there are such added rules is known once they are read."""
     names = [name.strip() for name in text.split(",")]
     if [name.lower() for name in names] == [ALL]:
         return frozenset({ALL})
-    unknown = [name for name in names if name.upper() not in NAMES]
+    unknown = [name for name in names if not (name.upper() in NAMES or re.fullmatch(ADDED_NAME, name.upper()))]
     if unknown:
         known = f"the rules are {', '.join(NAMES)}"
         raise argparse.ArgumentTypeError(f"{unknown[0][:40] or 'nothing'} is no rule: write all or E7,E11; {known}")
     return frozenset(name.upper() for name in names)
+
+
+def _rules_from(text: str) -> str:
+    """The path of a file of Python, or the name of a package."""
+    return InputPath(shared.name(text)) if is_python(text) else shared.name(text)
 
 
 class Kind(NamedTuple):
@@ -59,6 +68,8 @@ class Kind(NamedTuple):
     example: str
     families: str
     """The letters of the families of rules that use it."""
+    one_by_one: bool = False
+    """Whether the items of a list are read one by one."""
 
 
 KINDS: Mapping[str, Kind] = {
@@ -67,7 +78,8 @@ KINDS: Mapping[str, Kind] = {
     "tolerance": Kind(shared.tolerance, (int, float), "2.5", "LEX"),
     "jumps": Kind(str, (str,), '"jumps.csv"', "LEX"),
     "plan": Kind(str, (str,), '"plan.csv"', "LEX"),
-    "rules": Kind(_rules, (str, list), '["E2", "E20"]', "E"),
+    "rules": Kind(_rules, (str, list), '["E2", "E20"]', f"E{ADDED}"),
+    "rules_from": Kind(_rules_from, (list,), '["acme.py"]', ADDED, one_by_one=True),
 }
 """The keys of [check]."""
 GREATEST_SIGNATURES = 20
@@ -87,6 +99,7 @@ def add_options(parser: argparse.ArgumentParser) -> None:
     parser.add_argument("--jumps", **shared.input_file(JUMPS))
     parser.add_argument("--plan", **shared.input_file(PLAN))
     parser.add_argument("--rules", **shared.value("RULES", _rules, RULES))
+    parser.add_argument("--rules-from", action="append", **shared.value("FILE.py", _rules_from, RULES_FROM))
 
 
 def used_by(letters: Sequence[str]) -> Sequence[str]:
@@ -108,14 +121,25 @@ def of_line(options: argparse.Namespace) -> Options:
     if "tolerance" in stated:
         more["tolerance"] = more["tolerance_of_places"] = stated["tolerance"]
     plan = plan_file.read(stated["plan"]) if "plan" in stated else None
+    known = added(options, stated)
+    asked = stated.get("rules", frozenset())
+    for name in sorted(asked.difference(NAMES, (ALL, *(rule.name for rule in known)))):
+        raise TableError(f"{name} is no rule: --rules names rules {NAMES[0]} to {NAMES[-1]} and those of --rules-from")
     return Options(
         **more,
         line_speed=stated.get("line_speed"),
         release_speed=stated.get("release_speed", RELEASE_SPEED),
         jumps=_jumps(stated, plan),
         plan=plan,
-        asked=stated.get("rules", frozenset()),
+        asked=asked,
+        added=known,
     )
+
+
+def added(options: argparse.Namespace, stated: Optional[Mapping[str, Any]] = None) -> Tuple[Rule, ...]:
+    """The rules that the user adds, if the command applies rules. Without a table only the options state them."""
+    named = (given(options) if stated is None else stated).get("rules_from", ())
+    return load(named) if hasattr(options, "rules_from") else ()
 
 
 def jumps(options: argparse.Namespace) -> Tuple[Jump, ...]:
@@ -151,9 +175,18 @@ def _look_at_files(options: argparse.Namespace, stated: Mapping[str, Any]) -> No
     """TableError is raised for a file that only [check] names, and that is not there."""
     path, _ = own_headings.stated(options.table, options.columns, own_headings.CHECK_TABLE)
     with faults_of(path):
+        if "rules_from" in stated and hasattr(options, "rules_from"):
+            _refuse_found(path, options)
         for name in sorted(own_headings.FILES & (stated.keys() - given(options).keys())):
             if not os.path.lexists(stated[name]):
                 raise TableError(f"[check] {name}: there is no file {clean(stated[name][:GREATEST_NAME])}")
+
+
+def _refuse_found(path: str, options: argparse.Namespace) -> None:
+    """TableError is raised if a file states rules that is not named by the command line: a table may bring it along."""
+    if not options.columns and "rules_from" not in given(options):
+        why = "[check] rules_from names code that would run, and nobody has named this file"
+        raise TableError(f"{why}: give --columns {clean(path)}, or --rules-from")
 
 
 def _value(name: str, value: object) -> Any:
@@ -165,6 +198,8 @@ def _value(name: str, value: object) -> Any:
     if isinstance(value, int) and value.bit_length() > LONGEST:
         raise TableError(f"[check] {name} is a number of more than 18 digits: write {name} = {kind.example}")
     try:
+        if isinstance(value, list) and kind.one_by_one:
+            return list(map(kind.read, value))
         return kind.read(",".join(value) if isinstance(value, list) else str(value))
     except argparse.ArgumentTypeError as error:
         raise TableError(f"[check] {name}: {error}") from error

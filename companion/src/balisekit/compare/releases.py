@@ -63,6 +63,10 @@ class Difference:
     findings_gone: List[Place] = field(default_factory=list)
     notes: List[str] = field(default_factory=list)
 
+    def __repr__(self) -> str:
+        paths = [side.checked.table.path for side in (self.old, self.new)]
+        return f"<Difference of {' and '.join(paths)}: status {self.status}>"
+
     @property
     def unchanged(self) -> int:
         """How many telegrams and messages are unchanged."""

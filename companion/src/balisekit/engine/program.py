@@ -92,7 +92,9 @@ class Program:
     """A program that has shown that it is balisecheck."""
 
     path: str
+    """The file."""
     sha256: str
+    """The checksum of the file."""
     about: Mapping[str, str] = field(default_factory=dict)
     """The metadata of a stored program. Empty for any other program."""
     timeout: Optional[float] = None
@@ -105,8 +107,8 @@ class Program:
     def find(cls, named: Optional[str] = None, timeout: Optional[float] = None) -> Program:
         """The program of this path, else of BALISECHECK, else that of the clone, else that on the path.
 
-        NoAnswer is raised if there is none, if it is not `named` and its checksum is not known, or if it fails a trial
-        run.
+        `KitError` is raised if there is none, if it is not `named` and its checksum is not known, or if it fails a
+        trial run.
         """
         path = find_program.find(named)
         sha256 = find_program.checksum(path)

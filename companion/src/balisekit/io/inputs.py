@@ -62,6 +62,11 @@ def claimed(path: str) -> str:
     return path
 
 
+def is_python(named: str) -> bool:
+    """Whether a text names a file of Python, and not a package."""
+    return named.endswith(".py") or os.sep in named
+
+
 class Input(NamedTuple):
     """A file that was read."""
 

@@ -10,6 +10,7 @@ from balisekit.present.opening import Shown, paths_from
 from balisekit.rules import findings_on_correct_data
 from balisekit.rules.accepted import COLUMNS, UNNAMED, Acceptance, Item, Judged, Key, checksum, keys
 from balisekit.rules.checking import Checked, Place
+from balisekit.rules.discovery import letter_of
 from balisekit.rules.families import FAMILIES, Outcome
 from balisekit.tables.names import clean
 
@@ -75,7 +76,7 @@ def _against_the_rule(judged: Judged) -> str:
 
 
 def _letter(item: Item) -> str:
-    return "F" if isinstance(item, Place) else item.rule[0]
+    return "F" if isinstance(item, Place) else letter_of(item.rule)
 
 
 def as_json(judged: Judged, outcome: Outcome) -> Dict[str, Any]:

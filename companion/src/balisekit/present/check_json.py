@@ -10,10 +10,11 @@ from balisekit.present.account_text import account_json
 from balisekit.present.check_text import groups_by_aspects
 from balisekit.present.headings import finding_words, not_decoded
 from balisekit.present.links_text import FORMAT, rules_json
-from balisekit.present.opening import paths_from, program_json, settings_json
+from balisekit.present.opening import Shown, paths_from, program_json, settings_json
 from balisekit.present.outcome_text import last_lines, not_applied
 from balisekit.present.refusals import message_refused, telegram_refused
 from balisekit.rules.checking import Checked, LeftOut, Place, Refused, RefusedMessage
+from balisekit.rules.discovery import letter_of
 from balisekit.rules.entries import Entry
 from balisekit.rules.families import PROVED, Outcome
 from balisekit.rules.remarks import remarks
@@ -68,7 +69,8 @@ def entries_json(outcome: Outcome) -> Iterator[Dict[str, Any]]:
         yield {
             "rule": entry.rule,
             "rules": list(entry.rules),
-            "proved": entry.rule[0] == PROVED,
+            "proved": letter_of(entry.rule) == PROVED,
+            **_added(entry, paths_from(outcome.checked)),
             "urgency": entry.urgency.name.lower(),
             "sentence": entry.sentence,
             "rows": list(entry.rows),
@@ -83,6 +85,15 @@ def entries_json(outcome: Outcome) -> Iterator[Dict[str, Any]]:
             "state": "accepted" if accepted else "open",
             "accepted": [accepted_text.entry_json(each) for each in accepted],
         }
+
+
+def _added(entry: Entry, shown: Shown) -> Dict[str, Any]:
+    """Where the rule of an entry is from, if it is not balisekit's."""
+    origin = entry.remark.origin if entry.remark else None
+    if origin is None:
+        return {}
+    path = origin.path if origin.package else shown(origin.path)
+    return {"added": {**{name: value or None for name, value in origin._asdict().items()}, "path": path}}
 
 
 def _place_of(entry: Entry) -> Dict[str, Any]:

@@ -18,7 +18,7 @@ from balisekit.present.outcome_text import last_lines, not_looked_at, unnamed_li
 from balisekit.present.refusals import RefusedInput, lacking, not_looked_at as not_tried, refused
 from balisekit.rules.accepted import Judged
 from balisekit.rules.checking import Checked, Place, document
-from balisekit.rules.families import FAMILIES, PLAN, PROVED, Outcome
+from balisekit.rules.families import FAMILIES, IF_ANY, PROVED, Outcome
 from balisekit.rules.remarks import remarks
 from balisekit.tables.names import clean, counted, describe_group, passed_over
 from balisekit.tables.own_headings import ReportHeading
@@ -156,7 +156,7 @@ def _lacks(outcome: Outcome) -> Iterator[str]:
         yield f"packets not decoded in {counted(len(where), 'telegram or message', 'telegrams or messages')}"
     if outcome.without_kilometres:
         yield "rules over the line not applied"
-    elif not set(FAMILIES) <= {PLAN, *outcome.letters}:
+    elif not set(FAMILIES) <= {*IF_ANY, *outcome.letters}:
         yield f"only the rules {', '.join(outcome.letters)} applied"
 
 

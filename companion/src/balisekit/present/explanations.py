@@ -10,8 +10,9 @@ import re
 from pathlib import Path
 from typing import Dict, Iterable, Iterator, Mapping, NamedTuple, Optional, Sequence, Tuple
 
-from balisekit.rules.families import FAMILIES, Family
-from balisekit.rules.rule import FALSE_ALARM
+from balisekit.rules.discovery import ADDED
+from balisekit.rules.families import FAMILIES, PROVED, Family
+from balisekit.rules.rule import FALSE_ALARM, Rule
 
 WIDTH = 116
 
@@ -54,7 +55,7 @@ class Page(NamedTuple):
 
 def pages(family: Family) -> Iterator[Tuple[str, Page]]:
     """The pages of the rules of a family, by their names."""
-    if not family.rules:
+    if family.letter == PROVED:
         for number, page in explanations().items():
             yield f"F{number}", Page(page["name"], dict(zip(WHOLE, (page[key] for key in KEYS))))
     for rule in family.rules:
@@ -68,9 +69,10 @@ def address_of_page(name: str) -> Optional[str]:
     return next((place.as_uri() for place in places if place.is_file()), None)
 
 
-def page_of(name: str) -> Iterator[str]:
+def page_of(name: str, added: Sequence[Rule] = ()) -> Iterator[str]:
     """The complete page of the rule with this name, as lines of text: none if no rule has this name."""
-    named = (one for family in FAMILIES.values() for one in pages(family) if one[0] == name.upper())
+    families = {**FAMILIES, ADDED: FAMILIES[ADDED]._replace(rules=added)}
+    named = (one for family in families.values() for one in pages(family) if one[0] == name.upper())
     return page_lines(named, WHOLE)
 
 

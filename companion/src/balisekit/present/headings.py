@@ -68,8 +68,14 @@ def words(entry: Entry) -> str:
 
 
 def entry_lines(entry: Entry) -> List[str]:
-    """An entry, and the lines of the program below it."""
-    return [words(entry), *(f"    program: {line}" for line in entry.quoted)]
+    """An entry, and below it the lines of the program, or where its rule is from if it is not balisekit's."""
+    return [words(entry), *(f"    program: {line}" for line in entry.quoted), *(f"    {line}" for line in added(entry))]
+
+
+def added(entry: Entry) -> List[str]:
+    """A line on an added rule, so that nobody takes its remark for one of balisekit."""
+    origin = entry.remark.origin if entry.remark else None
+    return [f"added rule, not balisekit's: {clean(str(origin))}"] if origin else []
 
 
 def finding_words(place: Place) -> str:

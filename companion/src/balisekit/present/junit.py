@@ -23,10 +23,13 @@ from balisekit.present.outcome_text import item_words, last_lines, not_applied, 
 from balisekit.present.refusals import message_refused, refused
 from balisekit.rules.accepted import Item, Judged
 from balisekit.rules.checking import Checked, Place
+from balisekit.rules.discovery import ADDED
 from balisekit.rules.families import PROVED, Outcome, Part
 from balisekit.tables.model import Group
 from balisekit.tables.names import clean, describe_message
 
+PROGRAMS = {PROVED: "balisecheck", ADDED: "added rules"}
+"""Whose rules are applied, if they are not balisekit's."""
 NAMES = {"failures": "failure", "errors": "error", "skipped": "skipped"}
 
 
@@ -50,7 +53,7 @@ def document(outcome: Outcome) -> bytes:
     top = ElementTree.Element("testsuites", _numbers([case for _, cases in suites for case in cases]))
     top.set("time", _seconds(sum(part.seconds for part in outcome.parts)))
     for part, cases in suites:
-        program = "balisecheck" if part.family.letter == PROVED else f"balisekit {part.family.things}"
+        program = PROGRAMS.get(part.family.letter, f"balisekit {part.family.things}")
         name = f"{program} {clean(shown(outcome.checked.table.path))}"
         suite = ElementTree.SubElement(top, "testsuite", {"name": name, **_numbers(cases)})
         suite.set("time", _seconds(part.seconds))

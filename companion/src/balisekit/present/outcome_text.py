@@ -14,6 +14,7 @@ from balisekit.present.refusals import lacking
 from balisekit.rules.accepted import UNNAMED, Item, keys
 from balisekit.rules.applied import Applied
 from balisekit.rules.checking import Place
+from balisekit.rules.discovery import ADDED
 from balisekit.rules.entries import Entry, entry_of
 from balisekit.rules.families import PLAN, PROVED, Outcome, Part, entry_of_remark
 from balisekit.tables.names import clean
@@ -70,8 +71,8 @@ def behind(outcome: Outcome, part: Part) -> Iterator[str]:
 
 def _applied(part: Part, applied: Applied) -> Iterator[str]:
     """What was compared, and which rules were applied if a rule was asked for that is off by default."""
-    if part.family.letter in (LINKS, PLAN):
-        yield compared(applied, part.family.letter == PLAN)
+    if part.family.letter in (LINKS, PLAN, ADDED):
+        yield compared(applied, part.family.letter != LINKS)
     else:
         yield from not_compared(applied)
     if part.family.letter == MEANING and not all(rule.is_default for rule in part.family.rules):
@@ -92,7 +93,8 @@ def not_decoded(outcome: Outcome) -> Iterator[str]:
 
 def not_applied(outcome: Outcome) -> List[str]:
     """Which rules were not applied, and why."""
-    return [NO_KILOMETRES] if outcome.without_kilometres else []
+    off = [f"added rules that are off until --rules names them: {', '.join(outcome.off)}"] if outcome.off else []
+    return [*([NO_KILOMETRES] if outcome.without_kilometres else []), *off]
 
 
 def not_looked_at(outcome: Outcome) -> Iterator[str]:

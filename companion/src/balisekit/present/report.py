@@ -48,6 +48,11 @@ class Listed(NamedTuple):
     """The heading above it, if it is the first entry under that."""
 
     @property
+    def quoted(self) -> Sequence[str]:
+        """The lines below it: those of the program, or where its rule is from."""
+        return [*self.entry.quoted, *headings.added(self.entry)]
+
+    @property
     def items(self) -> int:
         """How many findings it has. A remark is one."""
         return len(self.entry.findings) or 1

@@ -36,6 +36,7 @@ from balisekit.present.refusals import RefusedInput, refused
 from balisekit.present.report import Listed, packets_of
 from balisekit.present.telegram_parts import Said, telegram_words
 from balisekit.rules.checking import AcceptedMessage, Checked, Telegrams
+from balisekit.rules.discovery import letter_of
 from balisekit.rules.entries import track_of
 from balisekit.rules.line import Line
 from balisekit.rules.location import BaliseGroup
@@ -269,7 +270,7 @@ def _link_marks(entries: Sequence[Listed], forms: Mapping[int, Form]) -> Iterato
     """Marks of links that rules L report, and of places of other remarks, unless they are accepted."""
     for remark in (each.entry.remark for each in entries if each.entry.remark and not each.accepted):
         where = remark.location
-        if remark.rule[0] == "L" and where.row and where.link is not None and where.row.number in forms:
+        if letter_of(remark.rule) == "L" and where.row and where.link is not None and where.row.number in forms:
             packet = forms[where.row.number]["packets"][where.packet or 0]
             place = sum(link["d_link"] for link in packet["links"][: where.link + 1]) * unit_dm(packet)
             yield LinkMark(where.row.number, where.direction, place, remark.rule, clean(remark.sentence), " by D_LINK")

@@ -10,7 +10,7 @@ import hashlib
 import os
 from collections import Counter
 from pathlib import Path
-from typing import Any, Dict, Iterator, List, Sequence, Tuple
+from typing import Any, Dict, Iterator, List, Optional, Sequence, Tuple
 from urllib.parse import quote
 
 from balisekit import __version__
@@ -24,9 +24,11 @@ from balisekit.present.opening import opening, paths_from, settings_json
 from balisekit.present.outcome_text import closing_lines, not_looked_at, notes_of
 from balisekit.present.refusals import message_refused, refused
 from balisekit.rules.accepted import keys
+from balisekit.rules.discovery import letter_of
 from balisekit.rules.entries import Entry
 from balisekit.rules.families import PROVED, Outcome, items_of
-from balisekit.rules.rule import Urgency
+from balisekit.rules.rule import Rule, Urgency
+from balisekit.rules.template import escaped
 from balisekit.tables.csv import lines_of_rows
 from balisekit.tables.names import clean
 
@@ -44,6 +46,8 @@ REFUSED_PAGE = Page("a telegram or message that the program refuses", {"How to c
 NOT_JUDGED = "not-judged"
 """The identifier of a result for telegrams in a column or sheet that is not read."""
 NOT_JUDGED_PAGE = Page("telegrams that are not judged", {"How to correct it": "See the account in docs/commands.md."})
+SENTENCE = "sentence"
+"""The identifier of the template of an added rule."""
 FINGERPRINT = "balisekit/v1"
 INCOMPLETE = 2
 """The status of an answer that does not cover all that was asked for."""
@@ -54,7 +58,8 @@ Lines = Sequence[Tuple[int, int]]
 
 def document(outcome: Outcome) -> Object:
     """The object of the file."""
-    rules = [_rule(name, page) for name, page in _pages(outcome)]
+    added = {rule.name: rule for part in outcome.parts for rule in part.family.rules if rule.template}
+    rules = [{**_rule(name, page), **_added(added.get(name))} for name, page in _pages(outcome)]
     numbers = {rule["id"]: number for number, rule in enumerate(rules)}
     lines = _lines(outcome)
     results = [*_refused(outcome, lines), *_not_read(outcome, lines), *_entries(outcome, lines)]
@@ -108,7 +113,7 @@ def _rule(name: str, page: Page) -> Object:
     """A rule with its help: what its page says, and where the page is, if it is installed."""
     says = "\n\n".join(f"{head}. {text}" for head, text in page.parts.items())
     marked = "\n\n".join(f"**{head}.** {text}" for head, text in page.parts.items())
-    is_proved = name == REFUSED or name[0] == PROVED
+    is_proved = name == REFUSED or letter_of(name) == PROVED
     address = address_of_page(name)
     return {
         "id": name,
@@ -118,6 +123,14 @@ def _rule(name: str, page: Page) -> Object:
         "help": {"text": says, "markdown": marked},
         "properties": {"tags": ["the program's, proved" if is_proved else "balisekit's own, not proved"]},
     }
+
+
+def _added(rule: Optional[Rule]) -> Object:
+    """The template of an added rule, and that the rule is not balisekit's."""
+    if rule is None or rule.template is None:
+        return {}
+    tags = {"tags": ["added, not balisekit's, not proved"]}
+    return {"messageStrings": {SENTENCE: {"text": rule.template.numbered}}, "properties": tags}
 
 
 def _lines(outcome: Outcome) -> Lines:
@@ -156,6 +169,9 @@ def _entries(outcome: Outcome, lines: Lines) -> Iterator[Object]:
         text = "\n".join(entry_lines(entry))
         result = _result(entry.rule, LEVELS[entry.urgency], text, _locations(outcome, entry, lines), f"{own} {link}")
         result["properties"] = {"urgency": entry.urgency.name.lower(), "values": dict(entry.values)}
+        if entry.remark and entry.remark.origin:
+            message = {"text": escaped(text), "id": SENTENCE, "arguments": list(entry.remark.arguments)}
+            result["message"] = message
         accepted = outcome.acceptances(entry)
         if accepted:
             why = "; ".join(map(accepted_words, accepted))

@@ -6,6 +6,7 @@ from typing import Iterator, List, Union
 from balisekit.compare.sheet import COLUMNS, Compared, Difference, Sheet
 from balisekit.io import csv_writing, xlsx_writing
 from balisekit.present.account_text import overlooked_lines
+from balisekit.present.headings import added
 from balisekit.present.opening import opening, paths_from
 from balisekit.present.outcome_text import closing_lines
 from balisekit.present.refusals import lacking, refused_lines
@@ -96,7 +97,7 @@ def _row(outcome: Outcome, entry: Entry) -> List[str]:
         about,
         ", ".join(map(str, entry.rows)),
         "; ".join(f"{name} {value}" for name, value in entry.values.items()),
-        entry.sentence,
+        "; ".join([entry.sentence, *added(entry)]),
         "; ".join(dict.fromkeys(each.who for each in accepted)),
         "accepted" if accepted else "open",
         "; ".join(dict.fromkeys(each.reason for each in accepted)),

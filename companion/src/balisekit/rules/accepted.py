@@ -13,14 +13,14 @@ import re
 from collections import Counter
 from dataclasses import dataclass
 from functools import cached_property
-from typing import Dict, Iterable, Iterator, List, Mapping, NamedTuple, Optional, Sequence, Tuple, Union
+from typing import Collection, Dict, Iterable, Iterator, List, Mapping, NamedTuple, Optional, Sequence, Tuple, Union
 
 from balisekit.errors import TableError, TableErrors, faults_of
 from balisekit.io import inputs
 from balisekit.io.csv_writing import plain
 from balisekit.rules import links, meaning, track_plan
 from balisekit.rules.checking import Checked, Place
-from balisekit.rules.discovery import first_to_last
+from balisekit.rules.discovery import ADDED, ADDED_NAME, first_to_last, letter_of
 from balisekit.rules.rule import Remark, Rule
 from balisekit.tables import csv as csv_file
 from balisekit.tables.cells import headings
@@ -39,8 +39,9 @@ FINDINGS = range(1, 17)
 RULES: Mapping[str, Rule] = {rule.name: rule for rule in (*links.RULES, *meaning.RULES, *track_plan.RULES)}
 """All rules of balisekit whose remarks can be accepted, by their names."""
 OF_FAMILIES = "{}, {} and {}".format(*map(first_to_last, (links.RULES, meaning.RULES, track_plan.RULES)))
+OF_PROGRAM = [f"F{number}" for number in FINDINGS]
 VALUES = {
-    "rule": ("|".join([f"F{number}" for number in FINDINGS] + [*RULES]), f"none of F1 to F16, {OF_FAMILIES}"),
+    "rule": ("|".join([*OF_PROGRAM, *RULES, ADDED_NAME]), f"none of F1 to F16, {OF_FAMILIES}"),
     **dict.fromkeys(("nid_c", "nid_bg", "balise", "packet"), NUMBER),
     "direction": ("|nominal|reverse", "neither nominal nor reverse"),
     "sha256": ("|[0-9a-f]{64}", "no SHA-256: --propose writes it"),
@@ -53,11 +54,15 @@ ONE_DAY = datetime.timedelta(days=1)
 """How much later than the day of the run, in universal time, the day of a signature may be."""
 ONE_TELEGRAM = ("F1", "F4", "F6", "F9", "L1", "L2", "L3", "L5", "L6", "L9")
 """The findings and remarks about one telegram only."""
+OF_ROWS = ("E", "X", ADDED)
+"""The families whose remarks at a row are about its telegram only."""
 ALL_ASPECTS = ("F3", "F14", "F15", "F16")
 """The findings that compare aspects or groups. The others are about all telegrams of an aspect."""
 OWN_ON_CORRECT_DATA = (name for name, rule in RULES.items() if rule.has_correct_data)
 ON_CORRECT_DATA = ("F6", "F9", "F10", "F11", "F12", "F13", "F14", "F16", *OWN_ON_CORRECT_DATA)
 """The rules of the table of findings on correct data in docs/findings.md, and those whose pages name correct data."""
+NEVER_CORRECT = frozenset({*OF_PROGRAM, *RULES}.difference(ON_CORRECT_DATA))
+"""The rules that no correct data gets."""
 ROW_NUMBERS = re.compile(r"\brow \d+|\brows \d+(?:(?: to |, | and )\d+)*")
 """Numbers of rows in a sentence: a row that is added elsewhere changes them."""
 ANY_NUMBER = re.compile(r"[+-]?\d(?:[\d.,]*\d)?")
@@ -90,12 +95,12 @@ class Acceptance(NamedTuple):
         """Whether a `*` lets it fit several findings."""
         return ANY in self.key
 
-    def refused(self) -> Optional[TableError]:
-        """Why nobody may accept findings so broadly."""
+    def refused(self, never: Collection[str]) -> Optional[TableError]:
+        """Why nobody may accept findings so broadly. `never` are the rules that no correct data gets."""
         if self.is_wide and self.rule == "F14":
             why = "F14 is not accepted by *: two groups of one identity are looked at one by one"
             return TableError(why, column=FIELDS[self.key.index(ANY)])
-        if self.key[4] == ANY and self.rule not in ON_CORRECT_DATA:
+        if self.key[4] == ANY and self.rule in never:
             why = f"{self.rule} is not accepted by * as aspect, since no correct data gets it: name the aspect"
             return TableError(why, column="aspect")
         if self.is_wide and self.key[2] in ("", ANY) and self.until is None:
@@ -143,6 +148,8 @@ class Entries(NamedTuple):
     path: str
     sha256: str
     entries: Tuple[Acceptance, ...]
+    never: Collection[str] = NEVER_CORRECT
+    """The rules that no correct data gets."""
 
 
 @dataclass(frozen=True)
@@ -178,7 +185,7 @@ class Judged:
     @property
     def against_the_rule(self) -> Mapping[str, int]:
         """How many items are accepted of each rule that no correct data gets by findings.md."""
-        return Counter(entry.rule for entry in self.by_item if entry and entry.rule not in ON_CORRECT_DATA)
+        return Counter(entry.rule for entry in self.by_item if entry and entry.rule in self.entries.never)
 
     @property
     def open(self) -> Sequence[Item]:
@@ -186,14 +193,18 @@ class Judged:
         return [item for item, entry in zip(self.items, self.by_item) if entry is None]
 
 
-def read(path: str) -> Entries:
-    """The entries of this file. TableError or TableErrors is raised if it cannot be read."""
-    file = inputs.read(path)
+def read(path: str, added: Iterable[Rule] = ()) -> Entries:
+    """The entries of this file. TableError or TableErrors is raised if it cannot be read.
+
+    `added` are rules that the user adds. An entry for another rule of such a name is for a rule that is not applied.
+    """
+    file, never = inputs.read(path), NEVER_CORRECT | {rule.name for rule in added if not rule.has_correct_data}
     with faults_of(path):
-        return Entries(path, file.sha256, _entries(csv_file.read(file.content, Headings(COLUMNS, NEEDED)).rows))
+        rows = csv_file.read(file.content, Headings(COLUMNS, NEEDED)).rows
+        return Entries(path, file.sha256, _entries(rows, never), never)
 
 
-def _entries(rows: Sequence[Sequence[str]]) -> Tuple[Acceptance, ...]:
+def _entries(rows: Sequence[Sequence[str]], never: Collection[str]) -> Tuple[Acceptance, ...]:
     heading = headings(list(rows[0])) if rows else []
     for name in dict.fromkeys(heading):
         if name and name not in COLUMNS:
@@ -207,7 +218,7 @@ def _entries(rows: Sequence[Sequence[str]]) -> Tuple[Acceptance, ...]:
     for number, cells in enumerate(rows[1:], 2):
         if any(cell.strip() for cell in cells):
             try:
-                entries.append(_entry(number, heading, cells))
+                entries.append(_entry(number, heading, cells, never))
             except TableError as fault:
                 fault.row = number
                 faults.append(fault)
@@ -216,7 +227,7 @@ def _entries(rows: Sequence[Sequence[str]]) -> Tuple[Acceptance, ...]:
     return tuple(entries)
 
 
-def _entry(number: int, heading: Sequence[str], cells: Sequence[str]) -> Acceptance:
+def _entry(number: int, heading: Sequence[str], cells: Sequence[str], never: Collection[str]) -> Acceptance:
     if any(cell.strip() for cell in cells[len(heading) :]):
         raise TableError(f"it has {len(cells)} cells, and the heading {len(heading)}")
     found = {name: plain(cell.strip()) for name, cell in zip(heading, cells)}
@@ -230,7 +241,7 @@ def _entry(number: int, heading: Sequence[str], cells: Sequence[str]) -> Accepta
         raise TableError(why, column="message" if key[1:3] == ("", "") else "nid_c")
     dates = _date("date", values["date"]), _date("until", values["until"])
     entry = Acceptance(number, key, values["reason"], values["who"], *dates, _value("sha256", values["sha256"]))
-    too_broad = entry.refused()
+    too_broad = entry.refused(never)
     if too_broad:
         raise too_broad
     return entry
@@ -335,7 +346,8 @@ def _values(item: Item) -> List[str]:
         return []
     named = [f"group {identity[0]} {identity[1]}" for identity in (each.identity for each in item.named) if identity]
     numbers = ANY_NUMBER.findall(ROW_NUMBERS.sub("", item.sentence))
-    return [*(f"{name} {value.normalize():f}" for name, value in item.values.items()), *named, *numbers]
+    values = {**{name: f"{value.normalize():f}" for name, value in item.values.items()}, **item.texts}
+    return [*(f"{name} {value}" for name, value in values.items()), *named, *numbers]
 
 
 def _names(item: Item) -> List[str]:
@@ -373,7 +385,7 @@ def _texts_of_remark(remark: Remark) -> List[str]:
         return list(
             {row.number: row.telegram for group in groups for row in group.rows() if row.number in remark.rows}.values()
         )
-    return [row.telegram] if row and remark.rule[0] in "EX" else _telegrams(remark.rule, row, groups)
+    return [row.telegram] if row and letter_of(remark.rule) in OF_ROWS else _telegrams(remark.rule, row, groups)
 
 
 def _telegrams(rule: str, row: Optional[Row], groups: Sequence[Group]) -> List[str]:
@@ -387,7 +399,7 @@ def judge(
     items: Sequence[Item], checked: Checked, entries: Entries, day: datetime.date, families: Sequence[str] = "F"
 ) -> Judged:
     """Which items are accepted on this day, and which entries for rules of these families are at fault."""
-    applied = [entry for entry in entries.entries if entry.rule[0] in families]
+    applied = [entry for entry in entries.entries if letter_of(entry.rule) in families]
     about = list(_entries_about(keys(items, checked), applied))
     fitting: Dict[int, List[Item]] = {}
     for item, fits in zip(items, about):
@@ -401,7 +413,7 @@ def judge(
     by_item = [next((entry for entry in fits if not faults[entry.row]), None) for fits in about]
     former = [next((entry for entry in fits if not entry.is_wide), None) for fits in about]
     at_fault = [(entry, ", ".join(faults[entry.row])) for entry in applied if faults[entry.row]]
-    others = tuple(entry for entry in entries.entries if entry.rule[0] not in families)
+    others = tuple(entry for entry in entries.entries if letter_of(entry.rule) not in families)
     return Judged(entries, tuple(items), tuple(by_item), tuple(at_fault), tuple(former), others, day)
 
 

@@ -197,6 +197,9 @@ class Checked:
     settings: Settings = Settings()
     """Which settings of the command differ from their defaults."""
 
+    def __repr__(self) -> str:
+        return f"<Checked {self.table.path}: status {self.status}, {len(self.findings)} findings>"
+
     @property
     def not_looked_at(self) -> int:
         """How many rows were not tried, after too many refused ones."""

@@ -8,6 +8,12 @@ from typing import Iterable, Sequence, Tuple
 
 from balisekit.rules.rule import Rule
 
+BALISEKIT = re.compile("[FLEX][1-9][0-9]*")
+"""The name of a rule of the program or of balisekit."""
+ADDED = "U"
+"""The family of the rules that users add."""
+ADDED_NAME = "(?![FLEX]-?[0-9])[A-Z]{1,12}-?[1-9][0-9]{0,3}"
+"""An expression for the name of an added rule."""
 MODULE = re.compile(r"[a-z]([1-9][0-9]*)_")
 """How the name of a module with a rule begins: the letter of its family, and its number."""
 
@@ -17,6 +23,11 @@ def rules_of(package: str, folders: Iterable[str]) -> Tuple[Rule, ...]:
     names = [module.name for module in iter_modules(folders)]
     numbers = {name: int(found[1]) for name, found in ((name, MODULE.match(name)) for name in names) if found}
     return tuple(import_module(f"{package}.{name}").RULE for name in sorted(numbers, key=numbers.__getitem__))
+
+
+def letter_of(rule: str) -> str:
+    """The letter of the family of a rule, by its name."""
+    return rule[0] if BALISEKIT.fullmatch(rule) else ADDED
 
 
 def first_to_last(rules: Sequence[Rule]) -> str:

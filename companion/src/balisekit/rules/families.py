@@ -14,7 +14,7 @@ from balisekit.rules import links, meaning, track_plan
 from balisekit.rules.accepted import RULES, Acceptance, Entries, Item, Judged, identities, judge
 from balisekit.rules.applied import Applied, Notes, look_for, no_notes
 from balisekit.rules.checking import Checked, Place
-from balisekit.rules.discovery import first_to_last
+from balisekit.rules.discovery import ADDED, first_to_last
 from balisekit.rules.entries import Entry, entries, kilometre_of
 from balisekit.rules.line import Line
 from balisekit.rules.location import Identity
@@ -75,8 +75,11 @@ FAMILIES: Mapping[str, Family] = {
         track_plan.OF_PLACES.notes,
         passed_over=track_plan.OF_PLACES.find,
     ),
+    ADDED: Family(ADDED, "added rules, not balisekit's, and not proved", "added rules"),
 }
-"""In the order of an answer."""
+"""In the order of an answer. `apply` is given the rules of the last one."""
+IF_ANY = frozenset({PLAN, ADDED})
+"""The families that are not applied unless the user supplies the plan, or the rules."""
 
 
 class Part(NamedTuple):
@@ -114,6 +117,11 @@ class Outcome:
     """What was accepted, if there is a file of accepted entries."""
     without_kilometres: bool = False
     """Whether rules were not applied, since no row of the table has a kilometre."""
+    off: Sequence[str] = ()
+    """The added rules that are off, since nobody has asked for them."""
+
+    def __repr__(self) -> str:
+        return f"<Outcome of {self.checked.table.path}: status {self.status}, {len(self.entries)} entries>"
 
     @property
     def letters(self) -> str:
@@ -199,14 +207,22 @@ def apply(
     time.perf_counter(): that time belongs to the first part.
     """
     has_kilometres = any(row.km is not None for row in checked.table.rows)
-    known = [family for letter, family in FAMILIES.items() if letter in letters and (letter != PLAN or options.plan)]
-    asked = [_asked_for(family, options) for family in known]
+    known = families(options)
+    asked = [family for letter, family in known.items() if letter in letters]
     able = [family if has_kilometres else _without_kilometres(family) for family in asked]
     applied = [family for family in able if family.rules or family.letter == PROVED]
     parts = list(_looked_at(checked, applied, options, began))
     items = [item for part in parts for item in part.items]
     judged = judge(items, checked, signed[0], signed[1], [family.letter for family in applied]) if signed else None
-    return Outcome(checked, [_with_entries(checked, part, judged) for part in parts], judged, able != asked)
+    applied_rules = {rule.name for family in asked for rule in family.rules}
+    off = [rule.name for rule in options.added if rule.name not in applied_rules]
+    return Outcome(checked, [_with_entries(checked, part, judged) for part in parts], judged, able != asked, off)
+
+
+def families(options: Options) -> Mapping[str, Family]:
+    """The families with the rules that are applied by default or were asked for. Without a plan X is not there."""
+    added = {**FAMILIES, ADDED: FAMILIES[ADDED]._replace(rules=options.added)}
+    return {letter: _asked_for(each, options) for letter, each in added.items() if letter != PLAN or options.plan}
 
 
 def _asked_for(family: Family, options: Options) -> Family:
@@ -270,7 +286,7 @@ def entry_of_remark(remark: Remark) -> Entry:
         where.direction,
         kilometre_of(group.group, numbers) if group else None,
         where.message,
-        {name: f"{value:f}" for name, value in remark.values.items()},
+        {**{name: f"{value:f}" for name, value in remark.values.items()}, **remark.texts},
         remark=remark,
         balises=(name,) if name else (),
         other_rows=tuple(remark.others),

@@ -16,6 +16,7 @@ from balisekit.rules.chains import Chain
 from balisekit.rules.line import Line
 from balisekit.rules.location import BaliseGroup, Location
 from balisekit.rules.page_sentences import filled_in
+from balisekit.rules.template import Template
 from balisekit.tables.model import Row
 from balisekit.tables.plan import Plan
 
@@ -30,6 +31,19 @@ LINE_SPEED, RELEASE_SPEED = 350, 40
 
 Field = Tuple[int, int, str, Optional[int]]
 """A field of a telegram: its row, the place of its packet, its key, and which element it is of, counted from 0."""
+
+
+class Origin(NamedTuple):
+    """The file of a rule that is not balisekit's. Of an installed package it is the name of the module."""
+
+    path: str
+    sha256: str
+    """Empty if the code of the rule is in no file."""
+    package: str = ""
+    version: str = ""
+
+    def __str__(self) -> str:
+        return f"{self.package} {self.version}: {self.path}" if self.package else self.path
 
 
 class Urgency(IntEnum):
@@ -65,6 +79,8 @@ class Options:
     """The rules that were asked for by name, or `all`."""
     plan: Optional[Plan] = None
     """The track plan, for the rules X."""
+    added: Tuple[Rule, ...] = ()
+    """The rules that the user adds."""
 
     @property
     def greatest_speed(self) -> int:
@@ -104,6 +120,12 @@ class Remark(NamedTuple):
     """The fields with which it has compared them."""
     places: Sequence[str] = ()
     """The rows of other groups that it is about, by identity, aspect and balise: an entry accepts no others."""
+    texts: Mapping[str, str] = {}
+    """The texts of an added rule that its sentence names, such as names of groups."""
+    arguments: Sequence[str] = ()
+    """What stands in the fields of the template of its rule, if that has one."""
+    origin: Optional[Origin] = None
+    """Where its rule is from, if that is not balisekit's."""
 
 
 class Result(NamedTuple):
@@ -173,6 +195,10 @@ class Rule:
     """Whether it is applied if nobody asks for it."""
     optional_part: str = ""
     """What it also reports if it is asked for by name, of a rule that is otherwise always applied."""
+    template: Optional[Template] = None
+    """Of what its sentences are made, if there is one template for all of them."""
+    origin: Optional[Origin] = None
+    """Where it is from, if it is not balisekit's."""
 
     @cached_property
     def title(self) -> str:

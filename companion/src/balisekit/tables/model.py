@@ -45,6 +45,9 @@ class Group:
     name: str
     aspects: Tuple[Aspect, ...]
 
+    def __repr__(self) -> str:
+        return f"<Group {self.name!r}>"
+
     def rows(self) -> Iterator[Row]:
         """All rows of the group. A row of every aspect comes once for each."""
         for aspect in self.aspects:
@@ -61,6 +64,11 @@ class Group:
         return {row.number: row for row in self.rows()}
 
     @cached_property
+    def track(self) -> str:
+        """The name of its track, or nothing. Each entry of the group asks for it."""
+        return next((row.track for row in self.rows() if row.track), "")
+
+    @cached_property
     def places(self) -> Dict[int, int]:
         """The place of each row's balise in nominal order, by the number of the row."""
         return {row.number: place for aspect in reversed(self.aspects) for place, row in enumerate(aspect.rows)}
@@ -71,7 +79,9 @@ class Table:
     """A table as it was read."""
 
     path: str
+    """The file."""
     sha256: str
+    """The checksum of the file."""
     encoding: str
     """`utf-8`, `utf-16`, `windows-1252` or `xlsx`."""
     separator: str
@@ -88,6 +98,9 @@ class Table:
     """The headings that are in it because a file of settings states them."""
     meant: Tuple[str, ...] = ()
     """Of the first 1,000 headings that are passed over: the one for which each may have been mistyped, or nothing."""
+
+    def __repr__(self) -> str:
+        return f"<Table {self.path}: {len(self.rows)} telegrams of {len(self.groups)} groups>"
 
 
 class Message(NamedTuple):
@@ -106,7 +119,12 @@ class Messages(NamedTuple):
     """A file of radio messages as it was read."""
 
     path: str
+    """The file."""
     sha256: str
+    """The checksum of the file."""
     encoding: str
     messages: Tuple[Message, ...]
     account: Account
+
+    def __repr__(self) -> str:
+        return f"<Messages {self.path}: {len(self.messages)} messages>"

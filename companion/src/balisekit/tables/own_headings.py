@@ -39,7 +39,7 @@ class Found(NamedTuple):
 
 
 STATED = {
-    CHECK_TABLE: ("line_speed", "release_speed", "tolerance", "jumps", "plan", "rules"),
+    CHECK_TABLE: ("line_speed", "release_speed", "tolerance", "jumps", "plan", "rules", "rules_from"),
     REPORT_TABLE: ReportHeading._fields,
 }
 """The tables by which a project states something, and the keys of each."""
@@ -47,6 +47,7 @@ GREATEST_FILE = 1_000_000
 """The most bytes that a file of settings can have."""
 LONG_NUMBER, KEY = re.compile("[0-9](?:_?[0-9]){4000}"), re.compile(r"""\s*([A-Za-z0-9_."' -]{1,100}?)\s*=""")
 """A number that Python does not read, and the key at the beginning of a line."""
+RULES_FROM = "rules_from"
 FILES = {"jumps", "plan"}
 """The keys of [check] whose values are paths, relative to the folder of the file."""
 
@@ -102,6 +103,7 @@ def _read(path: str) -> Dict[str, Dict[str, Any]]:
         form = _parsed(inputs.read_settings(path).content)
         tables = {name: form.pop(name, {}) for name in (COLUMNS_TABLE, EXPECT_TABLE, *STATED)}
         check = tables[CHECK_TABLE]
+        _place_rules(path, check)
         for name in FILES.intersection(check if isinstance(check, dict) else ()):
             if isinstance(check[name], str):
                 if not check[name].strip():
@@ -115,6 +117,16 @@ def _read(path: str) -> Dict[str, Dict[str, Any]]:
         for name, keys in STATED.items():
             _look_at_stated(name, tables[name], keys)
     return tables
+
+
+def _place_rules(path: str, check: Any) -> None:
+    """Gives the files of [check] rules_from their paths from here. The names of packages are no paths."""
+    named = check.get(RULES_FROM) if isinstance(check, dict) else None
+    if isinstance(named, list) and all(isinstance(each, str) for each in named):
+        folder = os.path.dirname(path)
+        check[RULES_FROM] = [
+            inputs.claimed(os.path.join(folder, each)) if inputs.is_python(each) else each for each in named
+        ]
 
 
 def _parsed(content: bytes) -> Dict[str, Any]:

@@ -135,7 +135,8 @@ def _remark(decoded: Decoded, one: Passage, pairs: Pairs, culprit: str, others: 
     blamed, beside = (
         [each for some in longest.values() for each in field_at(some.packets[side], some.begin)] for side in (0, 1)
     )
-    return Remark("E10", one.at(), sentence, None, values, (), None, rows, (), [culprit, *others], (), blamed, beside)
+    aspects = [culprit, *others]
+    return Remark("E10", one.at(), sentence, None, values, (), None, rows, (), aspects, (), blamed, beside)
 
 
 def _words(packet: Packet, value: int) -> str:

@@ -1,0 +1,223 @@
+"""The functions of the public interface, and what they give."""
+from __future__ import annotations
+
+import argparse
+import json
+import os
+from decimal import Decimal
+from typing import Any, Callable, Dict, Iterator, List, Mapping, NamedTuple, Optional, Sequence, Tuple, Union
+
+from balisekit.cli import outcome as commands, settings
+from balisekit.compare.releases import Difference, compare
+from balisekit.engine.program import Program
+from balisekit.errors import TableError
+from balisekit.io.inputs import InputPath
+from balisekit.io.outputs import Json
+from balisekit.present import outcome_text
+from balisekit.present.check_json import as_json
+from balisekit.rules import stated
+from balisekit.rules.added import AddedRule
+from balisekit.rules.discovery import letter_of
+from balisekit.rules.entries import Entry
+from balisekit.rules.families import Outcome
+from balisekit.tables import messages as messages_file, reader
+from balisekit.tables.model import Messages, Table
+
+Path = Union[str, "os.PathLike[str]"]
+Number = Union[int, float, Decimal, str]
+
+
+class Finding(NamedTuple):
+    """One cause that an engineer has to look at: findings of the program, or a remark of another rule."""
+
+    rule: str
+    """`F11`, `L2`, or the name of an added rule."""
+    family: str
+    """`F` for the program, whose findings are proved; `L`, `E` or `X` for balisekit; `U` for added rules."""
+    rows: Tuple[int, ...]
+    """The rows of the table that it is about."""
+    group: Optional[str]
+    """The name of the group, if it is about one."""
+    aspect: str
+    """The aspects that it is about, with commas between them. It is empty if it is about no aspect."""
+    direction: Optional[str]
+    """`nominal` or `reverse`."""
+    km: Optional[Decimal]
+    """The kilometre of the first of its rows."""
+    sentence: str
+    """What is wrong, with the values that differ and their units."""
+    values: Mapping[str, str]
+    """The values of the sentence, by their names."""
+    urgency: str
+    """What may follow at worst: `wrong_information`, `wrong_place`, `not_judged`, `braking` or `rule_only`."""
+    expected: str
+    """The case of correct data that gets such a finding, if it fits one."""
+    accepted: bool
+    """Whether the file of accepted entries accepts it."""
+    message: Optional[int] = None
+    """The line of the file of messages, if it is about a message."""
+    program: Tuple[str, ...] = ()
+    """The lines of the program, unchanged."""
+
+
+class Result:
+    """What `check` finds of a table. No findings are no success by themselves: `status` says whether all was judged."""
+
+    def __init__(self, outcome: Outcome) -> None:
+        self._outcome = outcome
+        self.findings: Tuple[Finding, ...] = tuple(_finding(outcome, entry) for entry in outcome.entries)
+        """All of them, in the order of the answer. Those of correct data come last."""
+
+    @property
+    def status(self) -> int:
+        """As the command ends: 2 if anything was not judged, 1 if anything is open, else 0."""
+        return self._outcome.status
+
+    @property
+    def last_line(self) -> str:
+        """The last line of the answer, with the verdict of the program."""
+        return outcome_text.last_lines(self._outcome)[-1]
+
+    @property
+    def lines(self) -> List[str]:
+        """The answer in words, as the command writes it."""
+        return list(outcome_text.lines(self._outcome))
+
+    @property
+    def open(self) -> Tuple[Finding, ...]:
+        """The findings that nobody has accepted."""
+        return tuple(finding for finding in self.findings if not finding.accepted)
+
+    def of(self, *rules: str) -> Tuple[Finding, ...]:
+        """The findings of these rules or families: `of("F", "L2")`."""
+        return tuple(each for each in self.findings if each.rule in rules or each.family in rules)
+
+    def to_records(self) -> List[Dict[str, Any]]:
+        """A dictionary of plain values for each finding: `pandas.DataFrame(result.to_records())` is a table of them."""
+        return [_record(finding) for finding in self.findings]
+
+    def to_json(self) -> Dict[str, Any]:
+        """The object that `check --json` writes, by schemas/kit-check.json."""
+        answer: Dict[str, Any] = _plain(as_json(self._outcome))
+        return answer
+
+    def __repr__(self) -> str:
+        path = self._outcome.checked.table.path
+        return f"<Result of {path}: status {self.status}, {len(self.findings)} findings, {self.last_line}>"
+
+
+def read_table(
+    path: Path,
+    sheet: Optional[str] = None,
+    by_position: bool = False,
+    columns: Optional[Path] = None,
+    fill_merged: bool = False,
+    skip_columns: Sequence[str] = (),
+) -> Table:
+    """The table of a CSV file or of a sheet of an .xlsx. `by_position` is as in `check`.
+
+    `columns` is a TOML file with headings of your own, and `fill_merged` fills the cells of merged areas.
+    `skip_columns` are the headings of columns that are not to be read, even if they have telegrams.
+    """
+    own = None if columns is None else os.fspath(columns)
+    stated.reading(sheet, own, skip_columns)
+    return reader.read(os.fspath(path), sheet, by_position, own, fill_merged, skip_columns)
+
+
+def read_messages(path: Path) -> Messages:
+    """The radio messages of a file."""
+    return messages_file.read(os.fspath(path))
+
+
+def check(
+    table: Union[Path, Table],
+    *,
+    messages: Union[Path, Messages, None] = None,
+    only: str = "",
+    accepted: Optional[Path] = None,
+    plan: Optional[Path] = None,
+    jumps: Optional[Path] = None,
+    tolerance: Optional[Number] = None,
+    line_speed: Optional[int] = None,
+    release_speed: Optional[int] = None,
+    rules: Union[str, Sequence[str]] = (),
+    rules_from: Sequence[Union[Path, AddedRule]] = (),
+    columns: Optional[Path] = None,
+    by_position: bool = False,
+    everything: bool = False,
+    program: Union[Program, Path, None] = None,
+) -> Result:
+    """What the program and all families of rules find of a table, or of the table in a file.
+
+    The options are those of `balisekit check`, with the same names and meanings; `everything` is `--all`. Options that
+    are not given are taken from balisekit.toml, as for the command. `rules_from` also takes an `AddedRule` of a script.
+    """
+    found = table if isinstance(table, Table) else read_table(table, None, by_position, columns)
+    options = argparse.Namespace(table=found.path, columns=None if columns is None else os.fspath(columns))
+    texts = [rules] if isinstance(rules, str) else list(rules)
+    given = {"plan": plan, "jumps": jumps, "tolerance": tolerance, "line_speed": line_speed}
+    given.update(release_speed=release_speed, rules=",".join(texts) or None)
+    vars(options).update({name: None if value is None else _read(name, value) for name, value in given.items()})
+    options.rules_from = [each if isinstance(each, AddedRule) else _read("rules_from", each) for each in rules_from]
+    options.rules_from = options.rules_from or None
+    options.only = _asked(commands.families_of, "only", only) if only else None
+    options.accepted = None if accepted is None else InputPath(os.fspath(accepted))
+    options.by_position, options.all = by_position, everything
+    said = messages if messages is None or isinstance(messages, Messages) else read_messages(messages)
+    own = program if isinstance(program, Program) else Program.find(None if program is None else os.fspath(program))
+    return Result(commands.outcome(options, commands.stated(options), inputs=(own, found, said)))
+
+
+def diff(old: Result, new: Result) -> Difference:
+    """What differs between two releases of a table that were checked."""
+    return compare(old._outcome.checked, new._outcome.checked)
+
+
+def _read(name: str, value: object) -> Any:
+    """The value of an option as the command reads it."""
+    return _asked(settings.KINDS[name].read, name, os.fspath(value) if isinstance(value, os.PathLike) else str(value))
+
+
+def _asked(read: Callable[[str], Any], name: str, text: str) -> Any:
+    """What an option makes of a text. TableError is raised if it takes no such text."""
+    try:
+        return read(text)
+    except argparse.ArgumentTypeError as error:
+        raise TableError(f"{name}: {error}") from error
+
+
+def _finding(outcome: Outcome, entry: Entry) -> Finding:
+    """An entry as callers get it."""
+    return Finding(
+        rule=entry.rule,
+        family=letter_of(entry.rule),
+        rows=tuple(entry.rows),
+        group=entry.group.name if entry.group else None,
+        aspect=", ".join(entry.aspects),
+        direction=entry.direction or None,
+        km=entry.km,
+        sentence=entry.sentence,
+        values=dict(entry.values),
+        urgency=entry.urgency.name.lower(),
+        expected=entry.expected,
+        accepted=bool(outcome.acceptances(entry)),
+        message=entry.message.number if entry.message else None,
+        program=tuple(entry.quoted),
+    )
+
+
+def _record(finding: Finding) -> Dict[str, Any]:
+    """A finding with plain values, which tables of other libraries take."""
+    values = "; ".join(f"{name} {value}" for name, value in finding.values.items())
+    rows, program = ", ".join(map(str, finding.rows)), "; ".join(finding.program)
+    km = None if finding.km is None else float(finding.km)
+    return {**finding._asdict(), "rows": rows, "km": km, "values": values, "program": program}
+
+
+def _plain(value: object) -> Any:
+    """A member of the answer as other tools read it from the file."""
+    if isinstance(value, dict):
+        return {name: _plain(each) for name, each in value.items()}
+    if isinstance(value, (list, tuple, Iterator)):
+        return list(map(_plain, value))
+    return json.loads(value) if isinstance(value, Json) else value
