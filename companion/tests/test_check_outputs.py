@@ -90,10 +90,10 @@ def test_each_example_is_as_the_schemas_say(run: Run, tmp_path: Path, path: Path
     assert all(rules[result["ruleIndex"]]["id"] == result["ruleId"] for result in log["results"])
     names = [*(f"F{number}" for number in range(1, 17)), *(f"L{number}" for number in range(1, 10))]
     names += [rule.name for rule in meaning.RULES if rule.is_default]
-    assert [rule["id"] for rule in rules] == ["refused", "not-judged", *names]
-    pages = {rule["id"]: TOP / "docs" / "rules" / f"{rule['id']}.md" for rule in rules[2:]}
-    assert {rule["id"]: rule.get("helpUri") for rule in rules[2:]} == {it: pages[it].as_uri() for it in pages}
-    assert all(path.is_file() for path in pages.values()) and not any("helpUri" in rule for rule in rules[:2])
+    assert [rule["id"] for rule in rules] == ["refused", "not-judged", "entry-at-fault", *names]
+    pages = {rule["id"]: TOP / "docs" / "rules" / f"{rule['id']}.md" for rule in rules[3:]}
+    assert {rule["id"]: rule.get("helpUri") for rule in rules[3:]} == {it: pages[it].as_uri() for it in pages}
+    assert all(path.is_file() for path in pages.values()) and not any("helpUri" in rule for rule in rules[:3])
 
 
 @pytest.mark.uncovered
@@ -156,6 +156,29 @@ def test_a_place_is_a_line_of_the_file(
     answer, log = written(run, tmp_path, table(content=text.encode("utf-8")))
     region = log["results"][0]["locations"][0]["physicalLocation"]["region"]
     assert answer["entries"][0]["rows"] == [3] and (region["startLine"], region["endLine"]) == lines
+
+
+@pytest.mark.parametrize("first", ["", "sep=;\n"])
+def test_an_entry_at_fault_is_a_result(run: Run, table: Write, tmp_path: Path, first: str) -> None:
+    """It has its line in the file of entries, whatever rows are above it. Status 1 has a result, as in JUnit."""
+    path = table("group,telegram", f"A,{ALONE}", f"B,{OTHER}")
+    unused = {"rule": "F14", "nid_c": "1", "nid_bg": "1", **SIGNED}
+    rows = [unused, {**unused, "nid_bg": "2", "until": "2026-02-03"}]
+    lines = [";".join(row.get(name, "") for name in COLUMNS) for row in rows]
+    prints: List[List[str]] = []
+    for between in ([], [""]):
+        file = table(content=(first + "\n".join([";".join(COLUMNS), *between, *lines])).encode(), name="a.csv")
+        answer, log = written(run, tmp_path, path, "--accepted", file)
+        faults, results = answer["accepted"]["at_fault"], log["results"]
+        assert answer["status"] == 1 and {result["ruleId"] for result in results} == {"entry-at-fault"}
+        texts = [result["message"]["text"] for result in results]
+        assert texts == [f"a.csv: row {fault['row']}: {fault['why']}" for fault in faults] and len(texts) == 2
+        places = [result["locations"][0]["physicalLocation"] for result in results]
+        begin = 2 + len(between) + bool(first)
+        assert [place["region"]["startLine"] for place in places] == [begin, begin + 1]
+        assert {place["artifactLocation"]["uri"] for place in places} == {file.as_uri()}
+        prints.append([result["partialFingerprints"]["balisekit/v1"] for result in results])
+    assert prints[0] == prints[1]
 
 
 def test_help_of_rules_is_that_of_the_pages(run: Run, tmp_path: Path) -> None:

@@ -1,7 +1,7 @@
 """The answer of `check` as SARIF 2.1.0 (OASIS), by which code hosts show what was found at the rows of a table.
 
-A result is an entry of `check`, or a telegram or message that was refused. What was accepted is suppressed, with its
-reason. The fingerprint of a result is made of its rule and of what names it in a file of accepted findings, so that it
+A result is an entry of `check`, a telegram or message that was refused or is not read, or an accepted entry at fault.
+What was accepted is suppressed, with its reason. The fingerprint of a result is made of its rule and of what names it in a file of accepted findings, so that it
 survives new rows.
 """
 from __future__ import annotations
@@ -23,13 +23,15 @@ from balisekit.present.headings import entry_lines
 from balisekit.present.opening import opening, paths_from, settings_json
 from balisekit.present.outcome_text import closing_lines, not_looked_at, notes_of
 from balisekit.present.refusals import message_refused, refused
-from balisekit.rules.accepted import keys
+from balisekit.rules.accepted import COLUMNS, NEEDED, Judged, keys
 from balisekit.rules.discovery import letter_of
 from balisekit.rules.entries import Entry
 from balisekit.rules.families import PROVED, Outcome, items_of
 from balisekit.rules.rule import Rule, Urgency
 from balisekit.rules.template import escaped
+from balisekit.tables import csv as csv_file
 from balisekit.tables.csv import lines_of_rows
+from balisekit.tables.headings import Headings
 from balisekit.tables.names import clean
 
 SCHEMA = "https://docs.oasis-open.org/sarif/sarif/v2.1.0/errata01/os/schemas/sarif-schema-2.1.0.json"
@@ -48,6 +50,9 @@ NOT_JUDGED = "not-judged"
 NOT_JUDGED_PAGE = Page("telegrams that are not judged", {"How to correct it": "See the account in docs/commands.md."})
 SENTENCE = "sentence"
 """The identifier of the template of an added rule."""
+AT_FAULT = "entry-at-fault"
+"""The identifier of a result for an entry of the file of accepted findings that accepts nothing."""
+AT_FAULT_PAGE = Page("an accepted entry at fault", {"How to correct it": "See accepted findings in docs/guide.md."})
 FINGERPRINT = "balisekit/v1"
 INCOMPLETE = 2
 """The status of an answer that does not cover all that was asked for."""
@@ -62,7 +67,7 @@ def document(outcome: Outcome) -> Object:
     rules = [{**_rule(name, page), **_added(added.get(name))} for name, page in _pages(outcome)]
     numbers = {rule["id"]: number for number, rule in enumerate(rules)}
     lines = _lines(outcome)
-    results = [*_refused(outcome, lines), *_not_read(outcome, lines), *_entries(outcome, lines)]
+    results = [*_refused(outcome, lines), *_not_read(outcome, lines), *_at_fault(outcome), *_entries(outcome, lines)]
     seen: Counter[str] = Counter()
     for result in results:
         result["ruleIndex"] = numbers[result["ruleId"]]
@@ -105,6 +110,7 @@ def _invocation(outcome: Outcome) -> Object:
 def _pages(outcome: Outcome) -> Iterator[Tuple[str, Page]]:
     yield REFUSED, REFUSED_PAGE
     yield NOT_JUDGED, NOT_JUDGED_PAGE
+    yield AT_FAULT, AT_FAULT_PAGE
     for part in outcome.parts:
         yield from pages(part.family)
 
@@ -159,6 +165,24 @@ def _not_read(outcome: Outcome, lines: Lines) -> Iterator[Object]:
             (text,) = not_judged_lines([each])
             location = _location(table.path, each.rows, lines)
             yield _result(NOT_JUDGED, "error", text, [location], f"{each.sheet} {each.column}")
+
+
+def _at_fault(outcome: Outcome) -> Iterator[Object]:
+    judged = outcome.judged
+    if judged is None or not judged.faults:
+        return
+    path, lines = judged.entries.path, _lines_of_entries(judged)
+    for fault, why in judged.faults:
+        text = f"{clean(paths_from(outcome.checked)(path))}: row {fault.row}: {why}"
+        yield _result(AT_FAULT, "error", text, [_location(path, [fault.row], lines)], f"{fault.key}")
+
+
+def _lines_of_entries(judged: Judged) -> Lines:
+    """The lines of the rows of a file of accepted findings. A changed file has none: then row numbers are used."""
+    file = inputs.read(judged.entries.path)
+    if file.sha256 != judged.entries.sha256:
+        return ()
+    return lines_of_rows(file.content, csv_file.read(file.content, Headings(COLUMNS, NEEDED)).separator)
 
 
 def _entries(outcome: Outcome, lines: Lines) -> Iterator[Object]:
