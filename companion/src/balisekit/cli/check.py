@@ -15,7 +15,7 @@ from balisekit.present.outcome_text import lines
 from balisekit.rules import checking
 from balisekit.rules.families import Outcome
 
-OF_PAGE = ("table", "explain", "command", "run", "debug")
+OF_PAGE = ("table", "explain", "rules_from", "command", "run", "debug")
 """What the command line has if it asks for the page of a rule."""
 IS_BOTH = "{} is a file and the name of a rule: write {} for the file, or ask for the page in another folder"
 LACKING = "note: the document lacks what was refused or left out: a yes for it is no yes for the table"

@@ -1,8 +1,8 @@
 """The answer of `check` as SARIF 2.1.0 (OASIS), by which code hosts show what was found at the rows of a table.
 
 A result is an entry of `check`, a telegram or message that was refused or is not read, or an accepted entry at fault.
-What was accepted is suppressed, with its reason. The fingerprint of a result is made of its rule and of what names it in a file of accepted findings, so that it
-survives new rows.
+What was accepted is suppressed, with its reason. The fingerprint of a result is made of its rule and of what names it
+in a file of accepted findings, so that it survives new rows.
 """
 from __future__ import annotations
 
