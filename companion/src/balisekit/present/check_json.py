@@ -16,6 +16,7 @@ from balisekit.present.refusals import message_refused, telegram_refused
 from balisekit.rules.checking import Checked, LeftOut, Place, Refused, RefusedMessage
 from balisekit.rules.entries import Entry
 from balisekit.rules.families import PROVED, Outcome
+from balisekit.rules.location import Location
 from balisekit.rules.remarks import remarks
 from balisekit.tables.model import Group, Message, Row
 
@@ -73,6 +74,7 @@ def entries_json(outcome: Outcome) -> Iterator[Dict[str, Any]]:
             "sentence": entry.sentence,
             "rows": list(entry.rows),
             "other_rows": list(entry.other_rows),
+            "also": list(map(_also, entry.remark.also)) if entry.remark else [],
             "group": entry.group.name if entry.group else None,
             "nid_c": identity[0] if identity else None,
             "nid_bg": identity[1] if identity else None,
@@ -83,6 +85,15 @@ def entries_json(outcome: Outcome) -> Iterator[Dict[str, Any]]:
             "state": "accepted" if accepted else "open",
             "accepted": [accepted_text.entry_json(each) for each in accepted],
         }
+
+
+def _also(where: Location) -> Dict[str, Any]:
+    """Another place that has what an entry is about."""
+    return {
+        "group": where.group.group.name if where.group else None,
+        "row": where.row.number if where.row else None,
+        "message": where.message.number if where.message else None,
+    }
 
 
 def _place_of(entry: Entry) -> Dict[str, Any]:

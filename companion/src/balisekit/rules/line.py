@@ -10,6 +10,7 @@ from bisect import bisect_left, bisect_right
 from dataclasses import dataclass, field
 from decimal import Decimal
 from functools import cached_property
+from itertools import accumulate
 from typing import AbstractSet, Dict, FrozenSet, Iterator, List, Mapping, NamedTuple, Optional, Sequence, Tuple, Union
 
 from balisekit.engine.grammar import Finding
@@ -27,6 +28,7 @@ from balisekit.rules.decoded import (
     rounding,
     telegrams_of,
 )
+from balisekit.rules.facts import counted, group_words
 from balisekit.rules.location import IN_JUMP, NOT_KNOWN, BaliseGroup, Identity, incomparable
 from balisekit.rules.passages import Chain, Content, Link, Passages, contents_of
 from balisekit.tables.model import Aspect, Group, Message, Row
@@ -50,6 +52,8 @@ class LinkedGroups(NamedTuple):
     """Of each identity: which of these groups have it."""
     bounds: Mapping[int, Tuple[int, int]]
     """Of each group of the track, by its number: the first of these groups that is not below it, and above it."""
+    sums: Sequence[int]
+    """Those of numbers for the identities and kilometres of the groups before each place."""
 
     @classmethod
     def of(cls, along: Sequence[Placed], way: Optional[int], speaking: bool) -> LinkedGroups:
@@ -61,7 +65,12 @@ class LinkedGroups(NamedTuple):
         for index, group in enumerate(groups):
             places.setdefault(group.identity or (0, 0), []).append(index)
         bounds = {each.number: (bisect_left(known, place), bisect_right(known, place)) for place, each in along}
-        return cls(groups, places, bounds)
+        numbers = (int(counted([f"{group_words(each)} {each.km}"]), 16) for each in groups)
+        return cls(groups, places, bounds, [0, *accumulate(numbers)])
+
+    def fact(self, ranges: Sequence[range]) -> str:
+        """One text for the identities and kilometres of the groups at these places, without a look at each."""
+        return f"{sum(self.sums[each.stop] - self.sums[each.start] for each in ranges):x}"
 
     def between(self, one: BaliseGroup, other: BaliseGroup, chain: Chain) -> Sequence[range]:
         """The places of the groups between two groups that a chain does not name.

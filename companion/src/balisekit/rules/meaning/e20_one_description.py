@@ -31,6 +31,7 @@ from typing import Dict, Iterator, List, Literal, NamedTuple, Optional, Tuple
 from balisekit.etcs.geometry import DIRECTIONS
 from balisekit.etcs.variables import Around, Form, value_words
 from balisekit.rules.decoded import LINKING, Decoded, Packet
+from balisekit.rules.facts import counted, origin
 from balisekit.rules.line import Line
 from balisekit.rules.location import NOT_KNOWN, BaliseGroup, Identity, Location
 from balisekit.rules.meaning.sent import Owner, located, sent
@@ -121,6 +122,7 @@ def _differing(decoded: Decoded, key: Literal["q_locacc", "q_linkreaction"], lin
     if len(counts) < 2:
         return
     usual = max(links, key=lambda link: counts[link.form[key]])
+    facts = [counted(f"{origin(each.location)} {each.form[key]}" for each in links)]
     for link in links:
         if link.form[key] != usual.form[key]:
             own, other = (value_words(key, each.form[key], Around()) for each in (link, usual))
@@ -129,8 +131,8 @@ def _differing(decoded: Decoded, key: Literal["q_locacc", "q_linkreaction"], lin
                 f"{len(links)} links to it, such as that of {usual.source}"
             )
             values = {key: Decimal(link.form[key]), f"other_{key}": Decimal(usual.form[key])}
-            others = (usual.packet.row.number,) if usual.packet.row else ()
-            yield Remark("E20", link.location, sentence, None, values, urgency=Urgency.RULE_ONLY, others=others)
+            made = Remark("E20", link.location, sentence, None, values, urgency=Urgency.RULE_ONLY)
+            yield made._replace(compared=[usual.location], facts=facts)
 
 
 COMPARED = "different Q_LOCACC or Q_LINKREACTION of links to one group"
