@@ -385,7 +385,7 @@ def test_x5_of_packets_without_a_place(program: Program, tmp_path: Path) -> None
     (found,) = remarks(line, wrong, tmp_path)
     row = rows.index(of_kind(rows, "rbc")) + 2
     assert (
-        found.sentence
+        found.words
         == f"RBC 352/17 begins at km 16.700, and RBC 352/16 at km 16.700 by row {row} of the plan; row 18 too"
     )
     line = read(program, written(program, tmp_path / "t.csv", SOUND["level-border"], with_rbc, other_session))

@@ -21,6 +21,7 @@ from balisekit.errors import KitError
 from balisekit.rules import accepted, checking
 from balisekit.rules.accepted import Acceptance, Entries, Item, checksum, identities, keys
 from balisekit.rules.families import Outcome, apply
+from balisekit.rules.location import Location
 from balisekit.rules.rule import ALL, Options, Remark
 from balisekit.tables import plan, reader
 
@@ -166,15 +167,15 @@ def test_entries_of_earlier_versions(
     checked = checking.check(program, reader.read(str(table)))
     found = apply(checked, "E", Options())
     (item,) = found.items
-    fields = {**dict(zip(accepted.FIELDS, keys(found.items, checked)[0])), "sha256": checksum([item], with_names=False)}
+    fields = {**dict(zip(accepted.FIELDS, keys(found.items, checked)[0])), "sha256": checksum([item], in_full=False)}
     file = entries(tmp_path / "a.csv", {**fields, **SIGNED})
     status, out, _ = run("check", table, "--only", "E", "--accepted", file)
-    why = "its sha256 is of an earlier balisekit, and does not cover names of aspects or tracks in the sentence"
-    assert status == 1 and f"{file}: row 2: {why}: have they changed since 2026-01-01?" in out
+    why = "its sha256 is of an earlier balisekit, and does not cover all names, places and values on which the sentence"
+    assert status == 1 and f"{file}: row 2: {why} rests: have they changed since 2026-01-01?" in out
     for path, letters in ((EXAMPLES / "links/distance-differs.csv", "L"), (EXAMPLES / "meaning/mistakes/E2.csv", "E")):
         checked = checking.check(program, reader.read(str(path)))
         items = apply(checked, letters, Options()).items
-        assert items and all(checksum([each]) == checksum([each], with_names=False) for each in items)
+        assert items and all(checksum([each]) == checksum([each], in_full=False) for each in items)
 
 
 def test_a_remark_of_several_groups_is_of_their_aspects(program: Program) -> None:
@@ -183,6 +184,11 @@ def test_a_remark_of_several_groups_is_of_their_aspects(program: Program) -> Non
     stated = Options(plan=plan.read(str(EXAMPLES / "meaning/plan.csv")))
     found = apply(checked, "X", stated).items
     united = [item for item in found if isinstance(item, Remark) and item.others]
-    assert united and all(len(item.places) == len(item.others) for item in united)
-    other = [each._replace(places=[place.replace("green", "yellow") for place in each.places]) for each in united]
+    others = [[where for where in each.also if where.row and where.row.number not in each.rows] for each in united]
+    assert united and all(len(own) == len(item.others) for own, item in zip(others, united))
+
+    def in_yellow(where: Location) -> Location:
+        return where._replace(row=where.row._replace(aspect="yellow")) if where.row else where
+
+    other = [each._replace(also=list(map(in_yellow, each.also))) for each in united]
     assert any(checksum([one]) != checksum([two]) for one, two in zip(united, other))

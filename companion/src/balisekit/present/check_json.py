@@ -17,6 +17,7 @@ from balisekit.rules.checking import Checked, LeftOut, Place, Refused, RefusedMe
 from balisekit.rules.discovery import letter_of
 from balisekit.rules.entries import Entry
 from balisekit.rules.families import PROVED, Outcome
+from balisekit.rules.location import Location
 from balisekit.rules.remarks import remarks
 from balisekit.tables.model import Group, Message, Row
 
@@ -75,6 +76,7 @@ def entries_json(outcome: Outcome) -> Iterator[Dict[str, Any]]:
             "sentence": entry.sentence,
             "rows": list(entry.rows),
             "other_rows": list(entry.other_rows),
+            "also": list(map(_also, entry.remark.also)) if entry.remark else [],
             "group": entry.group.name if entry.group else None,
             "nid_c": identity[0] if identity else None,
             "nid_bg": identity[1] if identity else None,
@@ -94,6 +96,15 @@ def _added(entry: Entry, shown: Shown) -> Dict[str, Any]:
         return {}
     path = origin.path if origin.package else shown(origin.path)
     return {"added": {**{name: value or None for name, value in origin._asdict().items()}, "path": path}}
+
+
+def _also(where: Location) -> Dict[str, Any]:
+    """Another place that has what an entry is about."""
+    return {
+        "group": where.group.group.name if where.group else None,
+        "row": where.row.number if where.row else None,
+        "message": where.message.number if where.message else None,
+    }
 
 
 def _place_of(entry: Entry) -> Dict[str, Any]:

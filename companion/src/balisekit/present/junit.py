@@ -10,7 +10,7 @@ from __future__ import annotations
 
 import xml.etree.ElementTree as ElementTree
 from collections import Counter
-from typing import Dict, Iterator, List, Mapping, NamedTuple, Optional, Sequence, Tuple
+from typing import Dict, Iterable, Iterator, List, Mapping, NamedTuple, Optional, Sequence, Tuple
 
 from balisekit.present import NOT_PROVED
 from balisekit.present.accepted_text import accepted_words
@@ -95,7 +95,8 @@ def _cases(outcome: Outcome, part: Part) -> Iterator[Case]:
     checked, judged, is_first = outcome.checked, outcome.judged, part is outcome.parts[0]
     items: Dict[object, List[Item]] = {}
     for item in part.items:
-        items.setdefault(_about(item), []).append(item)
+        for about in _about(item):
+            items.setdefault(about, []).append(item)
     left_out, passed_over = dict(_left_out(checked)), _passed_over(part)
     for group in checked.table.groups:
         case = _case("group", clean(group.name), items.get(group.name, []), judged, passed_over.get(group.name, ""))
@@ -117,12 +118,14 @@ def _passed_over(part: Part) -> Mapping[object, str]:
     return {about.name if isinstance(about, Group) else about.number: clean(why) for about, why in some}
 
 
-def _about(item: Item) -> object:
-    """The name of the group, or the line of the message."""
+def _about(item: Item) -> Iterable[object]:
+    """The names of the groups, and the lines of the messages, each once."""
     if isinstance(item, Place):
-        return item.group.name if item.group else item.message.number if item.message else None
-    where = item.location
-    return where.message.number if where.message else where.group.group.name if where.group else None
+        return [item.group.name if item.group else item.message.number if item.message else None]
+    return dict.fromkeys(
+        where.message.number if where.message else where.group.group.name if where.group else None
+        for where in item.everywhere
+    )
 
 
 def _left_out(checked: Checked) -> Iterator[Tuple[str, Case]]:
@@ -160,7 +163,7 @@ def _case(kind: str, name: str, items: Sequence[Item], judged: Optional[Judged],
     still_open = [item for item in items if not (judged and judged.of(item))]
     if still_open:
         first = still_open[0]
-        words = first.finding.line if isinstance(first, Place) else f"{first.rule}: {first.sentence}"
+        words = first.finding.line if isinstance(first, Place) else f"{first.rule}: {first.words}"
         why = f"{len(still_open)} open: {words}"
         return Case(kind, name, "failure", why, "\n".join(line for item in still_open for line in _lines(item)))
     accepted = (accepted_words(entry) for entry in map(judged.of, items) if entry) if judged else ()

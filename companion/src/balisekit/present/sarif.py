@@ -204,10 +204,19 @@ def _entries(outcome: Outcome, lines: Lines) -> Iterator[Object]:
 
 
 def _locations(outcome: Outcome, entry: Entry, lines: Lines) -> List[Object]:
+    """The rows or the message of an entry, then those of the other places that have it too."""
     checked = outcome.checked
-    if entry.message and checked.messages:
-        return [_location(checked.messages.path, [entry.message.number])]
-    return [_location(checked.table.path, entry.rows, lines, entry.group.name if entry.group else "")]
+    messages = [entry.message.number] if entry.message else []
+    groups: Dict[str, List[int]] = {} if messages else {entry.group.name if entry.group else "": list(entry.rows)}
+    for where in entry.remark.also if entry.remark else ():
+        if where.message:
+            messages.append(where.message.number)
+        elif where.group:
+            rows = groups.setdefault(where.group.group.name, [])
+            rows += [where.row.number] if where.row else []
+    path = checked.messages.path if checked.messages else ""
+    of_messages = [_location(path, [number]) for number in dict.fromkeys(messages)]
+    return [*(_location(checked.table.path, rows, lines, name) for name, rows in groups.items()), *of_messages]
 
 
 def _location(path: str, rows: Sequence[int], lines: Lines = (), group: str = "") -> Object:

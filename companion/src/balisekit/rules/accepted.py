@@ -21,6 +21,7 @@ from balisekit.io.csv_writing import plain
 from balisekit.rules import links, meaning, track_plan
 from balisekit.rules.checking import Checked, Place
 from balisekit.rules.discovery import ADDED, ADDED_NAME, first_to_last, letter_of
+from balisekit.rules.facts import place
 from balisekit.rules.rule import Remark, Rule
 from balisekit.tables import csv as csv_file
 from balisekit.tables.cells import headings
@@ -65,6 +66,8 @@ NEVER_CORRECT = frozenset({*OF_PROGRAM, *RULES}.difference(ON_CORRECT_DATA))
 """The rules that no correct data gets."""
 ROW_NUMBERS = re.compile(r"\brow \d+|\brows \d+(?:(?: to |, | and )\d+)*")
 """Numbers of rows in a sentence: a row that is added elsewhere changes them."""
+LINE_NUMBER = re.compile(r"\bline \d+")
+"""That of a message, whose text is covered."""
 ANY_NUMBER = re.compile(r"[+-]?\d(?:[\d.,]*\d)?")
 QUOTED, OF_ASPECT = re.compile('"[^"]*"'), re.compile('aspect ("[^"]*")')
 """The names in the sentence of a remark, and those of aspects in the statement of a finding."""
@@ -131,10 +134,10 @@ class Acceptance(NamedTuple):
         since = f" since {self.date}" if self.date else ""
         if not self.sha256:
             return [f"no sha256{hint}"]
-        if self.sha256 == checksum(items, with_names=False):
-            names = "names of aspects or tracks in the sentence"
+        if self.sha256 == checksum(items, in_full=False):
+            rest = "all names, places and values on which the sentence rests"
             return [
-                f"its sha256 is of an earlier balisekit, and does not cover {names}: have they changed{since}?{hint}"
+                f"its sha256 is of an earlier balisekit, and does not cover {rest}: have they changed{since}?{hint}"
             ]
         what = "telegram has" if len(_texts(items[0])) == 1 else "telegrams have"
         what = "message has" if _message(items[0]) else what
@@ -327,31 +330,33 @@ def _message(item: Item) -> Optional[Message]:
     return item.location.message if isinstance(item, Remark) else item.message
 
 
-def checksum(items: Sequence[Item], with_names: bool = True) -> str:
+def checksum(items: Sequence[Item], in_full: bool = True) -> str:
     """The SHA-256 of the telegrams or messages that items are about: their digits in small letters, a line each.
 
-    For a remark the values that its rule has compared and the numbers of its sentence follow, a line each. Then come
-    names, which balisekit up to 0.5.16 left out.
+    For a remark the values that its rule has compared and the numbers of its sentence follow, a line each. Balisekit up
+    to 0.5.16 left out the rest: names, the other places, what a sentence only counts, and how many items are alike.
     """
     lines = (
-        [*map(str.lower, (*_texts(item), *_values(item))), *(_names(item) if with_names else ())] for item in items
+        [*map(str.lower, (*_texts(item), *_values(item, in_full))), *(_rest(item) if in_full else ())] for item in items
     )
-    blocks = {"".join(f"{line}\n" for line in own) for own in lines}
-    return hashlib.sha256("".join(sorted(blocks)).encode("utf-8", "surrogatepass")).hexdigest()
+    blocks: Iterable[str] = ["".join(f"{line}\n" for line in own) for own in lines]
+    text = "".join(sorted(blocks if in_full else set(blocks)))
+    return hashlib.sha256(text.encode("utf-8", "surrogatepass")).hexdigest()
 
 
-def _values(item: Item) -> List[str]:
+def _values(item: Item, in_full: bool) -> List[str]:
     """The values of a remark, the groups that it names, and the numbers of its sentence, such as other kilometres."""
     if not isinstance(item, Remark):
         return []
     named = [f"group {identity[0]} {identity[1]}" for identity in (each.identity for each in item.named) if identity]
-    numbers = ANY_NUMBER.findall(ROW_NUMBERS.sub("", item.sentence))
+    words = ROW_NUMBERS.sub("", item.sentence)
+    numbers = ANY_NUMBER.findall(LINE_NUMBER.sub("", words) if in_full else words)
     values = {**{name: f"{value.normalize():f}" for name, value in item.values.items()}, **item.texts}
     return [*(f"{name} {value}" for name, value in values.items()), *named, *numbers]
 
 
-def _names(item: Item) -> List[str]:
-    """The names in its sentence, the aspects of its rows, and the other places that it is about.
+def _rest(item: Item) -> List[str]:
+    """The names in its sentence, the aspects of its rows, the other places, and what the sentence does not show.
 
     Of a finding that compares aspects, also which of their telegrams it blames, and the values that it compares.
     """
@@ -361,7 +366,9 @@ def _names(item: Item) -> List[str]:
             return names
         return [*names, *([item.row.telegram.lower()] if item.row else []), *item.statement.values.values()]
     own = item.location.row.aspect if item.location.row else ""
-    return [*QUOTED.findall(item.sentence), *(name for name in item.aspects if name != own), *item.places]
+    places = map(place, dict.fromkeys((*item.also, *item.compared)))
+    aspects = [name for name in item.aspects if name != own]
+    return [*QUOTED.findall(item.sentence), *aspects, *sorted(places), *sorted(item.facts)]
 
 
 def _texts(item: Item) -> List[str]:

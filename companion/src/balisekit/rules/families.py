@@ -277,7 +277,7 @@ def entry_of_remark(remark: Remark) -> Entry:
     return Entry(
         remark.rule,
         RULES[remark.rule].urgency if remark.urgency is None else remark.urgency,
-        f"{where.packet_words}{remark.sentence}",
+        f"{where.packet_words}{remark.words}",
         numbers,
         group.group if group else None,
         tuple(remark.aspects) or aspects,

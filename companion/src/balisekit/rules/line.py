@@ -8,6 +8,7 @@ from bisect import bisect_left, bisect_right
 from dataclasses import dataclass, field
 from decimal import Decimal
 from functools import cached_property
+from itertools import accumulate
 from typing import AbstractSet, Dict, FrozenSet, Iterator, List, Mapping, NamedTuple, Optional, Sequence, Tuple, Union
 
 from balisekit.engine.grammar import Finding
@@ -18,6 +19,7 @@ from balisekit.rules.chainage import Jump
 from balisekit.rules.chains import Chain
 from balisekit.rules.checking import Checked, Telegrams
 from balisekit.rules.decoded import Decoded, decode
+from balisekit.rules.facts import counted, group_words
 from balisekit.rules.location import IN_JUMP, NOT_KNOWN, BaliseGroup, Identity, incomparable
 from balisekit.rules.telegrams import Link, Telegram, rounding, telegram_of, telegrams_of
 from balisekit.tables.model import Aspect, Group, Message
@@ -38,6 +40,8 @@ class LinkedGroups(NamedTuple):
     """Of each identity: which of these groups have it."""
     bounds: Mapping[int, Tuple[int, int]]
     """Of each group of the track, by its number: the first of these groups that is not below it, and above it."""
+    sums: Sequence[int]
+    """Those of numbers for the identities and kilometres of the groups before each place."""
 
     @classmethod
     def of(cls, along: Sequence[BaliseGroup], way: Optional[int], speaking: bool) -> LinkedGroups:
@@ -48,8 +52,15 @@ class LinkedGroups(NamedTuple):
         places: Dict[Identity, List[int]] = {}
         for index, group in enumerate(groups):
             places.setdefault(group.identity or (0, 0), []).append(index)
-        own = ((each.number, each.place or 0) for each in along)
-        return cls(groups, places, {number: (bisect_left(known, at), bisect_right(known, at)) for number, at in own})
+        bounds = {
+            each.number: (bisect_left(known, each.place or 0), bisect_right(known, each.place or 0)) for each in along
+        }
+        numbers = (int(counted([f"{group_words(each)} {each.km}"]), 16) for each in groups)
+        return cls(groups, places, bounds, [0, *accumulate(numbers)])
+
+    def fact(self, ranges: Sequence[range]) -> str:
+        """One text for the identities and kilometres of the groups at these places, without a look at each."""
+        return f"{sum(self.sums[each.stop] - self.sums[each.start] for each in ranges):x}"
 
     def between(self, one: BaliseGroup, other: BaliseGroup, chain: Chain) -> Sequence[range]:
         """The places of the groups between two groups that a chain does not name.

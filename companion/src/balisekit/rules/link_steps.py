@@ -11,8 +11,9 @@ from typing import Dict, Iterator, List, NamedTuple, Optional, Sequence, Tuple
 from balisekit.etcs.geometry import NOMINAL, REVERSE
 from balisekit.rules.chainage import Chainage
 from balisekit.rules.chains import Chain
+from balisekit.rules.facts import group_words
 from balisekit.rules.line import Line
-from balisekit.rules.location import NO_DIRECTION, BaliseGroup
+from balisekit.rules.location import NO_DIRECTION, BaliseGroup, Location
 from balisekit.rules.telegrams import Link
 
 
@@ -41,6 +42,11 @@ class Step(NamedTuple):
         return self.distance - self.by_kilometres
 
     @property
+    def fact(self) -> str:
+        """Both distances, and between which groups."""
+        return f"{group_words(self.base)} {group_words(self.here)} {self.distance} {self.by_kilometres}"
+
+    @property
     def row(self) -> int:
         """The row of its telegram, or 0 for a message."""
         row = self.chains[0].location.row
@@ -60,6 +66,16 @@ class Jump(NamedTuple):
         """Whether a difference on the way from one place to another one is that of the jump."""
         covers = track == self.track and low <= self.low and high >= self.high
         return covers and abs(difference - self.difference) <= tolerance
+
+    @property
+    def locations(self) -> Sequence[Location]:
+        """All links over it."""
+        return [chain.at(step.link) for step in self.steps for chain in step.chains]
+
+    @property
+    def facts(self) -> Sequence[str]:
+        """The distances of all links over it."""
+        return [step.fact for step in self.steps]
 
     def words(self, chainage: Chainage) -> str:
         """What it looks like."""

@@ -18,6 +18,7 @@ from balisekit.rules.location import BaliseGroup, Location
 from balisekit.rules.page_sentences import filled_in
 from balisekit.rules.template import Template
 from balisekit.tables.model import Row
+from balisekit.tables.names import NAMED, describe_message, listed, rows_words
 from balisekit.tables.plan import Plan
 
 REFUSED = "refused"
@@ -108,8 +109,6 @@ class Remark(NamedTuple):
     """How urgent it is, if it is not as urgent as its rule."""
     rows: Sequence[int] = ()
     """The rows that the sentence is about, if they are not the row or the rows of its location."""
-    others: Sequence[int] = ()
-    """The rows that the sentence names beside its own."""
     aspects: Sequence[str] = ()
     """The aspects that the sentence is about, if it is not about the row of its location."""
     marks: Sequence[Tuple[Optional[Row], str, int]] = ()
@@ -118,14 +117,38 @@ class Remark(NamedTuple):
     """The fields that look wrong, as far as the rule knows them."""
     beside: Sequence[Field] = ()
     """The fields with which it has compared them."""
-    places: Sequence[str] = ()
-    """The rows of other groups that it is about, by identity, aspect and balise: an entry accepts no others."""
+    also: Sequence[Location] = ()
+    """The other places that have it too: one remark stands for them all."""
+    compared: Sequence[Location] = ()
+    """The places that it compares with its own, if their telegrams or messages are known."""
+    facts: Sequence[str] = ()
+    """What it rests on and the sentence only counts, or does not show: an entry accepts nothing else."""
     texts: Mapping[str, str] = {}
     """The texts of an added rule that its sentence names, such as names of groups."""
     arguments: Sequence[str] = ()
     """What stands in the fields of the template of its rule, if that has one."""
     origin: Optional[Origin] = None
     """Where its rule is from, if that is not balisekit's."""
+
+    @property
+    def everywhere(self) -> Sequence[Location]:
+        """All places that have it."""
+        return [self.location, *self.also]
+
+    @property
+    def others(self) -> Sequence[int]:
+        """The rows that it names beside its own."""
+        own = {*self.rows, *([self.location.row.number] if self.location.row else [])}
+        return sorted({where.row.number for where in (*self.also, *self.compared) if where.row} - own)
+
+    @property
+    def words(self) -> str:
+        """The sentence, and the rows of other groups and the messages that have it too."""
+        rows = {where.row.number for where in self.also if where.row} - {*self.rows}
+        messages = dict.fromkeys(where.message for where in self.also if where.message)
+        names = [f"the message of {describe_message(each)}" for each in messages]
+        parts = [*([rows_words(rows)] if rows else []), *([listed(names, NAMED)] if names else [])]
+        return f"{self.sentence}; {' and '.join(parts)} too" if parts else self.sentence
 
 
 class Result(NamedTuple):

@@ -102,7 +102,7 @@ def _with_jumps(line: Line, options: Options, found: Sequence[Remark]) -> Sequen
     """The same, with one remark for all links over a stretch at which the kilometres seem to jump."""
     tolerance = int(options.tolerance * 10) + JUMP
     jumps = list(jumps_of(list(steps_of(line)), tolerance))
-    over = {chain.at(step.link): jump for jump in jumps for step in jump.steps for chain in step.chains}
+    over = {location: jump for jump in jumps for location in jump.locations}
     said: Set[int] = set()
     others = []
     for remark in found:
@@ -112,9 +112,9 @@ def _with_jumps(line: Line, options: Options, found: Sequence[Remark]) -> Sequen
         elif id(jump) not in said:
             said.add(id(jump))
             words = jump.words(Chainage.of(line.jumps, jump.track))
-            rows = sorted({step.row for step in jump.steps} - {0, jump.steps[0].row})
             sentence = f"{remark.sentence}. {words}: give the jump by --jumps, or correct the kilometres"
-            others.append(remark._replace(sentence=sentence, others=tuple(rows)))
+            also = [location for location in jump.locations if location != remark.location]
+            others.append(remark._replace(sentence=sentence, also=also, facts=jump.facts))
     return others
 
 

@@ -21,7 +21,7 @@ How to accept it. There is no usual reason to accept it. Correct one of the two.
 """
 from __future__ import annotations
 
-from typing import Dict, Mapping, Optional
+from typing import Dict, Mapping
 
 from balisekit.rules.chains import Chain
 from balisekit.rules.line import AFTER_INFILL, Line
@@ -34,21 +34,23 @@ NAMED = 3
 
 def find(line: Line, options: Options) -> Result:
     """Looks at each group that a link names."""
-    senders: Dict[int, Dict[str, Optional[BaliseGroup]]] = {}
+    senders: Dict[int, Dict[str, Chain]] = {}
     for chain in line.chains:
         for link in chain.links:
             if link.target is not None:
                 names = senders.setdefault(link.target.number, {})
                 if not link.target.linked:
-                    names[_sender(chain)] = chain.sender
+                    names[_sender(chain)] = chain
     infill = {link.target.number for chain in line.decoded.chains.infill for link in chain.links if link.target}
     found = [_remark(line.groups[number], names) for number, names in senders.items() if names]
     return Result(found, len(senders), {AFTER_INFILL: len(infill - set(senders))})
 
 
-def _remark(group: BaliseGroup, senders: Mapping[str, Optional[BaliseGroup]]) -> Remark:
+def _remark(group: BaliseGroup, senders: Mapping[str, Chain]) -> Remark:
     sentence = f"its Q_LINK is 0, and it is linked by {listed(list(senders), NAMED)}"
-    return Remark("L4", Location(group), sentence, group, named=[sender for sender in senders.values() if sender])
+    named = [chain.sender for chain in senders.values() if chain.sender]
+    messages = [chain.location for chain in senders.values() if chain.location.message]
+    return Remark("L4", Location(group), sentence, group, named=named, compared=messages)
 
 
 def _sender(chain: Chain) -> str:

@@ -73,7 +73,9 @@ def _look_at(line: Line, chain: Chain) -> Iterator[Union[Remark, str, None]]:
             linked = line.linked(before.track, _way(chain), True)
             ranges = linked.between(before, after, chain)
             groups = [linked.groups[place] for place in islice(joined(*ranges), NAMED)]
-            yield _remark(chain, before, after, groups, sum(map(len, ranges))) if groups else None
+            count = sum(map(len, ranges))
+            found = _remark(chain, before, after, groups, count) if groups else None
+            yield found._replace(facts=[linked.fact(ranges)]) if found and count > NAMED else found
 
 
 def _note(line: Line) -> Iterator[str]:

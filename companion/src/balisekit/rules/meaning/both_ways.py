@@ -82,17 +82,19 @@ def least(rising: Sequence[Step], falling: Sequence[Step], is_least: bool) -> It
         before = place
 
 
-def joined(stretches: Sequence[Both]) -> Iterator[Tuple[Both, int]]:
-    """Neighbouring stretches as one: the first one, as far as its values go, and the end of the last one."""
-    first: Optional[Both] = None
-    until = 0
+def joined(stretches: Sequence[Both]) -> Iterator[Tuple[Both, int, Sequence[Both]]]:
+    """Neighbouring stretches as one: the first one as far as its values go, the end of the last one, and all of them.
+
+    Those that say the same are one there too.
+    """
+    some: List[Both] = []
     for each in stretches:
-        if first is None or until != each.low:
-            if first:
-                yield first, until
-            first = each
-        elif until == first.high and each.values == first.values:
-            first = first._replace(high=each.high)
-        until = each.high
-    if first:
-        yield first, until
+        if some and some[-1].high != each.low:
+            yield some[0], some[-1].high, some
+            some = []
+        if some and some[-1].values == each.values:
+            some[-1] = some[-1]._replace(high=each.high)
+        else:
+            some.append(each)
+    if some:
+        yield some[0], some[-1].high, some

@@ -28,7 +28,7 @@ from __future__ import annotations
 
 from decimal import Decimal
 from itertools import chain, product
-from typing import Dict, Iterable, Iterator, List, NamedTuple, Sequence, Tuple
+from typing import Dict, Iterable, Iterator, List, Mapping, NamedTuple, Sequence, Tuple
 
 from balisekit.etcs.variables import metres
 from balisekit.rules.decoded import Decoded
@@ -129,14 +129,20 @@ def _remark(decoded: Decoded, one: Passage, pairs: Pairs, culprit: str, others: 
         + (f"; {quoted(culprit)} differs from {listed(rest, NAMED)} too" if rest else "")
     )
     step = 5 if packets[0].number == SPEEDS else 1
-    compared = {f"value_{place}": Decimal(value * step) for place, value in enumerate(sent, 1)}
-    values = {"begin_m": distance(begin), "end_m": distance(end), **compared}
-    rows = sorted({packet.row.number for each in longest.values() for packet in each.packets if packet.row})
+    both = {f"value_{place}": Decimal(value * step) for place, value in enumerate(sent, 1)}
+    values = {"begin_m": distance(begin), "end_m": distance(end), **both}
+    compared = dict.fromkeys(one.at(packet) for some in own.values() for each in some for packet in each.packets)
+    rows = sorted({where.row.number for where in compared if where.row})
     blamed, beside = (
         [each for some in longest.values() for each in field_at(some.packets[side], some.begin)] for side in (0, 1)
     )
-    aspects = [culprit, *others]
-    return Remark("E10", one.at(), sentence, None, values, (), None, rows, (), aspects, (), blamed, beside)
+    made = Remark("E10", one.at(), sentence, None, values, (), None, rows, [culprit, *others])
+    return made._replace(blamed=blamed, beside=beside, compared=list(compared), facts=_facts(own))
+
+
+def _facts(own: Mapping[str, Sequence[Contrary]]) -> Sequence[str]:
+    """All stretches with the values of both aspects."""
+    return [f"{name} {each.begin} {each.end} {each.values}" for name, some in own.items() for each in some]
 
 
 def _words(packet: Packet, value: int) -> str:

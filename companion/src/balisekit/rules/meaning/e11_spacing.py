@@ -85,7 +85,9 @@ def _spacing(
             f"the balise is at km {kilometre(km)}, {_number(metres)} m from the one before it in the group, row "
             f"{before.number}: that is {limit} m, and {_number(unit)} m is allowed for the rounding of the kilometres"
         )
-        yield Remark("E11", Location(group, row), sentence, values={"spacing_m": metres}, others=(before.number,))
+        yield Remark(
+            "E11", Location(group, row), sentence, values={"spacing_m": metres}, compared=[Location(group, before)]
+        )
 
 
 def _number(value: Decimal) -> str:

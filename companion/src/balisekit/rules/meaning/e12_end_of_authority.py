@@ -39,6 +39,7 @@ from typing import Dict, Iterator, List, Optional, Sequence, Tuple
 
 from balisekit.etcs.variables import metres
 from balisekit.rules.decoded import Decoded
+from balisekit.rules.facts import counted, group_words, sender
 from balisekit.rules.line import Line
 from balisekit.rules.location import BEHIND_POINT, BaliseGroup
 from balisekit.rules.meaning.along import (
@@ -125,6 +126,7 @@ def _compare(
     usual = max(ends, key=lambda each: (counts[each.place], -abs(each.place - at)))
     same = counts[usual.place]
     where = f" that lead{'s' if same == 1 else ''} to {target}" if target else " nearby"
+    facts = [counted(sender(each.passage, each.packet) for each in ends if each.place == usual.place)]
     for end in (each for each in ends if each.differs(usual, decoded, options)):
         sentence = (
             f"the authority ends at {at_place(decoded, end.passage, end.place)} by L_SECTION and L_ENDSECTION; {same} "
@@ -133,8 +135,8 @@ def _compare(
             f"{metres(abs(end.place - usual.place))}"
         )
         values = {"end_m": Decimal(end.place) / 10, "other_end_m": Decimal(usual.place) / 10}
-        others = (usual.packet.row.number,) if usual.packet.row else ()
-        yield end, Remark("E12", end.passage.at(end.packet), sentence, None, values, others=others)
+        compared = [usual.passage.at(usual.packet)]
+        yield end, Remark("E12", end.passage.at(end.packet), sentence, None, values, compared=compared, facts=facts)
 
 
 def _between(decoded: Decoded, options: Options, end: End) -> Iterator[Remark]:
@@ -150,7 +152,8 @@ def _between(decoded: Decoded, options: Options, end: End) -> Iterator[Remark]:
             f"nearest group by the kilometres, {group.group}, is {metres(apart)} from there"
         )
         values = {"end_m": Decimal(end.place) / 10, "nearest_group_m": Decimal(group.place) / 10}
-        yield Remark("E12", end.passage.at(end.packet), sentence, group.group, values)
+        facts = [group_words(group.group)]
+        yield Remark("E12", end.passage.at(end.packet), sentence, group.group, values, facts=facts)
 
 
 RULE = Rule("E12", "ends of authority", __doc__ or "", find, Urgency.WRONG_INFORMATION, needs_kilometres=True)

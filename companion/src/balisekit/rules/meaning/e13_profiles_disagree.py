@@ -35,6 +35,7 @@ from balisekit.rules.decoded import Decoded
 from balisekit.rules.line import Line
 from balisekit.rules.meaning.along import leaves
 from balisekit.rules.meaning.profiles import (
+    Aspect,
     Piece,
     Profiles,
     cause_of,
@@ -47,7 +48,7 @@ from balisekit.rules.meaning.profiles import (
 from balisekit.rules.meaning.sent import field_at
 from balisekit.rules.meaning.words import more_stretches, source
 from balisekit.rules.rule import Options, Remark, Result, Rule, Urgency
-from balisekit.rules.telegrams import GRADIENTS, SPEEDS, Packet, allowance
+from balisekit.rules.telegrams import GRADIENTS, SPEEDS, allowance
 
 
 ALONE = "the only group of its track"
@@ -122,7 +123,7 @@ def _remark(decoded: Decoded, some: Sequence[Tuple[Difference, bool]]) -> Remark
     """The remark on a group, by the longest stretch."""
     difference, is_rear = max(some, key=lambda each: each[0].pieces[0].high - each[0].pieces[0].low)
     piece, way, track = difference.pieces[0], difference.rear.way, difference.rear.track
-    own, other = (piece.rear, piece.ahead) if is_rear else (piece.ahead, piece.rear)
+    own, other = _other(piece, not is_rear), _other(piece, is_rear)
     own_value, other_value = own.value_at(piece.low), other.value_at(piece.low)
     groups = (difference.rear, difference.ahead) if is_rear else (difference.ahead, difference.rear)
     name, unit = ("V_STATIC", "km/h") if own.packet.number == SPEEDS else ("G_A", "per mille")
@@ -137,18 +138,18 @@ def _remark(decoded: Decoded, some: Sequence[Tuple[Difference, bool]]) -> Remark
     alike = [each.packet.row for each in piece.alike(own) if each.packet.row]
     rows = tuple(sorted({row.number for row in alike}))
     aspects = tuple(dict.fromkeys(row.aspect for row in alike if row.aspect not in ("", "*")))
-    named = tuple(sorted({_row(*each) for each in some} - {0, *rows}))
+    compared = [side.passage.at(side.packet) for each, rear in some for side in [_other(each.pieces[0], rear)]]
     sides = [[(each.packet, piece.low - each.origin) for each in piece.alike(side)] for side in (own, other)]
     blamed, beside = ([field for at in some for field in field_at(*at)] for some in sides)
     where = own.passage.at(own.packet)
-    return Remark("E13", where, sentence, None, values, (), None, rows, named, aspects, (), blamed, beside)
+    made = Remark("E13", where, sentence, None, values, (), None, rows, aspects)
+    facts = [piece.fact(decoded, track, way) for each, _ in some for piece in each.pieces]
+    return made._replace(blamed=blamed, beside=beside, compared=compared, facts=facts)
 
 
-def _row(difference: Difference, is_rear: bool) -> int:
-    """The row of the other group of a difference."""
-    piece = difference.pieces[0]
-    packet: Packet = (piece.ahead if is_rear else piece.rear).packet
-    return packet.row.number if packet.row else 0
+def _other(piece: Piece, is_rear: bool) -> Aspect:
+    """The profile of the other group."""
+    return piece.ahead if is_rear else piece.rear
 
 
 RULE = Rule("E13", "profiles of groups", __doc__ or "", find, Urgency.WRONG_INFORMATION, needs_kilometres=True)

@@ -30,10 +30,11 @@ from __future__ import annotations
 
 from collections import Counter
 from decimal import Decimal
-from typing import Iterator, Optional
+from typing import Iterator, Optional, Sequence, Tuple
 
 from balisekit.etcs.variables import metres
 from balisekit.rules.line import Line
+from balisekit.rules.location import Location
 from balisekit.rules.link_steps import Jump, Step, jumps_of, steps_of
 from balisekit.rules.links import l2_distance
 from balisekit.rules.meaning.words import balises_of
@@ -90,19 +91,20 @@ def _is_by_l2(line: Line, step: Step, options: Options) -> bool:
 
 def _remarks(line: Line, step: Step, least: int) -> Iterator[Remark]:
     tolerance = least + rounding(step.link.unit, step.lengths)
+    words, compared = _other_balise(line, step) or ("", [])
     side = "within" if abs(step.difference) <= step.link.accuracy * 10 else "above"
     sentence = (
         f"{step.here} is {metres(step.distance)} from {step.base} by D_LINK, and {metres(step.by_kilometres)} by the "
         f"kilometres: they differ by {metres(abs(step.difference))}, which is {side} Q_LOCACC ({step.link.accuracy} m) "
-        f"and above the tolerance of {metres(tolerance)}{_other_balise(line, step) or ''}"
+        f"and above the tolerance of {metres(tolerance)}{words}"
     )
     values = {"metres_by_d_link": Decimal(step.distance) / 10, "metres_by_kilometres": Decimal(step.by_kilometres) / 10}
     for chain in step.chains:
         location = chain.at(step.link)
-        yield Remark("E14", location, sentence, step.here, values, named=(step.base,))
+        yield Remark("E14", location, sentence, step.here, values, named=(step.base,), compared=compared)
 
 
-def _other_balise(line: Line, step: Step) -> Optional[str]:
+def _other_balise(line: Line, step: Step) -> Optional[Tuple[str, Sequence[Location]]]:
     """Which balise of the two groups the distance fits better than the first ones."""
     chainage = line.decoded.chainages[step.here.track]
     found = []
@@ -113,19 +115,18 @@ def _other_balise(line: Line, step: Step) -> Optional[str]:
                 distance = step.by_kilometres + sign * step.way * (place - own)
                 balise = f"balise {position} of {group}, row {row.number}"
                 words = f"; by the kilometres it is {metres(distance)} {which} {balise}"
-                found.append((abs(step.distance - distance), words))
-    best = min(found, default=None)
-    return best[1] if best and best[0] < abs(step.difference) and best[0] <= line.decoded.resolution else None
+                found.append((abs(step.distance - distance), words, row.number, [Location(group, row)]))
+    best = min(found, default=None, key=lambda each: each[:3])
+    return best[1:4:2] if best and best[0] < abs(step.difference) and best[0] <= line.decoded.resolution else None
 
 
 def _jump(line: Line, jump: Jump) -> Remark:
     """One remark for all links over a jump of the kilometres."""
-    first = jump.steps[0]
-    rows = sorted({step.row for step in jump.steps} - {0, first.row})
+    where, *also = jump.locations
     sentence = f"{jump.words(line.decoded.chainages[jump.track])}: give the jump by --jumps, or correct the kilometres"
     values = {"difference_m": Decimal(jump.difference) / 10}
-    remark = Remark("E14", first.chains[0].at(first.link), sentence, first.here, values, urgency=Urgency.RULE_ONLY)
-    return remark._replace(others=tuple(rows))
+    remark = Remark("E14", where, sentence, jump.steps[0].here, values, urgency=Urgency.RULE_ONLY)
+    return remark._replace(also=also, facts=jump.facts)
 
 
 RULE = Rule("E14", "links", __doc__ or "", find, Urgency.WRONG_PLACE, needs_kilometres=True)

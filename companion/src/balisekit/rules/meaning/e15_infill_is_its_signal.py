@@ -40,7 +40,7 @@ from balisekit.etcs.geometry import DIRECTIONS, NOMINAL, REVERSE
 from balisekit.etcs.variables import metres
 from balisekit.rules.decoded import Decoded
 from balisekit.rules.line import NOWHERE, Line
-from balisekit.rules.location import NOT_KNOWN, Identity
+from balisekit.rules.location import NOT_KNOWN, Identity, Location
 from balisekit.rules.meaning.along import Extent, extents_of, lane_of, rear
 from balisekit.rules.meaning.fields import fields_apart
 from balisekit.rules.meaning.words import merged, source
@@ -130,24 +130,27 @@ def _signal(decoded: Decoded, passage: Passage, target: GroupData) -> Optional[P
 def _differences(signal: Optional[Passage], passage: Passage, target: GroupData) -> Iterator[Remark]:
     """One remark on all packets of an aspect that differ from those of the signal."""
     words: List[str] = []
-    others: List[int] = []
+    compared: List[Location] = []
+    facts: List[str] = []
     values: Dict[str, Decimal] = {}
     first: Optional[Packet] = None
     fields: List[Field] = []
     for number in COMPARED if signal else ():
         own = [each for each in passage.infill if each.number == number]
         for packet, other in zip(own, signal.of(number) if signal else ()):
-            apart = next(fields_apart(packet, other), None)
-            if signal and apart:
+            differing = list(fields_apart(packet, other))
+            if signal and differing:
+                apart = differing[0]
                 first = first or packet
                 of = f"packet {number} of {source(signal, other)}" if not words else f"packet {number} there"
                 words.append(f"{apart.name} is {apart.own} in the infill, and {apart.other} in {of}")
                 values = {**apart.values, **values}
-                others += [other.row.number] if other.row else []
+                compared.append(signal.at(other))
+                facts += [f"{number} {each.name} {each.own} {each.other}" for each in differing]
                 fields += [*apart.field_of(packet), *apart.field_of(other)]
     if first is not None:
-        rows = tuple(dict.fromkeys(others))
-        yield Remark("E15", passage.at(first), "; ".join(words), target.group, values, others=rows, beside=fields)
+        made = Remark("E15", passage.at(first), "; ".join(words), target.group, values, beside=fields)
+        yield made._replace(compared=compared, facts=facts)
 
 
 RULE = Rule("E15", "infill", __doc__ or "", find, Urgency.WRONG_INFORMATION)

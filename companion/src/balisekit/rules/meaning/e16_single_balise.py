@@ -82,21 +82,20 @@ def _named(line: Line) -> Named:
 def _directions(group: BaliseGroup, links: Dict[int, Tuple[Chain, Link]]) -> Iterator[Remark]:
     """What links say of one balise against each other, and against the column `nominal`."""
     if len(links) > 1:
-        (chain, link), (other, _) = links[1], links[-1]
+        (chain, link), (other, other_link) = links[1], links[-1]
         sentence = (
             f"Q_LINKORIENTATION says that the kilometres rise in the nominal direction of the single balise {group}, "
             f"and the packet 5 of {_source(other)} says that they fall"
         )
-        row = other.location.row
-        yield Remark("E16", chain.at(link), sentence, group, others=(row.number,) if row else ())
+        yield Remark("E16", chain.at(link), sentence, group, compared=[other.at(other_link)])
     elif group.rising is not None and not group.by_links and links and group.rising not in links:
         ((way, (chain, link)),) = links.items()
         sentence = (
             f"Q_LINKORIENTATION gives the single balise {group} the nominal direction {WORDS[way]}, and the column "
             f"nominal says {WORDS[group.rising]}"
         )
-        rows = tuple(sorted({row.number for row in group.group.rows()}))
-        yield Remark("E16", chain.at(link), sentence, group, others=rows)
+        rows = [Location(group, row) for row in dict.fromkeys(group.group.rows())]
+        yield Remark("E16", chain.at(link), sentence, group, compared=rows)
 
 
 def _source(chain: Chain) -> str:

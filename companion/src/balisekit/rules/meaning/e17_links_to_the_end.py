@@ -37,6 +37,7 @@ from typing import Iterator
 
 from balisekit.etcs.variables import metres
 from balisekit.rules.decoded import Decoded
+from balisekit.rules.facts import sender
 from balisekit.rules.line import Line
 from balisekit.rules.location import NOT_KNOWN
 from balisekit.rules.meaning.along import FAR, End, ends_of, is_authority, lane_of, leaves, passed_over, rear, unread_of
@@ -57,7 +58,8 @@ def find(line: Line, options: Options) -> Result:
             return Result([], 0, lacks)
         before = " before a packet 136" if LINKING in decoded.sent else ""
         sentence = f"no group or message has a packet 5 (linking){before}, and authorities have a V_MAIN above 0"
-        return Result([Remark("E17", ends[0].passage.at(), sentence)], len(ends), lacks)
+        facts = [sender(end.passage, end.packet) for end in ends]
+        return Result([Remark("E17", ends[0].passage.at(), sentence, facts=facts)], len(ends), lacks)
     lanes, known = lanes_of_links(decoded), [end for end in ends if not _may_be_linked(line, end)]
     found = [remark for end in known for remark in _look_at(decoded, options, lanes[lane_of(end.passage)], end)]
     return Result(merged(found), len(known), lacks)

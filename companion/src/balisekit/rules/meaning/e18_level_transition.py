@@ -95,7 +95,7 @@ def _compare(
         if usual.is_now and order.along < usual.along and any(abs(each - order.place) <= tolerance for each in hidden):
             continue
         apart, where = abs(order.place - usual.place), order.passage.at(order.packet)
-        others = (usual.packet.row.number,) if usual.packet.row else ()
+        compared = [usual.passage.at(usual.packet)]
         values = {**order.values(), **usual.values("other_")}
         if order.is_now and usual.is_now and order.along > usual.along and order.levels == usual.levels:
             continue  # repeated for trains that have missed the first one
@@ -111,7 +111,7 @@ def _compare(
         else:
             continue
         marks = [(order.packet.row, where.direction, abs(order.place - (order.passage.place(0) or 0)))]
-        yield Remark("E18", where, sentence, None, values, others=others, marks=marks)
+        yield Remark("E18", where, sentence, None, values, compared=compared, marks=marks)
 
 
 def _unordered(decoded: Decoded, usual: Order, unknown: Unknown) -> Iterator[Remark]:

@@ -30,11 +30,12 @@ from __future__ import annotations
 
 from collections import Counter
 from decimal import Decimal
-from typing import Iterator, Optional
+from typing import Iterator, Optional, Sequence
 
 from balisekit.etcs.geometry import NOMINAL, REVERSE
 from balisekit.etcs.variables import metres
 from balisekit.rules.decoded import Decoded
+from balisekit.rules.facts import sender
 from balisekit.rules.line import Line
 from balisekit.rules.meaning.both_ways import DOWN, UP, Both, joined, least, may_differ, steps
 from balisekit.rules.meaning.profiles import lanes_of, unplaced_of
@@ -69,26 +70,34 @@ def _unplaced(decoded: Decoded) -> Counter[str]:
 
 
 def _uphill(decoded: Decoded, options: Options, stretches: Iterator[Both]) -> Iterator[Remark]:
-    for both, until in joined([each for each in stretches if sum(each.values) > UP]):
+    for both, until, all_of_them in joined([each for each in stretches if sum(each.values) > UP]):
         packets = [step.aspect.packet for step in (both.rising, both.falling)]
         parts = (allowance(packet, len(packet.stretches)) for packet in packets)
         if until - both.low > decoded.tolerance(options.tolerance_of_places, *parts):
             more = f", and to more than {UP} per mille up to {_km(decoded, both, until)}" if until > both.high else ""
-            yield _remark(decoded, both, f"they add up to {sum(both.values)} per mille{more}")
+            yield _remark(decoded, both, all_of_them, f"they add up to {sum(both.values)} per mille{more}")
 
 
 def _downhill(decoded: Decoded, stretches: Iterator[Both]) -> Iterator[Remark]:
-    for both, until in joined([each for each in stretches if max(each.values) <= DOWN]):
+    for both, until, all_of_them in joined([each for each in stretches if max(each.values) <= DOWN]):
         if until - both.low >= LONG:
             more = f"up to {_km(decoded, both, until)} " if until > both.high else ""
-            yield _remark(decoded, both, f"{more}both go down", Urgency.RULE_ONLY)
+            yield _remark(decoded, both, all_of_them, f"{more}both go down", Urgency.RULE_ONLY)
 
 
 def _km(decoded: Decoded, both: Both, place: int) -> str:
     return decoded.km(both.rising.aspect.passage.track, place)
 
 
-def _remark(decoded: Decoded, both: Both, why: str, urgency: Optional[Urgency] = None) -> Remark:
+def _fact(decoded: Decoded, both: Both) -> str:
+    """A stretch with the gradients of both ways, and who says them."""
+    own, other = (sender(each.passage, each.packet) for each in (both.rising.aspect, both.falling.aspect))
+    return f"{_km(decoded, both, both.low)} {_km(decoded, both, both.high)} {both.values} {own} {other}"
+
+
+def _remark(
+    decoded: Decoded, both: Both, all_of_them: Sequence[Both], why: str, urgency: Optional[Urgency] = None
+) -> Remark:
     own, other = both.rising.aspect, both.falling.aspect
     sentence = (
         f"G_A is {both.values[0]:+} per mille from {_km(decoded, both, both.low)} to {_km(decoded, both, both.high)} "
@@ -96,8 +105,9 @@ def _remark(decoded: Decoded, both: Both, why: str, urgency: Optional[Urgency] =
         f"{source(other.passage, other.packet)}: {why}"
     )
     values = {"g_a": Decimal(both.values[0]), "other_g_a": Decimal(both.values[1])}
-    others = (other.packet.row.number,) if other.packet.row else ()
-    return Remark("E19", own.passage.at(own.packet), sentence, None, values, urgency=urgency, others=others)
+    compared, facts = [other.passage.at(other.packet)], [_fact(decoded, each) for each in all_of_them]
+    where = own.passage.at(own.packet)
+    return Remark("E19", where, sentence, None, values, urgency=urgency, compared=compared, facts=facts)
 
 
 RULE = Rule("E19", "gradients of both ways", __doc__ or "", find, Urgency.WRONG_INFORMATION, needs_kilometres=True)

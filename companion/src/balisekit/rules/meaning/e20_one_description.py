@@ -31,6 +31,7 @@ from typing import Dict, Iterator, List, NamedTuple, Optional, Tuple
 from balisekit.etcs.geometry import DIRECTIONS
 from balisekit.etcs.variables import Around, value_words
 from balisekit.rules.decoded import Owner
+from balisekit.rules.facts import counted, origin
 from balisekit.rules.line import Line
 from balisekit.rules.location import BaliseGroup, Identity, Location
 from balisekit.rules.meaning.sent import located, sent
@@ -117,6 +118,7 @@ def _differing(key: str, links: List[Naming]) -> Iterator[Remark]:
     if len(counts) < 2:
         return
     usual = max(links, key=lambda link: counts[link.value(key)])
+    facts = [counted(f"{origin(each.location)} {each.value(key)}" for each in links)]
     for link in links:
         if link.value(key) != usual.value(key):
             own, other = (value_words(key, each.value(key), Around()) for each in (link, usual))
@@ -125,8 +127,8 @@ def _differing(key: str, links: List[Naming]) -> Iterator[Remark]:
                 f"links to it, such as that of {usual.source}"
             )
             values = {key: Decimal(link.value(key)), f"other_{key}": Decimal(usual.value(key))}
-            others = (usual.packet.row.number,) if usual.packet.row else ()
-            yield Remark("E20", link.location, sentence, None, values, urgency=Urgency.RULE_ONLY, others=others)
+            made = Remark("E20", link.location, sentence, None, values, urgency=Urgency.RULE_ONLY)
+            yield made._replace(compared=[usual.location], facts=facts)
 
 
 COMPARED = "different Q_LOCACC or Q_LINKREACTION of links to one group"

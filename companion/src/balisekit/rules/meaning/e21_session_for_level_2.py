@@ -95,9 +95,9 @@ def _remark(line: Line, way: int, some: Sequence[Tuple[int, Passage, Packet]]) -
         f"it names {words}, and no group of this track and direction up to "
         f"{line.decoded.km(passage.track, place * way)} has a packet 42 with Q_RBC 1"
     )
-    rows = {each.row.number for _, _, each in some if each.row} - {packet.row.number if packet.row else 0}
-    values = {"m_leveltr": Decimal(level)}
-    return Remark("E21", passage.at(packet), sentence, None, values, others=tuple(sorted(rows)))
+    where, values = passage.at(packet), {"m_leveltr": Decimal(level)}
+    also = [place for place in dict.fromkeys(each.at(order) for _, each, order in some) if place != where]
+    return Remark("E21", where, sentence, None, values, also=also)
 
 
 RULE = Rule("E21", "level orders", __doc__ or "", find, Urgency.BRAKING, needs_kilometres=True, is_default=False)

@@ -129,9 +129,9 @@ def _compare(decoded: Decoded, options: Options, some: Sequence[Restriction]) ->
                 f"the restriction with NID_TSR {each.number} is at {each.words(decoded, each.passage)}, and by "
                 f"{source(usual.passage, usual.packet)} at {usual.words(decoded, each.passage)}"
             )
-            others = (usual.packet.row.number,) if usual.packet.row else ()
             values = {**each.values(), **usual.values("other_")}
-            yield Remark("E22", each.passage.at(each.packet), sentence, None, values, others=others)
+            compared = [usual.passage.at(usual.packet)]
+            yield Remark("E22", each.passage.at(each.packet), sentence, None, values, compared=compared)
 
 
 RULE = Rule("E22", "temporary restrictions", __doc__ or "", find, Urgency.WRONG_INFORMATION, needs_kilometres=True)

@@ -28,9 +28,10 @@ from __future__ import annotations
 
 from collections import Counter
 from decimal import Decimal
-from typing import Dict, Iterator, List
+from typing import Dict, Iterator, List, Sequence
 
 from balisekit.etcs.variables import Around, value_words
+from balisekit.rules.facts import counted, group_words
 from balisekit.rules.line import Line
 from balisekit.rules.passages import GroupData
 from balisekit.rules.rule import Options, Remark, Result, Rule, Urgency
@@ -50,6 +51,7 @@ def _versions(groups: List[GroupData]) -> Iterator[Remark]:
     """The telegrams whose M_VERSION is not the most frequent one."""
     counts = Counter(telegram.header.m_version for data in groups for telegram in data.telegrams.values())
     usual = max(counts, key=lambda version: counts[version], default=0)
+    facts = _having(usual, groups) if len(counts) > 1 else []
     for data in groups if len(counts) > 1 else ():
         for telegram in data.telegrams.values():
             if telegram.header.m_version != usual:
@@ -58,7 +60,13 @@ def _versions(groups: List[GroupData]) -> Iterator[Remark]:
                 others = f"{counts[usual]} other telegram{'s' * (counts[usual] > 1)}"
                 sentence = f"M_VERSION is {words[0]}, and {words[1]} in {others} of the table"
                 values = {"m_version": Decimal(own), "other_m_version": Decimal(usual)}
-                yield Remark("E23", data.location(telegram.row), sentence, None, values)
+                yield Remark("E23", data.location(telegram.row), sentence, None, values, facts=facts)
+
+
+def _having(version: int, groups: Sequence[GroupData]) -> Sequence[str]:
+    """The telegrams that have this M_VERSION."""
+    having = ((data, each) for data in groups for each in data.telegrams.values() if each.header.m_version == version)
+    return [counted(f"{group_words(data.group)} {each.row.aspect} {each.header.n_pig}" for data, each in having)]
 
 
 def _countries(groups: List[GroupData]) -> Iterator[Remark]:
@@ -69,11 +77,12 @@ def _countries(groups: List[GroupData]) -> Iterator[Remark]:
     counts = Counter(country for country, _ in known)
     usual = max(counts, key=lambda country: counts[country], default=0)
     places = [place for place, (country, _) in enumerate(known) if country == usual]
+    facts = [counted(group_words(known[place][1].group) for place in places)]
     for country, data in known[places[0] : places[-1]] if places else ():
         if country != usual:
             sentence = f"NID_C is {country}, and {usual} in {counts[usual]} groups of the track, on both sides of it"
             values = {"nid_c": Decimal(country), "other_nid_c": Decimal(usual)}
-            yield Remark("E23", data.location(), sentence, None, values)
+            yield Remark("E23", data.location(), sentence, None, values, facts=facts)
 
 
 RULE = Rule("E23", "headers", __doc__ or "", find, Urgency.RULE_ONLY, is_default=False)

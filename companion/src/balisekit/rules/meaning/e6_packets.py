@@ -110,9 +110,8 @@ def _several_remark(passage: Passage, packets: List[Packet]) -> Remark:
         f"a train gets {len(packets)} packets {number} ({packet_name(number)}) in {passage.direction} "
         f"direction{where}: nobody knows which of them it uses"
     )
-    others = sorted({row for row in rows if last.row and row != last.row.number})
     made = remark("E6", passage.at(last), [Fault(words, {"packets": Decimal(len(packets))})])
-    return Remark(made.rule, made.location, made.sentence, values=made.values, others=others)
+    return made._replace(compared=[passage.at(packet) for packet in packets[:-1]])
 
 
 MORE = "two different packets of one kind in a message, and packets that no message 3 has"

@@ -136,7 +136,9 @@ def _remark(alike: Alike, urgency: Optional[Urgency]) -> Remark:
     values = {"v_main_kmh": Decimal(speed)}
     where = Location(alike.data.group)
     aspects, numbers = tuple(alike.names), tuple(sorted(controlled))
-    return Remark("E7", where, sentence, values=values, urgency=urgency, rows=numbers, aspects=aspects)
+    facts = [] if urgency is None else [urgency.name]
+    made = Remark("E7", where, sentence, values=values, urgency=urgency, rows=numbers, aspects=aspects)
+    return made._replace(facts=facts)
 
 
 def _note(stops: Sequence[Alike]) -> Iterator[str]:

@@ -38,9 +38,10 @@ from decimal import Decimal
 from typing import Dict, Iterator, List, Sequence, Set, Tuple
 
 from balisekit.etcs.packets import packet_name
+from balisekit.rules.facts import counted, sender
 from balisekit.rules.line import Line
 from balisekit.rules.location import Location
-from balisekit.rules.meaning.siblings import AUTHORITY, SIBLINGS, lacking_in, said_of, turned_in
+from balisekit.rules.meaning.siblings import AUTHORITY, SIBLINGS, Moving, Said, lacking_in, said_of, turned_in
 from balisekit.rules.passages import GroupData, Passage
 from balisekit.rules.rule import Options, Remark, Result, Rule, Urgency
 from balisekit.rules.telegrams import Packet
@@ -67,19 +68,29 @@ def _siblings(data: GroupData) -> Iterator[Remark]:
     turned = turned_in(said)
     for aspect, numbers in turned.items():
         words = f"has {_packets(numbers)} only for the other direction than all other aspects with them"
-        yield _remark(data, aspect, words, numbers)
+        yield _remark(data, aspect, words, numbers, _facts(said, go))
     some = {aspect: own for aspect, own in said.items() if aspect not in turned}
     for (aspect, direction, among), numbers in lacking_in(some, go).items():
         others = f"which all others with a V_MAIN above 0{among} have"
-        yield _remark(data, aspect, f"lacks {_packets(numbers)} in {direction} direction, {others}", numbers)
+        words = f"lacks {_packets(numbers)} in {direction} direction, {others}"
+        yield _remark(data, aspect, words, numbers, _facts(some, go))
 
 
-def _remark(data: GroupData, aspect: str, words: str, numbers: Sequence[int]) -> Remark:
+def _facts(said: Said, moving: Moving) -> Sequence[str]:
+    """Which packets each aspect has in each direction, and in which of them it has a V_MAIN above 0."""
+    return [
+        f"{aspect} {[sorted(numbers) for numbers in own]} {[aspect in some for some in moving]}"
+        for aspect, own in said.items()
+    ]
+
+
+def _remark(data: GroupData, aspect: str, words: str, numbers: Sequence[int], facts: Sequence[str]) -> Remark:
     rows = next(each.rows for each in data.group.group.aspects if each.name == aspect)
     controlled = tuple(row.number for row in rows if row.aspect == aspect)
     sentence = f"the aspect {quoted(aspect)} {words}"
     values = {"packets": Decimal(len(numbers))}
-    return Remark("E8", Location(data.group), sentence, values=values, rows=controlled, aspects=[aspect])
+    where = Location(data.group)
+    return Remark("E8", where, sentence, values=values, rows=controlled, aspects=[aspect], facts=facts)
 
 
 def _packets(numbers: Sequence[int]) -> str:
@@ -103,7 +114,8 @@ def _without_stop(passages: Sequence[Passage]) -> Iterator[Remark]:
     for each in passages:
         stops.setdefault(_of_packet(each), []).append(each)
     said = [(own[0], [packet for each in own for packet in each.of(STOP_IN_SR)]) for own in stops.values()]
-    having = sum(any(packet.form.get("q_srstop") == 0 for packet in packets) for _, packets in said)
+    stopping = [first for first, packets in said if any(packet.form.get("q_srstop") == 0 for packet in packets)]
+    having, facts = len(stopping), [counted(map(sender, stopping))]
     if len(stops) >= STOPS and having * 5 >= len(stops) * 4:
         for passage in (passage for passage, packets in said if not packets):
             words = (
@@ -111,7 +123,7 @@ def _without_stop(passages: Sequence[Passage]) -> Iterator[Remark]:
                 f"{having} of {len(stops)} stop aspects of the table have it"
             )
             values = {"stop_aspects": Decimal(len(stops)), "with_packet_137": Decimal(having)}
-            yield Remark("E8", passage.at(_stops(passage)[0]), words, values=values)
+            yield Remark("E8", passage.at(_stops(passage)[0]), words, values=values, facts=facts)
 
 
 def _without_danger(stops: Sequence[Passage]) -> Iterator[Remark]:
@@ -129,7 +141,8 @@ def _without_danger(stops: Sequence[Passage]) -> Iterator[Remark]:
             known.add(_of_packet(without[0]))
             others = listed([quoted(each.aspect) for each in own if each is not without[0]], NAMED)
             words = f"a stop aspect without a packet 132 (danger for shunting information), which {others} have"
-            yield Remark("E8", without[0].at(_stops(without[0])[0]), words, values={"stop_aspects": Decimal(len(own))})
+            where, values = without[0].at(_stops(without[0])[0]), {"stop_aspects": Decimal(len(own))}
+            yield Remark("E8", where, words, values=values, facts=list(map(sender, own)))
 
 
 RULE = Rule("E8", "groups with three or more aspects", __doc__ or "", find, Urgency.WRONG_INFORMATION)

@@ -34,6 +34,7 @@ from collections import Counter
 from typing import Dict, Iterator, List, Optional, Sequence, Tuple
 
 from balisekit.etcs.variables import metres
+from balisekit.rules.facts import counted, sender
 from balisekit.rules.line import Line
 from balisekit.rules.meaning.sent import by_culprit, distance, kmh, speed
 from balisekit.rules.meaning.siblings import LEAST, Case, Counts, Pair, against_the_order, cases_of, is_usual, pairs_of
@@ -68,12 +69,21 @@ def _of_group(some: Sequence[Pair], counts: Counts) -> Iterator[Remark]:
     """One remark for each aspect that is not where it should be, then those of equal ends."""
     contrary = {frozenset(pair.names): pair for pair in some if pair.longer < 0}
     for culprit, others in by_culprit([pair.names for pair in contrary.values()]):
-        pair = contrary[frozenset((culprit, others[0]))]
+        pair, *rest = (contrary[frozenset((culprit, other))] for other in others)
         more = f"; {quoted(culprit)} is not in order with {listed(list(map(quoted, others[1:])), NAMED)} either"
-        yield _remark(pair, f"{_ends_words(pair)}, {_usually(pair, counts)}{more if others[1:] else ''}")
+        made = _remark(pair, f"{_ends_words(pair)}, {_usually(pair, counts)}{more if rest else ''}")
+        yield _resting_on(made, [pair, *rest], counts)
     for pair in some:
         if pair.longer == 0 and not _are_copies(pair):
-            yield _remark(pair, f"{_ends_words(pair)}, which is equal, {_usually(pair, counts)}", Urgency.RULE_ONLY)
+            made = _remark(pair, f"{_ends_words(pair)}, which is equal, {_usually(pair, counts)}", Urgency.RULE_ONLY)
+            yield _resting_on(made, [pair], counts)
+
+
+def _resting_on(made: Remark, some: Sequence[Pair], counts: Counts) -> Remark:
+    """The remark with all aspects that it compares, and the cases that show their order."""
+    cases = [case for pair in some for case in (pair.first, pair.second)]
+    compared = list(dict.fromkeys(case.passage.at(case.packet) for case in cases))
+    return made._replace(compared=compared, facts=[counts[pair.names].fact for pair in some])
 
 
 def _are_copies(pair: Pair) -> bool:
@@ -90,7 +100,7 @@ def _ends_words(pair: Pair) -> str:
 
 
 def _usually(pair: Pair, counts: Counts) -> str:
-    count, of_how_many = counts[pair.names]
+    count, of_how_many, _ = counts[pair.names]
     first, second = map(quoted, pair.names)
     return f"and in {count} of {of_how_many} cases of the table that of {first} ends before that of {second}"
 
@@ -102,7 +112,7 @@ def _remark(pair: Pair, words: str, urgency: Optional[Urgency] = None) -> Remark
     rows = [case.packet.row.number for case in cases if case.packet.row]
     aspects = [case.passage.aspect for case in cases]
     marks = [(case.packet.row, where.direction, case.end) for case in cases]
-    return Remark("E9", where, words, None, values, (), urgency, rows, (), aspects, marks)
+    return Remark("E9", where, words, None, values, (), urgency, rows, aspects, marks)
 
 
 def _stops(cases: Sequence[Sequence[Case]]) -> Iterator[Remark]:
@@ -116,17 +126,19 @@ def _stops(cases: Sequence[Sequence[Case]]) -> Iterator[Remark]:
             few = [case for case in some if bool(case.packet.form["v_main"]) == bool(odd)]
             count = len(some) - len(few)
             if few and is_usual(count, len(some)):
-                yield from (_stop(case, count, len(some), "above 0" if usual else "0") for case in few)
+                fact = counted(sender(case.passage) for case in some if bool(case.packet.form["v_main"]) == bool(usual))
+                yield from (_stop(case, fact, count, len(some), "above 0" if usual else "0") for case in few)
 
 
-def _stop(case: Case, count: int, of_how_many: int, usual: str) -> Remark:
+def _stop(case: Case, fact: str, count: int, of_how_many: int, usual: str) -> Remark:
     main = case.packet.form["v_main"]
     words = (
         f"V_MAIN of the aspect {quoted(case.passage.aspect)} is {speed(main)}, and in {count} of {of_how_many} cases "
         f"of the table it is {usual}"
     )
     where = case.passage.at(case.packet)
-    return Remark("E9", where, words, values={"v_main_kmh": kmh(main)}, marks=[(where.row, where.direction, 0)])
+    values, marks = {"v_main_kmh": kmh(main)}, [(where.row, where.direction, 0)]
+    return Remark("E9", where, words, values=values, marks=marks, facts=[fact])
 
 
 RULE = Rule("E9", "groups with several aspects", __doc__ or "", find, Urgency.WRONG_INFORMATION)

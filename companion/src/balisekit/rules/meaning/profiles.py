@@ -8,6 +8,7 @@ from typing import Dict, Iterator, List, Mapping, NamedTuple, Optional, Sequence
 
 from balisekit.etcs.geometry import ELEMENT_KEYS
 from balisekit.rules.decoded import Decoded, once
+from balisekit.rules.facts import sender
 from balisekit.rules.passages import GroupData, Passage
 from balisekit.rules.telegrams import GRADIENTS, LINKING, SPEEDS, Packet
 
@@ -133,6 +134,11 @@ class Piece(NamedTuple):
         for each in self.all:
             if each.passage.group is aspect.passage.group and each.value_at(self.low) == value:
                 yield each
+
+    def fact(self, decoded: Decoded, track: str, way: int) -> str:
+        """The stretch with all that is said of it."""
+        ends = [decoded.km(track, place * way) for place in (self.low, self.high)]
+        return f"{ends} {sorted(f'{sender(each.passage, each.packet)} {each.value_at(self.low)}' for each in self.all)}"
 
 
 @once

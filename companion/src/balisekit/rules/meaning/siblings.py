@@ -6,6 +6,7 @@ from itertools import combinations
 from typing import Dict, FrozenSet, Iterator, List, Mapping, NamedTuple, Sequence, Set, Tuple
 
 from balisekit.etcs.geometry import DIRECTIONS
+from balisekit.rules.facts import counted, sender
 from balisekit.rules.line import Line
 from balisekit.rules.location import NOT_KNOWN, Identity
 from balisekit.rules.meaning.sent import tolerance
@@ -149,8 +150,17 @@ class Pair(NamedTuple):
         return self.first.passage.aspect, self.second.passage.aspect
 
 
-Counts = Dict[Tuple[str, str], Tuple[int, int]]
-"""By the names of two aspects: in how many cases the first one ends before the second one, and of how many."""
+class Order(NamedTuple):
+    """In how many cases one aspect ends before another one, and of how many."""
+
+    most: int
+    of_how_many: int
+    fact: str
+    """Which of the two ends first in each case."""
+
+
+Counts = Dict[Tuple[str, str], Order]
+"""By the names of two aspects."""
 
 
 def cases_of(line: Line) -> List[List[Case]]:
@@ -197,5 +207,6 @@ def against_the_order(pairs: Mapping[Tuple[str, str], Sequence[Pair]], counts: C
         most = max(before, after)
         if is_usual(most, len(some)):
             ordered = some if before > after else [Pair(pair.second, pair.first, -pair.longer) for pair in some]
-            counts[ordered[0].names] = most, len(some)
+            fact = counted(f"{sender(pair.first.passage)} {pair.longer > 0}" for pair in ordered)
+            counts[ordered[0].names] = Order(most, len(some), fact)
             yield from (pair for pair in ordered if pair.longer <= 0)

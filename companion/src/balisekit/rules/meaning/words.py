@@ -64,8 +64,9 @@ def merged(remarks: Iterable[Remark]) -> Sequence[Remark]:
 def _one_of(remarks: Sequence[Remark]) -> Remark:
     first = remarks[0]
     rows = {each.location.row.number: each.location.row for each in remarks if each.location.row}
-    if len(rows) < 2:
+    if len(remarks) < 2:
         return first
     aspects = tuple(dict.fromkeys(row.aspect for row in rows.values() if row.aspect not in ("", "*")))
-    others = tuple(row for row in first.others if row not in rows)
-    return first._replace(rows=tuple(sorted(rows)), aspects=aspects, others=others)
+    compared = tuple(dict.fromkeys(where for each in remarks for where in each.compared))
+    facts = [fact for each in remarks for fact in each.facts]
+    return first._replace(rows=tuple(sorted(rows)), aspects=aspects, compared=compared, facts=facts)

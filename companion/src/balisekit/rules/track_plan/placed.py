@@ -19,7 +19,7 @@ from balisekit.rules.telegrams import Packet
 from balisekit.tables.names import clean, kilometre, rows_words
 from balisekit.tables.plan import Lane, Plan, PlanRow
 
-__all__ = ["BEHIND_POINT", "Placed", "Saying", "Spot", "nearest", "plan_words", "remark"]
+__all__ = ["BEHIND_POINT", "Placed", "Saying", "Spot", "cells_of", "nearest", "plan_words", "remark"]
 COMPARED = ("speed", "gradient", "signal", "aspect", "level", "rbc")
 """The kinds of rows that rules compare."""
 SAYS_NOTHING = "the plan says nothing"
@@ -199,38 +199,36 @@ def nearest(spots: Sequence[Spot], place: int) -> Spot:
 
 
 def remark(
-    rule: str, sayings: Sequence[Saying], sentence: str, values: Values, urgency: Optional[Urgency] = None
+    rule: str,
+    sayings: Sequence[Saying],
+    sentence: str,
+    values: Values,
+    facts: Sequence[str],
+    urgency: Optional[Urgency] = None,
 ) -> Remark:
     """One remark on what several packets say, at the first of them."""
-    first, packet = sayings[0]
-    rows = sorted((each.packet.row for each in sayings if each.packet.row), key=lambda row: row.number)
-    own = {each.packet.row.number for each in sayings if each.packet.row and each.passage.group is first.group}
-    others = {row.number for row in rows} - own
+    where, *also = dict.fromkeys(each.passage.at(each.packet) for each in sayings)
+    rows = {each.row.number: each.row for each in (where, *also) if each.row and each.group is where.group}
     groups = {each.passage.group.group.number: each.passage.group.group for each in sayings if each.passage.group}
-    named = [group for group in groups.values() if not first.group or group is not first.group.group]
-    also = f"; {rows_words(others)} too" if others and not first.message else ""
-    places = {_place_words(each) for each in sayings if each.packet.row and each.packet.row.number in others}
+    first = sayings[0].passage.group
     return Remark(
         rule,
-        first.at(packet),
-        sentence + also,
+        where,
+        sentence,
         values=values,
-        named=named,
+        named=[group for group in groups.values() if not first or group is not first.group],
         urgency=urgency,
-        rows=() if first.message else tuple(sorted(own)),
-        others=tuple(sorted(others)),
-        aspects=tuple(dict.fromkeys(row.aspect for row in rows if row.number in own and row.aspect not in ("", "*"))),
-        places=sorted(places),
+        rows=tuple(sorted(rows)),
+        aspects=tuple(dict.fromkeys(row.aspect for _, row in sorted(rows.items()) if row.aspect not in ("", "*"))),
+        also=also,
+        facts=facts,
     )
 
 
-def _place_words(saying: Saying) -> str:
-    """The row of a packet by identity, aspect and balise."""
-    row, data = saying.packet.row, saying.passage.group
-    if row is None or data is None:
-        return ""
-    group = data.group
-    return f"{group.identity} {row.aspect} {group.group.places[row.number]}"
+def cells_of(row: PlanRow) -> str:
+    """What a row of the plan says, wherever it is in the file."""
+    terms = sorted(row.value.items()) if isinstance(row.value, dict) else row.value
+    return f"plan {row.kind} {row.km} {row.km_to} {row.track} {row.way} {terms} {row.name}"
 
 
 def plan_words(row: PlanRow, with_km: bool = True) -> str:

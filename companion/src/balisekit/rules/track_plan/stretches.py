@@ -5,7 +5,17 @@ from collections import Counter
 from dataclasses import dataclass, field
 from typing import Dict, List, NamedTuple, Optional, Tuple
 
-from balisekit.rules.track_plan.placed import BEHIND_POINT, NO_PLACE, SAYS_NOTHING, Counts, Part, Placed, Saying
+from balisekit.rules.facts import sender
+from balisekit.rules.track_plan.placed import (
+    BEHIND_POINT,
+    NO_PLACE,
+    SAYS_NOTHING,
+    Counts,
+    Part,
+    Placed,
+    Saying,
+    cells_of,
+)
 from balisekit.rules.rule import Options
 from balisekit.rules.telegrams import GRADIENTS, SPEEDS, Stretch, allowance
 
@@ -25,6 +35,11 @@ class Difference(NamedTuple):
     end: int
     said: int
     part: Part
+
+    def fact(self, placed: Placed) -> str:
+        """The stretch with both values, and who says one of them."""
+        ends = [placed.km(self.saying.passage, place) for place in (self.begin, self.end)]
+        return f"{sender(*self.saying)} {ends} {self.said} {cells_of(self.part.row)}"
 
 
 @dataclass

@@ -59,7 +59,8 @@ def _remark(placed: Placed, differences: Sequence[Difference]) -> Remark:
         "km_to": placed.km_value(passage, end),
     }
     urgency = Urgency.WRONG_INFORMATION if said > part.value else Urgency.BRAKING
-    return remark("X2", [each.saying for each in differences], sentence, values, urgency)
+    facts = [each.fact(placed) for each in differences]
+    return remark("X2", [each.saying for each in differences], sentence, values, facts, urgency)
 
 
 def _words(gradient: int) -> str:

@@ -43,6 +43,7 @@ from balisekit.rules.track_plan.placed import (
     Placed,
     Saying,
     Spot,
+    cells_of,
     nearest,
     plan_words,
     remark,
@@ -106,7 +107,7 @@ def _remark(placed: Placed, ends: Sequence[End]) -> Remark:
         f"plan{name} ({plan_words(signal.row)})"
     )
     values = {"km": placed.km_value(passage, place), "plan_km": signal.row.km, "metres_apart": Decimal(apart) / 10}
-    return remark("X3", [each.saying for each in ends], sentence, values)
+    return remark("X3", [each.saying for each in ends], sentence, values, [cells_of(signal.row)])
 
 
 RULE = Rule("X3", "ends of authority", __doc__ or "", find, Urgency.WRONG_INFORMATION)

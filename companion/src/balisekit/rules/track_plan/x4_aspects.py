@@ -33,7 +33,7 @@ from typing import Dict, Iterator, List, NamedTuple, Optional, Set
 from balisekit.rules.decoded import Decoded
 from balisekit.rules.line import Line
 from balisekit.rules.passages import GroupData, Passage
-from balisekit.rules.track_plan.placed import NO_PLACE, SAYS_NOTHING, Placed, Saying, plan_words, remark
+from balisekit.rules.track_plan.placed import NO_PLACE, SAYS_NOTHING, Placed, Saying, cells_of, plan_words, remark
 from balisekit.rules.rule import Options, Remark, Result, Rule, Urgency
 from balisekit.rules.telegrams import Packet, allowance
 from balisekit.tables.names import rows_words
@@ -117,7 +117,7 @@ def _compare(saying: Saying, row: PlanRow, options: Options) -> Iterator[Remark]
                 if value is not None:
                     values[name] = Decimal(value) / 10 if key in LENGTHS else Decimal(value * STEP)
         sentence = f"{' by the plan; '.join(texts)} by {plan_words(row, with_km=False)}"
-        yield remark("X4", [saying], sentence, values)
+        yield remark("X4", [saying], sentence, values, [cells_of(row)])
 
 
 def _is_alike(said: Optional[int], wanted: Optional[int], allowed: int) -> bool:
@@ -132,7 +132,8 @@ def _lacking(site: Site, row: PlanRow) -> Remark:
     infill = " before its packet 136" if any(each.number == AUTHORITY for one in own for each in one.infill) else ""
     sentence = f"the aspect has no packet 12{way}{infill}, and {plan_words(row, with_km=False)} has one"
     where = site.data.location()
-    return Remark("X4", where, sentence, rows=tuple(each.number for each in rows), aspects=(site.aspect,))
+    numbers = tuple(each.number for each in rows)
+    return Remark("X4", where, sentence, rows=numbers, aspects=(site.aspect,), facts=[cells_of(row)])
 
 
 RULE = Rule("X4", "authorities of aspects", __doc__ or "", find, Urgency.WRONG_INFORMATION)

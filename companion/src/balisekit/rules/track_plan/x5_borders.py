@@ -45,6 +45,7 @@ from balisekit.rules.track_plan.placed import (
     SAYS_NOTHING,
     Placed,
     Spot,
+    cells_of,
     nearest,
     plan_words,
     remark,
@@ -62,7 +63,7 @@ KIND = {41: "level", 46: "level", 131: "rbc", 42: "rbc"}
 def find(line: Line, options: Options) -> Result:
     """Compares each packet about a border, and looks for borders of the plan without one."""
     placed, counts = Placed(line, options), Counter[str]()
-    found: Dict[Tuple[int, Optional[int], str], List[Tuple[Border, int, Spot]]] = {}
+    found: Dict[Tuple[int, Optional[int], str], List[Tuple[Border, int, Sequence[Spot]]]] = {}
     named: Set[int] = set()
     unplaced = {(kind, track) for track, _ in unread_of(line.decoded) for kind in BORDERS}
     infill = [(each.number, passage.track) for passage in line.decoded.passages for each in passage.infill]
@@ -81,7 +82,7 @@ def find(line: Line, options: Options) -> Result:
         if why or any(_is_there(border, place, spot, tolerance) and spot.row.value == border.text for spot in spots):
             continue
         elsewhere = None if _is_there(border, place, spots[0], tolerance) else place
-        found.setdefault((spots[0].row.number, elsewhere, border.text), []).append((border, place, spots[0]))
+        found.setdefault((spots[0].row.number, elsewhere, border.text), []).append((border, place, spots))
     remarks = [_remark(placed, each) for each in found.values()]
     rows = [row for kind in BORDERS for row in placed.plan.of_kind(kind) if (kind, row.track) not in unplaced]
     left = [row for row in rows if row.number not in named]
@@ -117,8 +118,8 @@ def _is_there(border: Border, place: int, spot: Spot, tolerance: int) -> bool:
     return not border.has_place or abs(spot.place - place) <= tolerance
 
 
-def _remark(placed: Placed, said: Sequence[Tuple[Border, int, Spot]]) -> Remark:
-    border, place, spot = said[0]
+def _remark(placed: Placed, said: Sequence[Tuple[Border, int, Sequence[Spot]]]) -> Remark:
+    border, place, (spot, *_) = said[0]
     passage, word = border.saying.passage, WORDS[border.kind]
     here, there, apart = placed.km(passage, place), kilometre(spot.row.km), abs(place - spot.place)
     begins, at = ("begins at", f"at km {there}") if border.has_place else ("at", f"from km {there} on")
@@ -127,7 +128,8 @@ def _remark(placed: Placed, said: Sequence[Tuple[Border, int, Spot]]) -> Remark:
     sentence += f": {metres(apart)} m apart" if apart and border.has_place else ""
     values = {"km": placed.km_value(passage, place), "plan_km": spot.row.km}
     values.update({**numbers(border.kind, border.text), **numbers(border.kind, spot.row.text_value, "plan_")})
-    return remark("X5", [each.saying for each, _, _ in said], sentence, values)
+    facts = {cells_of(each.row) for _, _, spots in said for each in spots}
+    return remark("X5", [each.saying for each, _, _ in said], sentence, values, sorted(facts))
 
 
 def _unnamed(placed: Placed, row: PlanRow) -> Iterator[Remark]:
@@ -137,7 +139,7 @@ def _unnamed(placed: Placed, row: PlanRow) -> Iterator[Remark]:
     if place is not None and group is not None and placed.decoded.is_inside(row.track, place):
         packets = "41 or 46" if row.kind == "level" else "131 or 42"
         sentence = f"no packet {packets} names the {WORDS[row.kind]} border of {plan_words(row)}"
-        yield Remark("X5", group.location(), sentence, values={"plan_km": row.km})
+        yield Remark("X5", group.location(), sentence, values={"plan_km": row.km}, facts=[cells_of(row)])
 
 
 RULE = Rule("X5", "borders", __doc__ or "", find, Urgency.WRONG_INFORMATION)
