@@ -17,10 +17,10 @@ import pytest
 from conftest import Run, without_program
 from telegrams import ALONE, FAULTY, FIRST, MESSAGE, OTHER, SECOND, SPARE, account
 
-from balisekit.cli import check
 from balisekit.engine.grammar import Refusal
 from balisekit.engine.program import Program, Record
 from balisekit.present import explanations as explain
+from balisekit.present.formats.document import LACKING
 from balisekit.rules import checking
 from balisekit.tables.reader import read
 
@@ -364,9 +364,9 @@ def test_a_document_without_refused_telegrams(run: Run, table: Write, tmp_path: 
     target = tmp_path / "line.json"
     status, out, _ = run("check", table("group,telegram", f"A,{ALONE}", f"B,{OTHER[:-1]}1"), "--document", target)
     assert status == 2 and json.loads(target.read_text())["groups"] == [{"balises": [ALONE]}]
-    assert out[-3] == check.LACKING and out[-1].startswith("INCOMPLETE: ")
+    assert out[-3] == LACKING and out[-1].startswith("INCOMPLETE: ")
     for path in (table("group,telegram", f"A,{ALONE}"), table("group,telegram", f"A,{ALONE}", f"B,{ALONE}")):
-        assert check.LACKING not in run("check", path, "--document", target, "--force")[1]
+        assert LACKING not in run("check", path, "--document", target, "--force")[1]
 
 
 def test_explain_of_a_rule(run: Run, tmp_path: Path, monkeypatch: pytest.MonkeyPatch) -> None:
