@@ -1,7 +1,7 @@
-"""Lines with one mistake each for the rules E12 to E23, as teams make them: `examples/meaning/mistakes`.
+"""Lines with one mistake each for the rules from E12 on, as teams make them: `examples/meaning/mistakes`.
 
 `python3 companion/tests/meaning_mistakes.py` writes each table, and beside it what `check TABLE --only E --rules all`
-writes after its first line.
+writes after its first lines.
 """
 from __future__ import annotations
 

@@ -17,7 +17,7 @@ from telegrams import ALONE, MESSAGE, OTHER, SPARE, account, digest
 from balisekit.engine.program import Program, Text
 from balisekit.io import csv_writing
 from balisekit.rules import accepted
-from balisekit.rules.accepted import COLUMNS, FIELDS, RULES, VALUES
+from balisekit.rules.accepted import COLUMNS, FIELDS, OF_FAMILIES, RULES, VALUES
 from balisekit.rules.discovery import ADDED, ADDED_NAME
 from balisekit.rules.families import FAMILIES
 from balisekit.rules.location import Location
@@ -26,7 +26,7 @@ from balisekit.rules.rule import Remark
 Write = Callable[..., Path]
 LINE = TOP / "examples" / "table" / "line.csv"
 HEADING = ",".join(COLUMNS)
-NO_RULE = "none of F1 to F16, L1 to L9, E1 to E23 and X1 to X5"
+NO_RULE = f"none of F1 to F16, {OF_FAMILIES}"
 DAY = 1780000000
 """2026-05-28."""
 

@@ -17,8 +17,9 @@ from telegrams import ALONE, OTHER
 from test_check_outputs import written
 
 from balisekit.io import csv_writing
+from balisekit.rules import meaning
 from balisekit.rules.accepted import COLUMNS
-from balisekit.rules.discovery import letter_of
+from balisekit.rules.discovery import first_to_last, letter_of
 from balisekit.rules.template import Template
 
 Write = Callable[..., Path]
@@ -160,7 +161,7 @@ def test_explain_and_rules(run: Run, path: Path, tmp_path: Path) -> None:
         status, out, _ = run(*words, "--rules", asked, "--explain")
         assert status == 1 and "ACME-7: a counter for tests" in out
     assert run(*words, "--rules", "ACME-8")[2] == [
-        "balisekit: ACME-8 is no rule: --rules names rules E1 to E23 and those of --rules-from"
+        f"balisekit: ACME-8 is no rule: --rules names rules {first_to_last(meaning.RULES)} and those of --rules-from"
     ]
 
 

@@ -17,11 +17,12 @@ import pytest
 from conftest import Run, without_program
 from telegrams import ALONE, FAULTY, FIRST, MESSAGE, OTHER, SECOND, SPARE, account
 
-from balisekit.cli import check
 from balisekit.engine.grammar import Refusal
 from balisekit.engine.program import Program, Record
 from balisekit.present import explanations as explain
+from balisekit.present.formats.document import LACKING
 from balisekit.rules import checking
+from balisekit.rules.accepted import RULES
 from balisekit.tables.reader import read
 
 Write = Callable[..., Path]
@@ -364,22 +365,21 @@ def test_a_document_without_refused_telegrams(run: Run, table: Write, tmp_path: 
     target = tmp_path / "line.json"
     status, out, _ = run("check", table("group,telegram", f"A,{ALONE}", f"B,{OTHER[:-1]}1"), "--document", target)
     assert status == 2 and json.loads(target.read_text())["groups"] == [{"balises": [ALONE]}]
-    assert out[-3] == check.LACKING and out[-1].startswith("INCOMPLETE: ")
+    assert out[-3] == LACKING and out[-1].startswith("INCOMPLETE: ")
     for path in (table("group,telegram", f"A,{ALONE}"), table("group,telegram", f"A,{ALONE}", f"B,{ALONE}")):
-        assert check.LACKING not in run("check", path, "--document", target, "--force")[1]
+        assert LACKING not in run("check", path, "--document", target, "--force")[1]
 
 
 def test_explain_of_a_rule(run: Run, tmp_path: Path, monkeypatch: pytest.MonkeyPatch) -> None:
     """Its whole page is written, unless a file has its name, or an option is given that a page does not use."""
     monkeypatch.chdir(tmp_path)
-    names = ["F1", "F16", "L1", "L9", "E1", "E23", "X1", "X5"]
-    for name in names:
+    for name in ["F1", "F16", *RULES]:
         status, out, _ = run("check", "--explain", name)
         assert status == 0 and out[0].startswith(f"{name}: ") and sum(each.startswith(name) for each in out) == 1
     status, out, _ = run("check", "--explain", "E9")
     heads = [*explain.WHOLE]
     assert [head for line in out for head in heads if line.startswith(f"    {head}.")] == heads
-    assert run("check", "--explain", "E24")[0] == run("check", "E9")[0] == 2
+    assert run("check", "--explain", "E999")[0] == run("check", "E9")[0] == 2
     unused = ["--json=j", "--messages=m", "--only=F", "--tolerance=3", "--skip-column=old", "--by-position", "--force"]
     for word in unused:
         said = f"balisekit: {word.partition('=')[0]} is not used with the page of a rule"

@@ -20,7 +20,7 @@ from balisekit.engine.program import Program, Text
 from balisekit.io import csv_writing
 from balisekit.present import headings
 from balisekit.rules import families
-from balisekit.rules.accepted import COLUMNS, ON_CORRECT_DATA
+from balisekit.rules.accepted import COLUMNS, OF_FAMILIES, ON_CORRECT_DATA
 from balisekit.rules.links import RULES
 from balisekit.rules.rule import Rule, Urgency
 
@@ -224,8 +224,8 @@ ENTRY = {"nid_c": "1", "nid_bg": "1", **SIGNED, "sha256": "0" * 64}
         ({"rule": "F8", "aspect": "*", "balise": "0"}, "aspect", "F8 is not accepted by * as aspect"),
         ({"rule": "L3", "aspect": "*", "until": "2026-12-31"}, "aspect", "L3 is not accepted by * as aspect"),
         ({"rule": "F10", "nid_c": "", "nid_bg": "", "message": "m", "direction": "*"}, "until", "an entry with * that"),
-        ({"rule": "L10"}, "rule", "L10 is none of F1 to F16, L1 to L9, E1 to E23 and X1 to X5"),
-        ({"rule": "L0"}, "rule", "L0 is none of F1 to F16, L1 to L9, E1 to E23 and X1 to X5"),
+        ({"rule": "L10"}, "rule", f"L10 is none of F1 to F16, {OF_FAMILIES}"),
+        ({"rule": "L0"}, "rule", f"L0 is none of F1 to F16, {OF_FAMILIES}"),
     ],
 )
 def test_entries_that_are_too_broad(

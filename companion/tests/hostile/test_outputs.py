@@ -354,7 +354,7 @@ def test_standard_output_takes_more_than_is_kept_in_memory(
 def test_two_outputs_in_one_place_are_refused(room: Path, run: Run) -> None:
     (room / "folder").symlink_to(".")
     status, _, err = run("check", "t.csv", "--json", "new", "--junit", "folder/new")
-    assert (status, err) == (2, ["balisekit: new: it is named twice"])
+    assert (status, err) == (2, ["balisekit: folder/new: it is named twice"])
 
 
 @pytest.mark.parametrize("number, status", [(signal.SIGTERM, 143), (signal.SIGHUP, 129), (signal.SIGINT, 130)])

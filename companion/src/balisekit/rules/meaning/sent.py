@@ -1,7 +1,6 @@
 """What several rules E need: each packet of a table once, what is wrong with it, and values in words."""
 from __future__ import annotations
 
-from collections import Counter
 from decimal import Decimal
 from typing import Callable, Dict, Iterable, Iterator, List, Mapping, NamedTuple, Optional, Sequence, Tuple, TypeVar
 
@@ -127,11 +126,25 @@ def by_culprit(pairs: Sequence[Tuple[Key, Key]]) -> Iterator[Tuple[Key, List[Key
 
     One thing that is wrong disagrees with all others, and that is one remark.
     """
-    left = list(pairs)
-    while left:
-        (culprit, _), *_ = Counter(each for pair in left for each in reversed(pair)).most_common(1)
-        yield culprit, [other for pair in left for other in pair if culprit in pair and other != culprit]
-        left = [pair for pair in left if culprit not in pair]
+    of: Dict[Key, Dict[int, Tuple[Key, Key]]] = {}
+    """The pairs that are left of each thing, by their places."""
+    for place, pair in enumerate(pairs):
+        for each in pair:
+            of.setdefault(each, {})[place] = pair
+    while of:
+        culprit = max(of, key=lambda each: (len(of[each]), *_first(each, of[each])))
+        own = of.pop(culprit)
+        others = [(place, other) for place, pair in own.items() for other in pair if other != culprit]
+        yield culprit, [other for _, other in others]
+        for place, other in others:
+            del of[other][place]
+        of = {each: left for each, left in of.items() if left}
+
+
+def _first(each: Key, left: Mapping[int, Tuple[Key, Key]]) -> Tuple[int, bool]:
+    """Of things that are in equally many pairs the one with the first pair counts, and in that the second one."""
+    place, pair = next(iter(left.items()))
+    return -place, pair[1] == each
 
 
 def contrary(
