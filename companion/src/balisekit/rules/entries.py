@@ -108,7 +108,7 @@ def _order(entry: Entry, tracks: Mapping[str, int], groups: Mapping[str, int]) -
 
 def track_of(group: Group) -> str:
     """The track of a group."""
-    return next((row.track for row in group.rows() if row.track), "")
+    return next((row.track for row in group.each_row if row.track), "")
 
 
 def entry_of(place: Place) -> Entry:
