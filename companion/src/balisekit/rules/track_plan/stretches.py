@@ -5,7 +5,15 @@ from collections import Counter
 from dataclasses import dataclass, field
 from typing import Dict, List, NamedTuple, Optional, Tuple
 
-from balisekit.rules.track_plan.placed import BEHIND_POINT, NO_PLACE, SAYS_NOTHING, Counts, Part, Placed, Saying
+from balisekit.rules.track_plan.placed import (
+    BEHIND_POINT,
+    NO_PLACE,
+    SAYS_NOTHING,
+    Counts,
+    PlanStretch,
+    PlacedPlan,
+    Saying,
+)
 from balisekit.rules.rule import Options
 from balisekit.rules.telegrams import GRADIENTS, SPEEDS, Stretch, allowance
 
@@ -24,7 +32,7 @@ class Difference(NamedTuple):
     """Its first place in the direction of passage."""
     end: int
     said: int
-    part: Part
+    part: PlanStretch
 
 
 @dataclass
@@ -37,7 +45,7 @@ class Compared:
     """How many elements are compared from their beginning to their end, and how many are not."""
 
 
-def compare(placed: Placed, number: int, options: Options) -> Compared:
+def compare(placed: PlacedPlan, number: int, options: Options) -> Compared:
     """Compares each element of these profiles with the plan."""
     compared = Compared()
     known: Dict[Tuple[int, int, int], List[Difference]] = {}
@@ -71,7 +79,7 @@ def span(saying: Saying, element: Stretch) -> Tuple[Optional[Span], str]:
     return ((begin, end), "") if begin is not None and end is not None and passage.way else (None, NO_PLACE)
 
 
-def _known(placed: Placed, saying: Saying, found: Tuple[Optional[Span], str]) -> Tuple[Optional[Span], str]:
+def _known(placed: PlacedPlan, saying: Saying, found: Tuple[Optional[Span], str]) -> Tuple[Optional[Span], str]:
     """The same up to the point at which the train may leave the track."""
     ends, limit, way = found[0], placed.known_to(saying.passage), saying.passage.way or 0
     if ends is None or limit is None or way * (limit - ends[1]) >= 0:
