@@ -44,7 +44,7 @@ def calls(program: Program, path: str) -> int:
     before = sys.getprofile()
     sys.setprofile(count)
     try:
-        assert list(lines(families.apply(checked, tuple(families.FAMILIES), Options(), in_copy=False)))
+        assert list(lines(families.apply(checked, tuple(families.FAMILIES), Options())))
     finally:
         sys.setprofile(before)
     return counted

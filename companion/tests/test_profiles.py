@@ -13,7 +13,7 @@ from test_links import group, header
 from test_track import drawn
 
 from balisekit.cli import main as cli
-from balisekit.drawing.group import Content, draw
+from balisekit.drawing.group import PictureRow, draw
 from balisekit.drawing.sheet import Picture, Shape
 from balisekit.engine.program import Program
 from balisekit.etcs.geometry import Kilometres
@@ -104,7 +104,7 @@ def titles(picture: Picture) -> Counts[Tuple[str, str]]:
 def test_both_pictures_have_the_same_shapes(name: str, direction: int, rising: int) -> None:
     form = header(1, *({**packet, "q_dir": direction} for packet in WAYS[name]))
     (page,) = drawn((group("Group A", "2.5", nominal="rising" if rising > 0 else "falling"), [form]))
-    picture = draw("Group A", [Content("", [form])], Kilometres(Decimal("2.5"), rising))
+    picture = draw("Group A", [PictureRow("", [form])], Kilometres(Decimal("2.5"), rising))
     shapes = titles(picture)
     assert shapes and titles(page) == shapes
     said = sum("release speed" in shape.title for shape in page.shapes)
@@ -119,7 +119,7 @@ def test_an_open_profile_ends_a_tenth_and_100_m_beyond_the_last_place(direction:
     form = header(1, *({**packet, "q_dir": direction} for packet in (authority(1000), speeds((0, 20), (300, 10)))))
     far = header(1, {**authority(2400), "q_dir": direction})
     (page,) = drawn((group("A", "2.5", nominal="rising"), [form]))
-    picture = draw("A", [Content("", [form]), Content("", [far])], Kilometres())
+    picture = draw("A", [PictureRow("", [form]), PictureRow("", [far])], Kilometres())
     for shapes, reach in ((page.shapes, 5000), (picture.shapes, 2400)):
         (step,) = [shape for shape in shapes if shape.style == "step open"]
         begin, end = (float(number) for number in re.findall(r"[0-9.]+", step.path)[::2])
@@ -128,7 +128,7 @@ def test_an_open_profile_ends_a_tenth_and_100_m_beyond_the_last_place(direction:
 
 def pictured(*packets: Form) -> Picture:
     """The picture of a group that has these packets for nominal direction."""
-    return draw("A", [Content("", [header(1, *packets)])], Kilometres(Decimal(10), 1))
+    return draw("A", [PictureRow("", [header(1, *packets)])], Kilometres(Decimal(10), 1))
 
 
 def of(picture: Picture, style: str) -> List[Shape]:

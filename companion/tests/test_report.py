@@ -21,7 +21,7 @@ from telegrams import FIRST, MESSAGE, OTHER, SECOND, digest
 from test_text_boxes import faults
 
 from balisekit.cli import main as cli
-from balisekit.drawing.group import Content, draw
+from balisekit.drawing.group import PictureRow, draw
 from balisekit.engine.program import Program
 from balisekit.engine.records import Form
 from balisekit.etcs.geometry import Kilometres
@@ -392,7 +392,7 @@ def _profile(direction: int, *elements: Tuple[int, int]) -> Any:
 def test_reverse_is_the_mirror_image() -> None:
     """The same profile in both directions: to the right, and as far to the left."""
     form: Form = {"m_dup": 0, "packets": [_profile(2, (0, 20), (1000, 127))]}
-    shapes = [one for one in draw("A", [Content("", [form])], Kilometres()).shapes if one.style == "speed"]
+    shapes = [one for one in draw("A", [PictureRow("", [form])], Kilometres()).shapes if one.style == "speed"]
     right, left = sorted(shapes, key=lambda one: float(one.x), reverse=True)
     assert abs(float(right.width) - float(left.width)) < 0.2
     assert abs(float(left.x) + float(left.width) - float(right.x)) < 0.2
@@ -402,7 +402,7 @@ def test_reverse_is_the_mirror_image() -> None:
 def test_open_profiles_and_their_beginning() -> None:
     """An arrow in place of a bar; the track before the first element is marked."""
     form: Form = {"m_dup": 0, "packets": [_profile(1, (50, 20), (1000, 10))]}
-    looks = [one.style for one in draw("A", [Content("", [form])], Kilometres()).shapes]
+    looks = [one.style for one in draw("A", [PictureRow("", [form])], Kilometres()).shapes]
     assert "arrow" in looks and "none" in looks and "endmark" not in looks and "step open" in looks
 
 
@@ -471,7 +471,7 @@ def test_an_authority_has_all_its_places() -> None:
         "overlap": {"d_startol": 100, "t_ol": 30, "d_ol": 120, "v_releaseol": 126},
     }
     form: Form = {"m_dup": 0, "packets": [packet]}
-    picture = draw("A", [Content("", [form])], Kilometres(Decimal(10), 1))
+    picture = draw("A", [PictureRow("", [form])], Kilometres(Decimal(10), 1))
     titles = {one.title for one in picture.shapes if one.title}
     for direction, along in (("nominal", 1), ("reverse", -1)):
 
@@ -635,7 +635,9 @@ def test_any_name_makes_a_picture() -> None:
 
 
 def _svg(name: str) -> str:
-    picture = draw(name, [Content(name, [{"m_dup": 0, "packets": [_profile(1, (0, 20), (1000, 127))]}])], Kilometres())
+    picture = draw(
+        name, [PictureRow(name, [{"m_dup": 0, "packets": [_profile(1, (0, 20), (1000, 127))]}])], Kilometres()
+    )
     return "".join(pieces("group.svg", ["picture.css"], picture=picture))
 
 

@@ -13,7 +13,7 @@ from balisekit.tables.model import Group, Row
 from balisekit.tables.names import NAMED, describe_balise, describe_rows, listed, quoted
 
 Identity = Tuple[int, ...]
-Content = Tuple[Hashable, ...]
+WithoutIdentity = Tuple[Hashable, ...]
 
 
 @dataclass(frozen=True)
@@ -39,7 +39,7 @@ class Left(NamedTuple):
 
     group: Group
     identity: Identity
-    content: Optional[Content]
+    content: Optional[WithoutIdentity]
     """Nothing if a telegram is refused or has another identity."""
 
 
@@ -82,7 +82,7 @@ def _left(side: Side, groups: Sequence[Group]) -> Iterator[Left]:
         yield Left(group, next(iter(heads)), _content(side, group) if is_whole else None)
 
 
-def _content(side: Side, group: Group) -> Content:
+def _content(side: Side, group: Group) -> WithoutIdentity:
     return tuple(
         (aspect.name, *((_without_identity(side.records[row.number]), row.aspect == EVERY) for row in aspect.rows))
         for aspect in group.aspects

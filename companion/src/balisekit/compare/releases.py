@@ -149,7 +149,7 @@ def _paired_groups(old: Side, new: Side, named: bool) -> Tuple[Pairs[Group], Lis
     return groups, [group for _, group in gone], [group for _, group in come]
 
 
-class Placed(NamedTuple):
+class ReadTelegram(NamedTuple):
     """A telegram that could be read. One that is sent in every aspect comes once for each."""
 
     aspect: str
@@ -158,12 +158,12 @@ class Placed(NamedTuple):
     row: Row
 
 
-def _placed(side: Side, group: Group, moved: Set[int]) -> Iterator[Placed]:
+def _placed(side: Side, group: Group, moved: Set[int]) -> Iterator[ReadTelegram]:
     """The telegrams of a group, without those that were exchanged."""
     for aspect in group.aspects:
         for place, row in enumerate(aspect.rows):
             if row.number in side.checked.accepted and row.number not in moved:
-                yield Placed(aspect.name, side.head(row)[0], place, row)
+                yield ReadTelegram(aspect.name, side.head(row)[0], place, row)
 
 
 def _content(side: Side, group: Group) -> Optional[Sequence[object]]:

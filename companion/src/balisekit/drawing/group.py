@@ -58,7 +58,7 @@ class LinkMark(NamedTuple):
 
 
 @dataclass(frozen=True)
-class Content:
+class PictureRow:
     """A row of the picture: the telegrams of an aspect in nominal order, or a message, and their findings."""
 
     title: str
@@ -93,7 +93,7 @@ def picture_of(
 
 def _rows(
     shown: Sequence[Tuple[Aspect, Sequence[Finding]]], forms: Mapping[int, Form], links: Sequence[LinkMark]
-) -> Iterator[Content]:
+) -> Iterator[PictureRow]:
     """The rows of the picture: for each aspect its own, and what it says of the group of a packet 136."""
     for aspect, short in shown:
         rows = {row.number for row in aspect.rows}
@@ -121,7 +121,9 @@ def pictures_of(
         yield names, pictures[first]
 
 
-def _aspect(aspect: Aspect, names: Sequence[str], forms: Mapping[int, Form], short: Sequence[Finding]) -> List[Content]:
+def _aspect(
+    aspect: Aspect, names: Sequence[str], forms: Mapping[int, Form], short: Sequence[Finding]
+) -> List[PictureRow]:
     """The rows of the picture for an aspect, under these names of aspects that are alike."""
     many = f"aspect{'s' * (len(names) > 1)} {listed(list(map(quoted, names)), NAMED)}"
     return _contents(many if names[0] else "in every aspect", [forms[row.number] for row in aspect.rows], short)
@@ -138,15 +140,17 @@ def picture_of_message(
     return draw(title, contents, where, titled)
 
 
-def _contents(title: str, forms: Sequence[Form], short: Sequence[Finding]) -> List[Content]:
+def _contents(title: str, forms: Sequence[Form], short: Sequence[Finding]) -> List[PictureRow]:
     """The rows for these telegrams: one from their own group, and one from the group of a packet 136, if it has any."""
-    contents = [Content(title, forms, short)]
+    contents = [PictureRow(title, forms, short)]
     if any(passages(forms, direction)[1] for direction in DIRECTIONS):
-        contents.append(Content(f"{title}, infill: metres from the group of packet 136", forms, infill=True))
+        contents.append(PictureRow(f"{title}, infill: metres from the group of packet 136", forms, infill=True))
     return contents
 
 
-def draw(title: str, contents: Sequence[Content], where: Kilometres, titled: bool = False, name: str = "") -> Picture:
+def draw(
+    title: str, contents: Sequence[PictureRow], where: Kilometres, titled: bool = False, name: str = ""
+) -> Picture:
     """The picture of a group: a row for each content, below the title if that is visible."""
     drawn = _drawn(title if titled else "", contents, where)
     km, name = where.words(0, NOMINAL), name or clean(title)
@@ -154,7 +158,7 @@ def draw(title: str, contents: Sequence[Content], where: Kilometres, titled: boo
     return replace(drawn, title=name, description=description)
 
 
-def _drawn(title: str, contents: Sequence[Content], where: Kilometres) -> Picture:
+def _drawn(title: str, contents: Sequence[PictureRow], where: Kilometres) -> Picture:
     """The picture without its name. A title is visible if there is one."""
     rows = [(content, ways(content.forms, content.infill)) for content in contents]
     nominal, reverse = (
@@ -182,14 +186,14 @@ def _drawn(title: str, contents: Sequence[Content], where: Kilometres) -> Pictur
     return sheet.picture("", 6, _description(rows))
 
 
-def _description(rows: Sequence[Tuple[Content, Sequence[Way]]]) -> str:
+def _description(rows: Sequence[Tuple[PictureRow, Sequence[Way]]]) -> str:
     """What the picture shows, for those who do not see it: authorities by row, and what all rows have together."""
     authorities = [f"{clean(content.title)}: {_authority_words(content, both)}" for content, both in rows]
     whole = summary([each for _, both in rows for each in both], metres)
     return ". ".join(filter(None, [*authorities, whole]))
 
 
-def _authority_words(content: Content, both: Sequence[Way]) -> str:
+def _authority_words(content: PictureRow, both: Sequence[Way]) -> str:
     """The authorities and gaps of a row."""
     if not any(both):
         return NOTHING
@@ -197,7 +201,7 @@ def _authority_words(content: Content, both: Sequence[Way]) -> str:
     return "; ".join(said)
 
 
-def _missing(content: Content, each: Way) -> str:
+def _missing(content: PictureRow, each: Way) -> str:
     """The gaps of a way."""
     found = [finding for finding in content.short if finding.direction == each.direction and gap(finding, each)]
     return "".join(f", {gap_label(finding, each)}" for finding in found)
@@ -214,7 +218,7 @@ def _describing(where: Kilometres, direction: str) -> Describe:
     return describe
 
 
-def _row(sheet: Sheet, content: Content, both: Sequence[Way], describe: Sequence[Describe], top_speed: int) -> None:
+def _row(sheet: Sheet, content: PictureRow, both: Sequence[Way], describe: Sequence[Describe], top_speed: int) -> None:
     if both[1]:
         _directions(sheet, bool(both[0]))
     drawings = [
@@ -252,7 +256,7 @@ def _directions(sheet: Sheet, has_nominal: bool) -> None:
     sheet.text("ending", reverse, max(min(sheet.x(0), begin) - 60, EDGE + width("", reverse)), sheet.y)
 
 
-def _profiles(sheet: Sheet, content: Content, drawings: Sequence[WayDrawing], top_speed: int) -> None:
+def _profiles(sheet: Sheet, content: PictureRow, drawings: Sequence[WayDrawing], top_speed: int) -> None:
     """The lanes of profiles, with V_MAIN in the first one of speeds."""
     for number, name, height in PROFILES:
         kinds = [drawing.way.speeds if number == 27 else drawing.way.gradients for drawing in drawings]

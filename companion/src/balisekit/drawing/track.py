@@ -107,7 +107,7 @@ def _description(page: Page, bands: Sequence[Band], shown: str) -> str:
     return ". ".join(filter(None, parts))
 
 
-class Placed(NamedTuple):
+class LaidOut(NamedTuple):
     """A band on a page, from where to where it needs its lane, and where its name begins, in tenths of a pixel."""
 
     left: int
@@ -121,7 +121,7 @@ class Placed(NamedTuple):
     """Down to its lower edge, in pixels."""
 
 
-def _placed(scale: Sheet, band: Band) -> Placed:
+def _placed(scale: Sheet, band: Band) -> LaidOut:
     """A band with the room that it needs. Its name is at the group, on the side to which it runs, or at an edge."""
     words = shortened("", band.label, NAME) + ("" if scale.shows(band.at) else f", from {at_km(band.at)}")
     findings = width("red", band.findings) + SPACE if band.findings else 0
@@ -132,7 +132,7 @@ def _placed(scale: Sheet, band: Band) -> Placed:
     left = min(name, scale.nearest(band.begin), *(within[0] for _, _, within in strips))
     right = max(name + wide, scale.nearest(band.end), *(within[1] for _, _, within in strips))
     height = _areas_top(band) + AREA * rows
-    return Placed(max(left, EDGES[0]), min(right, EDGES[1]), name, words, band, strips, height)
+    return LaidOut(max(left, EDGES[0]), min(right, EDGES[1]), name, words, band, strips, height)
 
 
 def _strips(scale: Sheet, band: Band) -> Tuple[List[Strip], int]:
@@ -164,9 +164,9 @@ def _within(scale: Sheet, band: Band, area: Area) -> Edges:
     return (left, right) if right - left >= room else around[band.sign < 0]
 
 
-def _parts(lanes: List[List[Placed]]) -> List[List[Tuple[int, List[Placed]]]]:
+def _parts(lanes: List[List[LaidOut]]) -> List[List[Tuple[int, List[LaidOut]]]]:
     """The lanes of a page with their heights, in as many parts as are needed, so that each fits on a printed page."""
-    parts: List[List[Tuple[int, List[Placed]]]] = [[]]
+    parts: List[List[Tuple[int, List[LaidOut]]]] = [[]]
     used = 0
     for lane in lanes:
         height = max([one.height for one in lane])
@@ -183,9 +183,9 @@ def _areas_top(band: Band) -> int:
     return BAND if way.authorities or way.gradients or way.speeds else 16
 
 
-def _lanes(placed: Sequence[Placed]) -> List[List[Placed]]:
+def _lanes(placed: Sequence[LaidOut]) -> List[List[LaidOut]]:
     """The bands of a page in as many lanes as they need, so that no two of them overlap."""
-    lanes: List[List[Placed]] = []
+    lanes: List[List[LaidOut]] = []
     rows = Rows()
     for one in sorted(placed, key=lambda one: (one.left, one.band.begin, one.right)):
         row = rows.reserve(one.left, one.right)
@@ -258,7 +258,7 @@ def _station(sheet: Sheet, station: BaliseGroup, base: int) -> None:
     sheet.path("station refused" if station.unread else "station", title, f"M{tenths(sheet.x(at))} {base}l-4 -7h8z")
 
 
-def _band(sheet: Sheet, one: Placed, top_speed: int) -> None:
+def _band(sheet: Sheet, one: LaidOut, top_speed: int) -> None:
     """Speeds, gradients and authority of a group, where profiles are missing, and its name above them."""
     band, way, lane = one.band, one.band.way, Lane(sheet.y + 26, SPEEDS)
     lanes = {27: lane, 21: Lane(lane.bottom + 2, LOW)}
@@ -280,7 +280,7 @@ def _band(sheet: Sheet, one: Placed, top_speed: int) -> None:
     sheet.mark("group", "", band.at, sheet.y + 14, one.height - 18)
 
 
-def _name(sheet: Sheet, one: Placed) -> None:
+def _name(sheet: Sheet, one: LaidOut) -> None:
     """The name of a band, an arrow to where it runs, and what is missing: the arrow is at the group."""
     band, y = one.band, sheet.y + 10
     parts = [("red", band.findings, width("red", band.findings) + SPACE)] if band.findings else []

@@ -44,7 +44,7 @@ HANDSHAKE = (
     ),
 )
 """Words, input, status and answer of each trial run."""
-Part = Tuple[int, int]
+Span = Tuple[int, int]
 """The first line of a part, and the line after its last one."""
 Answer = Union[str, Refusal]
 Done = TypeVar("Done")
@@ -243,7 +243,7 @@ class Program:
                 done += 1
                 yield answer
 
-    def _several(self, work: Callable[[Program, Part], Iterator[Done]], count: int) -> Iterator[Done]:
+    def _several(self, work: Callable[[Program, Span], Iterator[Done]], count: int) -> Iterator[Done]:
         """What is done for each line or message: by one run after the other, and after a few refusals by several."""
         done = refused = 0
         for answer in work(self, (0, count)):
@@ -255,7 +255,7 @@ class Program:
         if done < count:
             yield from replace(self, _stop=Event())._in_parts(work, range(done, count, PART))
 
-    def _in_parts(self, work: Callable[[Program, Part], Iterator[Done]], starts: Sequence[int]) -> Iterator[Done]:
+    def _in_parts(self, work: Callable[[Program, Span], Iterator[Done]], starts: Sequence[int]) -> Iterator[Done]:
         """What is done for the lines from these on, by several runs at a time. They end with the iterator."""
         from concurrent.futures import ThreadPoolExecutor  # (slow, and seldom needed)
 

@@ -37,7 +37,7 @@ Country = Annotated[int, range(1024)]
 GroupNumber = Annotated[int, range(16_384)]
 
 
-class Part(TypedDict, total=False):
+class Inner(TypedDict, total=False):
     """An object within an authority. (mypy compares a key of type `Form` at length; lists of `Form` only once.)"""
 
     t_sectiontimer: Seconds
@@ -52,7 +52,7 @@ class Part(TypedDict, total=False):
     v_releaseol: ReleaseSpeed
 
 
-class Form(Part, total=False):
+class Form(Inner, total=False):
     """An object of a record. Its kind decides which of these keys it has: see `KEYS`. They are in the standard's order.
 
     A number is annotated with the values that it may have, and a list with its least and greatest length.
@@ -90,10 +90,10 @@ class Form(Part, total=False):
     sections: Annotated[List[Form], 0, 31]
     l_section: Distance
     l_endsection: Distance
-    section_timer: Part
-    end_timer: Part
-    danger_point: Part
-    overlap: Part
+    section_timer: Inner
+    end_timer: Inner
+    danger_point: Inner
+    overlap: Inner
     d_gradient: Distance
     q_gdir: Bit
     g_a: Byte
@@ -318,7 +318,7 @@ class Header(NamedTuple):
 def parts(line: str) -> Tuple[Header, str]:
     """The header of a telegram's record that the program has written, and the text of its packets."""
     *before, packets, q_link, user_bits = RECORD.findall(line)[0]
-    return Header(*map(int, (*before, q_link, user_bits))), packets
+    return Header._make(map(int, (*before, q_link, user_bits))), packets
 
 
 def packet_texts(packets: str) -> List[str]:

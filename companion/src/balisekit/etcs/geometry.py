@@ -133,10 +133,15 @@ RISING = {"rising": 1, "falling": -1}
 
 
 def kilometres(group: Group) -> Kilometres:
-    """The kilometre of a group. Whether they rise is by the kilometres of its balises, else by the column `nominal`."""
+    """The kilometre of a group, and how the kilometres go."""
+    return Kilometres(*place_and_direction(group))
+
+
+def place_and_direction(group: Group) -> Tuple[Optional[Decimal], Optional[int]]:
+    """The same as two values. Whether they rise is by the kilometres of its balises, else by the column `nominal`."""
     first = group.aspects[0].rows[0]
     if len(group.aspects) == len(group.aspects[0].rows) == 1:
-        return Kilometres(first.km, RISING.get(first.nominal))
+        return first.km, RISING.get(first.nominal)
     known: Dict[int, Decimal] = {}
     for aspect in group.aspects:
         for place, row in enumerate(aspect.rows):
@@ -146,10 +151,10 @@ def kilometres(group: Group) -> Kilometres:
     rises = all(before <= after for before, after in zip(along, along[1:]))
     falls = all(before >= after for before, after in zip(along, along[1:]))
     if rises != falls:
-        return Kilometres(known.get(0), 1 if rises else -1)
+        return known.get(0), 1 if rises else -1
     words = {row.nominal for row in group.rows()} - {""}
     rising = RISING.get(words.pop()) if rises and len(words) == 1 else None
-    return Kilometres(known.get(0), rising)
+    return known.get(0), rising
 
 
 def end_of(packet: Form) -> int:

@@ -21,7 +21,7 @@ ORIGINS = {
 }
 
 
-class Passage(NamedTuple):
+class Passing(NamedTuple):
     """An aspect and direction in which a train gets a packet, and the group that its distances then count from."""
 
     aspect: str
@@ -33,7 +33,7 @@ class Here(NamedTuple):
     """What the distances of a telegram count from: its group, with these kilometres."""
 
     kilometres: Kilometres = Kilometres()
-    passages: Mapping[int, Sequence[Passage]] = {}
+    passages: Mapping[int, Sequence[Passing]] = {}
     """By their indices in the telegram, the passages of packets that do not always count from the group."""
 
     def place(self, ways: Sequence[str]) -> Place:
@@ -71,7 +71,7 @@ class Here(NamedTuple):
         return notes
 
 
-def _cases(passages: Sequence[Passage]) -> Iterator[Tuple[str, Origin, Sequence[str]]]:
+def _cases(passages: Sequence[Passing]) -> Iterator[Tuple[str, Origin, Sequence[str]]]:
     """Passages of one origin in words, that origin, and their directions."""
     ways: Dict[str, Dict[Origin, Tuple[str, ...]]] = {}
     for aspect, direction, origin in passages:
@@ -295,7 +295,7 @@ def places_of_rows(group: Group, forms: Mapping[int, Form], where: Optional[Kilo
     `where` has the kilometres of the group, if they are known already.
     """
     where, numbers = where or kilometres(group), sorted(group.places)
-    passages: Mapping[int, Mapping[int, Sequence[Passage]]] = {}
+    passages: Mapping[int, Mapping[int, Sequence[Passing]]] = {}
     if not all(number in forms and not geometry.has_infill(forms[number]) for number in numbers):
         passages = _passages(
             [(aspect.name, [(row.number, forms.get(row.number)) for row in aspect.rows]) for aspect in group.aspects]
@@ -307,14 +307,14 @@ def places_of_rows(group: Group, forms: Mapping[int, Form], where: Optional[Kilo
 
 def _passages(
     aspects: Sequence[Tuple[str, Sequence[Tuple[int, Optional[Form]]]]]
-) -> Dict[int, Dict[int, Sequence[Passage]]]:
+) -> Dict[int, Dict[int, Sequence[Passing]]]:
     """The passages of packets that do not always count from the group, by telegram and index."""
-    passages_of: Dict[int, Dict[int, List[Passage]]] = {}
+    passages_of: Dict[int, Dict[int, List[Passing]]] = {}
     for name, telegrams in aspects:
         for direction in DIRECTIONS:
             for site, origin in geometry.origins([form for _, form in telegrams], direction):
                 packets = passages_of.setdefault(telegrams[site.balise][0], {})
-                packets.setdefault(site.packet, []).append(Passage(name, direction, origin))
+                packets.setdefault(site.packet, []).append(Passing(name, direction, origin))
     return {
         number: {
             place: passages

@@ -75,7 +75,7 @@ class One(NamedTuple):
 class Many(NamedTuple):
     """A list of items, or without a key fields that are there together."""
 
-    fields: Tuple[Part, ...]
+    fields: Tuple[LayoutPart, ...]
     when: Condition
     key: str = ""
     least: int = 0
@@ -91,7 +91,7 @@ class Rest:
     """The variable that counts the characters."""
 
 
-Part = Union[One, Many, Rest]
+LayoutPart = Union[One, Many, Rest]
 
 
 class Layout(NamedTuple):
@@ -102,7 +102,7 @@ class Layout(NamedTuple):
     sure: int
     """In per cent."""
     doubt: str
-    fields: Tuple[Part, ...]
+    fields: Tuple[LayoutPart, ...]
 
     @property
     def is_certain(self) -> bool:
@@ -157,11 +157,11 @@ def _spans(numbers: str) -> Iterator[Span]:
         yield Span(int(found[1]), int(found[2] or found[1]), found[3] or "")
 
 
-def _parts(fields: List[Any]) -> Tuple[Part, ...]:
+def _parts(fields: List[Any]) -> Tuple[LayoutPart, ...]:
     return tuple(map(_part, fields))
 
 
-def _part(field: Any) -> Part:
+def _part(field: Any) -> LayoutPart:
     field = {"variable": field} if isinstance(field, str) else field
     when = _condition(field.get("when", ""))
     if "fields" in field:
@@ -182,7 +182,7 @@ def _condition(text: str) -> Condition:
     return Condition(tuple((part[1], int(part[3]), not part[2]) for part in found if part))
 
 
-def all_ones(parts: Tuple[Part, ...]) -> Iterator[One]:
+def all_ones(parts: Tuple[LayoutPart, ...]) -> Iterator[One]:
     """The variables of a layout that have keys, those of its lists too."""
     for part in parts:
         if isinstance(part, Many):
@@ -191,7 +191,7 @@ def all_ones(parts: Tuple[Part, ...]) -> Iterator[One]:
             yield part
 
 
-def objects(parts: Tuple[Part, ...], key: str = "") -> Iterator[Tuple[str, List[str]]]:
+def objects(parts: Tuple[LayoutPart, ...], key: str = "") -> Iterator[Tuple[str, List[str]]]:
     """The keys of the packet's object in the order of the bits, and of the items of each of its lists, by its key."""
     own: List[str] = []
     for part in parts:

@@ -11,7 +11,7 @@ from functools import lru_cache
 from typing import Any, Dict, List, NamedTuple, Optional, Sequence, Union, cast
 
 from balisekit.engine.records import BODIES, Form
-from balisekit.etcs.raw_layouts import Layout, Many, One, Part, Rest, layout_of, variables
+from balisekit.etcs.raw_layouts import Layout, LayoutPart, Many, One, Rest, layout_of, variables
 
 OWN = "balisekit's own layout: not proved, not compared with a print"
 NOT_CERTAIN = "layout not certain: balisekit's own, not proved, not compared with a print"
@@ -175,7 +175,7 @@ class _Reader:
         self.note(name, path, variable.bits, number)
         return number
 
-    def object(self, parts: Sequence[Part], values: Dict[str, Any], numbers: Dict[str, int], path: str) -> None:
+    def object(self, parts: Sequence[LayoutPart], values: Dict[str, Any], numbers: Dict[str, int], path: str) -> None:
         """The fields of an object: into `values` by their keys, and into `numbers` by the names of variables."""
         for part in parts:
             if isinstance(part, Rest):

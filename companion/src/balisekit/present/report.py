@@ -16,7 +16,7 @@ LINKED = 8
 """How many rows of an entry have a link."""
 
 
-class Link(NamedTuple):
+class PageLink(NamedTuple):
     """A place of the page, and what it is called."""
 
     target: str
@@ -39,7 +39,7 @@ class Listed(NamedTuple):
     words: str
     block: str
     """The block of its group or message."""
-    links: Sequence[Link]
+    links: Sequence[PageLink]
     """To the telegrams, packets and rules that it is about."""
     accepted: Sequence[str]
     """Why, by whom and when it was accepted: empty if it is open."""
@@ -100,9 +100,9 @@ def _listed_part(outcome: Outcome, part: Part, ids: Mapping[str, str]) -> Listed
 def _listed(entry: Entry, ids: Mapping[str, str], heading: str, acceptances: Sequence[Acceptance]) -> Listed:
     message, group = entry.message, entry.group
     block = f"m{message.number}" if message else ids[group.name] if group else ""
-    links = [Link(f"r{row}", rows_words([row])) for row in entry.rows[:LINKED]]
-    links += [Link(packet_id(*place), "packet") for place in packets_of(entry)]
-    links += [Link(rule, rule) for rule in entry.rules]
+    links = [PageLink(f"r{row}", rows_words([row])) for row in entry.rows[:LINKED]]
+    links += [PageLink(packet_id(*place), "packet") for place in packets_of(entry)]
+    links += [PageLink(rule, rule) for rule in entry.rules]
     signatures = [_signature(each) for each in acceptances]
     return Listed(
         entry, headings.words(entry), block, links, list(map(accepted_words, acceptances)), signatures, heading

@@ -94,7 +94,7 @@ OF_GROUP, OF_ROW = 2, 3
 """How many words of their own a group and each of its rows have. Those of a row: its number, heading and digits."""
 
 
-class Content(NamedTuple):
+class BodyContent(NamedTuple):
     """All that the body of a group depends on, except its kilometres."""
 
     group: Group
@@ -180,7 +180,7 @@ def _block(
     read = [number for number in sorted(group.places) if number in telegrams]
     records, identities = _with_holes(list(map(telegrams.line, read)), OF_GROUP + OF_ROW * len(group.places))
     marked = _marked(entries, "r")
-    content = Content(group, dict(zip(read, records)), identities, _findings(entries), marked, links, items, full)
+    content = BodyContent(group, dict(zip(read, records)), identities, _findings(entries), marked, links, items, full)
     body, texts = _body(content, where, not station.unread)
     return Block(
         f"g{station.number}",
@@ -199,7 +199,7 @@ def _block(
     )
 
 
-def _body(content: Content, where: Kilometres, has_picture: bool) -> Tuple[Body, Sequence[str]]:
+def _body(content: BodyContent, where: Kilometres, has_picture: bool) -> Tuple[Body, Sequence[str]]:
     """The picture and the telegrams of a group, and the kilometres for their holes."""
 
     def make(place: Kilometres) -> Body:
@@ -224,7 +224,7 @@ def _own_words(id: str, group: Group, body: Body) -> Iterator[str]:
         yield escaped(clean(row.telegram))
 
 
-def _written(content: Content, forms: Mapping[int, Form], where: Kilometres, has_picture: bool) -> str:
+def _written(content: BodyContent, forms: Mapping[int, Form], where: Kilometres, has_picture: bool) -> str:
     """The picture and the telegrams of a group, with holes for its own words."""
     group, id, name = content.group, own_hole(0), own_hole(1)
     found: List[str] = []

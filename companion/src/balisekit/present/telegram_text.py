@@ -37,7 +37,7 @@ class Shown(NamedTuple):
     """The standard's name of the variable, the value with its unit or name, and the number, if that isn't all."""
 
 
-class Line(NamedTuple):
+class TextLine(NamedTuple):
     """Some values under one label, and what balisekit works out of them."""
 
     depth: int
@@ -58,7 +58,7 @@ class Line(NamedTuple):
         return [Shown(f"{self.path}/{key}", self.form[key], words) for key, words in zip(self.keys, self.texts)]
 
 
-def form_lines(form: Form, here: Here = Here()) -> List[Line]:
+def form_lines(form: Form, here: Here = Here()) -> List[TextLine]:
     """The lines of a telegram, or of a radio message."""
     lines, from_track = _head_lines(form), form.get("nid_message") != 136
     for place, packet in enumerate(form["packets"]):
@@ -67,7 +67,7 @@ def form_lines(form: Form, here: Here = Here()) -> List[Line]:
     return lines
 
 
-def _head_lines(form: Form) -> List[Line]:
+def _head_lines(form: Form) -> List[TextLine]:
     """The lines of what is before the packets."""
     head = {key: value for key, value in form.items() if key != "packets"}
     lines = _Lines()
@@ -75,7 +75,7 @@ def _head_lines(form: Form) -> List[Line]:
     return lines.found
 
 
-def _packet_lines(place: int, packet: Form, here: Here, from_track: bool) -> Tuple[List[Line], Dict[str, str]]:
+def _packet_lines(place: int, packet: Form, here: Here, from_track: bool) -> Tuple[List[TextLine], Dict[str, str]]:
     """The lines of a packet, and notes by their anchors. Distances from train to track count from no group."""
     content, path = content_of(packet, from_track), f"/packets/{place}"
     notes = here.notes(place, packet) if from_track else {}
@@ -107,7 +107,7 @@ class _Lines:
     """Goes through the objects of a telegram or message. One list is faster than nested generators."""
 
     def __init__(self) -> None:
-        self.found: List[Line] = []
+        self.found: List[TextLine] = []
 
     def add(self, label: str, depth: int, form: Values, path: str, around: Around) -> None:
         """The lines of an object: its values up to its first part, that part, and so on."""
@@ -118,7 +118,7 @@ class _Lines:
                 continue
             if keys[0] == END_SECTION:
                 label, anchor, depth = "end section", f"{path}/{END_SECTION}", depth + 1
-            self.found.append(Line(depth, label, path, keys, form, value_texts(keys, form, inner), anchor))
+            self.found.append(TextLine(depth, label, path, keys, form, value_texts(keys, form, inner), anchor))
             label, anchor = "", ""
 
     def part(self, part: str, depth: int, form: Values, path: str, around: Around) -> None:
@@ -131,10 +131,10 @@ class _Lines:
         elif isinstance(value, dict):
             self.add(name, depth, value, where, around)
         else:
-            self.found.append(Line(depth, "", path, (part,), form, value_texts((part,), form, around), where))
+            self.found.append(TextLine(depth, "", path, (part,), form, value_texts((part,), form, around), where))
 
 
-def _text_of(line: Line, note: str) -> str:
+def _text_of(line: TextLine, note: str) -> str:
     """The line as text, broken if it is too long, but never between a name and its raw value."""
     words, length = _broken(line.depth, line.label, tuple(line.texts))
     if not note:
@@ -189,7 +189,7 @@ def packet_text(form: Form, place: int, here: Here = Here(), finish: Finish = st
     return pattern.filled(kilometres)
 
 
-def _text(lines: Sequence[Line], notes: Mapping[str, str] = {}) -> str:
+def _text(lines: Sequence[TextLine], notes: Mapping[str, str] = {}) -> str:
     return "".join([f"{_text_of(line, notes.get(line.anchor, ''))}\n" for line in lines])
 
 

@@ -88,8 +88,7 @@ def chains_of(groups: Sequence[GroupData], messages: Sequence[Passage]) -> Chain
     """Those of all groups and messages of a table."""
     chains = Chains()
     for data in groups:
-        if data.passages:
-            chains.add(data.passages)
+        chains.add(data.passages)
     for _, passages in groupby(messages, key=attrgetter("message")):
         chains.add(list(passages))
     return chains

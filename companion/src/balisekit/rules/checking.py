@@ -70,22 +70,21 @@ class Telegrams(Mapping[int, Form]):
     def __init__(self, program: Program, rows: Sequence[Row]) -> None:
         self._program = program
         self._rows = {row.number: row for row in rows}
+        self._kept: Optional[_Kept] = None
         self.raw: Optional[Raw] = None
         """The packets that are kept as bits, once all telegrams have been decoded."""
 
-    @cached_property
-    def _records(self) -> _Kept:
-        return _Kept(self.decoded(), max(self._rows, default=0))
-
-    def keep(self) -> None:
-        """Decodes all telegrams now, for those that ask for them several times."""
-        assert self._records
+    def keep(self) -> _Kept:
+        """The records of all telegrams, which are decoded once for those that ask for them several times."""
+        if self._kept is None:
+            self._kept = _Kept(self.decoded(), max(self._rows, default=0))
+        return self._kept
 
     def decoded(self, numbers: Optional[Iterable[int]] = None) -> Iterator[Tuple[Row, Record]]:
         """The records of these rows, or of all rows. Unless they are kept they are decoded now."""
         rows = list(self._rows.values()) if numbers is None else [self._rows[number] for number in numbers]
-        if "_records" in self.__dict__:
-            yield from ((row, self._records[row.number]) for row in rows)
+        if self._kept is not None:
+            yield from zip(rows, map(self._kept.__getitem__, [row.number for row in rows]))
             return
         raw: Raw = {}
         for row, answer in zip(rows, self._program.decode([row.telegram for row in rows])):
@@ -103,12 +102,12 @@ class Telegrams(Mapping[int, Form]):
 
     def line(self, number: int) -> str:
         """The record of a row, as the program has written it."""
-        return self._records[number].line
+        return self.keep()[number].line
 
     def __getitem__(self, number: int) -> Form:
         if number not in self._rows:
             raise KeyError(number)
-        return self._records[number].shared
+        return self.keep()[number].shared
 
     def __iter__(self) -> Iterator[int]:
         return iter(self._rows)
@@ -293,13 +292,18 @@ def document(groups: Sequence[Group], messages: Iterable[Message]) -> Iterator[s
     """The document that is handed to `check`, in pieces."""
     yield '{"groups":['
     for index, group in enumerate(groups):
-        texts = [",".join([ENCODE(row.telegram) for row in aspect.rows]) for aspect in group.aspects]
+        texts = [",".join([_quoted(row.telegram) for row in aspect.rows]) for aspect in group.aspects]
         form = '{"balises":[' + ']},{"balises":['.join(texts) + "]}"
         yield ("," if index else "") + "\n" + (form if len(texts) == 1 else f'{{"aspects":[{form}]}}')
     yield '\n],"messages":['
     for index, message in enumerate(messages):
         yield ("," if index else "") + "\n" + ENCODE(message.text)
     yield "\n]}\n"
+
+
+def _quoted(text: str) -> str:
+    """The text as JSON."""
+    return f'"{text}"' if text.isalnum() and text.isascii() else ENCODE(text)
 
 
 def until_too_many(answers: Iterable[Answer], everything: bool) -> Iterator[Answer]:

@@ -14,7 +14,7 @@ from itertools import accumulate
 from typing import Callable, Dict, Iterable, Iterator, List, Mapping, Optional, Sequence, Set, Tuple, TypeVar, Union
 from weakref import WeakKeyDictionary
 
-from balisekit.etcs.geometry import DIRECTIONS, kilometres
+from balisekit.etcs.geometry import DIRECTIONS, place_and_direction
 from balisekit.etcs.variables import Form, unit_dm
 from balisekit.rules.chainage import Chainage, Jump
 from balisekit.rules.chains import Chains, chains_of, take_directions
@@ -46,14 +46,24 @@ class Decoded:
     """The packets 5, and the profiles that are given with an authority."""
 
     @cached_property
+    def speaking(self) -> Sequence[GroupData]:
+        """The groups that give a train anything, in the order of the table."""
+        return [data for data in self.groups if data.passages]
+
+    @cached_property
+    def controlled(self) -> Sequence[GroupData]:
+        """The groups with several aspects, in the order of the table."""
+        return [data for data in self.groups if len(data.group.group.aspects) > 1]
+
+    @cached_property
     def passages(self) -> Sequence[Passage]:
         """All passages, those of groups in the order of the table, then the messages."""
-        return [*(passage for group in self.groups for passage in group.passages), *self.messages]
+        return [*(passage for data in self.speaking for passage in data.passages), *self.messages]
 
     @cached_property
     def first_passages(self) -> Mapping[int, Passage]:
         """By the id of each packet of a group: the first passage in which it counts from this group."""
-        passages = [passage for data in self.groups for passage in data.passages]
+        passages = [passage for data in self.speaking for passage in data.passages]
         return {id(packet): passage for passage in reversed(passages) for packet in passage.said}
 
     @cached_property
@@ -168,25 +178,23 @@ def decode(
         made.append(GroupData(known, own))
     decoded = Decoded(made, [], chainages, resolution_of([data.group for data in made]))
     links = _Links(decoded)
-    for data in made:
-        for telegram in data.telegrams.values():
-            links.put_into(telegram.packets, telegram.header.nid_c)
+    for telegram in (telegram for own in by_group.values() for telegram in own.values() if telegram.packets):
+        links.put_into(telegram.packets, telegram.header.nid_c)
     decoded.messages = [passage for message, form in messages for passage in _of_message(decoded, links, message, form)]
-    decoded.chains = chains_of(made, decoded.messages)
+    decoded.chains = chains_of(decoded.speaking, decoded.messages)
     take_directions(decoded.chains.own)
     return decoded
 
 
 def _balise_group(number: int, group: Group, telegrams: Mapping[int, Telegram]) -> BaliseGroup:
-    rows = {row.number: row for row in group.rows()}
-    first = next((telegrams[row] for row in rows if row in telegrams), None)
+    rows, (km, rising) = group.each_row, place_and_direction(group)
+    first = next((telegrams[row.number] for row in rows if row.number in telegrams), None)
     identity, linked = (first.identity, bool(first.header.q_link)) if first else (None, None)
-    balises, where = len(group.aspects[0].rows), kilometres(group)
-    track = next((row.track for row in rows.values() if row.track), "")
-    unread = tuple(sorted(rows.keys() - telegrams.keys())) if len(telegrams) < len(rows) else ()
-    said = [telegram.says for telegram in telegrams.values()]
-    says = tuple(any(own[index] for own in said) for index in range(2))
-    return BaliseGroup(number, group, balises, identity, linked, where.group, where.rising, track, unread, says=says)
+    balises, track = len(group.aspects[0].rows), next((row.track for row in rows if row.track), "")
+    unread = tuple(sorted({row.number for row in rows} - telegrams.keys())) if len(telegrams) < len(rows) else ()
+    said = [telegram.says for telegram in telegrams.values() if telegram.packets]
+    says = (any([own[0] for own in said]), any([own[1] for own in said])) if said else (False, False)
+    return BaliseGroup(number, group, balises, identity, linked, km, rising, track, unread, says=says)
 
 
 class _Links:
@@ -241,10 +249,5 @@ def resolution_of(groups: Sequence[BaliseGroup]) -> int:
 
     A spreadsheet stores 11.100 as 11.1, so fewer decimals than three do not show that the kilometres are rounded.
     """
-    decimals = max((_decimals(row.km) for each in groups for row in each.group.rows() if row.km is not None), default=3)
-    return int(Decimal(10_000).scaleb(-max(decimals, METRES)).to_integral_value(ROUND_CEILING))
-
-
-def _decimals(km: Decimal) -> int:
-    exponent = km.as_tuple().exponent
-    return -exponent if isinstance(exponent, int) and exponent < 0 else 0
+    known = (row.km for each in groups for row in each.group.each_row if row.km is not None)
+    return 1 if any(int(km.as_tuple().exponent) < -METRES for km in known) else 10

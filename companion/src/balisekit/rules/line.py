@@ -13,7 +13,7 @@ from typing import AbstractSet, Dict, FrozenSet, Iterator, List, Mapping, NamedT
 
 from balisekit.engine.grammar import Finding
 from balisekit.engine.program import Record
-from balisekit.etcs.geometry import kilometres
+from balisekit.etcs.geometry import place_and_direction
 from balisekit.etcs.variables import Form
 from balisekit.rules.chainage import Jump
 from balisekit.rules.chains import Chain
@@ -99,8 +99,10 @@ class Line:
     @classmethod
     def of(cls, checked: Checked, jumps: Sequence[Jump] = ()) -> Line:
         """The line of a table whose telegrams have been tried. A refused telegram says nothing of its group."""
-        kept = {group.name: group for group in checked.kept}
-        groups = [kept.get(group.name, group) for group in checked.table.groups]
+        groups: Sequence[Group] = checked.kept
+        if len(groups) < len(checked.table.groups):
+            kept = {group.name: group for group in groups}
+            groups = [kept.get(group.name, group) for group in checked.table.groups]
         findings: Dict[str, List[Finding]] = {}
         for place in checked.findings:
             if place.group is not None:
@@ -292,8 +294,8 @@ def has_no_direction(group: Group) -> bool:
     """Whether it is a single balise with a kilometre whose direction along the kilometres the table does not show."""
     if len(group.aspects[0].rows) > 1:
         return False
-    where = kilometres(group)
-    return where.group is not None and where.rising is None
+    km, rising = place_and_direction(group)
+    return km is not None and rising is None
 
 
 def with_directions(groups: Sequence[Group], forms: Mapping[int, Form]) -> Tuple[Sequence[Group], Sequence[str]]:

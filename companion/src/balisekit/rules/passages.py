@@ -112,9 +112,11 @@ class GroupData:
     @property
     def of_one_direction(self) -> Optional[Packet]:
         """The first packet that holds in one direction only, of those whose direction is compared."""
-        packets = (packet for telegram in self.telegrams.values() for packet in telegram.packets)
-        known = (packet for packet in packets if packet.number not in WITHOUT_DIRECTION)
-        return next((packet for packet in known if packet.form.get("q_dir", 2) != 2), None)
+        for telegram in self.telegrams.values():
+            for packet in telegram.packets:
+                if packet.form.get("q_dir", 2) != 2 and packet.number not in WITHOUT_DIRECTION:
+                    return packet
+        return None
 
     def _passages(self) -> Iterator[Passage]:
         """What a train gets of each aspect in both directions, if that is anything."""

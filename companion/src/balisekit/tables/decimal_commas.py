@@ -30,8 +30,9 @@ def faults(sheet: Sheet, begin: int, width: int, places: Mapping[str, int], name
 
 def _is_in_two(row: Sequence[str], at: int) -> bool:
     """Whether a whole kilometre and digits are beside each other."""
-    one, other = ("".join(row[place : place + 1]).strip() for place in (at, at + 1))
-    return bool(WHOLE.fullmatch(one) and DIGITS.fullmatch(other))
+    if at + 1 >= len(row):
+        return False
+    return bool(DIGITS.fullmatch(row[at + 1].strip()) and WHOLE.fullmatch(row[at].strip()))
 
 
 def _why(whole: str, metres: str) -> str:

@@ -1,7 +1,6 @@
 """Rows become groups and aspects, in the order of the table."""
 from __future__ import annotations
 
-import re
 from collections import Counter
 from functools import lru_cache
 from itertools import groupby, islice
@@ -90,6 +89,9 @@ def _blocks(rows: Sequence[Row]) -> Tuple[Dict[str, List[Row]], List[List[Row]],
     A single row between rows of another group is at fault, unless the row before or after it is such a row too.
     """
     runs = [list(run) for _, run in groupby(rows, key=attrgetter("group"))]
+    together = {run[0].group: run for run in runs}
+    if len(together) == len(runs):
+        return together, [], []
     between = {
         place
         for place, (before, run, after) in enumerate(zip(runs, runs[1:], runs[2:]), 1)
@@ -130,7 +132,7 @@ def _alike(names: Iterable[str]) -> List[str]:
     seen: Dict[str, str] = {}
     notes = []
     for name in names:
-        key = re.sub(r"\s+", " ", name).casefold()
+        key = " ".join(name.split()).casefold()
         if key in seen:
             notes.append(f'groups "{seen[key]}" and "{name}" differ only in case or blanks')
         seen.setdefault(key, name)
@@ -139,6 +141,8 @@ def _alike(names: Iterable[str]) -> List[str]:
 
 def _plain_aspects(name: str, block: List[Row]) -> Optional[Tuple[Aspect, ...]]:
     """The aspects of a usual group, with nothing to refuse or to note. None is inconclusive."""
+    if len(block) == 1:
+        return (Aspect("" if block[0].aspect == EVERY else block[0].aspect, tuple(block)),)
     columns: List[Tuple[Any, ...]] = list(zip(*block))
     layout = _layout(columns[COLUMN["aspect"]], columns[COLUMN["balise"]])
     if layout is None or len(set(columns[COLUMN["track"]])) > 1 or len(set(columns[COLUMN["nominal"]])) > 1:

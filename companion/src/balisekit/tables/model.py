@@ -4,7 +4,7 @@ from __future__ import annotations
 from dataclasses import dataclass
 from decimal import Decimal
 from functools import cached_property
-from typing import Dict, Iterator, NamedTuple, Optional, Tuple
+from typing import Dict, Iterator, NamedTuple, Optional, Sequence, Tuple
 
 from balisekit.tables.account import Account
 
@@ -52,6 +52,11 @@ class Group:
         """All rows of the group. A row of every aspect comes once for each."""
         for aspect in self.aspects:
             yield from aspect.rows
+
+    @property
+    def each_row(self) -> Sequence[Row]:
+        """All rows of the group, each once."""
+        return self.aspects[0].rows if len(self.aspects) == 1 else list(self._by_number.values())
 
     def row(self, number: int) -> Optional[Row]:
         """The row with this number, if the group has it."""

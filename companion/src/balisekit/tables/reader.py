@@ -4,7 +4,6 @@ from __future__ import annotations
 import re
 from decimal import Decimal
 from itertools import islice
-from operator import getitem, itemgetter
 from typing import Any, Callable, Dict, Iterator, List, Mapping, Optional, Sequence, Tuple
 
 from balisekit.errors import TableError, TableErrors, faults_of
@@ -175,23 +174,22 @@ def _passed_over(sheet: Sheet, place: int, places: Mapping[str, int]) -> Tuple[s
 
 def _rows(sheet: Sheet, places: Dict[str, int], begin: int, width: int) -> Tuple[Row, ...]:
     """The rows below the heading that have a cell with something in it. `width` is that of the heading."""
-    columns = [_Column(name, places.get(name, ABSENT), meaning) for name, meaning in MEANINGS.items()]
-    telegrams, *others = columns
-    at, others_of, is_plain = telegrams.place, itemgetter(*(column.place for column in others)), DIGITS.fullmatch
-    rows, wide = [], False
-    for number, cells in _filled(sheet, begin, width):
-        cell = cells[at]
-        telegram = cell if is_plain(cell) else telegrams[cell]
-        values: List[Any] = list(map(getitem, others, others_of(cells)))
-        rows.append(Row(number, values[0], telegram, cell.strip(), *values[1:]))
-        wide = wide or len(cells) > width + 1
-    faults = decimal_commas.faults(sheet, begin, width, places)
-    faults += _faults(sheet, columns, begin, width) if wide or any(column.faults for column in columns) else []
+    filled = list(_filled(sheet, begin, width))
+    if not filled:
+        raise TableError("the table has no row below its heading")
+    telegrams, *others = (_Column(name, places.get(name, ABSENT), meaning) for name, meaning in MEANINGS.items())
+    cells, is_plain = list(zip(*(row for _, row in filled))), DIGITS.fullmatch
+    texts = cells[telegrams.place]
+    fields: Dict[str, Sequence[Any]] = {column.name: column.meanings(cells[column.place]) for column in others}
+    fields["number"] = [number for number, _ in filled]
+    fields["telegram"] = [text if is_plain(text) else telegrams[text] for text in texts]
+    fields["cell"] = list(map(str.strip, texts))
+    faults, columns = decimal_commas.faults(sheet, begin, width, places), [telegrams, *others]
+    if any(len(row) > width + 1 for _, row in filled) or any(column.faults for column in columns):
+        faults += _faults(sheet, columns, begin, width)
     if faults:
         raise TableErrors(faults)
-    if not rows:
-        raise TableError("the table has no row below its heading")
-    return tuple(rows)
+    return tuple(map(Row._make, zip(*(fields[name] for name in Row._fields))))
 
 
 def _filled(sheet: Sheet, begin: int, width: int) -> Iterator[Tuple[int, List[str]]]:
@@ -209,6 +207,10 @@ class _Column(Dict[str, Any]):
         super().__init__()
         self.name, self.place, self.meaning = name, place, meaning
         self.faults: Dict[str, str] = {}
+
+    def meanings(self, cells: Sequence[str]) -> Sequence[Any]:
+        """Those of the cells of all rows."""
+        return list(map(self.__getitem__, cells))
 
     def __missing__(self, cell: str) -> object:
         try:

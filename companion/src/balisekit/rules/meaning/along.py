@@ -118,7 +118,7 @@ def lane_of(passage: Passage) -> Lane:
 def extents_of(decoded: Decoded) -> Mapping[Lane, Extent]:
     """From which place to which one the groups are that give an authority."""
     places: Dict[Lane, List[int]] = {}
-    for data in decoded.groups:
+    for data in decoded.speaking:
         own = {passage.way for passage in data.passages if passage.authorities}
         for way in own - {None} if data.place is not None else ():
             places.setdefault((data.group.track, way or 0), []).append(data.place or 0)

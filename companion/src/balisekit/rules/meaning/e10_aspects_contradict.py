@@ -68,9 +68,9 @@ def find(line: Line, options: Options) -> Result:
     """Compares the aspects of each group in each direction."""
     found: List[Remark] = []
     count = 0
-    for data in line.decoded.groups:
+    for data in line.decoded.controlled:
         by_direction: Dict[str, List[Passage]] = {}
-        for passage in data.passages if len(data.group.group.aspects) > 1 else ():
+        for passage in data.passages:
             if passage.of(GRADIENTS, SPEEDS):
                 by_direction.setdefault(passage.direction, []).append(passage)
         several = [some for some in by_direction.values() if len(some) > 1]

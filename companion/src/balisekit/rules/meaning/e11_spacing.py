@@ -56,7 +56,7 @@ def find(line: Line, options: Options) -> Result:
     least = LEAST_FAST if options.line_speed is not None and options.line_speed > FAST else LEAST
     unit, found, looked_at = Decimal(line.decoded.resolution) / 10, [], 0
     skipped: Counter[str] = Counter()
-    for group in line.groups:
+    for group in (group for group in line.groups if group.balises > 1):
         known = _places(group)
         neighbours = [(known[each - 1], known[each]) for each in known if each - 1 in known]
         skipped[NO_KILOMETRE] += group.balises - 1 - len(neighbours)

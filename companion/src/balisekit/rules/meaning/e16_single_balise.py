@@ -59,8 +59,8 @@ def find(line: Line, options: Options) -> Result:
     named = _named(line) if single else {}
     all_named = {link.identity for chain in (*line.chains, *line.decoded.chains.infill) for link in chain.links}
     for data in single:
-        links = named.get(data.group.number, {})
-        found += list(_directions(data.group, links))
+        if data.group.number in named:
+            found += list(_directions(data.group, named[data.group.number]))
         if data.group.linked and data.group.identity not in all_named and data.of_one_direction:
             found += list(_unnamed(line, passed, data))
             lacks[NO_KILOMETRE if data.group.km is None else IN_JUMP] += data.place is None

@@ -70,8 +70,7 @@ class Alike(NamedTuple):
 
 def find(line: Line, options: Options) -> Result:
     """Looks at the aspects of each group."""
-    several = [data for data in line.decoded.groups if len(data.group.group.aspects) > 1]
-    alike = [each for data in several for each in _alike(data)]
+    alike = [each for data in line.decoded.controlled for each in _alike(data)]
     stops = [each for each in alike if not each.speeds]
     ends: Dict[Tuple[int, int], List[End]] = {}
     for end in ends_of(line.decoded) if alike else ():
@@ -80,7 +79,7 @@ def find(line: Line, options: Options) -> Result:
     last = [each for each, own in moving if own and all(ends_the_line(line.decoded, end) for end in own)]
     least = [*last, *(each for each, own in moving if not own and _is_infill_of(line.decoded, each, last))]
     found = [_remark(each, Urgency.RULE_ONLY if each in least else None) for each, _ in moving]
-    return Result(found, len(several), notes=list(_note(stops)))
+    return Result(found, len(line.decoded.controlled), notes=list(_note(stops)))
 
 
 def _alike(data: GroupData) -> Iterator[Alike]:
@@ -137,8 +136,7 @@ def _remark(alike: Alike, urgency: Optional[Urgency]) -> Remark:
     where = Location(alike.data.group)
     aspects, numbers = tuple(alike.names), tuple(sorted(controlled))
     facts = [] if urgency is None else [urgency.name]
-    made = Remark("E7", where, sentence, values=values, urgency=urgency, rows=numbers, aspects=aspects)
-    return made._replace(facts=facts)
+    return Remark("E7", where, sentence, values=values, urgency=urgency, rows=numbers, aspects=aspects, facts=facts)
 
 
 def _note(stops: Sequence[Alike]) -> Iterator[str]:

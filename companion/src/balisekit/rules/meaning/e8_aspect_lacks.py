@@ -55,10 +55,10 @@ STOPS, NAMED = 5, 5
 def find(line: Line, options: Options) -> Result:
     """Looks at the aspects of each group, then at the stop aspects of the table."""
     groups = [
-        data for data in line.decoded.groups if len(data.group.group.aspects) >= SIBLINGS and not data.group.unread
+        data for data in line.decoded.controlled if len(data.group.group.aspects) >= SIBLINGS and not data.group.unread
     ]
     found = [remark for data in groups for remark in _siblings(data)]
-    stops = [passage for data in line.decoded.groups for passage in data.passages if _stops(passage)]
+    stops = [passage for data in line.decoded.speaking for passage in data.passages if _stops(passage)]
     return Result([*found, *_without_stop(stops), *_without_danger(stops)], len(groups))
 
 

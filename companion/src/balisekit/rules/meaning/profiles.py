@@ -145,7 +145,7 @@ class Piece(NamedTuple):
 def lanes_of(decoded: Decoded) -> Mapping[int, Lanes]:
     """By NID_PACKET: the profiles by track and way, in the order of passing."""
     made: Dict[int, Dict[Tuple[str, int], List[Profiles]]] = {SPEEDS: {}, GRADIENTS: {}}
-    for data in decoded.groups:
+    for data in decoded.speaking:
         for kind, profiles in _of_group(data) if data.place is not None and not data.group.unread else ():
             made[kind].setdefault((profiles.track, profiles.way), []).append(profiles)
     for lanes in made.values():

@@ -166,9 +166,9 @@ Counts = Dict[Tuple[str, str], Order]
 def cases_of(line: Line) -> List[List[Case]]:
     """The aspects of each group with several, together those of one direction."""
     cases: List[List[Case]] = []
-    for data in line.decoded.groups:
+    for data in line.decoded.controlled:
         by_direction: Dict[str, List[Case]] = {}
-        for passage in data.passages if len(data.group.group.aspects) > 1 else ():
+        for passage in data.passages:
             for packet in passage.of(AUTHORITY)[:1]:
                 by_direction.setdefault(passage.direction, []).append(Case(passage, packet))
         cases += by_direction.values()

@@ -30,7 +30,7 @@ def find(line: Line, options: Options) -> Result:
 
 
 def _look_at(group: Group) -> Optional[Remark]:
-    places = {row.km: row for row in reversed(list(group.rows())) if row.km is not None}
+    places = {row.km: row for row in reversed(group.each_row) if row.km is not None}
     if len(places) < 2:
         return None
     low, high = min(places), max(places)

@@ -14,7 +14,7 @@ from balisekit.rules.line import Line
 from balisekit.rules.rule import Options
 from balisekit.rules.telegrams import AUTHORITIES, allowance
 from balisekit.rules.track_plan.borders import NOT_DECODED, NUMBERS, Border, border_of
-from balisekit.rules.track_plan.placed import NO_PLACE, Placed, Saying
+from balisekit.rules.track_plan.placed import NO_PLACE, PlacedPlan, Saying
 from balisekit.rules.track_plan.stretches import KINDS, span
 from balisekit.rules.track_plan.x3_ends import gives_way
 from balisekit.rules.track_plan.x4_aspects import AUTHORITY, terms_of
@@ -58,7 +58,7 @@ class Made(NamedTuple):
 
 def implied(line: Line, options: Options) -> Made:
     """The plan of a table."""
-    placed, skipped = Placed(line, options), Counter[str]()
+    placed, skipped = PlacedPlan(line, options), Counter[str]()
     jumps = [PlanRow(0, "jump", jump.before, jump.after, jump.track) for jump in options.jumps]
     stretches = [row for number in KINDS for row in _stretches(placed, number, skipped)]
     borders = list(_borders(placed, options, skipped))
@@ -67,13 +67,13 @@ def implied(line: Line, options: Options) -> Made:
     return Made(numbered, [f"{count} packets are not in the plan: {why}" for why, count in skipped.items()])
 
 
-def _row(placed: Placed, kind: str, lane: Lane, place: int, value: Value = None, name: str = "") -> PlanRow:
+def _row(placed: PlacedPlan, kind: str, lane: Lane, place: int, value: Value = None, name: str = "") -> PlanRow:
     """A row at a place of a track."""
     track, way = lane
     return PlanRow(0, kind, placed.kilometre(track, place), None, track, way, value, name)
 
 
-def _stretches(placed: Placed, number: int, skipped: Dict[str, int]) -> Iterator[PlanRow]:
+def _stretches(placed: PlacedPlan, number: int, skipped: Dict[str, int]) -> Iterator[PlanRow]:
     """The speeds or gradients of each way of each track."""
     lanes: Dict[Lane, List[Said]] = {}
     for saying in placed.sayings(number):
@@ -123,7 +123,7 @@ def _most_said(active: Sequence[Said]) -> int:
     return max(groups, key=lambda value: (len(groups[value]), rear[value]))
 
 
-def _signals(placed: Placed, options: Options, skipped: Dict[str, int]) -> Iterator[PlanRow]:
+def _signals(placed: PlacedPlan, options: Options, skipped: Dict[str, int]) -> Iterator[PlanRow]:
     """The places at which authorities end, with the name of a group that is near."""
     ends: List[Tuple[Saying, int, int, Value]] = []
     for saying in placed.sayings(*AUTHORITIES):
@@ -137,7 +137,7 @@ def _signals(placed: Placed, options: Options, skipped: Dict[str, int]) -> Itera
 
 
 def _by_lane(
-    placed: Placed, options: Options, some: Sequence[Tuple[Saying, int, int, Value]], skipped: Dict[str, int]
+    placed: PlacedPlan, options: Options, some: Sequence[Tuple[Saying, int, int, Value]], skipped: Dict[str, int]
 ) -> Dict[Lane, List[At]]:
     """What is at these distances from groups, each with the allowance of its packet, by track and way."""
     lanes: Dict[Lane, List[At]] = {}
@@ -168,7 +168,7 @@ def _clusters(some: Sequence[At]) -> List[Tuple[int, Value]]:
     return [(place, found.most_common(1)[0][0]) for place, found in values.items()]
 
 
-def _aspects(placed: Placed) -> Iterator[PlanRow]:
+def _aspects(placed: PlacedPlan) -> Iterator[PlanRow]:
     """What the packet 12 of each aspect gives. The first one counts if there are several."""
     known = set()
     for passage in placed.decoded.passages:
@@ -181,7 +181,7 @@ def _aspects(placed: Placed) -> Iterator[PlanRow]:
                 yield PlanRow(0, "aspect", group.km or Decimal(), None, group.track, way, terms_of(own[0]), name)
 
 
-def _borders(placed: Placed, options: Options, skipped: Dict[str, int]) -> Iterator[PlanRow]:
+def _borders(placed: PlacedPlan, options: Options, skipped: Dict[str, int]) -> Iterator[PlanRow]:
     """The level borders, then the RBC borders."""
     found = [border for border in map(border_of, placed.sayings(*NUMBERS)) if border]
     skipped.update({NOT_DECODED: count for count in [sum(not each.text for each in found)] if count})

@@ -19,7 +19,7 @@ from balisekit.rules.telegrams import Packet
 from balisekit.tables.names import clean, kilometre, rows_words
 from balisekit.tables.plan import Lane, Plan, PlanRow
 
-__all__ = ["BEHIND_POINT", "Placed", "Saying", "Spot", "cells_of", "nearest", "plan_words", "remark"]
+__all__ = ["BEHIND_POINT", "PlacedPlan", "Saying", "Spot", "cells_of", "nearest", "plan_words", "remark"]
 COMPARED = ("speed", "gradient", "signal", "aspect", "level", "rbc")
 """The kinds of rows that rules compare."""
 SAYS_NOTHING = "the plan says nothing"
@@ -29,7 +29,7 @@ Counts = Dict[str, int]
 """How many things were compared, by no reason, and how many were not, by the reason."""
 
 
-class Part(NamedTuple):
+class PlanStretch(NamedTuple):
     """A speed or gradient of the plan for trains of one way, from one place to another one."""
 
     row: PlanRow
@@ -53,26 +53,26 @@ class Saying(NamedTuple):
     packet: Packet
 
 
-class Placed:
+class PlacedPlan:
     """A plan beside the decoded data of a table."""
 
     def __init__(self, line: Line, options: Options) -> None:
         self.decoded, self.plan = line.decoded, options.plan or Plan()
         self._chainages = {clean(track): chainage for track, chainage in self.decoded.chainages.items()}
         """By the names of tracks as a plan has them."""
-        self._parts: Dict[Lane, Sequence[Part]] = {}
+        self._parts: Dict[Lane, Sequence[PlanStretch]] = {}
         self._begins: Dict[Lane, Sequence[int]] = {}
         self._limits: Dict[Passage, Optional[int]] = {}
         self._spots: Dict[Lane, Sequence[Spot]] = {}
 
-    def parts(self, kind: str, track: str, way: int) -> Sequence[Part]:
+    def parts(self, kind: str, track: str, way: int) -> Sequence[PlanStretch]:
         """The speeds or gradients for trains of one way of a track, in the order of the kilometres."""
         lane = kind, track, way
         if lane not in self._parts:
             stretches = self.plan.stretches(kind, track, way)
             ends = ((each, self.place(track, each.begin), self.place(track, each.end)) for each in stretches)
             found = [
-                Part(each.row, begin, end, each.value)
+                PlanStretch(each.row, begin, end, each.value)
                 for each, begin, end in ends
                 if begin is not None and (each.end is None or end is not None)
             ]
@@ -80,7 +80,7 @@ class Placed:
             self._begins[lane] = [part.begin for part in self._parts[lane]]
         return self._parts[lane]
 
-    def parts_within(self, kind: str, passage: Passage, low: int, high: int) -> Iterator[Tuple[Part, int, int]]:
+    def parts_within(self, kind: str, passage: Passage, low: int, high: int) -> Iterator[Tuple[PlanStretch, int, int]]:
         """The speeds or gradients for trains of the passage between two places, each with its part of the stretch."""
         lane = kind, passage.track, passage.way or 0
         parts = self.parts(*lane)

@@ -11,8 +11,8 @@ from balisekit.rules.track_plan.placed import (
     NO_PLACE,
     SAYS_NOTHING,
     Counts,
-    Part,
-    Placed,
+    PlanStretch,
+    PlacedPlan,
     Saying,
     cells_of,
 )
@@ -34,9 +34,9 @@ class Difference(NamedTuple):
     """Its first place in the direction of passage."""
     end: int
     said: int
-    part: Part
+    part: PlanStretch
 
-    def fact(self, placed: Placed) -> str:
+    def fact(self, placed: PlacedPlan) -> str:
         """The stretch with both values, and who says one of them."""
         ends = [placed.km(self.saying.passage, place) for place in (self.begin, self.end)]
         return f"{sender(*self.saying)} {ends} {self.said} {cells_of(self.part.row)}"
@@ -52,7 +52,7 @@ class Compared:
     """How many elements are compared from their beginning to their end, and how many are not."""
 
 
-def compare(placed: Placed, number: int, options: Options) -> Compared:
+def compare(placed: PlacedPlan, number: int, options: Options) -> Compared:
     """Compares each element of these profiles with the plan."""
     compared = Compared()
     known: Dict[Tuple[int, int, int], List[Difference]] = {}
@@ -86,7 +86,7 @@ def span(saying: Saying, element: Stretch) -> Tuple[Optional[Span], str]:
     return ((begin, end), "") if begin is not None and end is not None and passage.way else (None, NO_PLACE)
 
 
-def _known(placed: Placed, saying: Saying, found: Tuple[Optional[Span], str]) -> Tuple[Optional[Span], str]:
+def _known(placed: PlacedPlan, saying: Saying, found: Tuple[Optional[Span], str]) -> Tuple[Optional[Span], str]:
     """The same up to the point at which the train may leave the track."""
     ends, limit, way = found[0], placed.known_to(saying.passage), saying.passage.way or 0
     if ends is None or limit is None or way * (limit - ends[1]) >= 0:

@@ -30,7 +30,7 @@ from decimal import Decimal
 from typing import Sequence
 
 from balisekit.rules.line import Line
-from balisekit.rules.track_plan.placed import Placed, plan_words, remark
+from balisekit.rules.track_plan.placed import PlacedPlan, plan_words, remark
 from balisekit.rules.track_plan.stretches import Difference, compare
 from balisekit.rules.rule import Options, Remark, Result, Rule, Urgency
 from balisekit.rules.telegrams import SPEEDS
@@ -39,13 +39,13 @@ from balisekit.tables.plan_values import STEP
 
 def find(line: Line, options: Options) -> Result:
     """Compares each element of each speed profile."""
-    placed = Placed(line, options)
+    placed = PlacedPlan(line, options)
     compared = compare(placed, SPEEDS, options)
     found = [_remark(placed, each) for each in compared.differences]
     return placed.result(["speed"], found, compared.counts)
 
 
-def _remark(placed: Placed, differences: Sequence[Difference]) -> Remark:
+def _remark(placed: PlacedPlan, differences: Sequence[Difference]) -> Remark:
     saying, begin, end, said, part = differences[0]
     passage = saying.passage
     sentence = (

@@ -30,7 +30,7 @@ from decimal import Decimal
 from typing import Sequence
 
 from balisekit.rules.line import Line
-from balisekit.rules.track_plan.placed import Placed, plan_words, remark
+from balisekit.rules.track_plan.placed import PlacedPlan, plan_words, remark
 from balisekit.rules.track_plan.stretches import Difference, compare
 from balisekit.rules.rule import Options, Remark, Result, Rule, Urgency
 from balisekit.rules.telegrams import GRADIENTS
@@ -38,13 +38,13 @@ from balisekit.rules.telegrams import GRADIENTS
 
 def find(line: Line, options: Options) -> Result:
     """Compares each element of each gradient profile."""
-    placed = Placed(line, options)
+    placed = PlacedPlan(line, options)
     compared = compare(placed, GRADIENTS, options)
     found = [_remark(placed, each) for each in compared.differences]
     return placed.result(["gradient"], found, compared.counts)
 
 
-def _remark(placed: Placed, differences: Sequence[Difference]) -> Remark:
+def _remark(placed: PlacedPlan, differences: Sequence[Difference]) -> Remark:
     saying, begin, end, said, part = differences[0]
     passage = saying.passage
     sign = ": the sign is the other one" if said == -part.value else ""

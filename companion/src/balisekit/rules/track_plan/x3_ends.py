@@ -40,7 +40,7 @@ from balisekit.rules.track_plan.placed import (
     BEHIND_POINT,
     NO_PLACE,
     SAYS_NOTHING,
-    Placed,
+    PlacedPlan,
     Saying,
     Spot,
     cells_of,
@@ -64,7 +64,7 @@ class End(NamedTuple):
 
 def find(line: Line, options: Options) -> Result:
     """Compares each end of authority."""
-    placed, counts = Placed(line, options), Counter[str]()
+    placed, counts = PlacedPlan(line, options), Counter[str]()
     found: Dict[Tuple[int, int], List[End]] = {}
     for saying in placed.sayings(*AUTHORITIES):
         if gives_way(saying.packet):
@@ -83,7 +83,7 @@ def gives_way(packet: Packet) -> bool:
     return bool(packet.form.get("v_main", 1) and packet.end)
 
 
-def _end(placed: Placed, saying: Saying) -> Tuple[Optional[End], str]:
+def _end(placed: PlacedPlan, saying: Saying) -> Tuple[Optional[End], str]:
     """Where an authority ends, and the nearest signal; or why they are not compared."""
     passage = saying.passage
     place = passage.place(saying.packet.authority.end)
@@ -97,7 +97,7 @@ def _end(placed: Placed, saying: Saying) -> Tuple[Optional[End], str]:
     return End(saying, place, nearest(spots, place)), ""
 
 
-def _remark(placed: Placed, ends: Sequence[End]) -> Remark:
+def _remark(placed: PlacedPlan, ends: Sequence[End]) -> Remark:
     saying, place, signal = ends[0]
     passage, apart = saying.passage, abs(place - signal.place)
     name = f", {clean(signal.row.name)}" if signal.row.name else ""

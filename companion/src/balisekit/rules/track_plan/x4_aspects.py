@@ -33,7 +33,7 @@ from typing import Dict, Iterator, List, NamedTuple, Optional, Set
 from balisekit.rules.decoded import Decoded
 from balisekit.rules.line import Line
 from balisekit.rules.passages import GroupData, Passage
-from balisekit.rules.track_plan.placed import NO_PLACE, SAYS_NOTHING, Placed, Saying, cells_of, plan_words, remark
+from balisekit.rules.track_plan.placed import NO_PLACE, SAYS_NOTHING, PlacedPlan, Saying, cells_of, plan_words, remark
 from balisekit.rules.rule import Options, Remark, Result, Rule, Urgency
 from balisekit.rules.telegrams import Packet, allowance
 from balisekit.tables.names import rows_words
@@ -56,7 +56,7 @@ class Site(NamedTuple):
 
 def find(line: Line, options: Options) -> Result:
     """Compares each packet 12 of each aspect."""
-    placed, counts = Placed(line, options), Counter[str]()
+    placed, counts = PlacedPlan(line, options), Counter[str]()
     found: List[Remark] = []
     matched: Set[int] = set()
     for passage in line.decoded.passages:

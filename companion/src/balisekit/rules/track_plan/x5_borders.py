@@ -43,7 +43,7 @@ from balisekit.rules.track_plan.placed import (
     BEHIND_POINT,
     NO_PLACE,
     SAYS_NOTHING,
-    Placed,
+    PlacedPlan,
     Spot,
     cells_of,
     nearest,
@@ -62,7 +62,7 @@ KIND = {41: "level", 46: "level", 131: "rbc", 42: "rbc"}
 
 def find(line: Line, options: Options) -> Result:
     """Compares each packet about a border, and looks for borders of the plan without one."""
-    placed, counts = Placed(line, options), Counter[str]()
+    placed, counts = PlacedPlan(line, options), Counter[str]()
     found: Dict[Tuple[int, Optional[int], str], List[Tuple[Border, int, Sequence[Spot]]]] = {}
     named: Set[int] = set()
     unplaced = {(kind, track) for track, _ in unread_of(line.decoded) for kind in BORDERS}
@@ -90,7 +90,7 @@ def find(line: Line, options: Options) -> Result:
     return placed.result(BORDERS, remarks, counts)
 
 
-def _wanted(placed: Placed, border: Border, tolerance: int) -> Tuple[Sequence[Spot], int, str]:
+def _wanted(placed: PlacedPlan, border: Border, tolerance: int) -> Tuple[Sequence[Spot], int, str]:
     """The rows of the plan with which a border is compared, and its place; or why it is not compared."""
     passage = border.saying.passage
     place, way = passage.place(border.distance), passage.way
@@ -118,7 +118,7 @@ def _is_there(border: Border, place: int, spot: Spot, tolerance: int) -> bool:
     return not border.has_place or abs(spot.place - place) <= tolerance
 
 
-def _remark(placed: Placed, said: Sequence[Tuple[Border, int, Sequence[Spot]]]) -> Remark:
+def _remark(placed: PlacedPlan, said: Sequence[Tuple[Border, int, Sequence[Spot]]]) -> Remark:
     border, place, (spot, *_) = said[0]
     passage, word = border.saying.passage, WORDS[border.kind]
     here, there, apart = placed.km(passage, place), kilometre(spot.row.km), abs(place - spot.place)
@@ -132,7 +132,7 @@ def _remark(placed: Placed, said: Sequence[Tuple[Border, int, Sequence[Spot]]]) 
     return remark("X5", [each.saying for each, _, _ in said], sentence, values, sorted(facts))
 
 
-def _unnamed(placed: Placed, row: PlanRow) -> Iterator[Remark]:
+def _unnamed(placed: PlacedPlan, row: PlanRow) -> Iterator[Remark]:
     """A border of the plan that no packet names, if it is within the table."""
     place = placed.place(row.track, row.km)
     group = placed.decoded.nearest(row.track, place) if place is not None else None
