@@ -112,9 +112,22 @@ def test_accepted_findings_alone(tmp_path: Path, tmp_path_factory: pytest.TempPa
 
 def test_settings_and_the_files_that_they_name(tmp_path: Path, tmp_path_factory: pytest.TempPathFactory) -> None:
     """They stand for the tables of their folder: a tolerance or a plan changes the answers of them all."""
-    for name in ("a.csv", "B.XLSX", "a.accepted.csv", "c.accepted.csv", "plan.csv", "j.csv", "other/plan.csv", "notes.txt"):
+    for name in (
+        "a.csv",
+        "B.XLSX",
+        "a.accepted.csv",
+        "c.accepted.csv",
+        "plan.csv",
+        "j.csv",
+        "other/plan.csv",
+        "notes.txt",
+    ):
         put(tmp_path, name, SOUND)
-    put(tmp_path, "balisekit.toml", "[check]\n  jumps = './j.csv' # those of 2026\n# plan = \"a.csv\"\nplan=\"plan.csv\"\n")
+    put(
+        tmp_path,
+        "balisekit.toml",
+        '[check]\n  jumps = \'./j.csv\' # those of 2026\n# plan = "a.csv"\nplan="plan.csv"\n',
+    )
     every = [
         ["check", "--accepted", "./a.accepted.csv", "--", "./a.csv"],
         ["check", "--", "./c.accepted.csv"],
@@ -124,9 +137,9 @@ def test_settings_and_the_files_that_they_name(tmp_path: Path, tmp_path_factory:
         (tmp_path / "calls").unlink(missing_ok=True)
         assert calls(tmp_path_factory.mktemp("hook"), tmp_path, *arguments(), *words) == every
     (tmp_path / "calls").unlink()
-    words = (*arguments(), "other/plan.csv", str(tmp_path / "balisekit.toml"))
+    absolute = (*arguments(), "other/plan.csv", str(tmp_path / "balisekit.toml"))
     of_folder = [[word.replace("./", f"{tmp_path}/") for word in call] for call in every]
-    called = calls(tmp_path_factory.mktemp("hook"), tmp_path, *words)
+    called = calls(tmp_path_factory.mktemp("hook"), tmp_path, *absolute)
     assert called == [["check", "--", "./other/plan.csv"], *of_folder]
 
 

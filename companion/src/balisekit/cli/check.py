@@ -45,7 +45,9 @@ def run(options: argparse.Namespace) -> int:
     if page:
         if os.path.lexists(options.table):
             raise TableError(IS_BOTH.format(options.table, os.path.join(os.curdir, options.table)))
-        shared.refuse_unused(options, "with the page of a rule", *(each for each in vars(options) if each not in OF_PAGE))
+        shared.refuse_unused(
+            options, "with the page of a rule", *(each for each in vars(options) if each not in OF_PAGE)
+        )
         shared.say(page)
         return 0
     clock.now()  # (a SOURCE_DATE_EPOCH that is none is refused before any work)
