@@ -166,7 +166,8 @@ def test_an_entry_at_fault_is_a_result(run: Run, table: Write, tmp_path: Path, f
     rows = [unused, {**unused, "nid_bg": "2", "until": "2026-02-03"}]
     lines = [";".join(row.get(name, "") for name in COLUMNS) for row in rows]
     prints: List[List[str]] = []
-    for between in ([], [""]):
+    blank: List[List[str]] = [[], [""]]
+    for between in blank:
         file = table(content=(first + "\n".join([";".join(COLUMNS), *between, *lines])).encode(), name="a.csv")
         answer, log = written(run, tmp_path, path, "--accepted", file)
         faults, results = answer["accepted"]["at_fault"], log["results"]
@@ -269,7 +270,8 @@ def test_workbooks_have_the_verdict(run: Run, table: Write, tmp_path: Path) -> N
             lines = [cell for (cell,) in book["answer"].iter_rows(values_only=True)]
             assert book.active.title == ("answer" if status else book.sheetnames[0])
             assert sum(bool(each.sheet_view.tabSelected) for each in book.worksheets) < 2
-            assert lines[0].startswith("balisecheck") and lines[1].startswith("settings: ")
+            begin = 1 if file == entries else 0
+            assert lines[begin].startswith("balisecheck") and lines[begin + 1].startswith("settings: ")
             assert (
                 lines[-len(last) :] == last if file == entries else lines[-1].startswith("INCOMPLETE") == (status == 2)
             )

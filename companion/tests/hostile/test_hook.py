@@ -137,9 +137,9 @@ def test_settings_and_the_files_that_they_name(tmp_path: Path, tmp_path_factory:
         (tmp_path / "calls").unlink(missing_ok=True)
         assert calls(tmp_path_factory.mktemp("hook"), tmp_path, *arguments(), *words) == every
     (tmp_path / "calls").unlink()
-    others = (*arguments(), "other/plan.csv", str(tmp_path / "balisekit.toml"))
+    absolute = (*arguments(), "other/plan.csv", str(tmp_path / "balisekit.toml"))
     of_folder = [[word.replace("./", f"{tmp_path}/") for word in call] for call in every]
-    called = calls(tmp_path_factory.mktemp("hook"), tmp_path, *others)
+    called = calls(tmp_path_factory.mktemp("hook"), tmp_path, *absolute)
     assert called == [["check", "--", "./other/plan.csv"], *of_folder]
 
 

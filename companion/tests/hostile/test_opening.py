@@ -5,6 +5,7 @@ A forgotten file of settings, a program of the environment or a date of the envi
 from __future__ import annotations
 
 import json
+import os
 import re
 from hashlib import sha256
 from pathlib import Path
@@ -139,11 +140,11 @@ def test_settings_in_outputs_for_others(line: Path, run: Run, tmp_path: Path, mo
     assert form["table"]["path"] == "t.csv" and form["program"]["known_by"] in ("ABOUT", "RELEASES", "sources")
     stated = f"balisekit.toml (SHA-256 {toml}): check.tolerance = 20, check.jumps = j.csv (SHA-256 {jumps})"
     junit = ElementTree.parse("a.xml").findtext(".//system-out") or ""
-    assert junit.splitlines()[1].startswith(f"settings: {stated}")
+    assert junit.splitlines()[2].startswith(f"settings: {stated}")
     run_of_tool = json.loads(Path("a.sarif").read_text("utf-8"))["runs"][0]
     assert run_of_tool["tool"]["driver"]["properties"]["settings"] == form["settings"]
     notes = [note["message"]["text"] for note in run_of_tool["invocations"][0]["toolExecutionNotifications"]]
-    assert notes[1].startswith(f"settings: {stated}") and form["program"]["sha256"] in notes[0]
+    assert notes[2].startswith(f"settings: {stated}") and form["program"]["sha256"] in notes[1]
     page = Path("a.html").read_text("utf-8")
     assert (
         f"<bdi>{stated}" in page and form["program"]["sha256"] in page and str(tmp_path) not in page.split("papers")[0]
@@ -154,7 +155,8 @@ def test_a_program_of_the_environment(
     tmp_path: Path, capsys: pytest.CaptureFixture[str], monkeypatch: pytest.MonkeyPatch
 ) -> None:
     """Only --program makes balisekit ask a program that nobody knows, which says yes to everything here."""
-    path = fake(tmp_path / "other", 'case "$1" in check) echo "yes: groups 4, messages 0" ;; esac')
+    decodes = f"decode) exec {os.environ['BALISECHECK']} decode ;;"
+    path = fake(tmp_path / "other", f'case "$1" in check) echo "yes: groups 4, messages 0" ;; {decodes} esac')
     monkeypatch.setenv("BALISECHECK", str(path))
     status, err = said(capsys, "check", FAULT, "--only", "F")
     assert (status, len(err)) == (3, 1)

@@ -1,35 +1,27 @@
 """The first and last lines of an answer in words: what was refused, and the program's verdict."""
 from __future__ import annotations
 
-from typing import Dict, Iterator, List, Tuple
+from typing import Callable, Dict, Iterator, List, Tuple
 
-from balisekit.present.refusals import not_looked_at, not_tried, refused_counts, refused_lines
+from balisekit.present.refusals import not_looked_at, refused_counts
 from balisekit.rules.checking import Checked
-from balisekit.rules.remarks import remarks
 from balisekit.tables.model import Group, Table
-from balisekit.tables.names import clean, counted, describe_group, notes_on
+from balisekit.tables.names import clean, counted, describe_group
 
 NAMED = 3
 """How many groups with one number of aspects are named."""
 
 
-def opening_lines(checked: Checked) -> Iterator[str]:
-    """How the table was read, and what was refused, left out or not looked at."""
-    yield from notes_on(checked.table)
-    yield from refused_lines(checked)
-    yield from (f"left out: {describe_group(one.group)}: {one.why}" for one in checked.left_out)
-    yield from (f"and {count}: --all continues" for count in not_tried(checked))
+def left_out_lines(checked: Checked) -> Iterator[str]:
+    """The groups that were left out, and why."""
+    return (f"left out: {describe_group(one.group)}: {one.why}" for one in checked.left_out)
 
 
-def head_line(table: Table) -> str:
+def head_line(table: Table, shown: Callable[[str], str] = str) -> str:
     """The first line of an answer."""
-    return f"{clean(table.path)}: {counted(len(table.rows), 'telegram')} of {counted(len(table.groups), 'group')}"
-
-
-def before_last(table: Table) -> Iterator[str]:
-    """Remarks on the table before the last line. They change neither that line nor the status."""
-    yield from remarks(table)
-    yield aspects_found(table)
+    return (
+        f"{clean(shown(table.path))}: {counted(len(table.rows), 'telegram')} of {counted(len(table.groups), 'group')}"
+    )
 
 
 def last_line(checked: Checked) -> str:

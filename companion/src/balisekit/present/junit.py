@@ -14,12 +14,11 @@ from typing import Dict, Iterable, Iterator, List, Mapping, NamedTuple, Optional
 
 from balisekit.present import NOT_PROVED
 from balisekit.present.accepted_text import accepted_words
-from balisekit.present.account_text import account_lines, not_judged_lines
-from balisekit.present.check_text import before_last
+from balisekit.present.account_text import not_judged_lines
 from balisekit.present.headings import finding_lines
-from balisekit.present.links_text import empty_rules, not_compared
-from balisekit.present.opening import Shown, opening, paths_from
-from balisekit.present.outcome_text import item_words, last_lines, not_applied, not_decoded, notes_of
+from balisekit.present.links_text import empty_rules
+from balisekit.present.opening import Shown, paths_from
+from balisekit.present.outcome_text import Kind, item_words, lines_but
 from balisekit.present.refusals import message_refused, refused
 from balisekit.rules.accepted import Item, Judged
 from balisekit.rules.checking import Checked, Place
@@ -30,6 +29,8 @@ from balisekit.tables.names import clean, describe_message
 
 PROGRAMS = {PROVED: "balisecheck", ADDED: "added rules"}
 """Whose rules are applied, if they are not balisekit's."""
+CASES = (Kind.REFUSED, Kind.LEFT_OUT, Kind.ENTRY, Kind.FAULT)
+"""The kinds of lines that are cases."""
 NAMES = {"failures": "failure", "errors": "error", "skipped": "skipped"}
 
 
@@ -44,9 +45,9 @@ class Case(NamedTuple):
 
 
 def document(outcome: Outcome) -> bytes:
-    """The file. The output of each suite has what its rules note and have not compared.
+    """The file. The output of each suite has the lines of the answer that are about its rules and are no cases.
 
-    That of the first one also has how `check` begins, its remarks on the table, and its last line.
+    That of the first one also has the lines that are about no rules.
     """
     suites = [(part, list(_cases(outcome, part))) for part in outcome.parts]
     shown = paths_from(outcome.checked)
@@ -63,22 +64,17 @@ def document(outcome: Outcome) -> bytes:
                 ElementTree.SubElement(
                     element, case.result, {"message": case.why, "type": case.result}
                 ).text = case.text
-        said = [*_output(outcome, part, shown)]
+        said = [*_output(outcome, part)]
         if said:
             ElementTree.SubElement(suite, "system-out").text = "\n".join([*map(clean, said), NOT_PROVED])
     written: bytes = ElementTree.tostring(top, "utf-8", xml_declaration=True)
     return written + b"\n"
 
 
-def _output(outcome: Outcome, part: Part, shown: Shown) -> Iterator[str]:
-    """The output of a suite."""
-    own = [*notes_of(part), *(not_compared(part.applied) if part.applied else ())]
-    if part is not outcome.parts[0]:
-        yield from own
-        return
-    yield from opening(outcome.checked, outcome.judged, shown)
-    yield from (*not_decoded(outcome), *before_last(outcome.checked.table))
-    yield from (*own, *not_applied(outcome), *account_lines(outcome), last_lines(outcome)[-1])
+def _output(outcome: Outcome, part: Part) -> Iterator[str]:
+    """The output of a suite: what is about its rules, and in the first one also what is about none."""
+    families = (part.family.letter, *([""] if part is outcome.parts[0] else []))
+    return (line.text for line in lines_but(outcome, *CASES) if line.family in families)
 
 
 def _numbers(cases: Sequence[Case]) -> Dict[str, str]:

@@ -1,28 +1,72 @@
 """The answer of `check` in words: a part for each family of rules, what was not looked at, and one verdict."""
 from __future__ import annotations
 
-from typing import Iterator, List, Sequence, Tuple
+from enum import Enum
+from typing import Iterable, Iterator, List, NamedTuple, Optional, Sequence, Tuple
 
 from balisekit.present import headings
 from balisekit.present.account_text import account_lines
 from balisekit.present.accepted_text import accepted_words, fault_lines, verdict_lines
-from balisekit.present.check_text import before_last, head_line, last_line as last_line_of_program, opening_lines
+from balisekit.present.check_text import aspects_found, head_line, last_line as last_line_of_program, left_out_lines
 from balisekit.present.explanations import Page, page_lines, pages
 from balisekit.present.links_text import compared, empty_rules, found, how_many_compared, not_compared
-from balisekit.present.opening import Shown, opening
-from balisekit.present.refusals import lacking
+from balisekit.present.opening import Shown, opening, paths_from
+from balisekit.present.refusals import lacking, not_tried, refused_lines
 from balisekit.rules.accepted import UNNAMED, Item, keys
 from balisekit.rules.applied import Applied
 from balisekit.rules.checking import Place
 from balisekit.rules.discovery import ADDED
 from balisekit.rules.entries import Entry, entry_of
 from balisekit.rules.families import PLAN, PROVED, Outcome, Part, entry_of_remark
-from balisekit.tables.names import clean
+from balisekit.rules.remarks import remarks
+from balisekit.tables.names import clean, notes_on
 
 LINKS, MEANING = "L", "E"
+COUNTED = (LINKS, PLAN, ADDED)
+"""The families whose counts have a line of their own."""
 NO_KILOMETRES = "no kilometres: rules over the line are not applied"
 SHOWN = 20
 """How many items that no entry can name are listed. The others are counted."""
+
+
+class Kind(Enum):
+    """The kinds of lines that an answer has. Each output has all of them (companion/tests/test_lines_of_answers.py)."""
+
+    HEAD = "how many telegrams and groups were read"
+    PROGRAM = "the program"
+    SETTINGS = "the settings"
+    ACCEPTED = "the file of accepted entries"
+    TABLE = "notes on the table"
+    REFUSED = "what was refused"
+    LEFT_OUT = "groups that were left out"
+    NOT_TRIED = "how much was not tried"
+    TITLE = "what is above entries"
+    ENTRY = "an entry"
+    SUMMARY = "how many findings there are"
+    NOTE = "notes on what rules have found or passed over"
+    COMPARED = "how much rules have compared"
+    NOT_COMPARED = "why rules have not compared the rest"
+    APPLIED = "which rules were applied"
+    PAGE = "the page of a rule"
+    NOT_DECODED = "packets that are kept as bits"
+    LOOK = "remarks on names and kilometres"
+    ASPECTS = "how many aspects groups have"
+    UNNAMED = "what no entry can name"
+    NOT_APPLIED = "rules that were not applied"
+    DOCUMENT = "what the document lacks"
+    FAULT = "entries at fault"
+    OF_ENTRIES = "notes on entries"
+    ACCOUNT = "what became of the telegrams"
+    VERDICT = "how much is open, and the verdict"
+
+
+class AnswerLine(NamedTuple):
+    """A line of an answer."""
+
+    kind: Kind
+    text: str
+    family: str = ""
+    """The letter of the family that it is about, if it is about one."""
 
 
 def lines(
@@ -32,58 +76,89 @@ def lines(
 
     `notes` are on what else was written.
     """
-    yield head_line(outcome.checked.table)
-    yield from opening(outcome.checked, outcome.judged)
-    yield from opening_lines(outcome.checked)
+    return without_reasons(answer(outcome, str, explained, proposed, notes))
+
+
+def without_reasons(some: Iterable[AnswerLine]) -> Iterator[str]:
+    """The texts of these lines. Rules L and X have a line with their counts, so the reasons are left out."""
+    return (line.text for line in some if line.kind != Kind.NOT_COMPARED or line.family not in COUNTED)
+
+
+def lines_but(outcome: Outcome, *others: Kind) -> List[AnswerLine]:
+    """The lines of these kinds are shown otherwise by an output for tools. It has all other lines as they are."""
+    return [line for line in answer(outcome, paths_from(outcome.checked)) if line.kind not in (Kind.TITLE, *others)]
+
+
+def answer(
+    outcome: Outcome, shown: Shown, explained: bool = False, proposed: bool = False, notes: Sequence[str] = ()
+) -> Iterator[AnswerLine]:
+    """All lines of an answer, with paths as they are `shown`."""
+    checked, judged, table = outcome.checked, outcome.judged, outcome.checked.table
+    yield AnswerLine(Kind.HEAD, head_line(table, shown))
+    yield from map(AnswerLine, (Kind.PROGRAM, Kind.SETTINGS, Kind.ACCEPTED), opening(checked, judged, shown))
+    yield from _of(Kind.TABLE, notes_on(table))
+    yield from _of(Kind.REFUSED, refused_lines(checked))
+    yield from _of(Kind.LEFT_OUT, left_out_lines(checked))
+    yield from _of(Kind.NOT_TRIED, (f"and {count}: --all continues" for count in not_tried(checked)))
     for part in outcome.parts:
         if outcome.letters != PROVED:
-            yield f"{part.family.title}:{'' if part.items else ' none'}"
-        yield from _part(outcome, part)
+            yield AnswerLine(Kind.TITLE, f"{part.family.title}:{'' if part.items else ' none'}")
+        yield from _entries(outcome, part)
+        yield from behind(outcome, part)
     yield from _listed(outcome.expected)
-    if explained:
-        yield from page_lines(explained_rules(outcome))
-    yield from not_decoded(outcome)
-    yield from before_last(outcome.checked.table)
-    yield from unnamed_lines(outcome) if proposed or outcome.judged else ()
-    yield from not_applied(outcome)
-    yield from notes
-    yield from closing_lines(outcome)
+    yield from _of(Kind.PAGE, page_lines(explained_rules(outcome)) if explained else ())
+    yield from _of(Kind.NOT_DECODED, not_decoded(outcome))
+    yield from _of(Kind.LOOK, remarks(table))
+    yield AnswerLine(Kind.ASPECTS, aspects_found(table))
+    yield from _of(Kind.UNNAMED, unnamed_lines(outcome) if proposed or judged else ())
+    yield from _of(Kind.NOT_APPLIED, not_applied(outcome))
+    yield from _of(Kind.DOCUMENT, notes)
+    yield from _closing(outcome, shown)
 
 
-def _part(outcome: Outcome, part: Part) -> Iterator[str]:
-    """The entries of a part, the open ones first, and the lines after them. Open ones of correct data are not here."""
+def _of(kind: Kind, texts: Iterable[str], part: Optional[Part] = None) -> Iterator[AnswerLine]:
+    """Lines of one kind."""
+    return (AnswerLine(kind, text, part.family.letter if part else "") for text in texts)
+
+
+def _closing(outcome: Outcome, shown: Shown) -> Iterator[AnswerLine]:
+    """What ends the answer: entries at fault, the account, how much is open, and the verdict."""
+    judged = outcome.judged
+    faults = list(fault_lines(judged, shown)) if judged else []
+    count = len(judged.faults) if judged else 0
+    yield from _of(Kind.FAULT, faults[:count])
+    yield from _of(Kind.OF_ENTRIES, faults[count:])
+    yield from _of(Kind.ACCOUNT, account_lines(outcome))
+    yield from _of(Kind.VERDICT, last_lines(outcome))
+
+
+def _entries(outcome: Outcome, part: Part) -> Iterator[AnswerLine]:
+    """The entries of a part, the open ones first. Open ones of correct data are not here."""
     yield from _listed([entry for entry in part.open if not entry.expected])
-    yield from ["accepted:"] if part.accepted else []
+    yield from _of(Kind.TITLE, ["accepted:"] if part.accepted else [])
     for entry in part.accepted:
-        yield from headings.entry_lines(entry)
-        yield from (f"    {accepted_words(each)}" for each in outcome.acceptances(entry))
-    yield from behind(outcome, part)
+        yield from _of(Kind.ENTRY, headings.entry_lines(entry))
+        yield from _of(Kind.ENTRY, (f"    {accepted_words(each)}" for each in outcome.acceptances(entry)))
 
 
-def behind(outcome: Outcome, part: Part) -> Iterator[str]:
+def behind(outcome: Outcome, part: Part) -> Iterator[AnswerLine]:
     """The lines after the entries of a part: how many there are, or notes and what rules have compared."""
     if part.applied is None:
-        yield from headings.summary(outcome.checked, part.open, outcome.judged is not None)
+        yield from _of(Kind.SUMMARY, headings.summary(outcome.checked, part.open, outcome.judged is not None), part)
         return
-    yield from notes_of(part)
-    yield from _applied(part, part.applied)
-
-
-def _applied(part: Part, applied: Applied) -> Iterator[str]:
-    """What was compared, and which rules were applied if a rule was asked for that is off by default."""
-    if part.family.letter in (LINKS, PLAN, ADDED):
-        yield compared(applied, part.family.letter != LINKS)
-    else:
-        yield from not_compared(applied)
+    yield from _of(Kind.NOTE, notes_of(part), part)
+    if part.family.letter in COUNTED:
+        yield from _of(Kind.COMPARED, [compared(part.applied, part.family.letter != LINKS)], part)
+    yield from _of(Kind.NOT_COMPARED, not_compared(part.applied), part)
     if part.family.letter == MEANING and not all(rule.is_default for rule in part.family.rules):
-        yield f"applied: {', '.join(rule.name for rule in part.family.rules)}"
+        yield from _of(Kind.APPLIED, [f"applied: {', '.join(rule.name for rule in part.family.rules)}"], part)
 
 
-def _listed(entries: Sequence[Entry]) -> Iterator[str]:
+def _listed(entries: Sequence[Entry]) -> Iterator[AnswerLine]:
     """Entries below the heading of their urgency."""
     for heading, entry in zip(headings.first_of_each(entries), entries):
-        yield from [heading] if heading else []
-        yield from headings.entry_lines(entry)
+        yield from _of(Kind.TITLE, [heading] if heading else [])
+        yield from _of(Kind.ENTRY, headings.entry_lines(entry))
 
 
 def not_decoded(outcome: Outcome) -> Iterator[str]:
@@ -137,10 +212,9 @@ def _why_unnamed(item: Item) -> str:
     return "its message has no name of its own" if message else "the identity of its group is not known"
 
 
-def closing_lines(outcome: Outcome, shown: Shown = str) -> List[str]:
-    """What ends the answer: entries at fault, the account, how much is open, and the verdict."""
-    faults = fault_lines(outcome.judged, shown) if outcome.judged else ()
-    return [*faults, *account_lines(outcome), *last_lines(outcome)]
+def closing_lines(outcome: Outcome) -> List[str]:
+    """What ends the answer."""
+    return [line.text for line in _closing(outcome, str)]
 
 
 def last_lines(outcome: Outcome) -> List[str]:

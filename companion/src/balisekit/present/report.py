@@ -5,7 +5,7 @@ from typing import List, Mapping, NamedTuple, Sequence, Tuple
 
 from balisekit.present import headings
 from balisekit.present.accepted_text import accepted_words
-from balisekit.present.outcome_text import behind
+from balisekit.present.outcome_text import behind, without_reasons
 from balisekit.present.telegram_parts import packet_id
 from balisekit.rules.accepted import Acceptance
 from balisekit.rules.entries import Entry
@@ -94,7 +94,7 @@ def _listed_part(outcome: Outcome, part: Part, ids: Mapping[str, str]) -> Listed
     )
     title = part.family.title[0].upper() + part.family.title[1:]
     none = "None" + " but those of correct data" * any(entry.expected for entry in part.open)
-    return ListedPart(title, still_open, accepted, list(behind(outcome, part)), none)
+    return ListedPart(title, still_open, accepted, list(without_reasons(behind(outcome, part))), none)
 
 
 def _listed(entry: Entry, ids: Mapping[str, str], heading: str, acceptances: Sequence[Acceptance]) -> Listed:

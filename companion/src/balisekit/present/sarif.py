@@ -2,7 +2,7 @@
 
 A result is an entry of `check`, a telegram or message that was refused or is not read, or an accepted entry at fault.
 What was accepted is suppressed, with its reason. The fingerprint of a result is made of its rule and of what names it
-in a file of accepted findings, so that it survives new rows.
+in a file of accepted findings, so that it survives new rows. All other lines of the answer are notifications.
 """
 from __future__ import annotations
 
@@ -20,8 +20,8 @@ from balisekit.present.accepted_text import accepted_words
 from balisekit.present.account_text import account_json, not_judged_lines
 from balisekit.present.explanations import Page, address_of_page, pages
 from balisekit.present.headings import entry_lines
-from balisekit.present.opening import opening, paths_from, settings_json
-from balisekit.present.outcome_text import closing_lines, not_looked_at, notes_of
+from balisekit.present.opening import paths_from, settings_json
+from balisekit.present.outcome_text import Kind, lines_but
 from balisekit.present.refusals import message_refused, refused
 from balisekit.rules.accepted import COLUMNS, NEEDED, Judged, keys
 from balisekit.rules.discovery import letter_of
@@ -94,16 +94,13 @@ def document(outcome: Outcome) -> Object:
 
 
 def _invocation(outcome: Outcome) -> Object:
-    """How the run has ended. How the answer begins, notes, what was not looked at and how it ends are notifications."""
-    shown = paths_from(outcome.checked)
-    begin, closing = opening(outcome.checked, outcome.judged, shown), closing_lines(outcome, shown)
-    notes = [note for part in outcome.parts for note in notes_of(part)]
-    lines = [*begin, *notes, *not_looked_at(outcome), *closing]
+    """How the run has ended. The lines of the answer are notifications, apart from results."""
+    lines = lines_but(outcome, Kind.REFUSED, Kind.ENTRY, Kind.FAULT)
     return {
         "executionSuccessful": outcome.status != INCOMPLETE,
         "exitCode": outcome.status,
-        "exitCodeDescription": closing[-1],
-        "toolExecutionNotifications": [{"level": "note", "message": {"text": line}} for line in lines],
+        "exitCodeDescription": lines[-1].text,
+        "toolExecutionNotifications": [{"level": "note", "message": {"text": line.text}} for line in lines],
     }
 
 

@@ -8,7 +8,7 @@ from balisekit.io import csv_writing, xlsx_writing
 from balisekit.present.account_text import overlooked_lines
 from balisekit.present.headings import added
 from balisekit.present.opening import opening, paths_from
-from balisekit.present.outcome_text import closing_lines
+from balisekit.present.outcome_text import Kind, lines_but
 from balisekit.present.refusals import lacking, refused_lines
 from balisekit.rules.checking import Checked
 from balisekit.rules.entries import Entry
@@ -81,8 +81,7 @@ def lines(checked: Checked, compared: Compared) -> Iterator[str]:
 def entries_pieces(outcome: Outcome) -> Iterator[bytes]:
     """The workbook of entries. NoAnswer is raised if the package that writes it is absent."""
     rows = ([clean(text) or None for text in _row(outcome, entry)] for entry in outcome.entries)
-    shown = paths_from(outcome.checked)
-    answer = [*opening(outcome.checked, outcome.judged, shown), *closing_lines(outcome, shown)]
+    answer = [line.text for line in lines_but(outcome, Kind.ENTRY)]
     return xlsx_writing.pieces("entries", ENTRIES, rows, WIDTHS, "an .xlsx", answer, outcome.status != 2)
 
 
