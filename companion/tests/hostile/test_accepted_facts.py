@@ -94,6 +94,7 @@ def is_green_wrongly(program: Program, run: Run, folder: Path, lines: Tuple[List
     words = ("--rules", "all")
     if not answer(run, second, *words)["entries"]:
         return False
+    first.with_suffix(".accepted.csv").unlink(missing_ok=True)
     file = signed(run, first, *words)
     assert run("check", first, *words, "--accepted", file)[0] == 0
     return run("check", both, *words, "--accepted", file)[0] == 0 and lines[0] != lines[2]

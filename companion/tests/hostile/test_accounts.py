@@ -186,14 +186,17 @@ def test_a_message_as_a_name(name: str, run: Run, table: Write) -> None:
 
 @pytest.mark.parametrize("name", ["report 1{};authority 2", "1{}", "x {} y", "a:{}", "b={}", "c({})", "of 4711 {};2"])
 def test_a_message_in_a_name(table: Write, name: str) -> None:
-    """A lost line end puts a message behind the name of another one."""
-    with pytest.raises(TableErrors, match="line 1: after the semicolon is a message: write one per line"):
-        messages.read(str(table(f"{MESSAGE};{name.format(MESSAGE)}", name="m.txt")))
+    """A lost line end puts a message behind the name of another one, in plain digits or in pairs."""
+    pairs = [MESSAGE[place : place + 2] for place in range(0, len(MESSAGE), 2)]
+    for text in (MESSAGE, *(between.join(pairs) for between in (":", "-", " ", " 0x"))):
+        with pytest.raises(TableErrors, match="line 1: after the semicolon is a message: write one per line"):
+            messages.read(str(table(f"{MESSAGE};{name.format(text)}", name="m.txt")))
 
 
 def test_a_name_of_digits(table: Write) -> None:
-    """A time to the microsecond, or the checksum of something, is no message."""
+    """A time to the microsecond, the checksum of something or a UUID is no message."""
     names = ["20261130190405123456", "d41d8cd98f00b204e9800998ecf8427e", MESSAGE[:-1], ""]
+    names += ["2026-11-30 19:04:05 123456", "030c8000-0000-4b00-8081-e81c501ff805", f"1{' ' * 5000}x"]
     read = messages.read(str(table(*(f"{MESSAGE};{name}" for name in names), name="m.txt")))
     assert [one.name for one in read.messages] == names
 

@@ -34,7 +34,8 @@ LARGE = re.compile(r"\s*[0-9](?:[.,][0-9]+)?[eE]\+(?:39|[4-9][0-9]|[1-9][0-9]{2}
 LINE_END = re.compile("[\r\n\v\f\x1c-\x1e\x85\u2028\u2029]")
 PARTS = re.compile("[,;|\t\r\n\v\f\x1c-\x1e\x85\u2028\u2029]")
 """What separates cells and rows that a quote has put into one cell."""
-BETWEEN = re.compile(rf"[\s{BLANKS}\u00ad\u2060\ufeff]+|(?<![0-9A-Za-z])0[xX]")
+NO_INK, OF_DIGITS = rf"[\s{BLANKS}\u00ad\u2060\ufeff]", "(?<![0-9A-Za-z])0[xX]"
+BETWEEN = re.compile(f"{NO_INK}+|{OF_DIGITS}")
 """What may be between digits or in front of them: blanks, line ends, characters without ink, 0x."""
 GROUPS_WITHIN = [
     re.compile(f"[0-9A-Fa-f]{{{size}}}([^0-9A-Za-z])[0-9A-Fa-f]{{{size}}}(?:\\1[0-9A-Fa-f]{{{size}}}){{2,}}")

@@ -2,18 +2,22 @@
 from __future__ import annotations
 
 import re
-from typing import Iterator, List
+from itertools import accumulate
+from typing import List
 
 from balisekit.errors import TableError, TableErrors, faults_of
 from balisekit.io import inputs
 from balisekit.tables.account import of_rows
-from balisekit.tables.cells import DIGITS, PARTS, digits, has_telegram
+from balisekit.tables.cells import NO_INK, OF_DIGITS, digits, has_telegram
 from balisekit.tables.encoding import text_of
 from balisekit.tables.model import Message, Messages
 
 LEAST_DIGITS = 20
 """How many digits the shortest message has: NID_MESSAGE, L_MESSAGE, T_TRAIN, M_ACK and NID_LRBG."""
-RUNS = re.compile(rf"[0-9A-Fa-f]{{{LEAST_DIGITS},}}")
+BETWEEN_PAIRS = r"(?<=[0-9A-Fa-f]{2})[:-](?=[0-9A-Fa-f]{2}(?![0-9A-Fa-f]))"
+BETWEEN_DIGITS = re.compile(f"(?:{BETWEEN_PAIRS}|{NO_INK}|{OF_DIGITS})+")
+"""What may separate the digits of a message."""
+RUNS = re.compile(rf"[0-9A-Fa-f]+(?:(?:{BETWEEN_DIGITS.pattern})[0-9A-Fa-f]+)*")
 
 
 def read(path: str) -> Messages:
@@ -31,7 +35,7 @@ def _messages(text: str) -> List[Message]:
         if not line.strip():
             continue
         cell, _, name = line.partition(";")
-        if has_telegram(name) or any(map(_is_message, [*PARTS.split(name), *_ends(name)])):
+        if has_telegram(name) or any(map(_has_message, RUNS.findall(name))):
             faults.append(TableError("after the semicolon is a message: write one per line", line=number))
         elif digits(cell):
             messages.append(Message(number, digits(cell), cell.strip(), name.strip()))
@@ -44,14 +48,14 @@ def _messages(text: str) -> List[Message]:
     return messages
 
 
-def _ends(name: str) -> Iterator[str]:
-    """The ends of long runs of digits. A lost line end puts a message behind the end of a name, such as `report 1`."""
-    for run in RUNS.findall(name):
-        yield from (run[begin:] for begin in range(len(run) - LEAST_DIGITS + 1))
+def _has_message(run: str) -> bool:
+    """Whether a message by its L_MESSAGE ends where digits end. Many are too short to look like a telegram.
 
-
-def _is_message(text: str) -> bool:
-    """Whether a text is a whole message by its L_MESSAGE. Many are too short to look like a telegram."""
-    found = digits(text)
-    is_long = len(found) >= LEAST_DIGITS and DIGITS.fullmatch(found)
-    return bool(is_long) and int(found[2:5], 16) >> 2 == len(found) / 2
+    It may begin anywhere: a lost line end puts it behind the end of a name, such as `report 1`.
+    """
+    parts = BETWEEN_DIGITS.split(run)
+    text, ends = "".join(parts), {*accumulate(map(len, parts))}
+    lengths = (
+        (begin, (int(text[begin + 2 : begin + 5], 16) >> 2) * 2) for begin in range(len(text) - LEAST_DIGITS + 1)
+    )
+    return any(length >= LEAST_DIGITS and begin + length in ends for begin, length in lengths)
