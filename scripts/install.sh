@@ -5,6 +5,7 @@
 # run. PREFIX/bin/balisekit needs python3; its files are in PREFIX/share/balisecheck. PREFIX/lib/balisecheck has the library
 # for C that was stored with the program, and its header.
 set -eu
+unset CDPATH
 
 top=$(dirname "$(readlink -f -- "$0")")
 prefix=${1:-/usr/local}

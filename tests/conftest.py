@@ -1,9 +1,11 @@
-"""The program is found once: processes of xdist and scripts take it over. Scripts start the Python of the tests."""
+"""The program is found once: processes of xdist and scripts take it over. Scripts start the Python of the tests, and have
+no CDPATH, by which `cd` would lead elsewhere."""
 import os
 import sys
 
 import runner
 
+os.environ.pop("CDPATH", None)
 os.environ.update(BALISECHECK=runner.program(), PATH=f"{os.path.dirname(sys.executable)}:{os.environ['PATH']}")
 
 

@@ -1,5 +1,7 @@
 """The list of crates, the hook for commits, steps of tests, and the form of texts."""
+import os
 import re
+import sys
 
 import pytest
 
@@ -69,11 +71,17 @@ def test_texts():
 
 
 def test_folders():
-    """Each script that changes its folder unsets CDPATH: by it cd leads to a folder of that name elsewhere."""
+    """Each script that changes its folder, or calls one of dist/ that does, unsets CDPATH: by it cd leads to a folder of
+    that name elsewhere. The tests hand none to the commands that they run."""
     listed = run(("grep", "-IlzE", "^#!.*sh$|^# shellcheck shell=", "--", ":!dist"), path="git", cwd=TOP)
     if listed.status:
         pytest.skip("the folders of all scripts (git)")
     scripts = {name: (TOP / name).read_text("utf-8") for name in listed.stdout.split("\0")[:-1]}
     moving = {name for name, text in scripts.items() if re.search(r"(?m)^[^#\n]*\bcd [^ ]", text)}
-    assert "examples/parallel.sh" in moving
+    calls = re.compile(r"(?m)^[^#\n]*\bdist/(?:sources|hand-over|keep-libraries|pack/)")
+    moving |= {name for name, text in scripts.items() if name.startswith(("scripts/", "tests/")) and calls.search(text)}
+    assert {"examples/parallel.sh", "scripts/install.sh"} <= moving
     assert not [name for name in moving if not re.search("(?m)^unset CDPATH$", scripts[name])]
+    asks = "import conftest, os; print(os.environ.get('CDPATH'))"
+    said = run(("-c", asks), path=sys.executable, cwd=TOP / "tests", env={**os.environ, "CDPATH": "/tmp"})
+    assert (said.status, said.stdout) == (0, "None\n")

@@ -214,7 +214,7 @@ def test_wheel_beside_no_interpreter(options, made, tmp_path):
     (command,) = room.rglob("bin/balisekit")
     (room / "link").symlink_to(command)
     for words in (command, room / "link"):
-        said = sh(room, f"PYTHONPATH='{room}' PATH='{command.parent}:/usr/bin:/bin' '{words}' check '{TOP}/examples/links/line.csv'")
+        said = sh(room, f"PYTHONPATH='{room}' PATH=/usr/bin:/bin '{words}' check '{TOP}/examples/links/line.csv'")
         assert said.endswith('\nprogram: "yes: groups 4, messages 0"\n') and not (room / "evil").exists()
 
 

@@ -46,7 +46,7 @@ def test_install(tmp_path: Path, program: Program) -> None:
         check=False,
         stderr=subprocess.PIPE,
     )
-    assert done.returncode == 3 and b"there is no balisecheck on the path" in done.stderr
+    assert done.returncode == 3 and f", in {tmp_path / 'room' / 'bin'} or on the path: " in done.stderr.decode()
 
 
 def test_the_program_beside_the_interpreter_comes_before_the_path(

@@ -1,6 +1,7 @@
 """Tables as people have them: titles above the headings, headings of one's own, cover sheets and merged cells."""
 from __future__ import annotations
 
+import json
 import sys
 from pathlib import Path
 from typing import Any, Callable, Dict, List, Sequence
@@ -11,8 +12,10 @@ from telegrams import ALONE, FIRST, OTHER, SECOND
 
 from balisekit.errors import KitError
 from balisekit.tables import reader as tables
+from balisekit.tables.cells import COLUMNS, NEEDED
 
 Write = Callable[..., Path]
+OPTIONAL = [name for name in COLUMNS if name not in NEEDED]
 GERMAN = 'group = "BG-Name"\ntelegram = "Telegramm (hex)"\nkm = "Kilometer"\naspect = "Begriff"\n'
 OWN = ["BG-Name;Kilometer;Begriff;Bemerkung;Telegramm (hex)", f"S1;12,300;Halt;x;{FIRST}", f"S1;12,303;Halt;;{SECOND}"]
 
@@ -44,11 +47,29 @@ def test_headings_of_ones_own(table: Write, text: str, name: str) -> None:
 
 
 def test_a_file_beside_the_table_binds_no_other_table(table: Write, run: Run) -> None:
-    """A table without these headings is read by the names of the columns, and the file is not named."""
-    table(content=GERMAN.encode(), name="balisekit.toml")
+    """A table without these headings is read by the names of the columns, and a note names what it lacks."""
+    file = table(content=GERMAN.encode(), name="balisekit.toml")
     read = tables.read(str(table("group,Kilometer,telegram", f"A,1.5,{ALONE}")))
-    assert str(read.rows[0].km) == "1.5" and read.notes[0].endswith('balisekit.toml: km is "Kilometer"')
-    assert tables.read(str(table("group,telegram", f"A,{ALONE}"))).notes == ()
+    lacks = f'headings by {file} that the table lacks: group is "BG-Name", telegram is "Telegramm (hex)"'
+    no_aspect = 'aspect is "Begriff" (there is no column aspect)'
+    assert str(read.rows[0].km) == "1.5"
+    assert read.notes == (f'headings by {file}: km is "Kilometer"', f"{lacks}, {no_aspect}")
+    no_km = 'km is "Kilometer" (there is no column km)'
+    assert tables.read(str(table("group,telegram", f"A,{ALONE}"))).notes == (f"{lacks}, {no_km}, {no_aspect}",)
+
+
+@pytest.mark.parametrize("name", OPTIONAL)
+def test_a_mistyped_heading_beside_the_table(name: str, table: Write, run: Run) -> None:
+    """Text and JSON name it, because the column would be missing without a word. By --columns it is refused."""
+    path = table("group,Spalte,telegram", f"A,,{ALONE}")
+    file = table(content=f'{name} = "Splate"\n'.encode(), name="balisekit.toml")
+    note = f'headings by {file} that the table lacks: {name} is "Splate" (there is no column {name})'
+    answer = path.with_suffix(".json")
+    assert f"note: {note}" in run("check", path, "--json", answer)[1]
+    assert note in json.loads(answer.read_text("utf-8"))["table"]["notes"]
+    assert run("check", path, "--columns", file)[0] == 2
+    file.write_text(f'{name} = "Spalte"\n', "utf-8")
+    assert not any("lacks" in line for line in run("check", path)[1])
 
 
 def test_a_file_beside_the_table_that_is_not_read(table: Write, run: Run) -> None:

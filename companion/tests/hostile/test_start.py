@@ -200,10 +200,22 @@ def test_a_damaged_module(name: str, text: str, tmp_path: Path) -> None:
 @pytest.mark.parametrize("packages", ["lib/{}/site-packages", "lib64/{}/site-packages", "lib/{}/dist-packages", "."])
 def test_a_wheel_without_an_interpreter_beside(packages: str, tmp_path: Path) -> None:
     """As by `pip install` with --user, --prefix or --target, on Fedora and on Debian; also through a link."""
-    command = layout(tmp_path / "a = prefix", packages.format(VERSION))
+    prefix = tmp_path / "a = prefix"
+    command = layout(prefix, packages.format(VERSION))
     (tmp_path / "link").symlink_to(command)
     answers = [start(f"check {LINE}", tmp_path, command=str(each)) for each in (command, tmp_path / "link")]
     assert answers[0] == answers[1] and (answers[0][0], answers[0][2]) == (2, ""), answers
+    # Its program is found by the place of the package, before another one that is on the path.
+    (tmp_path / "balisecheck").write_text("#!/bin/sh\n", "utf-8")
+    (tmp_path / "balisecheck").chmod(0o755)
+    assert start(f"check {LINE}", tmp_path, command=str(command), BALISECHECK="") == answers[0]
+    for program in (prefix / "bin" / "balisecheck", tmp_path / "balisecheck"):
+        program.unlink()
+    # (Debian's package installs the program beside Debian's Python)
+    (prefix / "bin" / VERSION).symlink_to(sys.executable)
+    status, out, err = start(f"check {LINE}", tmp_path, command=str(command), BALISECHECK="", PATH=str(tmp_path))
+    assert (status, out) == (3, "") and err.startswith("balisekit: there is no balisecheck in ")
+    assert f" {prefix / 'bin'}" in err and err.endswith(" or on the path: name one by --program or BALISECHECK\n")
 
 
 def test_a_wheel_of_another_interpreter(tmp_path: Path) -> None:

@@ -61,14 +61,24 @@ def find(named: Optional[str]) -> str:
     elif is_clone:
         path = script
     else:
-        # (a wheel installs the program beside the interpreter, in a folder that need not be on the path)
-        path = shutil.which("balisecheck", path=os.path.dirname(sys.executable)) or shutil.which("balisecheck")
-        if path is None:
-            raise NoAnswer("there is no balisecheck on the path: name one by --program or BALISECHECK")
+        path = _installed()
     # (in a clone it is the start script; in a release it is the program itself)
     if is_clone and os.path.samefile(path, script) and not _is_program(script):
         path = _stored(script)
     return os.path.abspath(path)
+
+
+def _installed() -> str:
+    """The program that was installed with this package, else the one beside the interpreter or on the path."""
+    # (pip installs it into `bin` beside the package by --target, else beside `lib`: neither need be on the path)
+    above = (os.path.normpath(os.path.join(PACKAGE, *[os.pardir] * levels, "bin")) for levels in (1, 4))
+    folders = list(dict.fromkeys([*above, os.path.dirname(sys.executable)]))
+    found = (shutil.which("balisecheck", path=folder) for folder in [*folders, None])
+    path = next(filter(None, found), None)
+    if path is None:
+        where = f"there is no balisecheck in {', in '.join(folders)} or on the path"
+        raise NoAnswer(f"{where}: name one by --program or BALISECHECK")
+    return path
 
 
 def _is_program(path: str) -> bool:

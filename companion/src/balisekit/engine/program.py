@@ -105,7 +105,7 @@ class Program:
 
     @classmethod
     def find(cls, named: Optional[str] = None, timeout: Optional[float] = None) -> Program:
-        """The program of this path, else of BALISECHECK, else that of the clone, else that on the path.
+        """The program of this path, else of BALISECHECK, else that of the clone, else the installed one.
 
         `KitError` is raised if there is none, if it is not `named` and its checksum is not known, or if it fails a
         trial run.
