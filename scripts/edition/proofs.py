@@ -19,7 +19,8 @@ PART = re.compile(r"(?s)(<!-- (laws|promises|order) -->\n).*?(?=<!-- /\2 -->\n)"
 PROMISE = re.compile(r"(?m)^\| \*\*([\w ]+)\.\*\* .* \| (.*) \| (.*) \|$")
 CALL = re.compile(r"`(\w+)::(?:\w+::)?(\w+)`(?: \(((?:`\w+`(?:, )?)+)\))?")
 DEFINED = re.compile(r"`(\w+)/(\w+\.antt)`: ((?:`\w+`(?:, )?)+)")
-COVERING = ("packet_numbers_agree", "kept_packets_agree")
+COVERING = ("packet_numbers_agree", "kept_packets_agree", "running_directions_agree", "identities_agree",
+            "reached_packets_agree")
 CLAUSE = re.compile(r"(?s)\bensures (\w*) ?\{(.*?)\}\n")
 STATED = {
     "Output": "outputs_agree", "Yes": "yes_agrees, a_yes_has_no_finding", "Meaning of a yes": "yes_agrees",

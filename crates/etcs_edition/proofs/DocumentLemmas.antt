@@ -1,17 +1,20 @@
 -- Documents by the edition are those that are read.
-use Rattle.std.proofs.Common.{◌≡◌, ℕ, suc, ◌+◌, ◌<◌, ◌∙◌, Bool, true, false, List, [], ◌∷◌, length, codes, Option, Some, None, Result, Ok, Err, refl, sym, ap, subst, arith, inl, inr, if◌then◌else◌}
-use Rattle.std.specs.Prelude.{◌&&◌, ◌||◌, nat_le, nat_lt, option_map, IsSomeAnd, IsTrue}
+use Rattle.std.proofs.Common.{◌≡◌, ℕ, suc, ◌+◌, ◌<◌, ◌∙◌, Bool, true, false, List, [], ◌∷◌, length, codes, Option, Some, None, Result, Ok, Err, Ordering, Less, Equal, Greater, nat_cmp, is_eq, refl, sym, ap, subst, arith, inl, inr, if◌then◌else◌}
+use Rattle.std.specs.Prelude.{◌&&◌, nat_le, nat_lt, IsSome, IsSomeAnd}
 use Rattle.std.specs.Option.{ok_or, is_some}
-use Rattle.std.specs.Str.{is_utf8, bytes_eq}
+use Rattle.std.specs.Str.{is_utf8}
+use Rattle.std.specs.Cmp.Lexicographic.{slice_cmp}
+use Rattle.std.specs.Ordering.{match_ordering}
+use Rattle.std.proofs.lemmas.Map.Text.{is_eq-slice_cmp}
 use Rattle.std.proofs.lemmas.Bool.{eq-eqb, and_parts}
 use Rattle.std.proofs.lemmas.Bool.Decides.{nat_tests}
 use Rattle.std.proofs.lemmas.Slice.Eq.{bytes_eq-Decides}
-use Rattle.serde_json.specs.Data.{Data, Members, no_members, member, object}
-use Rattle.serde_json.specs.Find.{as_array, as_object, as_str, get, get_member}
+use Rattle.serde_json.specs.Data.{Data, Items, no_items, item, Members, no_members, member, array, object}
+use Rattle.serde_json.specs.Find.{as_array, as_str, get, get_member}
 use Rattle.serde_json.specs.Read.{read as read_json}
-use Rattle.etcs_schema.specs.Entries.{are_known}
-use Rattle.etcs_schema.specs.Fault.{Kind, Step, Unknown, here, key as key_step, prefixed_result}
-use Rattle.etcs_schema.specs.Reading.{required_member, data_list, only_keys, known_or, key_or}
+use Rattle.etcs_schema.specs.Entries.{are_known, is_known}
+use Rattle.etcs_schema.specs.Fault.{Step, Unknown, here}
+use Rattle.etcs_schema.specs.Reading.{required_member, data_list, only_keys, known_or}
 use Rattle.etcs_document.specs.Document.{◌then◌, as_values, aspect_telegrams, balise_telegram, controlled_group, document_group, document_line, document_list, document_message, group_aspect, group_path, has_count, in_form, json_value, line_groups, line_messages, line_of_text, listed_aspects, only_aspect, only_values, other_aspects, read_indexed, text_or, with_first}
 use Rattle.etcs_document.specs.DocumentFault.{DocumentFault, bad_message, bad_telegram, no_json}
 use Rattle.etcs_document.proofs.ResultLemmas.{same_ok, then_ok, part_ok, mapped_ok, text_ok, first_ok, if_ok, counted_read}
@@ -29,7 +32,8 @@ use Rattle.etcs_telegram.specs.TextMeaning.{telegram_of_text}
 use Rattle.etcs_telegram.proofs.LawLemmas as telegrams
 use Rattle.etcs_edition.specs.Telegram.{IsTelegramText}
 use Rattle.etcs_edition.specs.Message.{IsMessageText}
-use Rattle.etcs_edition.specs.Document.{Each, OnlyKeys, ListAt, IsAspectObject, IsGroupObject, IsLineObject, IsLineText}
+use Rattle.etcs_document.proofs.ValueLemmas.{list_read}
+use Rattle.etcs_edition.specs.Document.{Each, OnlyKeys, IsAspectObject, IsGroupObject, IsLineObject, IsLineText}
 use Rattle.etcs_edition.proofs.TextLemmas.{text_read, read_text}
 use Rattle.etcs_edition.proofs.MessageLemmas.{message_text_read, read_message_text}
 
@@ -69,79 +73,121 @@ is_message i v m is =
 
 -- ---- lists
 
-pub each_is : {X : Type 0} (Is : Data → X → Type 0) (read : ℕ → Data → Result X DocumentFault)
+each_is : {X : Type 0} (Is : Data → X → Type 0) (read : ℕ → Data → Result X DocumentFault)
     → ((n : ℕ) (d : Data) (x : X) → read n d ≡ Ok x → Is d x)
-    → (n : ℕ) (ds : List Data) (xs : List X) → read_indexed read n ds ≡ Ok xs → Each Is ds xs
-each_is Is read to n [] [] is = tt
-each_is Is read to n [] (x ∷ xs) is = absurd cc
-each_is Is read to n (d ∷ ds) xs is =
-    let one = then_ok (read n d) (λ x. with_first x (read_indexed read (n + 1) ds)) xs is in
-    let rest = first_ok one.0 (read_indexed read (n + 1) ds) xs one.2 in
-    subst (λ ys. Each Is (d ∷ ds) ys) rest.2 (to n d one.0 one.1, each_is Is read to (n + 1) ds rest.0 rest.1)
+    → (n : ℕ) (ds : Items) (xs : List X) → read_indexed read n (data_list ds) ≡ Ok xs → Each Is ds xs
+each_is Is read to n no_items [] is = tt
+each_is Is read to n no_items (x ∷ xs) is = absurd cc
+each_is Is read to n (item d ds) xs is =
+    let one = then_ok (read n d) (λ x. with_first x (read_indexed read (n + 1) (data_list ds))) xs is in
+    let rest = first_ok one.0 (read_indexed read (n + 1) (data_list ds)) xs one.2 in
+    subst (λ ys. Each Is (item d ds) ys) rest.2 (to n d one.0 one.1, each_is Is read to (n + 1) ds rest.0 rest.1)
 
 is_each : {X : Type 0} (Is : Data → X → Type 0) (read : ℕ → Data → Result X DocumentFault)
     → ((n : ℕ) (d : Data) (x : X) → Is d x → read n d ≡ Ok x)
-    → (n : ℕ) (ds : List Data) (xs : List X) → Each Is ds xs → read_indexed read n ds ≡ Ok xs
-is_each Is read to n [] [] are = refl
-is_each Is read to n [] (x ∷ xs) are = absurd are
-is_each Is read to n (d ∷ ds) [] are = absurd are
-is_each Is read to n (d ∷ ds) (x ∷ xs) are = rw (to n d x are.0, is_each Is read to (n + 1) ds xs are.1) refl
+    → (n : ℕ) (ds : Items) (xs : List X) → Each Is ds xs → read_indexed read n (data_list ds) ≡ Ok xs
+is_each Is read to n no_items [] are = refl
+is_each Is read to n no_items (x ∷ xs) are = absurd are
+is_each Is read to n (item d ds) [] are = absurd are
+is_each Is read to n (item d ds) (x ∷ xs) are = rw (to n d x are.0, is_each Is read to (n + 1) ds xs are.1) refl
 
-pub same_count : {X : Type 0} (Is : Data → X → Type 0) (ds : List Data) (xs : List X) → Each Is ds xs → length ds ≡ length xs
-same_count Is [] [] are = refl
-same_count Is [] (x ∷ xs) are = absurd are
-same_count Is (d ∷ ds) [] are = absurd are
-same_count Is (d ∷ ds) (x ∷ xs) are = ap suc (same_count Is ds xs are.1)
+same_count : {X : Type 0} (Is : Data → X → Type 0) (ds : Items) (xs : List X) → Each Is ds xs → length (data_list ds) ≡ length xs
+same_count Is no_items [] are = refl
+same_count Is no_items (x ∷ xs) are = absurd are
+same_count Is (item d ds) [] are = absurd are
+same_count Is (item d ds) (x ∷ xs) are = ap suc (same_count Is ds xs are.1)
+
+pub read_count : {X : Type 0} (read : ℕ → Data → Result X DocumentFault) (n : ℕ) (ds : List Data) (xs : List X)
+    → read_indexed read n ds ≡ Ok xs → length ds ≡ length xs
+read_count read n [] [] is = refl
+read_count read n [] (x ∷ xs) is = absurd cc
+read_count read n (d ∷ ds) xs is =
+    let one = then_ok (read n d) (λ x. with_first x (read_indexed read (n + 1) ds)) xs is in
+    let rest = first_ok one.0 (read_indexed read (n + 1) ds) xs one.2 in
+    ap suc (read_count read (n + 1) ds rest.0 rest.1) ∙ ap length rest.2
+
+-- ---- keys
+
+in_order : (keys : List (List ℕ)) (o : Ordering) (key k : List ℕ) (d : Data) (rest : Option Data) → slice_cmp nat_cmp key k ≡ o
+    → is_known k keys ≡ true → (IsSome rest → is_known key keys ≡ true)
+    → IsSome (match_ordering o rest (Some d) rest) → is_known key keys ≡ true
+in_order keys Less key k d rest is known later some = later some
+in_order keys Equal key k d rest is known later some =
+    let same : key ≡ k = (bytes_eq-Decides key k).0 (sym (is_eq-slice_cmp key k) ∙ ap is_eq is) in
+    ap (λ (l : List ℕ). is_known l keys) same ∙ known
+in_order keys Greater key k d rest is known later some = later some
+
+each_known : (keys : List (List ℕ)) (ms : Members) → are_known keys ms ≡ true → (key : List ℕ) → IsSome (get_member key ms) → is_known key keys ≡ true
+each_known keys no_members known key some = absurd cc
+each_known keys (member k d ms) known key some =
+    let parts = and_parts (is_known k keys) (are_known keys ms) known in
+    in_order keys (slice_cmp nat_cmp key k) key k d (get_member key ms) refl parts.0 (each_known keys ms parts.1 key) some
+
+one_more : (o : Ordering) (d : Data) (rest : Option Data) → IsSome rest → IsSome (match_ordering o rest (Some d) rest)
+one_more Less d rest some = some
+one_more Equal d rest some = refl
+one_more Greater d rest some = some
+
+is_first : (o : Ordering) (d : Data) (rest : Option Data) → is_eq o ≡ true → IsSome (match_ordering o rest (Some d) rest)
+is_first Less d rest is = absurd cc
+is_first Equal d rest is = refl
+is_first Greater d rest is = absurd cc
+
+known_each : (keys : List (List ℕ)) (ms : Members) → ((key : List ℕ) → IsSome (get_member key ms) → is_known key keys ≡ true) → are_known keys ms ≡ true
+known_each keys no_members all = refl
+known_each keys (member k d ms) all =
+    let same : is_eq (slice_cmp nat_cmp k k) ≡ true = is_eq-slice_cmp k k ∙ (bytes_eq-Decides k k).1 refl in
+    rw (
+      all k (is_first (slice_cmp nat_cmp k k) d (get_member k ms) same),
+      known_each keys ms (λ key some. all key (one_more (slice_cmp nat_cmp key k) d (get_member key ms) some)),
+    ) refl
 
 -- ---- members
 
-known_is : (keys : List (List ℕ)) (o : Option Members) (u : Unit {0}) → known_or keys o ≡ Ok u → IsSomeAnd o (λ members. IsTrue (are_known keys members))
-known_is keys None u is = absurd cc
-known_is keys (Some members) u is = by_test (are_known keys members) is
+known_is : (keys : List (List ℕ)) (ms : Members) (u : Unit {0}) → known_or keys (Some ms) ≡ Ok u → are_known keys ms ≡ true
+known_is keys ms u is = by_test (are_known keys ms) is
   where
-    by_test : (b : Bool) → (if b then Ok tt else Err (here Unknown)) ≡ Ok u → IsTrue b
+    by_test : (b : Bool) → (if b then Ok tt else Err (here Unknown)) ≡ Ok u → b ≡ true
     by_test true is = refl
     by_test false is = absurd cc
 
 keys_is : (keys : List (List ℕ)) (d : Data) (u : Unit {0}) → only_keys keys d ≡ Ok u → OnlyKeys keys d
 unfolding only_keys
-keys_is keys d u is = known_is keys (as_object d) u is
+keys_is keys (object ms) u is = (refl, each_known keys ms (known_is keys ms u is))
+keys_is keys d u is = absurd cc
 
 is_keys : (keys : List (List ℕ)) (d : Data) → OnlyKeys keys d → only_keys keys d ≡ Ok tt
 unfolding only_keys
-is_keys keys d is =
-    let x = some_of (λ members. IsTrue (are_known keys members)) (as_object d) is in rw (x.1, x.2) refl
+is_keys keys (object ms) is = rw (known_each keys ms is.1) refl
+is_keys keys d is = let none = is.0 in absurd cc
 
-values_are : (step : Step) (o : Option (List Data)) (ds : List Data) → prefixed_result step (ok_or o (here Kind)) ≡ Ok ds → o ≡ Some ds
-values_are step None ds is = absurd cc
-values_are step (Some x) ds is = cc
+-- an object has this list at the key
+abbrev HasList : List ℕ → Data → List Data → Type 0
+HasList name d ds = (items : Items) × (get name d ≡ Some (array items)) × (data_list items ≡ ds)
 
-member_is : (name : List ℕ) (o : Option Data) (ds : List Data) → key_or as_values name o ≡ Ok ds
-    → IsSomeAnd o (λ v. option_map data_list (as_array v) ≡ Some ds)
-unfolding as_values
-member_is name None ds is = absurd cc
-member_is name (Some v) ds is = values_are (key_step name) (option_map data_list (as_array v)) ds is
+array_is : (v : Data) (items : Items) → as_array v ≡ Some items → v ≡ array items
+array_is (array ds) items is = let same : ds ≡ items = cc in ap array same
+array_is v items is = absurd cc
 
-list_is : (name : List ℕ) (d : Data) (ds : List Data) → required_member as_values name d ≡ Ok ds → ListAt name d ds
-unfolding required_member
-list_is name d ds is = member_is name (get name d) ds is
+list_is : (name : List ℕ) (d : Data) (ds : List Data) → required_member as_values name d ≡ Ok ds → HasList name d ds
+list_is name d ds is =
+    let x = list_read name d ds is in (x.1, x.2 ∙ ap Some (array_is x.0 x.1 x.3), x.4)
 
-is_list : (name : List ℕ) (d : Data) (ds : List Data) → ListAt name d ds → required_member as_values name d ≡ Ok ds
+is_list : (name : List ℕ) (d : Data) (items : Items) → get name d ≡ Some (array items) → required_member as_values name d ≡ Ok (data_list items)
 unfolding required_member as_values
-is_list name d ds is =
-    let x = some_of (λ v. option_map data_list (as_array v) ≡ Some ds) (get name d) is in rw (x.1, x.2) refl
+is_list name d items is = rw is refl
 
 only_is : (path : List Step) (name : List ℕ) (d : Data) (ds : List Data) → in_form path (only_values name d) ≡ Ok ds
-    → OnlyKeys (name ∷ []) d × ListAt name d ds
+    → OnlyKeys (name ∷ []) d × HasList name d ds
 unfolding only_values
 only_is path name d ds is =
     let x = part_ok (only_keys (name ∷ []) d) (λ _. required_member as_values name d) ds (mapped_ok _ (only_values name d) ds is) in
     (keys_is (name ∷ []) d x.0 x.1, list_is name d ds x.2)
 
-is_only : (path : List Step) (name : List ℕ) (d : Data) (ds : List Data) → OnlyKeys (name ∷ []) d → ListAt name d ds
-    → in_form path (only_values name d) ≡ Ok ds
+is_only : (path : List Step) (name : List ℕ) (d : Data) (items : Items) → OnlyKeys (name ∷ []) d → get name d ≡ Some (array items)
+    → in_form path (only_values name d) ≡ Ok (data_list items)
 unfolding only_values
-is_only path name d ds keys list = rw (is_keys (name ∷ []) d keys, is_list name d ds list) refl
+is_only path name d items keys list = rw (is_keys (name ∷ []) d keys, is_list name d items list) refl
 
 -- ---- aspects
 
@@ -152,13 +198,15 @@ aspect_is g a first d group is =
     let form = only_is (group_path g a) (codes "balises") d x.0 x.1 in
     let few = few_balises g a first x.0 group x.2 in
     let read = counted_read g a first x.0 group x.2 in
+    let list = form.1 in
     record {
       keys = form.0;
-      texts = x.0;
-      balises = form.1;
+      texts = list.0;
+      balises = list.1;
       some = few.0;
       few = few.1;
-      are = each_is (λ v t. IsSomeAnd (as_str v) (IsTelegramText t)) (balise_telegram g a) (balise_is g a) 0 x.0 group read.2;
+      are = each_is (λ v t. IsSomeAnd (as_str v) (IsTelegramText t)) (balise_telegram g a) (balise_is g a) 0 list.0 group
+          (ap (read_indexed (balise_telegram g a) 0) list.2 ∙ read.2);
     }
 
 is_aspect : (g : ℕ) (a first : Option ℕ) (d : Data) (group : Telegrams) → IsAspectObject d group → has_count first (length group) ≡ true
@@ -173,42 +221,42 @@ is_aspect g a first d group x has =
     let read = is_each (λ v t. IsSomeAnd (as_str v) (IsTelegramText t)) (balise_telegram g a) (is_balise g a) 0 x.texts group x.are in
     rw (form, count, fits, has, read) refl
 
-others_are : (g n i : ℕ) (ds : List Data) (xs : Aspects) → Each IsAspectObject ds xs → ((k : ℕ) (x : Telegrams) → At xs k x → length x ≡ n)
-    → read_indexed (λ a. group_aspect g (Some a) (Some n)) i ds ≡ Ok xs
-others_are g n i [] [] are counted = refl
-others_are g n i [] (x ∷ xs) are counted = absurd are
-others_are g n i (d ∷ ds) [] are counted = absurd are
-others_are g n i (d ∷ ds) (x ∷ xs) are counted =
+others_are : (g n i : ℕ) (ds : Items) (xs : Aspects) → Each IsAspectObject ds xs → ((k : ℕ) (x : Telegrams) → At xs k x → length x ≡ n)
+    → read_indexed (λ a. group_aspect g (Some a) (Some n)) i (data_list ds) ≡ Ok xs
+others_are g n i no_items [] are counted = refl
+others_are g n i no_items (x ∷ xs) are counted = absurd are
+others_are g n i (item d ds) [] are counted = absurd are
+others_are g n i (item d ds) (x ∷ xs) are counted =
     let has : has_count (Some n) (length x) ≡ true = eq-eqb (length x) n (counted 0 x refl) in
     rw (is_aspect g (Some i) (Some n) d x are.0 has, others_are g n (i + 1) ds xs are.1 (λ k y at. counted (suc k) y at)) refl
 
-aspects_are : (g : ℕ) (ds : List Data) (xs : Aspects) → listed_aspects g ds ≡ Ok xs → Each IsAspectObject ds xs
+aspects_are : (g : ℕ) (ds : Items) (xs : Aspects) → listed_aspects g (data_list ds) ≡ Ok xs → Each IsAspectObject ds xs
 unfolding listed_aspects
-aspects_are g [] xs is = absurd cc
-aspects_are g (d ∷ ds) xs is =
-    let one = then_ok (group_aspect g (Some 0) None d) (λ first. with_first first (other_aspects g (length first) ds)) xs is in
-    let rest = first_ok one.0 (other_aspects g (length one.0) ds) xs one.2 in
-    subst (λ ys. Each IsAspectObject (d ∷ ds) ys) rest.2 (
+aspects_are g no_items xs is = absurd cc
+aspects_are g (item d ds) xs is =
+    let one = then_ok (group_aspect g (Some 0) None d) (λ first. with_first first (other_aspects g (length first) (data_list ds))) xs is in
+    let rest = first_ok one.0 (other_aspects g (length one.0) (data_list ds)) xs one.2 in
+    subst (λ ys. Each IsAspectObject (item d ds) ys) rest.2 (
       aspect_is g (Some 0) None d one.0 one.1,
       each_is IsAspectObject (λ a. group_aspect g (Some a) (Some (length one.0))) (λ n e x. aspect_is g (Some n) (Some (length one.0)) e x) 1 ds rest.0 rest.1,
     )
 
-are_aspects : (g : ℕ) (ds : List Data) (xs : Aspects) → Each IsAspectObject ds xs → IsControlled xs → listed_aspects g ds ≡ Ok xs
+are_aspects : (g : ℕ) (ds : Items) (xs : Aspects) → Each IsAspectObject ds xs → IsControlled xs → listed_aspects g (data_list ds) ≡ Ok xs
 unfolding listed_aspects
-are_aspects g [] [] are is = let some = is.some in absurd (omega arith)
-are_aspects g [] (x ∷ xs) are is = absurd are
-are_aspects g (d ∷ ds) [] are is = absurd are
-are_aspects g (d ∷ ds) (x ∷ xs) are is =
+are_aspects g no_items [] are is = let some = is.some in absurd (omega arith)
+are_aspects g no_items (x ∷ xs) are is = absurd are
+are_aspects g (item d ds) [] are is = absurd are
+are_aspects g (item d ds) (x ∷ xs) are is =
     rw (is_aspect g (Some 0) None d x are.0 refl, others_are g (length x) 1 ds xs are.1 (λ k y at. is.counts (suc k) y at)) refl
 
 -- ---- groups
 
 -- each aspect of an object has a balise, so that aspects with as many balises each are those of a controlled group
-are_controlled : (ds : List Data) (xs : Aspects) → Each IsAspectObject ds xs → 0 < length xs
+are_controlled : (ds : Items) (xs : Aspects) → Each IsAspectObject ds xs → 0 < length xs
     → ((a b : ℕ) (g h : Telegrams) → At xs a g → At xs b h → length g ≡ length h) → IsControlled xs
 are_controlled ds [] each some counts = absurd (omega (arith, some))
-are_controlled [] (x ∷ xs) each some counts = absurd each
-are_controlled (d ∷ ds) (x ∷ xs) each some counts =
+are_controlled no_items (x ∷ xs) each some counts = absurd each
+are_controlled (item d ds) (x ∷ xs) each some counts =
     record { some = some; balises = each.0.some; counts = λ a g at. counts a 0 g x at refl }
 
 group_by : (g : ℕ) (d : Data) (o : Option Data) (aspects : Aspects)
@@ -221,11 +269,12 @@ group_by g d (Some list) aspects is =
     let x = then_ok (in_form (group_path g None) (only_values (codes "aspects") d)) (listed_aspects g) aspects is in
     let form = only_is (group_path g None) (codes "aspects") d x.0 x.1 in
     let controlled = list_controlled g x.0 aspects x.2 in
+    let found = form.1 in
     inl (record {
       keys = form.0;
-      objects = x.0;
-      list = form.1;
-      are = aspects_are g x.0 aspects x.2;
+      objects = found.0;
+      list = found.1;
+      are = aspects_are g found.0 aspects (ap (listed_aspects g) found.2 ∙ x.2);
       some = controlled.some;
       counts = λ a b g h at_a at_b. controlled.counts a g at_a ∙ sym (controlled.counts b h at_b);
     })
@@ -234,28 +283,19 @@ group_is : (g : ℕ) (d : Data) (aspects : Aspects) → document_group g d ≡ O
 unfolding document_group
 group_is g d aspects is = group_by g d (get (codes "aspects") d) aspects is
 
-or_nothing : (b : Bool) → (b || false) ≡ true → b ≡ true
-or_nothing true is = refl
-or_nothing false is = is
-
 -- an object with only the key `balises` has none `aspects`
-no_member : (ms : Members) → are_known (codes "balises" ∷ []) ms ≡ true → get_member (codes "aspects") ms ≡ None
-no_member no_members known = refl
-no_member (member k e ms) known =
-    let parts = and_parts (bytes_eq k (codes "balises") || false) (are_known (codes "balises" ∷ []) ms) known in
-    let same : k ≡ codes "balises" = (bytes_eq-Decides k (codes "balises")).0 (or_nothing (bytes_eq k (codes "balises")) parts.0) in
-    subst (λ (l : List ℕ). get_member (codes "aspects") (member l e ms) ≡ None) (sym same) (no_member ms parts.1)
+no_value : (o : Option Data) → (IsSome o → ⊥) → o ≡ None
+no_value None is = refl
+no_value (Some d) is = absurd (is refl)
 
 no_aspects : (d : Data) → OnlyKeys (codes "balises" ∷ []) d → get (codes "aspects") d ≡ None
-no_aspects (object ms) keys = no_member ms keys
-no_aspects d keys = refl
+no_aspects d keys = no_value (get (codes "aspects") d) (λ some. let known = keys.1 (codes "aspects") some in absurd cc)
 
 is_group : (g : ℕ) (d : Data) (aspects : Aspects) → IsGroupObject d aspects → document_group g d ≡ Ok aspects
 unfolding document_group controlled_group only_aspect
 is_group g d aspects (inl x) =
-    let there = some_of (λ v. option_map data_list (as_array v) ≡ Some x.objects) (get (codes "aspects") d) x.list in
     let form = is_only (group_path g None) (codes "aspects") d x.objects x.keys x.list in
-    rw (there.1, form, are_aspects g x.objects aspects x.are (are_controlled x.objects aspects x.are x.some x.counts)) refl
+    rw (x.list, form, are_aspects g x.objects aspects x.are (are_controlled x.objects aspects x.are x.some x.counts)) refl
 is_group g d aspects (inr x) =
     rw (no_aspects d x.2.keys, is_aspect g None None d x.0 x.2 refl) (ap (λ (xs : Aspects). Ok xs) (sym x.1))
 
@@ -274,14 +314,17 @@ line_is d groups ms is =
     let last = then_ok (line_messages d) (λ xs. Ok (both.0, xs)) (groups, ms) both.2 in
     let gs = then_ok (document_list (codes "groups") d) (read_indexed document_group 0) both.0 head.2 in
     let xs = then_ok (document_list (codes "messages") d) (read_indexed document_message 0) last.0 last.1 in
+    let objects = list_is (codes "groups") d gs.0 (mapped_ok _ (required_member as_values (codes "groups") d) gs.0 gs.1) in
+    let texts = list_is (codes "messages") d xs.0 (mapped_ok _ (required_member as_values (codes "messages") d) xs.0 xs.1) in
     let whole : IsLineObject d both.0 last.0 = record {
       keys = keys_is keys d head.0 (mapped_ok _ (only_keys keys d) head.0 head.1);
-      group_objects = gs.0;
-      message_texts = xs.0;
-      first = list_is (codes "groups") d gs.0 (mapped_ok _ (required_member as_values (codes "groups") d) gs.0 gs.1);
-      second = list_is (codes "messages") d xs.0 (mapped_ok _ (required_member as_values (codes "messages") d) xs.0 xs.1);
-      are_groups = each_is IsGroupObject document_group group_is 0 gs.0 both.0 gs.2;
-      are_messages = each_is (λ v m. IsSomeAnd (as_str v) (IsMessageText m)) document_message message_is 0 xs.0 last.0 xs.2;
+      group_objects = objects.0;
+      message_texts = texts.0;
+      first = objects.1;
+      second = texts.1;
+      are_groups = each_is IsGroupObject document_group group_is 0 objects.0 both.0 (ap (read_indexed document_group 0) objects.2 ∙ gs.2);
+      are_messages = each_is (λ v m. IsSomeAnd (as_str v) (IsMessageText m)) document_message message_is 0 texts.0 last.0
+          (ap (read_indexed document_message 0) texts.2 ∙ xs.2);
     } in
     let same : (both.0, last.0) ≡ (groups, ms) = same_ok (both.0, last.0) (groups, ms) (Ok (both.0, last.0)) (refl {a = Ok (both.0, last.0)}) last.2 in
     same_line d (both.0, last.0) (groups, ms) same whole

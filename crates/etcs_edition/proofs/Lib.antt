@@ -12,6 +12,8 @@ pub mod FaultLemmas
 pub mod EncodingLemmas
 pub mod DocumentLemmas
 pub mod YesLemmas
+pub mod ReachLemmas
+pub mod SoundLemmas
 pub mod RuleLemmas
 pub mod FindingLemmas
 pub mod ReportLemmas

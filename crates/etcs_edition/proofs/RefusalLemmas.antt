@@ -17,7 +17,7 @@ use Rattle.etcs_schema.specs.Reading.{only_keys}
 use Rattle.etcs_telegram.specs.TextMeaning.{telegram_of_text}
 use Rattle.etcs_telegram.specs.declared.error.TextError.{TextError}
 use Rattle.etcs_edition.specs.Refusals.{IsDocumentReason, or_else, fault_in, list_fault, text_fault, aspect_fault, aspects_fault, group_fault, document_fault}
-use Rattle.etcs_edition.proofs.DocumentLemmas.{each_is, same_count}
+use Rattle.etcs_edition.proofs.DocumentLemmas.{read_count}
 use Rattle.etcs_edition.proofs.ReasonLemmas.{telegram_reason, message_reason}
 
 -- ---- faults of results
@@ -119,8 +119,7 @@ module _ (telegrams : List ℕ → Option TextError) (same : (text : List ℕ) �
       let form = in_form (group_path g (Some 0)) (only_values (codes "balises") d) in
       let x = then_ok form (aspect_telegrams g (Some 0) None) first is in
       let read = counted_read g (Some 0) None x.0 first x.2 in
-      let are = each_is (λ v t. Unit {0}) (balise_telegram g (Some 0)) (λ n e t is. tt) 0 x.0 first read.2 in
-      rw (x.1, same_count (λ v t. Unit {0}) x.0 first are) (others_same g (length first) ds)
+      rw (x.1, read_count (balise_telegram g (Some 0)) 0 x.0 first read.2) (others_same g (length first) ds)
 
   aspects_same : (g : ℕ) (ds : List Data) → error_of (listed_aspects g ds) ≡ aspects_fault telegrams g ds
   unfolding listed_aspects

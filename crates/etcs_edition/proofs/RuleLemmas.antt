@@ -1,8 +1,10 @@
 -- The rules of the edition require the parts of soundness that findings of the check are about.
-use Rattle.std.proofs.Common.{◌↔◌, ℕ, List, Option, Some, None}
+use Rattle.std.proofs.Common.{◌↔◌, ℕ, List, filter, Option, Some, None, sym, ◌∙◌}
+use Rattle.etcs_profile.specs.Track.{holds}
 use Rattle.etcs_profile.specs.declared.run.Run.{Run}
 use Rattle.etcs_profile.specs.declared.track.TrackPacket.{TrackPacket}
 use Rattle.etcs_group.specs.Group.{Telegrams, Aspects}
+use Rattle.etcs_group.specs.Packets.{group_message}
 use Rattle.etcs_check.specs.Violation.{AspectPart, GroupPart, PacketsPart, MessagePart, IsNew, HasSiteParts, HasParts}
 use Rattle.etcs_check.specs.declared.finding.Finding.{Finding}
 use Rattle.etcs_check.specs.declared.finding.Rule.{Rule}
@@ -11,6 +13,8 @@ use Rattle.etcs_check.specs.declared.finding.Site.{Site}
 use Rattle.etcs_check.specs.declared.finding.Site.TheVariants as sites
 use Rattle.etcs_radio.specs.declared.message.Message.{Message}
 use Rattle.etcs_radio.specs.declared.message.Message.TheVariants as messages
+use Rattle.etcs_edition.proofs.ReachLemmas.{f10, f11, f12, f13}
+use Rattle.etcs_edition.proofs.SoundLemmas.{identity_same}
 use Rattle.etcs_edition.specs.Findings.{AspectHolds, GroupHolds, PacketsHold, MessageHolds, HoldsAt, RuleHolds}
 
 same : {A : Type 0} → A ↔ A
@@ -31,27 +35,42 @@ aspect_agrees aspects a group rules.CounterUnfit None (Some b) None = same
 aspect_agrees aspects a group rules.CountersDiffer None (Some b) None = same
 aspect_agrees aspects a group rules.DuplicatesDiffer (Some run) (Some b) None = same
 aspect_agrees aspects a group rules.NotModelled None (Some b) (Some k) = f9 aspects a group b k
-aspect_agrees aspects a group rules.NoGradient (Some run) None None = same
-aspect_agrees aspects a group rules.GradientShort (Some run) (Some b) (Some k) = same
-aspect_agrees aspects a group rules.NoSpeed (Some run) None None = same
-aspect_agrees aspects a group rules.SpeedShort (Some run) (Some b) (Some k) = same
+aspect_agrees aspects a group rules.NoGradient (Some run) None None = f10 (group_message run group)
+aspect_agrees aspects a group rules.GradientShort (Some run) (Some b) (Some k) = (
+  λ h t p at there said held. (f11 (group_message run group) p).0 (h t p at there said held),
+  λ h t p at there said held. (f11 (group_message run group) p).1 (h t p at there said held),
+)
+aspect_agrees aspects a group rules.NoSpeed (Some run) None None = f12 (group_message run group)
+aspect_agrees aspects a group rules.SpeedShort (Some run) (Some b) (Some k) = (
+  λ h t p at there said held. (f13 (group_message run group) p).0 (h t p at there said held),
+  λ h t p at there said held. (f13 (group_message run group) p).1 (h t p at there said held),
+)
 aspect_agrees aspects a group rules.MarksDiffer None (Some b) None = same
 aspect_agrees aspects a group rules.NotToldApart None (Some b) None = same
 aspect_agrees aspects a group rule run b k = same
 
 pub group_agrees : (groups : List Aspects) (g : ℕ) (aspects : Aspects) (rule : Rule) (run : Option Run) (b k : Option ℕ)
     → GroupHolds groups g aspects rule run b k ↔ GroupPart (IsNew groups g aspects) aspects rule run b k
-group_agrees groups g aspects rules.IdentityUsed None None None = same
+group_agrees groups g aspects rules.IdentityUsed None None None = (
+  λ h i earlier before at is. h i earlier before at (identity_same earlier ∙ is ∙ sym (identity_same aspects)),
+  λ h i earlier before at is. h i earlier before at (sym (identity_same earlier) ∙ is ∙ identity_same aspects),
+)
 group_agrees groups g aspects rules.NotToldApart None (Some b) None = same
 group_agrees groups g aspects rule run b k = same
 
 pub packets_agree : (packets : List TrackPacket) (rule : Rule) (run : Option Run) (b k : Option ℕ)
     → PacketsHold packets rule run b k ↔ PacketsPart packets rule run b k
 packets_agree packets rules.NotModelled None None (Some k) = same
-packets_agree packets rules.NoGradient (Some run) None None = same
-packets_agree packets rules.GradientShort (Some run) None (Some k) = same
-packets_agree packets rules.NoSpeed (Some run) None None = same
-packets_agree packets rules.SpeedShort (Some run) None (Some k) = same
+packets_agree packets rules.NoGradient (Some run) None None = f10 (filter (holds run) packets)
+packets_agree packets rules.GradientShort (Some run) None (Some k) = (
+  λ h p at held. (f11 (filter (holds run) packets) p).0 (h p at held),
+  λ h p at held. (f11 (filter (holds run) packets) p).1 (h p at held),
+)
+packets_agree packets rules.NoSpeed (Some run) None None = f12 (filter (holds run) packets)
+packets_agree packets rules.SpeedShort (Some run) None (Some k) = (
+  λ h p at held. (f13 (filter (holds run) packets) p).0 (h p at held),
+  λ h p at held. (f13 (filter (holds run) packets) p).1 (h p at held),
+)
 packets_agree packets rule run b k = same
 
 pub message_agrees : (m : Message) (rule : Rule) (run : Option Run) (b k : Option ℕ) → MessageHolds m rule run b k ↔ MessagePart m rule run b k

@@ -1,12 +1,11 @@
 -- The document of a railway line: which groups, aspects and radio messages a JSON text gives. The form is
 -- this project's own; the telegrams and messages in it are texts (SUBSET-026, 3.4.1, 8.4.2 and 8.4.4).
-use Rattle.std.specs.Prelude.{◌≡◌, ℕ, ◌<◌, ◌≤◌, ◌⊎◌, IsTrue, codes, List, [], ◌∷◌, length, Some, option_map, IsSomeAnd}
-use Rattle.std.specs.Str.{is_utf8}
-use Rattle.serde_json.specs.Data.{Data}
-use Rattle.serde_json.specs.Find.{as_array, as_object, as_str, get}
+use Rattle.std.specs.Prelude.{◌≡◌, ℕ, ◌<◌, ◌≤◌, ◌⊎◌, IsTrue, codes, List, [], ◌∷◌, length, Some, IsSome, IsSomeAnd}
+use Rattle.std.specs.List.{list_any}
+use Rattle.std.specs.Str.{is_utf8, bytes_eq}
+use Rattle.serde_json.specs.Data.{Data, Items, no_items, item, array}
+use Rattle.serde_json.specs.Find.{as_object, as_str, get}
 use Rattle.serde_json.specs.Read.{read}
-use Rattle.etcs_schema.specs.Entries.{are_known}
-use Rattle.etcs_schema.specs.Reading.{data_list}
 use Rattle.etcs_group.specs.Group.{Telegrams, Aspects}
 use Rattle.etcs_group.specs.Places.{At}
 use Rattle.etcs_radio.specs.declared.message.Message.{Message}
@@ -15,27 +14,24 @@ use Rattle.etcs_edition.specs.Message.{IsMessageText}
 
 -- ---- parts of JSON
 
--- the lists have the same length, and the relation holds of the elements at each place
-abbrev pub Each : {A B : Type 0} → (A → B → Type 0) → List A → List B → Type 0
-Each Is [] [] = Unit {0}
-Each Is (x ∷ xs) (y ∷ ys) = Is x y × Each Is xs ys
-Each Is xs ys = ⊥
+-- the array has as many values as the list, and the relation holds of the value and the element at each place
+abbrev pub Each : {A : Type 0} → (Data → A → Type 0) → Items → List A → Type 0
+Each Is no_items [] = Unit {0}
+Each Is (item d ds) (x ∷ xs) = Is d x × Each Is ds xs
+Each Is ds xs = ⊥
 
 -- an object with no other keys than these
 abbrev pub OnlyKeys : List (List ℕ) → Data → Type 0
-OnlyKeys keys d = IsSomeAnd (as_object d) (λ members. IsTrue (are_known keys members))
-
--- an object with a list at this key, of these values
-abbrev pub ListAt : List ℕ → Data → List Data → Type 0
-ListAt key d values = IsSomeAnd (get key d) (λ v. option_map data_list (as_array v) ≡ Some values)
+OnlyKeys keys d =
+    IsSome (as_object d) × ((key : List ℕ) → IsSome (get key d) → IsTrue (list_any (λ k. bytes_eq key k) keys))
 
 -- ---- parts of a line
 
 -- An aspect: an object with the one key `balises`, a list of one to eight texts of telegrams, in order.
 pub record IsAspectObject (d : Data) (group : Telegrams) : Type 0 where
   pub keys : OnlyKeys (codes "balises" ∷ []) d
-  pub texts : List Data
-  pub balises : ListAt (codes "balises") d texts
+  pub texts : Items
+  pub balises : get (codes "balises") d ≡ Some (array texts)
   pub some : 0 < length group
   pub few : length group ≤ 8
   pub are : Each (λ v t. IsSomeAnd (as_str v) (IsTelegramText t)) texts group
@@ -43,8 +39,8 @@ pub record IsAspectObject (d : Data) (group : Telegrams) : Type 0 where
 -- A controlled group: an object with the one key `aspects`, a list of one or more aspects with as many balises each.
 pub record IsControlledObject (d : Data) (aspects : Aspects) : Type 0 where
   pub keys : OnlyKeys (codes "aspects" ∷ []) d
-  pub objects : List Data
-  pub list : ListAt (codes "aspects") d objects
+  pub objects : Items
+  pub list : get (codes "aspects") d ≡ Some (array objects)
   pub are : Each IsAspectObject objects aspects
   pub some : 0 < length aspects
   pub counts : (a b : ℕ) (g h : Telegrams) → At aspects a g → At aspects b h → length g ≡ length h
@@ -57,10 +53,10 @@ IsGroupObject d aspects =
 -- A line: an object with the keys `groups` and `messages`, a list of groups and a list of texts of messages.
 pub record IsLineObject (d : Data) (groups : List Aspects) (messages : List Message) : Type 0 where
   pub keys : OnlyKeys (codes "groups" ∷ codes "messages" ∷ []) d
-  pub group_objects : List Data
-  pub message_texts : List Data
-  pub first : ListAt (codes "groups") d group_objects
-  pub second : ListAt (codes "messages") d message_texts
+  pub group_objects : Items
+  pub message_texts : Items
+  pub first : get (codes "groups") d ≡ Some (array group_objects)
+  pub second : get (codes "messages") d ≡ Some (array message_texts)
   pub are_groups : Each IsGroupObject group_objects groups
   pub are_messages : Each (λ v m. IsSomeAnd (as_str v) (IsMessageText m)) message_texts messages
 

@@ -9,6 +9,7 @@ pub mod Tables
 pub mod Faults
 pub mod Encoding
 pub mod Document
+pub mod Sound
 pub mod Yes
 pub mod Rules
 pub mod Findings

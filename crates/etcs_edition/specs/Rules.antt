@@ -1,17 +1,16 @@
--- What each of the rules F1 to F16 requires, at a balise, a packet or a running direction. They are this
--- project's rules, after SUBSET-026, mainly 3.4, 3.8, 3.11, 3.16.2 and 7.5.1; places are counted from 0.
-use Rattle.std.specs.Prelude.{◌≡◌, ◌≢◌, ℕ, ◌+◌, ◌<◌, ◌≤◌, List, length, Option, Some, is_some, IsSome, IsTrue, ◌⊎◌}
+-- What each of the rules F1 to F16 requires, at a balise, a packet or a running direction; `Sound` has F10 to F13.
+-- They are this project's rules, after SUBSET-026, mainly 3.4, 3.8, 3.11, 3.16.2 and 7.5.1; places are counted from 0.
+use Rattle.std.specs.Prelude.{◌≡◌, ◌≢◌, ℕ, ◌+◌, ◌<◌, ◌≤◌, List, length, Some, IsSome, IsTrue, ◌⊎◌}
 use Rattle.etcs_bits.specs.declared.variables.duplicate.Dup.TheVariants as dups
 use Rattle.etcs_profile.specs.declared.run.Run.{Run}
 use Rattle.etcs_profile.specs.declared.track.TrackPacket.{TrackPacket}
-use Rattle.etcs_profile.specs.declared.reach.Reach.{Reach}
 use Rattle.etcs_telegram.specs.Record.{Telegram}
 use Rattle.etcs_group.specs.Places.{At}
 use Rattle.etcs_group.specs.Group.{AreAlike, is_modelled, partner_place, Telegrams, Aspects}
 use Rattle.etcs_group.specs.Packets.{held_packets}
 use Rattle.etcs_group.specs.Controlled.{Shows, IsFixed, IsSwitched}
-use Rattle.etcs_check.specs.Profiles.{packet_limit, gradient_reach, speed_reach, Reaches}
-use Rattle.etcs_check.specs.Soundness.{first_aspect, group_identity}
+use Rattle.etcs_check.specs.Soundness.{first_aspect}
+use Rattle.etcs_edition.specs.Sound.{group_identity}
 
 -- ---- the telegrams of an aspect
 
@@ -73,34 +72,6 @@ F16_AspectIsToldApart aspects a group b =
 -- F9: packet k is none of 0, 136 and 254, whose use by a train is not modelled (3.9, 3.15.9 and 7.4.2).
 abbrev pub F9_PacketIsModelled : List TrackPacket → ℕ → Type 0
 F9_PacketIsModelled packets k = (p : TrackPacket) → At packets k p → IsTrue (is_modelled p)
-
--- if there is an authority among the packets, there is a profile of the kind
-abbrev pub IsGiven : (TrackPacket → Option Reach) → List TrackPacket → Type 0
-IsGiven reach packets =
-    (i : ℕ) (a : TrackPacket) (limit : ℕ) → At packets i a → packet_limit a ≡ Some limit
-    → (j : ℕ) × (p : TrackPacket) × At packets j p × IsTrue (is_some (reach p))
-
--- if the packet is a profile of the kind, it reaches the supervised location of each authority among the
--- packets
-abbrev pub ReachesEach : (TrackPacket → Option Reach) → List TrackPacket → TrackPacket → Type 0
-ReachesEach reach packets p = (r : Reach) → reach p ≡ Some r
-    → (i : ℕ) (a : TrackPacket) (limit : ℕ) → At packets i a → packet_limit a ≡ Some limit → Reaches r limit
-
--- F10: if there is an authority among the packets, there is a gradient profile (3.7, 3.8 and 3.11).
-abbrev pub F10_GradientsAreGiven : List TrackPacket → Type 0
-F10_GradientsAreGiven packets = IsGiven gradient_reach packets
-
--- F11: the packet, if it is a gradient profile, reaches each supervised location (3.7, 3.8 and 3.11).
-abbrev pub F11_GradientsReach : List TrackPacket → TrackPacket → Type 0
-F11_GradientsReach packets p = ReachesEach gradient_reach packets p
-
--- F12: if there is an authority among the packets, there is a speed profile (3.7, 3.8 and 3.11).
-abbrev pub F12_SpeedsAreGiven : List TrackPacket → Type 0
-F12_SpeedsAreGiven packets = IsGiven speed_reach packets
-
--- F13: the packet, if it is a speed profile, reaches each supervised location (3.7, 3.8 and 3.11).
-abbrev pub F13_SpeedsReach : List TrackPacket → TrackPacket → Type 0
-F13_SpeedsReach packets p = ReachesEach speed_reach packets p
 
 -- ---- a group as a whole
 

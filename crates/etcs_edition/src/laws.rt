@@ -1,10 +1,12 @@
 //! Laws that the definitions of the edition and those of other crates say the same. Each law is the contract of
 //! a call that does nothing.
 
-ghost use Rattle.std.specs.Prelude.{◌≡◌, ◌↔◌, ℕ, List, [], Bool, true, length, take, Ok, Err, IsErr, IsOkAnd};
+ghost use Rattle.std.specs.Prelude.{◌≡◌, ◌↔◌, ℕ, List, [], Bool, true, length, take, Option, Ok, Err, IsErr, IsOkAnd};
 ghost use Rattle.etcs_bits.specs.declared.layout.fault.Fault.{Fault};
+ghost use Rattle.etcs_bits.specs.declared.variables.identity.Identity.{Identity};
+ghost use Rattle.etcs_profile.specs.declared.run.Run.{Run};
 ghost use Rattle.etcs_profile.specs.declared.track.TrackPacket.{TrackPacket};
-ghost use Rattle.etcs_profile.specs.Track.{track_number};
+ghost use Rattle.etcs_profile.specs.Track.{track_number, holds};
 ghost use Rattle.etcs_profile.specs.PacketNumbers.{is_kept as is_kept_track_packet};
 ghost use Rattle.etcs_radio.specs.TrainNumbers.{is_kept as is_kept_train_packet};
 ghost use Rattle.etcs_telegram.specs.Record.{Telegram};
@@ -20,6 +22,8 @@ ghost use Rattle.etcs_radio.specs.TextMeaning.{message_of_text};
 ghost use Rattle.etcs_group.specs.Group.{Aspects};
 ghost use Rattle.etcs_check.specs.Laws.{AreControlled, NamesTheUnsound};
 ghost use Rattle.etcs_check.specs.Line.{findings};
+ghost use Rattle.etcs_check.specs.Profiles.{AreReached as AreReachedByProfiles};
+ghost use Rattle.etcs_check.specs.Soundness.{group_identity as compared_identity};
 ghost use Rattle.etcs_check.specs.Violation.{HasParts};
 ghost use Rattle.etcs_check.specs.declared.finding.Finding.{Finding};
 ghost use Rattle.etcs_document.specs.Document.{line_of_text};
@@ -45,6 +49,7 @@ ghost use Rattle.etcs_edition.specs.Faults.{IsTelegramFault, IsMessageFault, NoT
 ghost use Rattle.etcs_edition.specs.Encoding.{IsWrittenTelegram, IsWrittenMessage};
 ghost use Rattle.etcs_edition.specs.Document.{IsLineText};
 ghost use Rattle.etcs_edition.specs.Yes.{SaysYes};
+ghost use Rattle.etcs_edition.specs.Sound.{is_for, group_identity, AreReached};
 ghost use Rattle.etcs_edition.specs.Findings.{RuleHolds, AreFindings};
 ghost use Rattle.etcs_edition.specs.Report.{IsReport};
 ghost use Rattle.etcs_edition.specs.Refusals.{IsTelegramReason, IsMessageReason, IsDocumentReason};
@@ -88,6 +93,25 @@ pub fn kept_packets_agree()
 pub fn packet_numbers_agree()
     ensures { (p : TrackPacket) (n : ℕ)
         → (has_number n (track_packet_fields p) ≡ true) ↔ (track_number p ≡ n) }
+{}
+
+/// A packet is for trains that run in a direction by the edition, by the number of its Q_DIR, if and only if it
+/// holds in this direction by the contract of `etcs_profile::TrackPacket::holds_in` (SUBSET-026, 7.5.1).
+pub fn running_directions_agree()
+    ensures { (run : Run) (p : TrackPacket)
+        → (is_for run (track_packet_fields p) ≡ true) ↔ (holds run p ≡ true) }
+{}
+
+/// A group has the identity by the edition that the definition of a sound line compares.
+pub fn identities_agree()
+    ensures { (aspects : Aspects) (identity : Option Identity)
+        → (group_identity aspects ≡ identity) ↔ (compared_identity aspects ≡ identity) }
+{}
+
+/// Profiles reach each supervised location by the edition, F10 to F13, if and only if they do so by the
+/// definitions of a sound reading and of a sound message 3.
+pub fn reached_packets_agree()
+    ensures { (packets : List TrackPacket) → AreReached packets ↔ AreReachedByProfiles packets }
 {}
 
 /// A text is the one that is written for a telegram or a radio message by the edition if and only if it is
