@@ -155,7 +155,7 @@ def test_a_program_of_the_environment(
     tmp_path: Path, capsys: pytest.CaptureFixture[str], monkeypatch: pytest.MonkeyPatch
 ) -> None:
     """Only --program makes balisekit ask a program that nobody knows, which says yes to everything here."""
-    decodes = f"decode) exec {os.environ['BALISECHECK']} decode ;;"
+    decodes = f"""decode) {{ printf '%s\\n' "$line"; cat; }} | {os.environ['BALISECHECK']} decode ;;"""
     path = fake(tmp_path / "other", f'case "$1" in check) echo "yes: groups 4, messages 0" ;; {decodes} esac')
     monkeypatch.setenv("BALISECHECK", str(path))
     status, err = said(capsys, "check", FAULT, "--only", "F")
