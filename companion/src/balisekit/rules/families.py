@@ -215,8 +215,16 @@ def apply(
     applied = [family for family in able if family.rules or family.letter == PROVED]
     parts = list(_looked_at(checked, applied, options, began, in_copy))
     items = [item for part in parts for item in part.items]
-    judged = judge(items, checked, signed[0], signed[1], [family.letter for family in applied]) if signed else None
+    judged = judge(items, checked, *signed, partial(_is_in_full, applied, options)) if signed else None
     return Outcome(checked, [_with_entries(checked, part, judged) for part in parts], judged, able != asked)
+
+
+def _is_in_full(applied: Sequence[Family], options: Options, name: str) -> bool:
+    """Whether all that a rule of this name reports is looked for."""
+    rules = {rule.name: rule for family in applied for rule in family.rules}
+    if name[0] == PROVED:
+        return any(family.letter == PROVED for family in applied)
+    return name in rules and (not rules[name].optional_part or options.asks_for(name))
 
 
 def _asked_for(family: Family, options: Options) -> Family:
