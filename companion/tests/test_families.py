@@ -161,7 +161,7 @@ def test_one_file_accepts_both(run: Run, program: Program, tmp_path: Path) -> No
     ]
     assert out.count("    accepted: looked at (J. Doe, 2026-01-02)") == 2
     status, out, _ = run("check", path, "--accepted", file, "--only", "F")
-    assert status == 0 and "note: 1 entry is for rules that were not applied: L3" in out
+    assert status == 0 and "note: 1 entry is for rules that were not applied, or not in full: L3" in out
     entries(file, {**rows[0], **SIGNED})
     status, out, _ = run("check", path, "--accepted", file)
     assert status == 1 and out[-1] == "findings 1, links 1: accepted 1, open 1"

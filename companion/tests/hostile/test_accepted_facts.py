@@ -31,6 +31,8 @@ EXAMPLES = TOP / "examples"
 LEVEL, PLAN = EXAMPLES / "meaning/level-border.csv", EXAMPLES / "meaning/plan.csv"
 MISTAKES = sorted([*EXAMPLES.glob("links/*.csv"), *EXAMPLES.glob("meaning/mistakes/*.csv")])
 NO_NUMBERS = re.compile(r"\brows? \d+(?:(?: to |, | and )\d+)*|\bline \d+")
+BY_MOST = ("E8", "E9")
+"""Rules that find nothing any more if another change alters what most groups have."""
 ALONE = "a1007f802000ffffffffffffffffffffffffffffffffffffffffc0"
 """A telegram of a group of one balise."""
 SIGNALS = (
@@ -92,7 +94,9 @@ def is_green_wrongly(program: Program, run: Run, folder: Path, lines: Tuple[List
         except ValueError:
             return False
     words = ("--rules", "all")
-    if not answer(run, second, *words)["entries"]:
+    known = set(map(said, answer(run, first, *words)["entries"]))
+    found = [each for each in answer(run, second, *words)["entries"] if each["rule"] not in BY_MOST]
+    if known.issuperset(map(said, found)):
         return False
     first.with_suffix(".accepted.csv").unlink(missing_ok=True)
     file = signed(run, first, *words)
@@ -274,3 +278,17 @@ def test_the_rest_of_an_infill(program: Program, run: Run, table: Write) -> None
     file = signed(run, paths[0], "--only", "E")
     assert run("check", paths[0], "--only", "E", "--accepted", file)[0] == 0
     assert at_fault(run, paths[1], "--only", "E", "--accepted", file)
+
+
+def test_entries_for_a_part_of_a_rule_that_is_not_applied(run: Run, tmp_path: Path) -> None:
+    """They are named, and the status does not change. If the rule is applied in full, an unused entry is at fault."""
+    line, sound = tmp_path / "line.csv", tmp_path / "sound.csv"
+    for rule in ("E20", "E21", "E23"):
+        line.write_bytes((EXAMPLES / f"meaning/mistakes/{rule}.csv").read_bytes())
+        sound.write_bytes((EXAMPLES / "meaning/line.csv").read_bytes())
+        line.with_suffix(".accepted.csv").unlink(missing_ok=True)
+        file = signed(run, line, "--rules", rule, "--only", rule[0])
+        status, out, _ = run("check", sound, "--accepted", file)
+        assert status == 0 and any(each.startswith("note: ") and each.endswith(rule) for each in out)
+        status, out, _ = run("check", sound, "--rules", rule, "--accepted", file)
+        assert status == 1 and any("unused: it matches no finding" in each for each in out)

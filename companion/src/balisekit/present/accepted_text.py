@@ -39,7 +39,7 @@ def fault_lines(judged: Judged, shown: Shown = str) -> Iterator[str]:
     if judged.passed_over:
         rules = sorted({entry.rule for entry in judged.passed_over})
         many = f"{len(judged.passed_over)} entries are" if len(judged.passed_over) > 1 else "1 entry is"
-        yield f"note: {many} for rules that were not applied: {', '.join(rules)}"
+        yield f"note: {many} for rules that were not applied, or not in full: {', '.join(rules)}"
 
 
 def verdict_lines(judged: Judged, last: str, whole: bool, letters: str = "F") -> Iterator[str]:

@@ -13,7 +13,20 @@ import re
 from collections import Counter
 from dataclasses import dataclass
 from functools import cached_property
-from typing import Collection, Dict, Iterable, Iterator, List, Mapping, NamedTuple, Optional, Sequence, Tuple, Union
+from typing import (
+    Callable,
+    Collection,
+    Dict,
+    Iterable,
+    Iterator,
+    List,
+    Mapping,
+    NamedTuple,
+    Optional,
+    Sequence,
+    Tuple,
+    Union,
+)
 
 from balisekit.errors import TableError, TableErrors, faults_of
 from balisekit.io import inputs
@@ -168,7 +181,7 @@ class Judged:
     former: Tuple[Optional[Acceptance], ...]
     """For each item the first entry that fits it only, whether or not it accepts it."""
     passed_over: Tuple[Acceptance, ...] = ()
-    """The entries for rules that were not applied: nobody knows whether they fit."""
+    """The entries that match nothing, for rules that were not applied in full: nobody knows whether they fit."""
     day: datetime.date = EARLIEST
     """By which day the entries were judged."""
 
@@ -403,11 +416,19 @@ def _telegrams(rule: str, row: Optional[Row], groups: Sequence[Group]) -> List[s
 
 
 def judge(
-    items: Sequence[Item], checked: Checked, entries: Entries, day: datetime.date, families: Sequence[str] = "F"
+    items: Sequence[Item],
+    checked: Checked,
+    entries: Entries,
+    day: datetime.date,
+    is_applied: Callable[[str], bool] = lambda rule: letter_of(rule) == "F",
 ) -> Judged:
-    """Which items are accepted on this day, and which entries for rules of these families are at fault."""
-    applied = [entry for entry in entries.entries if letter_of(entry.rule) in families]
-    about = list(_entries_about(keys(items, checked), applied))
+    """Which items are accepted on this day, and which entries are at fault.
+
+    An entry that matches nothing is no fault unless its rule is applied in full.
+    """
+    about = list(_entries_about(keys(items, checked), entries.entries))
+    fitted_rows = {entry.row for fits in about for entry in fits}
+    applied = [entry for entry in entries.entries if entry.row in fitted_rows or is_applied(entry.rule)]
     fitting: Dict[int, List[Item]] = {}
     for item, fits in zip(items, about):
         for entry in fits:
@@ -420,7 +441,7 @@ def judge(
     by_item = [next((entry for entry in fits if not faults[entry.row]), None) for fits in about]
     former = [next((entry for entry in fits if not entry.is_wide), None) for fits in about]
     at_fault = [(entry, ", ".join(faults[entry.row])) for entry in applied if faults[entry.row]]
-    others = tuple(entry for entry in entries.entries if letter_of(entry.rule) not in families)
+    others = tuple(entry for entry in entries.entries if entry.row not in faults)
     return Judged(entries, tuple(items), tuple(by_item), tuple(at_fault), tuple(former), others, day)
 
 

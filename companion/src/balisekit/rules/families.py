@@ -7,14 +7,14 @@ from __future__ import annotations
 import time
 from dataclasses import dataclass, replace
 from datetime import date
-from functools import cached_property
+from functools import cached_property, partial
 from typing import Iterator, Mapping, NamedTuple, Optional, Sequence, Tuple
 
 from balisekit.rules import links, meaning, track_plan
 from balisekit.rules.accepted import RULES, Acceptance, Entries, Item, Judged, identities, judge
 from balisekit.rules.applied import Applied, Notes, look_for, no_notes
 from balisekit.rules.checking import Checked, Place
-from balisekit.rules.discovery import ADDED, first_to_last
+from balisekit.rules.discovery import ADDED, first_to_last, letter_of
 from balisekit.rules.entries import Entry, entries, kilometre_of
 from balisekit.rules.line import Line
 from balisekit.rules.location import Identity
@@ -213,7 +213,7 @@ def apply(
     applied = [family for family in able if family.rules or family.letter == PROVED]
     parts = list(_looked_at(checked, applied, options, began))
     items = [item for part in parts for item in part.items]
-    judged = judge(items, checked, signed[0], signed[1], [family.letter for family in applied]) if signed else None
+    judged = judge(items, checked, *signed, partial(_is_in_full, applied, options)) if signed else None
     applied_rules = {rule.name for family in asked for rule in family.rules}
     off = [rule.name for rule in options.added if rule.name not in applied_rules]
     return Outcome(checked, [_with_entries(checked, part, judged) for part in parts], judged, able != asked, off)
@@ -223,6 +223,14 @@ def families(options: Options) -> Mapping[str, Family]:
     """The families with the rules that are applied by default or were asked for. Without a plan X is not there."""
     added = {**FAMILIES, ADDED: FAMILIES[ADDED]._replace(rules=options.added)}
     return {letter: _asked_for(each, options) for letter, each in added.items() if letter != PLAN or options.plan}
+
+
+def _is_in_full(applied: Sequence[Family], options: Options, name: str) -> bool:
+    """Whether all that a rule of this name reports is looked for."""
+    rules = {rule.name: rule for family in applied for rule in family.rules}
+    if letter_of(name) == PROVED:
+        return any(family.letter == PROVED for family in applied)
+    return name in rules and (not rules[name].optional_part or options.asks_for(name))
 
 
 def _asked_for(family: Family, options: Options) -> Family:
