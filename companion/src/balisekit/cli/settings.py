@@ -14,7 +14,6 @@ from balisekit.cli import options as shared
 from balisekit.errors import TableError, faults_of
 from balisekit.io.inputs import InputPath, is_python
 from balisekit.rules import meaning
-from balisekit.rules.adding import load
 from balisekit.rules.chainage import Jump, look_at, read_jumps
 from balisekit.rules.discovery import ADDED, ADDED_NAME
 from balisekit.rules.rule import ALL, LINE_SPEED, RELEASE_SPEED, Options, Rule
@@ -139,7 +138,11 @@ def of_line(options: argparse.Namespace) -> Options:
 def added(options: argparse.Namespace, stated: Optional[Mapping[str, Any]] = None) -> Tuple[Rule, ...]:
     """The rules that the user adds, if the command applies rules. Without a table only the options state them."""
     named = (given(options) if stated is None else stated).get("rules_from", ())
-    return load(named) if hasattr(options, "rules_from") else ()
+    if not named or not hasattr(options, "rules_from"):
+        return ()
+    from balisekit.rules.adding import load  # (few users need it)
+
+    return load(named)
 
 
 def jumps(options: argparse.Namespace) -> Tuple[Jump, ...]:

@@ -9,17 +9,32 @@ from dataclasses import dataclass
 from decimal import Decimal
 from enum import IntEnum
 from functools import cached_property
-from typing import Callable, Dict, FrozenSet, Iterator, List, Mapping, NamedTuple, Optional, Sequence, Tuple, Union
+from typing import (
+    TYPE_CHECKING,
+    Callable,
+    Dict,
+    FrozenSet,
+    Iterator,
+    List,
+    Mapping,
+    NamedTuple,
+    Optional,
+    Sequence,
+    Tuple,
+    Union,
+)
 
 from balisekit.rules.chainage import Jump
 from balisekit.rules.chains import Chain
 from balisekit.rules.line import Line
 from balisekit.rules.location import BaliseGroup, Location
 from balisekit.rules.page_sentences import filled_in
-from balisekit.rules.template import Template
 from balisekit.tables.model import Row
 from balisekit.tables.names import NAMED, describe_message, listed, rows_words
 from balisekit.tables.plan import Plan
+
+if TYPE_CHECKING:  # (only added rules need it)
+    from balisekit.rules.template import Template
 
 REFUSED = "refused"
 FALSE_ALARM, NEVER = "When it is a false alarm", "Never"
