@@ -67,8 +67,7 @@ def read(
         try:
             cells.look_at_calculated(begin, len(cells.rows[place]), places)
             in_columns = beside.telegrams(cells, begin, places["telegram"])
-            own_notes = headings.used(cells.rows[place]) + headings.lacking(cells.rows[place])
-            of_heading = _notes_on_heading(place, own_notes, named)
+            of_heading = _notes_on_heading(place, headings.notes(cells.rows[place]), named)
             of_heading += beside.covered_rows(cells, place + 1, begin, places["telegram"])
             rows = _rows(cells, places, begin, len(cells.rows[place]))
             grouped = groups_of(rows, by_position, place + 1)
