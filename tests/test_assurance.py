@@ -47,6 +47,20 @@ def is_there(span):
     return not re.fullmatch(r"[\w.]+", span) or span in words() or span in ("unsafe", "rt")
 
 
+def signs(text):
+    """The signs of definitions or of the notation, apart from those for punctuation."""
+    return {*re.findall(r"(?<!\S)[^\w\s(){}\[\].,;:=\"-][^\w\s(){}\[\].,;\"]*(?!\S)|(?<= )-(?= )|[=>]{2,}|[λℕ⊤⊥]", text)}
+
+
+def test_notation():
+    """Each sign of the definitions in the edition and in the rules has a row of the notation, and no other sign has."""
+    texts = (source(f"{crate}/specs/*.antt") for crate in ("etcs_edition", "etcs_group", "etcs_check"))
+    lines_of = (line.partition("--")[0] for line in "\n".join(texts).split("\n") if not line.startswith("use "))
+    rows = re.findall(r"(?m)^\| (`.*?) \| ", PROOFS.partition("### Notation")[2].partition("### Which")[0])
+    assert len(rows) == len({*rows}) > 40
+    assert signs(" ".join(rows).replace("`", " ").replace("\\", "")) == signs("\n".join(lines_of))
+
+
 def test_names():
     """All that the page on proofs names is there."""
     assert [call for call in CALL.findall(PROOFS) if not has_call(*call)] == []

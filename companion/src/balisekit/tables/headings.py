@@ -119,15 +119,16 @@ class Headings(NamedTuple):
         names = [f'{name} is "{shown(own)}"' for name, own in self.of_row(row).items()]
         return [f"headings by {self.source}: {', '.join(names)}"] if names else []
 
-    def lacking(self, row: Sequence[str]) -> List[str]:
-        """A note on the headings of the user's own that the row lacks."""
+    def notes(self, row: Sequence[str]) -> List[str]:
+        """Notes on the headings of the user's own that the row has, and on those that it lacks."""
         there, places = self.of_row(row), self.places(row)
         names = [
             f'{name} is "{shown(own)}"{"" if name in places else f" (there is no column {name})"}'
             for name, own in self.own.items()
             if name not in there
         ]
-        return [f"headings by {self.source} that the table lacks: {', '.join(names)}"] if names else []
+        lacking = [f"headings by {self.source} that the table lacks: {', '.join(names)}"] if names else []
+        return self.used(row) + lacking
 
 
 def alike(name: str, known: Iterable[str]) -> str:
