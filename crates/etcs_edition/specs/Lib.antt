@@ -16,3 +16,5 @@ pub mod Report
 pub mod Forms
 pub mod Refusals
 pub mod Output
+pub mod Keys
+pub mod EncodedLines
