@@ -29,7 +29,7 @@ STATED = {
     "Texts": "telegram_texts_agree, reasons_agree (telegrams)",
     "There and back": "written_texts_agree, what_is_written_is_read, a_text_has_one_record",
     "Radio messages": "messages_agree, message_texts_agree, written_texts_agree (messages), reasons_agree (messages)",
-    "JSON": "forms_agree", "Documents": "lines_agree, reasons_agree (documents)",
+    "JSON": "forms_agree, readings_agree, form_faults_agree", "Documents": "lines_agree, reasons_agree (documents)",
     "Library for C": "outputs_agree (check), telegram_texts_agree, message_texts_agree, reasons_agree, forms_agree"}
 """The laws of the edition that state a promise, each perhaps with one of its clauses."""
 BESIDE: Mapping[str, List[Key]] = {

@@ -46,7 +46,7 @@ dup_width dups.Single = refl
 dup_width dups.Next = refl
 dup_width dups.Previous = refl
 
-used_same : (t : Telegram) → used_bits t ≡ bit_count (telegram_fields t)
+pub used_same : (t : Telegram) → used_bits t ≡ bit_count (telegram_fields t)
 used_same t =
     let fields = flat_map track_packet_fields t.packets in
     omega (
@@ -130,7 +130,7 @@ telegram_written t text x =
 
 -- ---- messages
 
-used_same_message : (n : ℕ) (m : Message) → used_by_message m ≡ bit_count (message_fields n m)
+pub used_same_message : (n : ℕ) (m : Message) → used_by_message m ≡ bit_count (message_fields n m)
 used_same_message n (messages.Movement m) = omega (arith, (agree_flat agree_track_packet m.packets).size)
 used_same_message n (messages.Position m) = omega (arith, (agree_flat agree_train_packet m.packets).size)
 

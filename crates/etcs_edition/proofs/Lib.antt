@@ -23,3 +23,12 @@ pub mod RefusalLemmas
 pub mod FormLemmas
 pub mod OutputLemmas
 pub mod CheckLemmas
+pub mod KeyLemmas
+pub mod KeyPartLemmas
+pub mod KeyVariableLemmas
+pub mod KeyFormLemmas
+pub mod KeyPacketLemmas
+pub mod KeyMessageLemmas
+pub mod EncodeLemmas
+pub mod EncodedLemmas
+pub mod OneRecordLemmas

@@ -135,12 +135,12 @@ agree_authority None a = agree_to_train 15 a.dir refl (agree_both (agree_scale a
 
 -- ---- a packet whose body is kept as bits
 
-bits_fit : (bits : List Bool) → AllByRecursion IsWritable (raw_fields bits)
+pub bits_fit : (bits : List Bool) → AllByRecursion IsWritable (raw_fields bits)
 bits_fit [] = tt
 bits_fit (true ∷ bits) = ((lit< tt, refl), bits_fit bits)
 bits_fit (false ∷ bits) = ((lit< tt, refl), bits_fit bits)
 
-bits_size : (bits : List Bool) → bit_count (raw_fields bits) ≡ length bits
+pub bits_size : (bits : List Bool) → bit_count (raw_fields bits) ≡ length bits
 bits_size [] = refl
 bits_size (b ∷ bits) = omega (arith, bits_size bits)
 

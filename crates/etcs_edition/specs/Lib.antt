@@ -17,3 +17,5 @@ pub mod Report
 pub mod Forms
 pub mod Refusals
 pub mod Output
+pub mod Keys
+pub mod EncodedLines

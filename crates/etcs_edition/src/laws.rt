@@ -34,9 +34,11 @@ ghost use Rattle.etcs_telegram.specs.declared.error.TextError.{TextError};
 ghost use Rattle.etcs_radio.specs.declared.error.RadioTextError.{RadioTextError};
 ghost use Rattle.serde_json.specs.Data.{Data};
 ghost use Rattle.etcs_schema.specs.Codec.{object};
+ghost use Rattle.etcs_schema.specs.Fault.{Fault as FormFault};
 ghost use Rattle.etcs_json.specs.Telegrams.{telegram};
 ghost use Rattle.etcs_json.specs.AnyMessage.{message};
 ghost use Rattle.etcs_run.specs.Checking.{check_output};
+ghost use Rattle.etcs_run.specs.FormLines.{encoded, telegram_line, message_line};
 ghost use Rattle.etcs_run.specs.Output.{Output, each_text_line, line_by_line};
 ghost use Rattle.etcs_run.specs.RadioStream.{stream_answers};
 ghost use Rattle.etcs_run.specs.TelegramLines.{telegram_decoded};
@@ -54,6 +56,8 @@ ghost use Rattle.etcs_edition.specs.Findings.{RuleHolds, AreFindings};
 ghost use Rattle.etcs_edition.specs.Report.{IsReport};
 ghost use Rattle.etcs_edition.specs.Refusals.{IsTelegramReason, IsMessageReason, IsDocumentReason};
 ghost use Rattle.etcs_edition.specs.Forms.{telegram_form, message_form};
+ghost use Rattle.etcs_edition.specs.Keys.{telegram as read_telegram_form, message as read_message_form};
+ghost use Rattle.etcs_edition.specs.EncodedLines.{telegram_form_fields, message_form_fields, IsTelegramDigits, IsMessageDigits};
 ghost use Rattle.etcs_edition.specs.Output.{IsChecked, IsTelegramLine, IsMessageLine, IsEachLine, IsStream};
 
 /// Bits are a telegram by the edition if and only if they are the one that `etcs_telegram::decode` reads
@@ -213,14 +217,37 @@ pub fn forms_agree()
     ensures messages { (m : Message) (form : Data) → (form ≡ message_form m) ↔ (form ≡ message.to m) }
 {}
 
+/// A value is read as a telegram or a radio message by the edition if and only if `etcs_json::Form::read_json` returns
+/// this record, unless memory runs out.
+pub fn readings_agree()
+    ensures telegrams { (d : Data) (t : Telegram)
+        → (read_telegram_form d ≡ Ok (telegram_form_fields t)) ↔ ((object telegram).of d ≡ Ok t) }
+    ensures messages { (d : Data) (m : Message)
+        → (read_message_form d ≡ Ok (message_form_fields m)) ↔ (message.of d ≡ Ok m) }
+{}
+
+/// A value has a fault by the edition, as the form of a telegram or a radio message, if and only if it is the one that
+/// `etcs_json::Form::read_json` returns, unless memory runs out.
+pub fn form_faults_agree()
+    ensures telegrams { (d : Data) (f : FormFault)
+        → (read_telegram_form d ≡ Err f) ↔ ((object telegram).of d ≡ Err f) }
+    ensures messages { (d : Data) (f : FormFault) → (read_message_form d ≡ Err f) ↔ (message.of d ≡ Err f) }
+{}
+
 /// A text and a status are by the edition what the program writes for an input if and only if they are what
-/// `etcs_run::execute` writes: for `check`, for `decode` and for `decode --radio`.
+/// `etcs_run::execute` writes: for `check`, and for `decode` and `encode`, each also with `--radio`.
 pub fn outputs_agree()
     ensures check { (input : List ℕ) (output : Output) → IsChecked input output ↔ (output ≡ check_output input) }
     ensures decode { (input : List ℕ) (output : Output)
         → IsEachLine IsTelegramLine input output ↔ (output ≡ each_text_line telegram_decoded input) }
     ensures decode_radio { (input : List ℕ) (output : Output)
         → IsStream IsMessageLine input output ↔ (output ≡ line_by_line (stream_answers 0 []) input) }
+    ensures encode { (input : List ℕ) (output : Output)
+        → IsEachLine IsTelegramDigits input output
+        ↔ (output ≡ each_text_line (encoded (object telegram) telegram_line) input) }
+    ensures encode_radio { (input : List ℕ) (output : Output)
+        → IsEachLine IsMessageDigits input output
+        ↔ (output ≡ each_text_line (encoded message message_line) input) }
 {}
 
 /// A fault is the first one of a telegram's bits, or of a radio message's bytes, by the edition if and only if
