@@ -87,7 +87,7 @@ def links_pages_of_rules(room, prefix):
     """SARIF of what is installed leads from each rule to its page."""
     status, said = attempt(room, f"'{prefix}/bin/balisekit' check '{TOP}/examples/links/line.csv' --sarif - 2>/dev/null")
     rules = json.loads(said)["runs"][0]["tool"]["driver"]["rules"]
-    named = {it["id"]: unquote(it["helpUri"]) for it in rules if it["id"] not in ("refused", "not-judged")}
+    named = {it["id"]: unquote(it["helpUri"]) for it in rules if it["id"] not in ("refused", "not-judged", "entry-at-fault")}
     assert status == 0 and len(named) > 40
     for name, address in named.items():
         assert address == f"file://{prefix}/share/doc/balisecheck/docs/rules/{name}.md"
@@ -320,13 +320,11 @@ def test_library_of_the_deb(root, tmp_path):
 
 def test_python_of_the_deb(root, tmp_path):
     """The example of the Python module runs with the path that its page names, and after the hook of the examples."""
-    docs = root / "usr/share/doc/balisecheck"
-    page = text_of(docs / "docs/commands.md")
-    path, code = re.search(r"after the \.deb `PYTHONPATH=(.*?)`", page)[1], re.search(r"(?ms)^```python\n(.*?)^```", page)[1]
+    docs, example = root / "usr/share/doc/balisecheck", "examples/python/check_line.py"
+    path = re.search(r"after the \.deb `PYTHONPATH=(.*?)`", text_of(docs / "docs/api.md"))[1]
     sh(tmp_path, f"cp -r '{docs}/examples' .")
-    (tmp_path / "script.py").write_text(code)
-    said = sh(tmp_path, f"PATH='{root}/usr/bin':$PATH PYTHONPATH='{root}{path}' python3 script.py")
-    assert said.split("\n")[:-1] == [it.strip() for it in re.findall(r"(?m)print\(.*\) *# (.*)$", code)]
+    said = sh(tmp_path, f"PATH='{root}/usr/bin':$PATH PYTHONPATH='{root}{path}' python3 {example}")
+    assert said == sh(TOP, f"PYTHONPATH=companion/src python3 {example}")
     hook = f"PATH='{root}/usr/bin':$PATH examples/hooks/check-tables examples/links/line.csv"
     assert attempt(tmp_path, hook) == (0, sh(tmp_path, f"'{root}/usr/bin/balisekit' check ./examples/links/line.csv"))
 
