@@ -110,10 +110,6 @@ class Headings(NamedTuple):
         names = compared(row)
         return {name: own for name, own in self.own.items() if compared([own])[0] in names}
 
-    def notes(self, row: Sequence[str]) -> List[str]:
-        """Notes on the headings of the user's own that the row has, and on those that it lacks."""
-        return [*self.used(row), *self.lacking(row)]
-
     def used(self, row: Sequence[str]) -> List[str]:
         """A note on the headings of the user's own that the row has."""
         names = [f'{name} is "{shown(own)}"' for name, own in self.of_row(row).items()]
