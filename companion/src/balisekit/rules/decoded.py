@@ -188,10 +188,12 @@ def decode(
 
 def _balise_group(number: int, group: Group, telegrams: Mapping[int, Telegram]) -> BaliseGroup:
     rows, (km, rising) = group.each_row, place_and_direction(group)
-    first = next((telegrams[row.number] for row in rows if row.number in telegrams), None)
+    balises, track = len(group.aspects[0].rows), rows[0].track or next((row.track for row in rows if row.track), "")
+    is_read = len(telegrams) == len(rows)
+    read = rows if is_read else [row for row in rows if row.number in telegrams]
+    unread = () if is_read else tuple(sorted({row.number for row in rows} - telegrams.keys()))
+    first = telegrams[read[0].number] if read else None
     identity, linked = (first.identity, bool(first.header.q_link)) if first else (None, None)
-    balises, track = len(group.aspects[0].rows), next((row.track for row in rows if row.track), "")
-    unread = tuple(sorted({row.number for row in rows} - telegrams.keys())) if len(telegrams) < len(rows) else ()
     said = [telegram.says for telegram in telegrams.values() if telegram.packets]
     says = (any([own[0] for own in said]), any([own[1] for own in said])) if said else (False, False)
     return BaliseGroup(number, group, balises, identity, linked, km, rising, track, unread, says=says)

@@ -101,8 +101,10 @@ class GroupData:
     """Each aspect all telegrams of which were read, in both directions: those that give a train anything."""
 
     def __post_init__(self) -> None:
-        if any([telegram.packets for telegram in self.telegrams.values()]):
-            self.passages = list(self._passages())
+        for telegram in self.telegrams.values():
+            if telegram.packets:
+                self.passages = list(self._passages())
+                return
 
     @property
     def place(self) -> Optional[int]:

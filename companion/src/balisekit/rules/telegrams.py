@@ -193,8 +193,8 @@ def telegrams_of(records: Iterable[Tuple[Row, Record]]) -> Iterator[Telegram]:
 def _decoded(waiting: Sequence[Tuple[Row, Header, str, List[str]]], known: _Known) -> Iterator[Telegram]:
     known.decode(text for _, _, _, texts in waiting for text in texts)
     for row, header, packets, texts in waiting:
-        forms = [known.forms[text] for text in texts]
-        yield Telegram(row, header, packets_of(forms, row, header.n_pig), hash(packets))
+        made = packets_of([known.forms[text] for text in texts], row, header.n_pig) if texts else ()
+        yield Telegram(row, header, made, hash(packets))
 
 
 def telegram_of(row: Row, form: Form) -> Telegram:
