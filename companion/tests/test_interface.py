@@ -209,6 +209,22 @@ def test_a_tolerance(program: Program, value: Any) -> None:
     assert balisekit.check(LINE, only="L", tolerance=value, program=program).status == 2
 
 
+@pytest.mark.parametrize("name", ["accepted", "columns", "only", "plan", "program", "rules"])
+def test_no_option_is_empty(program: Program, name: str) -> None:
+    """As an unset variable of a script is: the command refuses such a value."""
+    given: Any = {"program": program, name: ""}
+    with pytest.raises(balisekit.KitError):
+        balisekit.check(balisekit.read_table(LINE), **given)
+
+
+def test_a_table_keeps_its_file_of_settings(program: Program, tmp_path: Path) -> None:
+    """Its plan is compared as by the command, although only the reading of the table named the file."""
+    settings = tmp_path / "project.toml"
+    settings.write_text(f"[check]\nplan = '{PLAN / 'plan.csv'}'\n", "utf-8")
+    table = balisekit.read_table(PLAN / "level-border.csv", columns=settings)
+    assert len(balisekit.check(table, program=program).of("X")) == 5
+
+
 def test_links_need_kilometres(program: Program, tmp_path: Path) -> None:
     (tmp_path / "t.csv").write_text(f"group,telegram\nA,{ALONE}\n", "utf-8")
     with pytest.raises(balisekit.KitError, match="no row has a kilometre: links needs the column km"):

@@ -133,14 +133,14 @@ def check(
     table: Union[Path, Table],
     *,
     messages: Union[Path, Messages, None] = None,
-    only: str = "",
+    only: Optional[str] = None,
     accepted: Optional[Path] = None,
     plan: Optional[Path] = None,
     jumps: Optional[Path] = None,
     tolerance: Optional[Number] = None,
     line_speed: Optional[int] = None,
     release_speed: Optional[int] = None,
-    rules: Union[str, Sequence[str]] = (),
+    rules: Union[str, Sequence[str], None] = None,
     rules_from: Sequence[Union[Path, AddedRule]] = (),
     columns: Optional[Path] = None,
     by_position: bool = False,
@@ -150,27 +150,35 @@ def check(
     """What the program and all families of rules find of a table, or of the table in a file.
 
     The options are those of `balisekit check`, with the same names and meanings; `everything` is `--all`. Options that
-    are not given are taken from balisekit.toml, as for the command. `rules_from` also takes an `AddedRule` of a script.
+    are not given are taken from balisekit.toml, as for the command, or from the file of settings with which the table
+    was read. `rules_from` also takes an `AddedRule` of a script.
     """
     found = table if isinstance(table, Table) else read_table(table, None, by_position, columns)
-    options = argparse.Namespace(table=found.path, columns=None if columns is None else os.fspath(columns))
-    texts = [rules] if isinstance(rules, str) else list(rules)
+    own_settings = found.columns if columns is None else stated.name(os.fspath(columns))
+    options = argparse.Namespace(table=found.path, columns=own_settings)
     given = {"plan": plan, "jumps": jumps, "tolerance": tolerance, "line_speed": line_speed}
-    given.update(release_speed=release_speed, rules=",".join(texts) or None)
+    named = rules if rules is None or isinstance(rules, str) else ",".join(rules) or None
+    given.update(release_speed=release_speed, rules=named)
     vars(options).update({name: None if value is None else _read(name, value) for name, value in given.items()})
     options.rules_from = [each if isinstance(each, AddedRule) else _read("rules_from", each) for each in rules_from]
     options.rules_from = options.rules_from or None
-    options.only = _asked(commands.families_of, "only", only) if only else None
-    options.accepted = None if accepted is None else InputPath(os.fspath(accepted))
+    options.only = None if only is None else _asked(commands.families_of, "only", only)
+    options.accepted = None if accepted is None else InputPath(stated.name(os.fspath(accepted)))
     options.by_position, options.all = by_position, everything
     said = messages if messages is None or isinstance(messages, Messages) else read_messages(messages)
-    own = program if isinstance(program, Program) else Program.find(None if program is None else os.fspath(program))
-    return Result(commands.outcome(options, commands.stated(options), inputs=(own, found, said)))
+    return Result(commands.outcome(options, commands.stated(options), inputs=(_program(program), found, said)))
 
 
 def diff(old: Result, new: Result) -> Difference:
     """What differs between two releases of a table that were checked."""
     return compare(old._outcome.checked, new._outcome.checked)
+
+
+def _program(program: Union[Program, Path, None]) -> Program:
+    """The program that was given, or the one of a path, or the one of this balisekit."""
+    if program is None or isinstance(program, Program):
+        return program or Program.find()
+    return Program.find(stated.name(os.fspath(program)))
 
 
 def _read(name: str, value: object) -> Any:

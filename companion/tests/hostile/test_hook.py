@@ -143,6 +143,13 @@ def test_settings_and_the_files_that_they_name(tmp_path: Path, tmp_path_factory:
     assert called == [["check", "--", "./other/plan.csv"], *of_folder]
 
 
+def test_a_text_of_settings_names_no_plan(tmp_path: Path, tmp_path_factory: pytest.TempPathFactory) -> None:
+    """A line of a text looks like the key, and names a table."""
+    put(tmp_path, "a.csv", SOUND)
+    put(tmp_path, "balisekit.toml", '[report]\ntitle = """\nplan = "a.csv"\n"""\n')
+    assert calls(tmp_path_factory.mktemp("hook"), tmp_path, *arguments(), "a.csv") == [["check", "--", "./a.csv"]]
+
+
 def test_settings_without_a_table(tmp_path: Path) -> None:
     """Nothing was checked, so this is no answer."""
     put(tmp_path, "balisekit.toml", "[check]\nplan = 'plan.csv'\n")

@@ -358,14 +358,18 @@ def checksum(items: Sequence[Item], in_full: bool = True) -> str:
 
 
 def _values(item: Item, in_full: bool) -> List[str]:
-    """The values of a remark, the groups that it names, and the numbers of its sentence, such as other kilometres."""
+    """The values of a remark, the groups that it names, and the numbers of its sentence, such as other kilometres.
+
+    Of a rule of users it is the whole sentence: another rule of the same name may mean something else by its values.
+    """
     if not isinstance(item, Remark):
         return []
     named = [f"group {identity[0]} {identity[1]}" for identity in (each.identity for each in item.named) if identity]
     words = ROW_NUMBERS.sub("", item.sentence)
     numbers = ANY_NUMBER.findall(LINE_NUMBER.sub("", words) if in_full else words)
     values = {**{name: f"{value.normalize():f}" for name, value in item.values.items()}, **item.texts}
-    return [*(f"{name} {value}" for name, value in values.items()), *named, *numbers]
+    own = [words] if item.origin else []
+    return [*(f"{name} {value}" for name, value in values.items()), *named, *numbers, *own]
 
 
 def _rest(item: Item) -> List[str]:

@@ -103,6 +103,8 @@ class Table:
     """The headings that are in it because a file of settings states them."""
     meant: Tuple[str, ...] = ()
     """Of the first 1,000 headings that are passed over: the one for which each may have been mistyped, or nothing."""
+    columns: Optional[str] = None
+    """The file of settings that was named for it."""
 
     def __repr__(self) -> str:
         return f"<Table {self.path}: {len(self.rows)} telegrams of {len(self.groups)} groups>"

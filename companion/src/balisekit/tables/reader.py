@@ -78,7 +78,7 @@ def read(
     of_file, ordered = (*cells.notes, *own_headings.not_read(path, columns)), [BY_POSITION] if by_position else []
     notes = (*of_file, *of_heading, *not_there, *ordered, *grouped.notes)
     own = headings.of_row(cells.rows[place])
-    return Table(*about, passed_over, grouped.rows, grouped.groups, account, notes, tuple(own.values()), meant)
+    return Table(*about, passed_over, grouped.rows, grouped.groups, account, notes, tuple(own.values()), meant, columns)
 
 
 def _hints(passed_over: Sequence[str], meant: Sequence[str], place: int, named: bool) -> List[TableError]:
