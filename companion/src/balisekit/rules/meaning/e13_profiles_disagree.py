@@ -29,6 +29,7 @@ from __future__ import annotations
 from collections import Counter
 from dataclasses import dataclass
 from decimal import Decimal
+from functools import partial
 from typing import Dict, Iterator, List, Sequence, Tuple
 
 from balisekit.rules.decoded import Decoded
@@ -49,6 +50,7 @@ from balisekit.rules.meaning.sent import field_at
 from balisekit.rules.meaning.words import more_stretches, source
 from balisekit.rules.rule import Options, Remark, Result, Rule, Urgency
 from balisekit.rules.telegrams import GRADIENTS, SPEEDS, allowance
+from balisekit.rules.touching import longer
 
 
 ALONE = "the only group of its track"
@@ -89,15 +91,24 @@ def _difference(decoded: Decoded, options: Options, rear: Profiles, ahead: Profi
         allowed = decoded.tolerance(options.tolerance_of_places, rear.unit, ahead.unit)
     if longest <= allowed and rear.names(ahead, decoded):
         return
-    pieces = []
-    for piece in pieces_of(rear.naming(ahead, decoded), ahead.aspects, low, high):
-        parts = (allowance(each.packet, len(each.stretches)) for each in (piece.rear, piece.ahead))
-        tolerance = decoded.tolerance(options.tolerance_of_places, *parts)
-        place = piece.low * rear.way
-        if piece.high - piece.low > tolerance and not leaves(options, decoded, piece.rear.passage, place):
-            pieces.append(piece)
+    stays = [
+        piece
+        for piece in pieces_of(rear.naming(ahead, decoded), ahead.aspects, low, high)
+        if not leaves(options, decoded, piece.rear.passage, piece.low * rear.way)
+    ]
+    pieces = [piece for some in longer(stays, _ends, partial(_allowed, decoded, options)) for piece in some]
     if pieces:
         yield Difference(rear, ahead, sorted(pieces, key=lambda each: each.low - each.high))
+
+
+def _ends(piece: Piece) -> Tuple[int, int]:
+    return piece.low, piece.high
+
+
+def _allowed(decoded: Decoded, options: Options, piece: Piece) -> int:
+    """By how much the places of a piece may differ."""
+    parts = (allowance(each.packet, len(each.stretches)) for each in (piece.rear, piece.ahead))
+    return decoded.tolerance(options.tolerance_of_places, *parts)
 
 
 def _remarks(decoded: Decoded, differences: Sequence[Difference]) -> Iterator[Remark]:
