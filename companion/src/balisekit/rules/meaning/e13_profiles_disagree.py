@@ -29,7 +29,6 @@ from __future__ import annotations
 from collections import Counter
 from dataclasses import dataclass
 from decimal import Decimal
-from functools import partial
 from typing import Dict, Iterator, List, Sequence, Tuple
 
 from balisekit.rules.decoded import Decoded
@@ -41,6 +40,7 @@ from balisekit.rules.meaning.profiles import (
     Profiles,
     cause_of,
     lanes_of,
+    long_pieces,
     longest_difference,
     pairs,
     pieces_of,
@@ -49,8 +49,7 @@ from balisekit.rules.meaning.profiles import (
 from balisekit.rules.meaning.sent import field_at
 from balisekit.rules.meaning.words import more_stretches, source
 from balisekit.rules.rule import Options, Remark, Result, Rule, Urgency
-from balisekit.rules.telegrams import GRADIENTS, SPEEDS, allowance
-from balisekit.rules.touching import longer
+from balisekit.rules.telegrams import GRADIENTS, SPEEDS
 
 
 ALONE = "the only group of its track"
@@ -96,19 +95,9 @@ def _difference(decoded: Decoded, options: Options, rear: Profiles, ahead: Profi
         for piece in pieces_of(rear.naming(ahead, decoded), ahead.aspects, low, high)
         if not leaves(options, decoded, piece.rear.passage, piece.low * rear.way)
     ]
-    pieces = [piece for some in longer(stays, _ends, partial(_allowed, decoded, options)) for piece in some]
+    pieces = long_pieces(decoded, options, stays)
     if pieces:
         yield Difference(rear, ahead, sorted(pieces, key=lambda each: each.low - each.high))
-
-
-def _ends(piece: Piece) -> Tuple[int, int]:
-    return piece.low, piece.high
-
-
-def _allowed(decoded: Decoded, options: Options, piece: Piece) -> int:
-    """By how much the places of a piece may differ."""
-    parts = (allowance(each.packet, len(each.stretches)) for each in (piece.rear, piece.ahead))
-    return decoded.tolerance(options.tolerance_of_places, *parts)
 
 
 def _remarks(decoded: Decoded, differences: Sequence[Difference]) -> Iterator[Remark]:
