@@ -32,3 +32,10 @@ def test_profiles_beside_short_rows_of_the_plan(
     plan.write_text("\n".join(["kind,km,km_to,way,value", *rows, ""]))
     status, out, _ = run("check", LEVEL_BORDER, "--only", "X", "--plan", plan)
     assert status == 1 and any(f": {rule}: " in line for line in out)
+
+
+def test_profiles_of_two_aspects(run: Run) -> None:
+    """3000 m with the other sign, in elements of 150 m with Q_SCALE 10 m."""
+    status, out, _ = run("check", DATA / "E10.csv", "--only", "E")
+    (line,) = [line for line in out if ": E10: " in line]
+    assert status == 1 and line.endswith("; they differ on 19 other stretches too")
