@@ -4,6 +4,7 @@ from __future__ import annotations
 from typing import Dict, Iterator, List, NamedTuple, Optional, Sequence, Tuple
 
 from balisekit.rules.meaning.profiles import Aspect, Profiles
+from balisekit.rules.touching import touching
 
 UP, DOWN = 1, -3
 """In per mille: above which sum both ways go up, and up to which gradient a way goes down."""
@@ -87,14 +88,11 @@ def joined(stretches: Sequence[Both]) -> Iterator[Tuple[Both, int, Sequence[Both
 
     Those that say the same are one there too.
     """
-    some: List[Both] = []
-    for each in stretches:
-        if some and some[-1].high != each.low:
-            yield some[0], some[-1].high, some
-            some = []
-        if some and some[-1].values == each.values:
-            some[-1] = some[-1]._replace(high=each.high)
-        else:
-            some.append(each)
-    if some:
+    for touched in touching(stretches, lambda each: (each.low, each.high)):
+        some: List[Both] = []
+        for each in touched:
+            if some and some[-1].values == each.values:
+                some[-1] = some[-1]._replace(high=each.high)
+            else:
+                some.append(each)
         yield some[0], some[-1].high, some

@@ -40,6 +40,7 @@ from balisekit.rules.meaning.words import between, more_stretches
 from balisekit.rules.passages import Passage
 from balisekit.rules.rule import Options, Remark, Result, Rule, Urgency
 from balisekit.rules.telegrams import GRADIENTS, LINKING, SPEEDS, Packet
+from balisekit.rules.touching import longer
 from balisekit.tables.names import listed, quoted, rows_words
 
 APART = {SPEEDS: 0, GRADIENTS: 5}
@@ -105,9 +106,9 @@ def _compared(
             continue  # of a fixed balise
         differing = list(contrary(packets[0].stretches, packets[1].stretches, reach, APART[packets[0].number]))
         least = tolerance(options, *((each, len(each.stretches)) for each in packets)) if differing else 0
-        for begin, end, *values in differing:
+        for begin, end, *values in chain(*longer(differing, lambda each: each[:2], lambda _: least)):
             place = one.place(begin + least)
-            if end - begin > least and (place is None or not leaves(options, line.decoded, one, place)):
+            if place is None or not leaves(options, line.decoded, one, place):
                 found.append(Contrary(packets, begin, end, (values[0], values[1])))
     return found
 

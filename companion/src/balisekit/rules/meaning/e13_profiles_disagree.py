@@ -40,6 +40,7 @@ from balisekit.rules.meaning.profiles import (
     Profiles,
     cause_of,
     lanes_of,
+    long_pieces,
     longest_difference,
     pairs,
     pieces_of,
@@ -48,7 +49,7 @@ from balisekit.rules.meaning.profiles import (
 from balisekit.rules.meaning.sent import field_at
 from balisekit.rules.meaning.words import more_stretches, source
 from balisekit.rules.rule import Options, Remark, Result, Rule, Urgency
-from balisekit.rules.telegrams import GRADIENTS, SPEEDS, allowance
+from balisekit.rules.telegrams import GRADIENTS, SPEEDS
 
 
 ALONE = "the only group of its track"
@@ -89,13 +90,12 @@ def _difference(decoded: Decoded, options: Options, rear: Profiles, ahead: Profi
         allowed = decoded.tolerance(options.tolerance_of_places, rear.unit, ahead.unit)
     if longest <= allowed and rear.names(ahead, decoded):
         return
-    pieces = []
-    for piece in pieces_of(rear.naming(ahead, decoded), ahead.aspects, low, high):
-        parts = (allowance(each.packet, len(each.stretches)) for each in (piece.rear, piece.ahead))
-        tolerance = decoded.tolerance(options.tolerance_of_places, *parts)
-        place = piece.low * rear.way
-        if piece.high - piece.low > tolerance and not leaves(options, decoded, piece.rear.passage, place):
-            pieces.append(piece)
+    stays = [
+        piece
+        for piece in pieces_of(rear.naming(ahead, decoded), ahead.aspects, low, high)
+        if not leaves(options, decoded, piece.rear.passage, piece.low * rear.way)
+    ]
+    pieces = long_pieces(decoded, options, stays)
     if pieces:
         yield Difference(rear, ahead, sorted(pieces, key=lambda each: each.low - each.high))
 

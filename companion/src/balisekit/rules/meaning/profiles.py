@@ -4,13 +4,15 @@ Places count in the direction of passage: those of trains towards lower kilometr
 """
 from __future__ import annotations
 
-from typing import Dict, Iterator, List, Mapping, NamedTuple, Optional, Sequence, Tuple
+from typing import Dict, Iterable, Iterator, List, Mapping, NamedTuple, Optional, Sequence, Tuple
 
 from balisekit.etcs.geometry import ELEMENT_KEYS
 from balisekit.rules.decoded import Decoded, once
 from balisekit.rules.facts import sender
 from balisekit.rules.passages import GroupData, Passage
-from balisekit.rules.telegrams import GRADIENTS, LINKING, SPEEDS, Packet
+from balisekit.rules.rule import Options
+from balisekit.rules.telegrams import GRADIENTS, LINKING, SPEEDS, Packet, allowance
+from balisekit.rules.touching import longer
 
 APART = 5
 """By how many per mille gradients of two groups may differ."""
@@ -235,6 +237,16 @@ def pieces_of(rear: Sequence[Aspect], ahead: Sequence[Aspect], low: int, high: i
         open_piece = piece
     if open_piece:
         yield open_piece
+
+
+def long_pieces(decoded: Decoded, options: Options, pieces: Iterable[Piece]) -> List[Piece]:
+    """Those that are longer than `--tolerance` and rounding, together with those that touch them."""
+
+    def allowed(piece: Piece) -> int:
+        parts = (allowance(each.packet, len(each.stretches)) for each in (piece.rear, piece.ahead))
+        return decoded.tolerance(options.tolerance_of_places, *parts)
+
+    return [piece for some in longer(pieces, lambda each: (each.low, each.high), allowed) for piece in some]
 
 
 def _piece(

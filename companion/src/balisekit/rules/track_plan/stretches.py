@@ -18,6 +18,7 @@ from balisekit.rules.track_plan.placed import (
 )
 from balisekit.rules.rule import Options
 from balisekit.rules.telegrams import GRADIENTS, SPEEDS, Stretch, allowance
+from balisekit.rules.touching import longer
 
 KINDS = {SPEEDS: "speed", GRADIENTS: "gradient"}
 """The kinds of rows of the plan, by NID_PACKET of the profiles that are compared with them."""
@@ -35,6 +36,8 @@ class Difference(NamedTuple):
     end: int
     said: int
     part: PlanStretch
+    allowed: int
+    """By how much its places may differ."""
 
     def fact(self, placed: PlacedPlan) -> str:
         """The stretch with both values, and who says one of them."""
@@ -57,22 +60,47 @@ def compare(placed: PlacedPlan, number: int, options: Options) -> Compared:
     compared = Compared()
     known: Dict[Tuple[int, int, int], List[Difference]] = {}
     for saying in placed.sayings(number):
-        for place, element in enumerate(saying.packet.stretches):
-            tolerance = placed.decoded.tolerance(options.tolerance_of_places, allowance(saying.packet, place + 2))
-            ends, why = _known(placed, saying, span(saying, element))
-            if ends is not None:
-                parts = list(placed.parts_within(KINDS[number], saying.passage, min(ends), max(ends)))
-                for part, low, high in parts:
-                    if part.value != element.value and high - low > tolerance:
-                        key = part.row.number, element.value, saying.passage.way or 0
-                        places = (low, high) if ends[0] < ends[1] else (high, low)
-                        known.setdefault(key, []).append(Difference(saying, *places, element.value, part))
-                covered = sum(high - low for _, low, high in parts)
-                if not parts or abs(ends[1] - ends[0]) - covered > tolerance:
-                    why = SAYS_NOTHING
-            compared.counts[why] += 1
-    compared.differences = [sorted(found, key=lambda each: -abs(each.end - each.begin)) for found in known.values()]
+        for some in longer(_differing(placed, saying, options, compared.counts), _along, _allowed):
+            longest = max(some, key=_length)
+            for each in some:
+                named = each if _length(each) > each.allowed else longest
+                key = named.part.row.number, named.said, saying.passage.way or 0
+                known.setdefault(key, []).append(each)
+    compared.differences = [sorted(found, key=lambda each: -_length(each)) for found in known.values()]
     return compared
+
+
+def _differing(placed: PlacedPlan, saying: Saying, options: Options, counts: Counts) -> List[Difference]:
+    """Where a profile differs from the plan, in the direction of passage, however short that is."""
+    found: List[Difference] = []
+    kind = KINDS[saying.packet.number]
+    for place, element in enumerate(saying.packet.stretches):
+        tolerance = placed.decoded.tolerance(options.tolerance_of_places, allowance(saying.packet, place + 2))
+        ends, why = _known(placed, saying, span(saying, element))
+        if ends is not None:
+            parts = list(placed.parts_within(kind, saying.passage, min(ends), max(ends)))
+            for part, low, high in parts if ends[0] < ends[1] else reversed(parts):
+                if part.value != element.value:
+                    places = (low, high) if ends[0] < ends[1] else (high, low)
+                    found.append(Difference(saying, *places, element.value, part, tolerance))
+            covered = sum(high - low for _, low, high in parts)
+            if not parts or abs(ends[1] - ends[0]) - covered > tolerance:
+                why = SAYS_NOTHING
+        counts[why] += 1
+    return found
+
+
+def _along(difference: Difference) -> Span:
+    way = difference.saying.passage.way or 0
+    return difference.begin * way, difference.end * way
+
+
+def _allowed(difference: Difference) -> int:
+    return difference.allowed
+
+
+def _length(difference: Difference) -> int:
+    return abs(difference.end - difference.begin)
 
 
 def span(saying: Saying, element: Stretch) -> Tuple[Optional[Span], str]:

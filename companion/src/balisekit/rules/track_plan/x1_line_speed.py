@@ -46,7 +46,7 @@ def find(line: Line, options: Options) -> Result:
 
 
 def _remark(placed: PlacedPlan, differences: Sequence[Difference]) -> Remark:
-    saying, begin, end, said, part = differences[0]
+    saying, begin, end, said, part, _ = differences[0]
     passage = saying.passage
     sentence = (
         f"V_STATIC is {said * STEP} km/h from {placed.km(passage, begin)} to {placed.km(passage, end)}, and the line "

@@ -45,7 +45,7 @@ def find(line: Line, options: Options) -> Result:
 
 
 def _remark(placed: PlacedPlan, differences: Sequence[Difference]) -> Remark:
-    saying, begin, end, said, part = differences[0]
+    saying, begin, end, said, part, _ = differences[0]
     passage = saying.passage
     sign = ": the sign is the other one" if said == -part.value else ""
     sentence = (
