@@ -11,7 +11,7 @@ from typing import Callable, Dict, Iterator, List, Tuple
 import pytest
 from conftest import Run
 from limits import is_within
-from telegrams import ALONE, MESSAGE, OTHER
+from telegrams import ALONE, FIRST, MESSAGE, OTHER, SECOND
 
 from balisekit.errors import KitError
 from balisekit.tables import grouping, messages, reader
@@ -177,6 +177,34 @@ def test_order_of_positions() -> None:
     group = Group("A", (Aspect("x", tuple(rows)),))
     ordered = grouping.by_position(group, {2: 2, 3: 0, 4: 1})
     assert [row.number for row in ordered.rows()] == [3, 4, 2] and ordered.places == {3: 0, 4: 1, 2: 2}
+
+
+CONTRADICTING = {"km": ("1.1", "1.2", "1.3"), "name": ("P", "Q", "R")}
+"""A column, and its cells for the first balise, for the second one, and for the second one in another aspect."""
+
+
+@pytest.mark.parametrize("command", ["check", "plan", "show"])
+@pytest.mark.parametrize("column", CONTRADICTING)
+def test_by_position_a_balise_has_one_name_and_kilometre(run: Run, table: Write, column: str, command: str) -> None:
+    """In the order of N_PIG, aspects that contradict each other are refused, as they are in the order of the rows."""
+    first, second, other = CONTRADICTING[column]
+    rows = [f"A,x,{first},{FIRST}", f"A,x,{second},{SECOND}", f"A,y,{{}},{SECOND}", f"A,y,{first},{FIRST}"]
+    heading = f"group,aspect,{column},telegram"
+    same = table(heading, *rows).read_text("utf-8").format(second)
+    assert run(command, table(content=same.encode()), "--by-position")[0] < 2
+    path = table(content=same.replace(f"A,y,{second}", f"A,y,{other}").encode())
+    said = f"row 4, column {column}: {other}, and row 3, the same balise by N_PIG, has {second}"
+    status, _, err = run(command, path, "--by-position")
+    assert (status, err) == (2, [f"balisekit: {path}: {said}"])
+
+
+def test_by_position_kilometres_rise_or_fall(run: Run, table: Write) -> None:
+    """Kilometres in another order than N_PIG are refused, as those in another order than the rows."""
+    texts = [f"{head}{ALONE[4:]}" for head in ("a105", "a115", "a125")]
+    rows = [f"A,{km},{text}" for km, text in zip(("1.1", "1.2", "1.3"), (texts[0], texts[2], texts[1]))]
+    path = table("group,km,telegram", *rows)
+    status, _, err = run("check", path, "--by-position")
+    assert (status, err) == (2, [f"balisekit: {path}: row 3, column km: the kilometres of the group rise and fall"])
 
 
 @pytest.mark.uncovered

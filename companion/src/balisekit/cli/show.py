@@ -22,7 +22,7 @@ from balisekit.present.telegram_text import LEGEND, WIDTH, text
 from balisekit.rules.checking import greatest_refused, until_too_many
 from balisekit.rules.line import Records, with_directions
 from balisekit.tables import messages as messages_file, standard_input
-from balisekit.tables.grouping import by_position
+from balisekit.tables.grouping import by_position, look_at_positions
 from balisekit.tables.model import Group, Messages, Table
 from balisekit.tables.names import describe_balise, describe_message
 from balisekit.tables.reader import BY_POSITION
@@ -149,7 +149,9 @@ class _Shown:
         numbers = {row.number for row in group.rows()} if self.options.by_position else set()
         if not numbers or not numbers <= forms.keys():
             return group
-        return by_position(group, {number: forms[number]["n_pig"] for number in numbers})
+        ordered = by_position(group, {number: forms[number]["n_pig"] for number in numbers})
+        look_at_positions(self.options.table, [ordered])
+        return ordered
 
     def _messages(self, program: Program, messages: Optional[Messages], groups: Identities) -> Iterator[List[str]]:
         read = messages.messages if messages else ()

@@ -19,7 +19,7 @@ from balisekit.rules.findings_on_correct_data import row_of
 from balisekit.rules.statements import statement
 from balisekit.rules.statements.scene import Aspects, Balise, BaliseName, Scene, Statement
 from balisekit.tables.account import Account
-from balisekit.tables.grouping import by_position
+from balisekit.tables.grouping import by_position, look_at_positions
 from balisekit.tables.model import Aspect, Group, Message, Messages, Row, Table
 from balisekit.tables.settings import Settings
 
@@ -274,6 +274,7 @@ def check(
     left_out, kept = _sort_out(table.groups, accepted, {one.row.number for one in refused})
     if by_position:
         kept = _by_position(kept, accepted)
+        look_at_positions(table.path, kept)
     read, refused_messages = _try_messages(program, radio, everything)
     readable = Checked(program, table, messages, accepted, kept, read, refused, left_out, refused_messages)
     return report_on(readable) if kept or read or readable.whole else readable

@@ -26,6 +26,8 @@ VARIABLE = re.compile("[A-Z]+(_[A-Z0-9]+)+|user bits|other data")
 SEPARATORS = re.compile("[,;\t]")
 THOUSANDS = re.compile("([-+\u2212]?[1-9][0-9]{0,2})[.,]([0-9]{3})(?![0-9.,])")
 """A number whose comma or point may separate thousands or decimals. A kilometre always has decimals."""
+CHAINAGE = re.compile("[-+\u2212]?[0-9][0-9.,]*\\+[0-9]{3}")
+"""A kilometre as a chainage writes it, which is no number in another column."""
 Cells = Mapping[str, str]
 """The cells of a row by the names of the columns."""
 
@@ -188,6 +190,8 @@ def _fault(column: str, cell: str) -> str:
         return f"{text.strip()} is an error of the spreadsheet: its formula failed"
     if column in ONE_OF[1] and THOUSANDS.match(text.strip()):
         return _two_numbers(text.strip())
+    if column in ONE_OF[1] and CHAINAGE.match(text.strip()):
+        return f"{text.strip()} is a chainage, which only the column km has: write a number"
     return "no variable" if column == "variable" and not text.strip() else ""
 
 

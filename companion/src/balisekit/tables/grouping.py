@@ -7,7 +7,7 @@ from itertools import groupby, islice
 from operator import attrgetter
 from typing import Any, Dict, Iterable, List, Mapping, NamedTuple, Optional, Sequence, Tuple
 
-from balisekit.errors import TableError, TableErrors
+from balisekit.errors import TableError, TableErrors, faults_of
 from balisekit.tables.model import Aspect, Group, Row
 from balisekit.tables.names import NAMED, listed
 
@@ -58,6 +58,19 @@ def by_position(group: Group, positions: Mapping[int, int]) -> Group:
         for aspect in group.aspects
     )
     return Group(group.name, tuple(aspects))
+
+
+def look_at_positions(path: str, groups: Iterable[Group]) -> None:
+    """Raises TableErrors if balises in the order of N_PIG contradict the names or kilometres of this table."""
+    faults = []
+    for group in groups:
+        try:
+            _look_at_balises(group.aspects, "N_PIG")
+        except TableError as fault:
+            faults.append(fault)
+    if faults:
+        with faults_of(path):
+            raise TableErrors(faults)
 
 
 def _has_one_name(block: Sequence[Row]) -> bool:
@@ -186,13 +199,22 @@ def _aspects(name: str, block: List[Row], by_position: bool) -> Tuple[Tuple[Aspe
         notes += _numbered_otherwise(name, aspects)
         _look_at_places(aspects)
     for column in ("nominal", "track"):
-        _look_at_values(block, column, of_group=True)
+        _look_at_values(block, column, " of the group says")
     if not by_position:
-        for column in ("name", "km") if len(aspects) > 1 else ():
-            for rows in zip(*(aspect.rows for aspect in aspects)):
-                _look_at_values(rows, column)
-        _look_at_kilometres(aspects[0].rows)
+        why = "the order of the rows" if block[0].balise is None else "the column balise"
+        _look_at_balises(aspects, why)
     return tuple(aspects), list(dict.fromkeys(notes))
+
+
+def _look_at_balises(aspects: Sequence[Aspect], why: str) -> None:
+    """Raises TableError if a balise has several names or kilometres, or those of the group rise and fall.
+
+    `why` says what tells which rows are of one balise.
+    """
+    for column in ("name", "km") if len(aspects) > 1 else ():
+        for rows in zip(*(aspect.rows for aspect in aspects)):
+            _look_at_values(rows, column, f", the same balise by {why}, has")
+    _look_at_kilometres(aspects[0].rows)
 
 
 def _members(block: List[Row]) -> Dict[str, List[Row]]:
@@ -336,7 +358,7 @@ def _look_at_places(aspects: List[Aspect]) -> None:
                 raise TableError(why, row.number)
 
 
-def _look_at_values(rows: Sequence[Row], column: str, of_group: bool = False) -> None:
+def _look_at_values(rows: Sequence[Row], column: str, says: str) -> None:
     """Raises TableError if rows of a balise, or of a group, have different values in this column."""
     values = [row[COLUMN[column]] for row in rows]
     if len(set(values)) == 1:
@@ -345,8 +367,6 @@ def _look_at_values(rows: Sequence[Row], column: str, of_group: bool = False) ->
     for row, value in known:
         first, other = known[0]
         if value != other:
-            why = "the order of the rows" if row.balise is None else "the column balise"
-            says = " of the group says" if of_group else f", the same balise by {why}, has"
             raise TableError(f"{value}, and row {first.number}{says} {other}", row.number, column)
 
 
