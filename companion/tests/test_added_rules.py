@@ -62,6 +62,11 @@ def rule(folder: Path, name: str = "U1", answer: str = ANSWER, **words: str) -> 
     return path
 
 
+def page_of(name: str) -> str:
+    """The docstring of a rule."""
+    return PAGE.replace("{name}", name).replace("{alarm}", "Never: ACME says so.")
+
+
 @pytest.fixture
 def path(table: Write) -> Path:
     """A table with two groups that send counter 255."""
@@ -357,3 +362,41 @@ def test_the_example(run: Run) -> None:
     assert any(said.startswith("row 22 ") and ": D_OL is 200 m, and less than 250 m" in said for said in out)
     code = file.read_text("utf-8").split('"""\n', 1)[1].strip().splitlines()
     assert len([text for text in code if text]) <= 20
+
+
+CATCHES = '''
+def find(line):
+    for telegram in line.telegrams:
+        try:
+            yield telegram.remark(counter=1.5)
+        except (TypeError, ValueError):
+            yield "strange"
+
+
+RULE = AddedRule("U1", __doc__, "telegrams", "M_MCOUNT is {counter}", find)
+'''
+CHANGES = '''
+def find(line):
+    for telegram in line.telegrams:
+        telegram.form["m_mcount"] = 0
+        yield None
+
+
+RULE = AddedRule("A1", __doc__, "telegrams", "M_MCOUNT is {counter}", find)
+'''
+
+
+def test_no_rule_hides_its_own_error(run: Run, path: Path, tmp_path: Path) -> None:
+    """A value that no sentence can have ends the answer, although the rule catches the error."""
+    file = tmp_path / "u.py"
+    file.write_text(page_of("U1") + "from balisekit import AddedRule\n" + CATCHES, "utf-8")
+    status, out, err = run("check", path, "--only", "F,U", "--rules-from", file)
+    assert (status, out) == (3, []) and "counter is a float: give an int, a Decimal or a str" in err[0]
+
+
+def test_no_rule_changes_what_the_next_one_sees(run: Run, path: Path, tmp_path: Path) -> None:
+    """Each rule is given objects of its own."""
+    first = tmp_path / "a.py"
+    first.write_text(page_of("A1") + "from balisekit import AddedRule\n" + CHANGES, "utf-8")
+    words = ["check", path, "--only", "F,U", "--rules-from", first, "--rules-from", rule(tmp_path)]
+    assert run(*words)[1][-1].endswith("added rules: 2 found (U1 2)")

@@ -70,6 +70,8 @@ ONE_TELEGRAM = ("F1", "F4", "F6", "F9", "L1", "L2", "L3", "L5", "L6", "L9")
 """The findings and remarks about one telegram only."""
 OF_ROWS = ("E", "X", ADDED)
 """The families whose remarks at a row are about its telegram only."""
+APART = 16
+"""F16 rests on which aspect has which telegram."""
 ALL_ASPECTS = ("F3", "F14", "F15", "F16")
 """The findings that compare aspects or groups. The others are about all telegrams of an aspect."""
 OWN_ON_CORRECT_DATA = (name for name, rule in RULES.items() if rule.has_correct_data)
@@ -381,7 +383,9 @@ def _rest(item: Item) -> List[str]:
         names = OF_ASPECT.findall(str(item.statement))
         if not names or f"F{item.finding.rule}" not in ALL_ASPECTS:
             return names
-        return [*names, *([item.row.telegram.lower()] if item.row else []), *item.statement.values.values()]
+        rows = item.group.rows() if item.group and item.finding.rule == APART else ()
+        own = [*([item.row.telegram.lower()] if item.row else []), *(f"{row.aspect} {row.telegram}" for row in rows)]
+        return [*names, *map(str.lower, own), *item.statement.values.values()]
     own = item.location.row.aspect if item.location.row else ""
     places = map(place, dict.fromkeys((*item.also, *item.compared)))
     aspects = [name for name in item.aspects if name != own]

@@ -24,7 +24,6 @@ from typing import (
     Union,
     cast,
 )
-from weakref import WeakKeyDictionary
 
 from balisekit.etcs.raw_packets import fields_of
 from balisekit.etcs.variables import UNITS
@@ -212,14 +211,3 @@ def _with_fields(packet: Form) -> Form:
     """A packet. One that is kept as bits has the fields of its layout beside them, if that is known."""
     fields = fields_of(cast(Any, packet)) if "body" in packet else None
     return {**deepcopy(cast(Form, fields)), **packet} if fields else packet
-
-
-_views: WeakKeyDictionary[Line, LineView] = WeakKeyDictionary()
-"""The view of each line, which all added rules share."""
-
-
-def view_of(line: Line) -> LineView:
-    """The view of a line."""
-    if line not in _views:
-        _views[line] = LineView(line)
-    return _views[line]

@@ -18,7 +18,7 @@ from typing import Dict, Iterable, Iterator, List, Tuple, Union
 
 from balisekit.errors import NoAnswer, TableError, faults_of
 from balisekit.io import inputs
-from balisekit.rules.added import AddedRemark, AddedRule, view_of
+from balisekit.rules.added import AddedRemark, AddedRule, LineView
 from balisekit.rules.discovery import ADDED_NAME
 from balisekit.rules.line import Line
 from balisekit.rules.rule import FALSE_ALARM, Options, Origin, Remark, Result, Rule, Urgency
@@ -147,7 +147,7 @@ def _find(added: AddedRule, template: Template, origin: Origin, line: Line, opti
     """What an added rule finds."""
     found: List[Remark] = []
     looked_at, skipped = 0, Counter[str]()
-    view = view_of(line)
+    view = LineView(line)  # (of its own, since a rule can change what it is given)
     with failing(str(origin), str(added), added.name):
         answers = iter(added.find(view))
         for answer in answers:
@@ -159,6 +159,7 @@ def _find(added: AddedRule, template: Template, origin: Origin, line: Line, opti
                 found += [] if answer is None else [_remark(added, template, origin, answer)]
             except (TypeError, ValueError) as error:
                 getattr(answers, "throw", _throw)(error)  # (so that it has the line of the rule)
+                raise  # (also if the rule catches it)
     return Result(found, looked_at, skipped)
 
 
