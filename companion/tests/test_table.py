@@ -298,8 +298,15 @@ BAD: Sequence[Any] = [
     (["group,aspect,telegram", f"#BEZUG!,,{ALONE}"], "row 2, column group: #BEZUG! is an error of the spreadsheet"),
     (["group,aspect,telegram", f"A,#N/A,{ALONE}"], "row 2, column aspect: #N/A is an error of the spreadsheet"),
     *(
-        (["group,track,telegram", f"A,{error},{ALONE}"], f"row 2, column track: {error} is an error of the spreadsheet")
-        for error in ("#N/D", "#¡REF!", "Err:502", "Fehler:502", "####", "#ÜBERLAUF!", "#GETTING_DATA", "Loading...")
+        (
+            ["group,track,telegram", f"A,{error},{ALONE}"],
+            f"row 2, column track: {error.strip()} is an error of the spreadsheet",
+        )
+        for error in (
+            *("#N/D", "#¡REF!", "####", "#ÜBERLAUF!", "#GETTING_DATA", "Loading..."),
+            *("#N/B", "#I/T", "#HIÁNYZIK", "#NENÍ_K_DISPOZICI", "#YOK", "#Н/Д", "#SPILL!", "#BLOCKED?"),
+            *("Err:502", "Fehler:502", "Fout:502", "Erro:502", "Err :502", "\tErr:502", "Err:\t502", "Ошибка:502"),
+        )
     ),
     ([H, f'"A\nB",{ALONE}'], "row 2, column group: the cell contains a line end"),
     ([H, f'A,"{ALONE}'], "row 2: a quote is not closed"),
@@ -434,6 +441,11 @@ def test_a_mistyped_heading_before_the_faults_that_it_makes(table: Write) -> Non
         'row 1: the column aspct is passed over: did you mean "aspect"?',
         'row 3, column name: row 2 has balise "A1" too: are they of two aspects?',
     ]
+
+
+@pytest.mark.parametrize("name", ["#3", "#Name", "#A1", "#A", "Track: 5021", "Gleis 502"])
+def test_a_name_that_is_no_error_of_a_spreadsheet(table: Write, name: str) -> None:
+    assert tables.read(str(table("group,track,telegram", f"A,{name},{ALONE}"))).rows[0].track == name
 
 
 def test_each_repeated_row_is_named(table: Write) -> None:

@@ -18,10 +18,10 @@ GREATEST_NAME = 1000
 BLANKS = " \t\u00a0\u2000-\u200b\u202f\u3000"
 QUOTES = "\"'\u2018\u2019\u201c\u201d\u201e\u00ab\u00bb"
 DIGITS, NO_DIGIT = re.compile("[0-9A-Fa-f]+"), re.compile("[^0-9A-Fa-f]+")
-ERROR = re.compile(
-    r"#[¡¿]?[^\W\d][\w/ ]*[!?]|#N/?[ADV]|##+|#GETTING_DATA|Loading\.\.\.|(?:Err|Error|Erreur|Errore|Fehler):5[0-9]{2}"
-)
-"""What a spreadsheet has in a cell whose formula failed, in one language or another."""
+ERROR = re.compile(r"#[¡¿]?[^\W\d][\w/ ]*[!?]|##+|Loading\.\.\.|[^\W\d_]+\s*:\s*5[0-9]{2}")
+"""What a spreadsheet has in a cell whose formula failed."""
+ERROR_IN_CAPITALS = re.compile(r"#[^\W\d_](?:[^\W\d_]|/)[\w/]*")
+"""The same in one language or another, if all its letters are capitals: #N/A, #YOK."""
 PAIRS = re.compile(r"[^:-]{2}(?:([:-])[^:-]{2})(?:\1[^:-]{2})*")
 LEAST_DIGITS = 40
 """How many characters a cell has at least that looks like a telegram. The shortest telegrams have 54."""
@@ -29,7 +29,7 @@ RUN = re.compile("[0-9A-Fa-f]{8}")
 """What is in each text that looks like a telegram, because at most one of ten characters is no digit."""
 SPREAD_RUN = re.compile("(?:[0-9A-Fa-f](?:[^0-9A-Za-z]|0[xX])*){8}")
 """The same before blanks, separators and 0x between the digits are dropped."""
-LARGE = re.compile(r"\s*[0-9](?:[.,][0-9]+)?[eE]\+(?:39|[4-9][0-9]|[1-9][0-9]{2})\s*")
+LARGE = re.compile(r"\s*[0-9]+(?:[.,][0-9]+)?[eE]\+0*(?:39|[4-9][0-9]|[1-9][0-9]{2})\s*")
 """A number of at least 40 digits, to which a spreadsheet has shortened a telegram."""
 LINE_END = re.compile("[\r\n\v\f\x1c-\x1e\x85\u2028\u2029]")
 PARTS = re.compile("[,;|\t\r\n\v\f\x1c-\x1e\x85\u2028\u2029]")
@@ -125,6 +125,11 @@ Place = Tuple[int, int]
 """The row of a cell, counted from 1, and its column, counted from 0."""
 Area = Tuple[int, int, int, int]
 """The first column, the first row, the last column and the last row of an area, counted from 1."""
+
+
+def is_error(text: str) -> bool:
+    """Whether a spreadsheet shows this for a formula that failed."""
+    return bool(ERROR.fullmatch(text) or ERROR_IN_CAPITALS.fullmatch(text) and text.isupper())
 
 
 def headings(row: List[str]) -> List[str]:

@@ -11,7 +11,7 @@ from balisekit.io.csv_writing import plain
 from balisekit.tables import csv as csv_file, own_headings, xlsx as xlsx_file
 from balisekit.tables.encoding import WORKBOOKS
 from balisekit.tables.beside import SWALLOWED, names_of
-from balisekit.tables.cells import ERROR, LINE_END, PARTS, Sheet, kind_and_text
+from balisekit.tables.cells import LINE_END, PARTS, Sheet, is_error, kind_and_text
 from balisekit.tables.headings import Headings, alike
 from balisekit.tables.names import NAMED, listed
 from balisekit.tables.reader import head_of
@@ -186,7 +186,7 @@ def _fault(column: str, cell: str) -> str:
         return "the cell contains a line end"
     if kind in OTHER_KINDS:
         return f"a {kind}: the spreadsheet has changed it; make the column text"
-    if ERROR.fullmatch(text.strip()):
+    if is_error(text.strip()):
         return f"{text.strip()} is an error of the spreadsheet: its formula failed"
     if column in ONE_OF[1] and THOUSANDS.match(text.strip()):
         return _two_numbers(text.strip())

@@ -33,7 +33,7 @@ from balisekit.errors import TableError, TableErrors, faults_of
 from balisekit.io import inputs
 from balisekit.io.csv_writing import plain
 from balisekit.tables import csv as csv_file, decimal_commas, plan_values as values
-from balisekit.tables.cells import ERROR, GREATEST_NAME, Sheet
+from balisekit.tables.cells import GREATEST_NAME, Sheet, is_error
 from balisekit.tables.headings import Headings, alike, compared
 from balisekit.tables.names import clean, kilometre
 from balisekit.tables.plan_values import Terms, Value
@@ -249,7 +249,7 @@ def _cell(name: str, cell: str) -> str:
     text = plain(cell.strip())
     if "\n" in text or "\r" in text:
         raise TableError("the cell contains a line end", column=name)
-    if ERROR.fullmatch(text):
+    if is_error(text):
         raise TableError(f"{text} is an error of the spreadsheet: its formula failed", column=name)
     if len(text) > GREATEST_NAME:
         raise TableError(f"it has more than {GREATEST_NAME:,} characters", column=name)

@@ -12,13 +12,13 @@ from balisekit.tables import beside, csv as csv_file, decimal_commas, own_headin
 from balisekit.tables.cells import (
     COLUMNS,
     DIGITS,
-    ERROR,
     GREATEST_NAME,
     Sheet,
     digits,
     end_of_heading,
     fill,
     fill_heads,
+    is_error,
     kind_and_text,
 )
 from balisekit.tables.encoding import WORKBOOKS
@@ -36,7 +36,7 @@ ABSENT = -1
 NO_GROUP = "no group; fill merged cells"
 NUMBER = re.compile(r"[-+]?[0-9]+([.,][0-9]*)?")
 NAMES = "the column balise has names and no number: it is read as the column name, and the order of the rows counts"
-PLAIN = re.compile(r"(?! *(?:Err|Fehler|Loading))[^\0\r\n#]{0,1000}")
+PLAIN = re.compile(r"(?!\s*Loading)[^\0\r\n#:]{0,1000}")
 """A text without anything that needs to be looked for."""
 
 
@@ -223,7 +223,7 @@ class _Column(Dict[str, Any]):
     def _read(self, kind: str, text: str) -> object:
         if "\n" in text or "\r" in text:
             raise TableError("the cell contains a line end")
-        if ERROR.fullmatch(text.strip()):
+        if is_error(text.strip()):
             raise TableError(f"{text.strip()} is an error of the spreadsheet: its formula failed")
         if self.name != "telegram" and len(text) > GREATEST_NAME:
             raise TableError(f"it has more than {GREATEST_NAME:,} characters")
