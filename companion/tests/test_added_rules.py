@@ -364,7 +364,7 @@ def test_the_example(run: Run) -> None:
     assert len([text for text in code if text]) <= 20
 
 
-CATCHES = '''
+CATCHES = """
 def find(line):
     for telegram in line.telegrams:
         try:
@@ -374,8 +374,8 @@ def find(line):
 
 
 RULE = AddedRule("U1", __doc__, "telegrams", "M_MCOUNT is {counter}", find)
-'''
-CHANGES = '''
+"""
+CHANGES = """
 def find(line):
     for telegram in line.telegrams:
         telegram.form["m_mcount"] = 0
@@ -383,7 +383,7 @@ def find(line):
 
 
 RULE = AddedRule("A1", __doc__, "telegrams", "M_MCOUNT is {counter}", find)
-'''
+"""
 
 
 def test_no_rule_hides_its_own_error(run: Run, path: Path, tmp_path: Path) -> None:

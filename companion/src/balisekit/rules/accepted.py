@@ -384,8 +384,8 @@ def _rest(item: Item) -> List[str]:
         if not names or f"F{item.finding.rule}" not in ALL_ASPECTS:
             return names
         rows = item.group.rows() if item.group and item.finding.rule == APART else ()
-        own = [*([item.row.telegram.lower()] if item.row else []), *(f"{row.aspect} {row.telegram}" for row in rows)]
-        return [*names, *map(str.lower, own), *item.statement.values.values()]
+        sent = [*([item.row.telegram] if item.row else []), *(f"{row.aspect} {row.telegram}" for row in rows)]
+        return [*names, *map(str.lower, sent), *item.statement.values.values()]
     own = item.location.row.aspect if item.location.row else ""
     places = map(place, dict.fromkeys((*item.also, *item.compared)))
     aspects = [name for name in item.aspects if name != own]
