@@ -300,6 +300,31 @@ def test_findings_in_another_order(run: Run, table: Write, program: Program) -> 
     assert any(line.startswith("note: ") and "in the order of the old release" in line for line in out)
 
 
+NOTES = ("columns passed over: kilometer", "note: groups \"A\" and \"a\" differ only in case or blanks")
+
+
+def test_notes_on_the_tables_of_diff(run: Run, table: Write, tmp_path: Path) -> None:
+    """A kilometre that is passed over is not compared. The notes of both tables are in text, JSON and HTML."""
+    rows = [f"A,1.0,{ALONE}", f"a,2.0,{OTHER}"]
+    old, new = table("group,kilometer,telegram", *rows, name="old.csv"), table("group,km,telegram", *rows)
+    options = ("--json", tmp_path / "d.json", "--html", tmp_path / "d.html")
+    status, out, _ = run("diff", old, new, *options)
+    expected = [f"in old: {NOTES[0]}", f"in old: {NOTES[1]}", f"in new: {NOTES[1]}"]
+    assert status == 0 and [line for line in out if line.startswith("in ")] == expected
+    answer = json.loads((tmp_path / "d.json").read_text("utf-8"))
+    assert (answer["old"]["notes"], answer["new"]["notes"]) == (list(NOTES), [NOTES[1]])
+    assert f"<p>In old: <bdi>{NOTES[0]}</bdi></p>" in (tmp_path / "d.html").read_text("utf-8")
+
+
+@pytest.mark.parametrize("words", [("show",), ("show", "--group", "A"), ("draw", "--group", "A", "--svg", "g.svg")])
+def test_notes_on_the_table_of_show_and_draw(
+    run: Run, table: Write, tmp_path: Path, monkeypatch: pytest.MonkeyPatch, words: Tuple[str, ...]
+) -> None:
+    monkeypatch.chdir(tmp_path)
+    path = table("group,kilometer,telegram", f"A,1.0,{ALONE}", f"a,2.0,{OTHER}")
+    assert set(NOTES) <= set(run(words[0], path, *words[1:])[1])
+
+
 def test_show_by_position(run: Run, table: Write) -> None:
     """`show` orders balises as `check` does."""
     path = table("group,name,telegram", f"S,X,{SECOND}", f"S,Y,{FIRST}")

@@ -72,7 +72,7 @@ def run(options: argparse.Namespace) -> int:
         return draw_all.run(options, checked, of_line) if options.all else _track(options, checked, of_line)
     options.svg.write(picture_page(picture))
     head = [*opening_of(program, in_use), *(f"note: {note}" for note in notes)]
-    shared.say([*head, *overlooked_lines(table), f"written: {clean(str(options.svg))}"], options.svg)
+    shared.say([*head, *notes_on(table), *overlooked_lines(table), f"written: {clean(str(options.svg))}"], options.svg)
     return _status(lacks)
 
 

@@ -24,8 +24,7 @@ from balisekit.rules.line import Records, with_directions
 from balisekit.tables import messages as messages_file, standard_input
 from balisekit.tables.grouping import by_position, look_at_positions
 from balisekit.tables.model import Group, Messages, Table
-from balisekit.tables.names import describe_balise, describe_message
-from balisekit.tables.reader import BY_POSITION
+from balisekit.tables.names import describe_balise, describe_message, notes_on
 
 Answer = Union[Record, Refusal]
 
@@ -87,7 +86,7 @@ class _Shown:
         if options.table is not None:
             program, table, messages = shared.inputs(options)
             self.not_read = overlooked(table)
-            yield from ([line] for line in overlooked_lines(table))
+            yield from ([line] for line in (*notes_on(table), *overlooked_lines(table)))
             chosen = groups_named(table, options.group) if options.group else table
             yield opening_of(program, in_force(options, [table]))
             groups = Identities(chosen.groups, (yield from self._table(program, table, chosen)))
@@ -119,8 +118,6 @@ class _Shown:
 
     def _table(self, program: Program, whole: Table, table: Table) -> Generator[List[str], None, Dict[int, Form]]:
         """The telegrams of the table, or of some of its groups. The answer has the first one read of each group."""
-        if self.options.by_position:
-            yield [f"note: {BY_POSITION}"]
         self.total["telegrams"] = len(table.rows)
         decoded = self._tried("telegrams", program.decode([row.telegram for row in table.rows]))
         answers = {row.number: answer for answer, row in zip(decoded, table.rows)}

@@ -23,6 +23,7 @@ from balisekit.present.opening import (
 from balisekit.present.pages import pieces
 from balisekit.present.refusals import not_looked_at, overlooked, refused, refused_lines
 from balisekit.rules.checking import Checked
+from balisekit.tables.names import notes_on
 
 ABOUT = f"pairs and differences are found by balisekit; {NOT_PROVED}"
 
@@ -33,6 +34,8 @@ def lines(found: Difference) -> Iterator[str]:
         yield f"{word}: {head_line(side.checked.table)}"
     yield from opening(found.new.checked)
     yield ABOUT
+    for word, side in (("old", found.old), ("new", found.new)):
+        yield from (f"in {word}: {note}" for note in notes_on(side.checked.table))
     yield from (f"note: {note}" for note in found.notes)
     yield from not_compared(found)
     lists: Dict[str, Sequence[str]] = {
@@ -118,7 +121,8 @@ def as_json(found: Difference) -> Dict[str, Any]:
 
 def _side_json(checked: Checked, shown: Shown) -> Dict[str, Any]:
     verdict = checked.verdict.line if checked.verdict and checked.whole else None
-    return {"path": shown(checked.table.path), "sha256": checked.table.sha256, "verdict": verdict}
+    table = checked.table
+    return {"path": shown(table.path), "sha256": table.sha256, "verdict": verdict, "notes": notes_on(table)}
 
 
 def _renumbered_json(each: Renumbered) -> Dict[str, Any]:
@@ -147,6 +151,7 @@ def page(found: Difference, now: datetime) -> Iterator[str]:
         refused=refused,
         not_looked_at=not_looked_at,
         overlooked_lines=overlooked_lines,
+        notes_on=notes_on,
         finding_words=finding_words,
         verdict=verdict,
         shown=paths_from(checked),
