@@ -300,7 +300,7 @@ def test_findings_in_another_order(run: Run, table: Write, program: Program) -> 
     assert any(line.startswith("note: ") and "in the order of the old release" in line for line in out)
 
 
-NOTES = ("columns passed over: kilometer", "note: groups \"A\" and \"a\" differ only in case or blanks")
+NOTES = ("columns passed over: kilometer", 'note: groups "A" and "a" differ only in case or blanks')
 
 
 def test_notes_on_the_tables_of_diff(run: Run, table: Write, tmp_path: Path) -> None:
