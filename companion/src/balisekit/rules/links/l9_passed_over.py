@@ -6,7 +6,7 @@ names, and then each group that it names and the next one. The kilometres show w
 in the direction in which the group is passed, or in either one if that direction is not known. Packets 0, 145, 254 and
 255 and refused telegrams do not count as data. Other groups with Q_LINK 1 that are passed over are counted in a note.
 If several groups are between the same two neighbours, the line names up to three. Nothing is compared beside a
-neighbour that is not in the table or is on another track (SUBSET-026, 3.4.4).
+neighbour that is not in the table or is on another track. The rule rests on SUBSET-026, 3.4.4.
 
 Why it matters. To be looked at: the group says nothing to a train that uses these links. Such a train takes a group
 with Q_LINK 1 only if it is linked. So it loses the information of this group, and does not react to that.

@@ -8,7 +8,7 @@ last of these groups before the end, if another one is beyond it. Authorities wi
 ends at most 20 m from the next one. The second part of the rule, an end far from any group, is only for packets 12. It
 takes the place of a group to be that of its first balise, and looks only between the first and the last signal of the
 way. It says nothing if packets 5 name a group there that has no kilometre or is on another track. Places may differ by
-`--tolerance` (else 1 m) and rounding (SUBSET-026, 3.8 and 7.4.2).
+`--tolerance` (else 1 m) and rounding. The rule rests on SUBSET-026, 3.8 and 7.4.2.
 
 Why it matters. At worst the train gets wrong information, and might pass the signal at which it has to stop. Or it
 stops some metres in rear of the signal.

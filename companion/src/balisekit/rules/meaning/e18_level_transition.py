@@ -9,8 +9,8 @@ announcements of its place counts as right, or else the first one that a train p
 frequent place counts. A later order with the same levels is not reported, because it repeats the first one. An order is
 only required between the first and the last group of the track. The rule is silent if the order might be in a group
 whose direction or place is unknown, or which has a refused telegram. It is also silent if the packets 5 of the
-announcement lead to another track, where the order might be. A packet for both directions with a distance is E5
-(SUBSET-026, 5.10 and 7.4.2).
+announcement lead to another track, where the order might be. A packet for both directions with a distance is E5. The
+rule rests on SUBSET-026, 5.10 and 7.4.2.
 
 Why it matters. At worst the train gets wrong information. A driver acknowledges at one place, and the train changes its
 level at another. Or it goes on in a level that the track there does not support.
