@@ -2,12 +2,13 @@
 
 What it says. A distance by D_LINK differs from the distance by the kilometres, but not so much that L2 reports it. The
 distance counts from the sender, or from the linked group before. The two may differ by `--tolerance` (else 1 m) and
-rounding. Rounding is one unit of Q_SCALE and one unit of the last decimal of the kilometres, at most 1 m. L2 also
-allows Q_LOCACC, which describes how exactly a group is installed, not how exactly D_LINK is written. If all links of
-two groups or more over a stretch differ by one amount, a single remark asks whether the kilometres jump there. The
-kilometres might also follow another axis than the track. The rule assumes this if at least five links of the track
-differ, and if these are more than a fifth of its links. Links over a jump do not count. One note then counts these
-links, and no remark is made. The rule rests on SUBSET-026, 3.4.4 and 7.5.1.
+rounding. Rounding is one unit of Q_SCALE and one unit of the last decimal of the kilometres, at most 1 m. If several
+links are added up, half a unit of Q_SCALE is allowed for each further one. L2 also allows Q_LOCACC, which describes how
+exactly a group is installed, not how exactly D_LINK is written. If all links of two groups or more over a stretch
+differ by one amount, a single remark asks whether the kilometres jump there. The kilometres might also follow another
+axis than the track. The rule assumes this if at least five links of the track differ in this way, and if these are more
+than a fifth of its links. Links over a jump do not count. One note then counts these links, and no remark is made. The
+rule rests on SUBSET-026, 3.4.4 and 7.5.1.
 
 Why it matters. At worst the train has a wrong position: it believes itself some metres from where it is. All places
 that count from there move with it. A remark about a jump has the lowest urgency.

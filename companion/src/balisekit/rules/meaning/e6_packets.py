@@ -20,7 +20,7 @@ on purpose.
 Usual cause. Telegrams were put together from parts that both have the packet. Or a packet was copied from a message of
 the other kind.
 
-How to correct it. Remove the packet that is too many, or put packet 0 at the beginning.
+How to correct it. Remove the packet that is not needed, or put packet 0 at the beginning.
 
 How to accept it. Quote the rule of the project by which both packets are sent.
 
