@@ -6,7 +6,7 @@ without NID_C takes the NID_C of the link before it, and the first link that of 
 end of the track by more than Q_LOCACC and `--tolerance`, the table might be a section of a longer line. The rule then
 only counts the link, in one note for each end. It also only counts a link that might lead to a group of which no
 telegram could be read. If the table has the NID_BG under another NID_C, the line names that group. A link to NID_BG
-16,383 names no group, so it is not reported (SUBSET-026, 3.4.4 and 7.4.2).
+16,383 names no group, so it is not reported. The rule rests on SUBSET-026, 3.4.4 and 7.4.2.
 
 Why it matters. At worst the train brakes or is tripped at each passage. It waits for a group that does not come, and
 then applies the linking reaction (Q_LINKREACTION). If a group with another identity and Q_LINK 1 is at that place, the

@@ -5,7 +5,7 @@ Q_LOCACC, `--tolerance` and rounding. Both count in metres from the group that t
 group, or the last group of the packet whose distance differed. The words "in rear of it" mean that by the kilometres
 the train has already passed the linked group. If the direction of the sending group along the kilometres is not known,
 the first link that is compared shows it. If all links of two groups or more over one stretch differ by the same amount,
-a single remark asks whether the kilometres jump. See SUBSET-026, 3.4.4, 3.16.2.3 and 7.5.1.
+a single remark asks whether the kilometres jump. The rule rests on SUBSET-026, 3.4.4, 3.16.2.3 and 7.5.1.
 
 Why it matters. At worst the train takes a wrong position for its own. It expects the group at another place. If the
 group is inside the expectation window, the train corrects its position by a wrong distance. If the group is outside the
@@ -14,8 +14,8 @@ window, the train applies the linking reaction, so it might brake or be tripped.
 Example. Before (`examples/links/distance-differs.csv`): by the kilometres B (km 11.000) is 1,000 m from A (km 10.000),
 and the link of A has D_LINK 1,010 m with Q_LOCACC 5 m. After (`examples/links/line.csv`): D_LINK is 1,000 m.
 
-When it is a false alarm. The rule takes the kilometres of the table for places on the track. It is wrong if they follow
-another axis, are rounded coarsely, or belong to signals. It is also wrong if they jump at a place that neither
+When it is a false alarm. The rule relies on the kilometres of the table as positions on the track. It is wrong if they
+follow another axis, are rounded coarsely, or belong to signals. It is also wrong if they jump at a place that neither
 `--jumps` nor a track plan states. All links over that place then differ by the same amount. The rule assumes too that
 the links stay on the track. A route through another track breaks this assumption, and so does a balloon loop that leads
 back to a group which was already passed. {one way}

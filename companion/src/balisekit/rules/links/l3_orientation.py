@@ -3,7 +3,7 @@
 What it says. Q_LINKORIENTATION of a linked group does not fit the order of its balises along the track. The variable
 states whether a train that runs towards the group passes its balises in rising order (nominal, 1) or in falling order
 (reverse, 0). The rule compares only groups of two or more balises. A single balise has no order, and gets its direction
-by this very variable (SUBSET-026, 3.4.2 and 3.4.4).
+by this very variable. The rule rests on SUBSET-026, 3.4.2 and 3.4.4.
 
 Why it matters. At worst the train brakes or is tripped at each passage. By the balises it finds another direction than
 the link announced. It then applies the linking reaction, or rejects the message of the group.

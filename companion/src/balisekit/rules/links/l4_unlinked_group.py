@@ -1,7 +1,8 @@
 """L4: linked group has Q_LINK 0.
 
 What it says. A group of the table has Q_LINK 0, so it is not linked, although a packet 5 names it. The line is about
-the group that is named, and lists up to three groups or messages whose packets name it (SUBSET-026, 3.4.4 and 7.5.1).
+the group that is named, and lists up to three groups or messages whose packets name it. The rule rests on SUBSET-026,
+3.4.4 and 7.5.1.
 
 Why it matters. To be looked at: linking does not protect the group. A train accepts a group with Q_LINK 0 at any place,
 also outside its expectation window. So nothing shows that the group is at a wrong place, and the train does not correct

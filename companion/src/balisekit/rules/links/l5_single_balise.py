@@ -2,7 +2,7 @@
 
 What it says. A single balise has Q_LINK 0, and a packet other than 44, 145 and 254 that holds in one direction only
 (Q_DIR 0 or 1). The line names the first such packet. A single balise has no direction of its own, and with Q_LINK 0 it
-gets none by linking (SUBSET-026, 3.4.2).
+gets none by linking. The rule rests on SUBSET-026, 3.4.2.
 
 Why it matters. At worst the train gets wrong information for the other direction, or none. It does not know in which
 direction it passes the balise, so it cannot use a packet that holds in only one of them.

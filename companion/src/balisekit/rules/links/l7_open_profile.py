@@ -1,8 +1,8 @@
 """L7: open profile under an authority.
 
-What it says. A group or message 3 gives an authority, and with it in its direction a gradient or speed profile without
-an end mark. The program takes an open profile to reach any place. Its yes then rests on a rule of this project, which
-the standard might not share.
+What it says. A group or message 3 gives an authority, and for the same direction a gradient or speed profile without an
+end mark. The program takes an open profile to reach any place. Its yes then rests on a rule of this project, which the
+standard might not share.
 
 Why it matters. To be looked at: the yes says less than it seems to. The last gradient or speed holds without end, also
 on track that has another one. A train might refuse an authority whose profiles do not end.

@@ -1,9 +1,10 @@
 """L8: profile begins late.
 
-What it says. A gradient or speed profile under an authority begins beyond 0 m, and no other profile of its kind in this
-message begins at 0 m. The track before it then has no profile of this message. The rule looks at groups and at the
-first message 3. A later message 3 might rely on the one before it, so its late profiles are only counted in a note. The
-program does not check where a profile begins (SUBSET-026, 3.7, 3.8 and 3.11).
+What it says. A message has an authority, and a gradient or speed profile that begins beyond 0 m. No other profile of
+this kind in the message begins at 0 m, so the message describes no track before that place. The rule checks all groups,
+and the first radio message 3 in the file. A later message 3 might rely on the one before it, so the rule only counts
+its late profiles in a note. The program does not check where a profile begins. The rule rests on SUBSET-026, 3.7, 3.8
+and 3.11.
 
 Why it matters. At worst an old profile is used on the track before the first element, or the train has none there.
 Mostly the train refuses the authority.
@@ -11,12 +12,12 @@ Mostly the train refuses the authority.
 Example. Before (`examples/links/profile-begins-late.csv`): packet 27 of balise A2 (km 10.003) begins at 50 m from the
 group. After (`examples/links/line.csv`): D_STATIC of its first element is 0 m.
 
-When it is a false alarm. The rule assumes that a message has the profiles from its group on. That is not so if an
-earlier group gave the profile of the track before. Nor is it so if a message 3 did that was refused, or that the file
-of messages lacks.
+When it is a false alarm. The rule assumes that the profiles of a message begin at its group. That is not so if an
+earlier group gave the profile of the track before. The same holds if a message 3 gave that profile, but was refused or
+is missing in the file of messages.
 
-Usual cause. The distance was counted from another balise or from a signal. Or the track before it is meant to have its
-profile from an earlier message.
+Usual cause. The distance was counted from another balise or from a signal. Or an earlier message was meant to give the
+profile of the track before this place.
 
 How to correct it. Set the first distance to 0, and add the values of the track from the group on.
 

@@ -5,11 +5,11 @@ neighbours of the packet, but the packet does not name it. Neighbours are the se
 names, and then each group that it names and the next one. The kilometres show what is between them. The data must hold
 in the direction in which the group is passed, or in either one if that direction is not known. Packets 0, 145, 254 and
 255 and refused telegrams do not count as data. Other groups with Q_LINK 1 that are passed over are counted in a note.
-If several groups are between the same two neighbours, the line names up to three. Nothing is compared beside a
-neighbour that is not in the table or is on another track (SUBSET-026, 3.4.4).
+If several groups are between the same two neighbours, the line names up to three. If a neighbour is not in the table or
+is on another track, the rule does not look for groups next to it. The rule rests on SUBSET-026, 3.4.4.
 
-Why it matters. To be looked at: the group says nothing to a train that uses these links. Such a train takes a group
-with Q_LINK 1 only if it is linked. So it loses the information of this group, and does not react to that.
+Why it matters. To be looked at: a train that uses these links ignores the group. Such a train takes a group with Q_LINK
+1 only if it is linked. So it loses the information of this group, and does not react to that.
 
 Example. Before (`examples/links/group-passed-over.csv`): A (km 10.000) links only C (km 12.000), and B (km 11.000) has
 Q_LINK 1 and is between them. After (`examples/links/line.csv`): the packet 5 of A names B and then C.

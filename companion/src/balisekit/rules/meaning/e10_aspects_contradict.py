@@ -1,10 +1,11 @@
 """E10: aspects that contradict each other about the track.
 
 What it says. Two aspects of a group that lead to one place state different V_STATIC, or gradients more than 5 ‰ apart,
-on a stretch longer than `--tolerance` and rounding. A rise and a fall are different gradients. The two aspects are
-compared as far as the packets 5 of both name the same groups, also beyond an end of authority. Without packets 5 they
-are compared if both authorities end at the same place. The rule passes over everything beyond a `point` of the track
-plan. One remark names the aspect that most others disagree with, and the longest stretch (SUBSET-026, 3.11).
+on a stretch longer than `--tolerance` and rounding. Stretches that touch count as one. A rise and a fall are different
+gradients. The two aspects are compared as far as the packets 5 of both name the same groups, also beyond an end of
+authority. Without packets 5 they are compared if both authorities end at the same place. The rule passes over
+everything beyond a `point` of the track plan. One remark names the aspect that most others disagree with, and the
+longest stretch. The rule rests on SUBSET-026, 3.11.
 
 Why it matters. At worst the train gets wrong information. At one of the aspects it gets a speed that is too great, or a
 gradient that is too favourable.

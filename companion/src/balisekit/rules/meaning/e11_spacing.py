@@ -2,9 +2,9 @@
 
 What it says. Neighbouring balises of a group are less than 2.3 m or more than 12 m apart by their kilometres, or their
 order contradicts the column `nominal`. This column states whether the kilometres rise or fall in nominal direction.
-With a `--line-speed` above 180 km/h the least spacing is 3.0 m. One unit of the last decimal of the kilometres, at
-most 1 m, is allowed in either direction. The rule passes over a group whose balises all have the same kilometre
-(SUBSET-036 and SUBSET-040, installation of balise groups).
+With a `--line-speed` above 180 km/h the least spacing is 3.0 m. One unit of the last decimal of the kilometres, at most
+1 m, is allowed in either direction. The rule passes over a group whose balises all have the same kilometre. The rule
+rests on the installation of balise groups in SUBSET-036 and SUBSET-040.
 
 Why it matters. At worst the train has a wrong position, because distances of the group count from its first balise.
 Balises that are too close disturb each other, so a train might miss one. A balise that is too far away is not taken for

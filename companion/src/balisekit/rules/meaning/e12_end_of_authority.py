@@ -2,13 +2,13 @@
 
 What it says. An authority ends elsewhere than the others to the same group, or it ends 50 m to 200 m from the nearest
 group, where no signal is. The end counts from the kilometre of the group, by the sum of L_SECTION and L_ENDSECTION.
-Authorities are packets 12 with V_MAIN above 0, and packets 15. The rule takes each authority to lead to one of the
+Authorities are packets 12 with V_MAIN above 0, and packets 15. The rule assumes that each authority leads to one of the
 groups that its packets 5 name. It is the group nearest to the end, if that is at most 200 m away. Otherwise it is the
 last of these groups before the end, if another one is beyond it. Authorities without packets 5 are compared if each
 ends at most 20 m from the next one. The second part of the rule, an end far from any group, is only for packets 12. It
 takes the place of a group to be that of its first balise, and looks only between the first and the last signal of the
-way. It says nothing if packets 5 name a group there that has no kilometre or is on another track. Places may differ by
-`--tolerance` (else 1 m) and rounding (SUBSET-026, 3.8 and 7.4.2).
+way. It reports nothing if packets 5 name a group there that has no kilometre or is on another track. Places may differ
+by `--tolerance` (else 1 m) and rounding. The rule rests on SUBSET-026, 3.8 and 7.4.2.
 
 Why it matters. At worst the train gets wrong information, and might pass the signal at which it has to stop. Or it
 stops some metres in rear of the signal.

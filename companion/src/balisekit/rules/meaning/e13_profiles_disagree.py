@@ -1,20 +1,21 @@
 """E13: profiles that disagree.
 
-What it says. In speeds or gradients no aspect of a group agrees with any aspect of the next group ahead, on a stretch
-longer than `--tolerance` and rounding. Speeds agree if V_STATIC is the same, and gradients agree if they are at most 5
-‰ apart. The next group ahead is on the same track, for the same way, and has a profile there. Groups with a refused
-telegram do not count. If packets 5 of the group in rear name the group ahead, only the aspects with these packets
-count. `--tolerance` is 1 m if it is not given. If a group differs from its neighbours on both sides, the remark is on
-this group (SUBSET-026, 3.11.3 and 3.11.12).
+What it says. Two neighbouring groups describe the same stretch of the track with different speeds or gradients. This is
+reported only if every aspect of the one group differs from every aspect of the other. The stretch must be longer than
+`--tolerance` (1 m if it is not given) and rounding, and stretches that touch count as one. Speeds differ if V_STATIC is
+not the same, and gradients differ if they are more than 5 ‰ apart. The two groups are on the same track, and no group
+between them describes the stretch for trains that run the same way. Groups with a refused telegram do not count. If
+some aspects of the group in rear link to the group ahead, only these aspects are compared. If a group differs from its
+neighbours on both sides, the remark is on this group. The rule rests on SUBSET-026, 3.11.3 and 3.11.12.
 
 Why it matters. At worst the train gets wrong information: it might go too fast, or brake too late on a slope. It goes
 by the profile that it got last, which might be the wrong one.
 
 Example. Before (`examples/meaning/mistakes/E13.csv`): from km 13.000 to km 14.700 Signal 3 has a gradient of +18 per
-mille, and Signal 2 has -18 per mille. After: Q_GDIR of Signal 3 is the other one, and both have -18 per mille.
+mille, and Signal 2 has -18 per mille. After: Q_GDIR of Signal 3 is corrected, and both have -18 per mille.
 
-When it is a false alarm. {exact} A project might also begin a speed 20 m early. {track speed} {leaving} {points}
-{kilometres} {missing} {one way}
+When it is a false alarm. {exact} Some projects also let a new speed begin 20 m early on purpose. {track speed}
+{leaving} {points} {kilometres} {missing} {one way}
 
 Usual cause. V_STATIC is in km/h, or Q_SCALE or Q_GDIR is wrong. Or a speed or a gradient was changed in one group only.
 

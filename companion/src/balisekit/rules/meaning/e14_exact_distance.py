@@ -1,14 +1,17 @@
 """E14: distance not as it is written.
 
-What it says. A distance by D_LINK differs from the kilometres by more than `--tolerance` (else 1 m) and rounding, but
-not enough for L2. L2 allows Q_LOCACC, which describes how exactly a group is installed, not how exactly D_LINK is
-written. The distance counts from the sender, or from the linked group before. If all links of two groups or more over a
-stretch differ by one amount, a single remark asks whether the kilometres jump there. The kilometres might also follow
-another axis than the track (SUBSET-026, 3.4.4 and 7.5.1). The rule assumes this if at least five links of a track
-differ elsewhere, and more than a fifth of all. One note then counts them.
+What it says. A distance by D_LINK differs from the distance by the kilometres, but not so much that L2 reports it. The
+distance counts from the sender, or from the linked group before. The two may differ by `--tolerance` (else 1 m) and
+rounding. Rounding is one unit of Q_SCALE and one unit of the last decimal of the kilometres, at most 1 m. If several
+links are added up, half a unit of Q_SCALE is allowed for each further one. L2 also allows Q_LOCACC, which describes how
+exactly a group is installed, not how exactly D_LINK is written. If all links of two groups or more over a stretch
+differ by one amount, a single remark asks whether the kilometres jump there. The kilometres might also follow another
+axis than the track. The rule assumes this if at least five links of the track differ in this way, and if these are more
+than a fifth of its links. Links over a jump do not count. One note then counts these links, and no remark is made. The
+rule rests on SUBSET-026, 3.4.4 and 7.5.1.
 
 Why it matters. At worst the train has a wrong position: it believes itself some metres from where it is. All places
-that count from there move with it.
+that count from there move with it. A remark about a jump has the lowest urgency.
 
 Example. Before (`examples/meaning/mistakes/E14.csv`): Signal 5 is 1,504 m from Signal 4 by D_LINK and 1,500 m by the
 kilometres, and Q_LOCACC is 5 m. After: D_LINK is 1,500 m.
@@ -16,8 +19,8 @@ kilometres, and Q_LOCACC is 5 m. After: D_LINK is 1,500 m.
 When it is a false alarm. {kilometres} {missing} The rule assumes that D_LINK is rounded to the nearest unit. A tool
 that always rounds to one side breaks this assumption. {leaving}
 
-Usual cause. A distance was counted from or to another balise than the first. Or a group was moved a few metres. Or the
-kilometre of the table is wrong.
+Usual cause. A distance was counted from or to a balise that is not the first one of its group. Or a group was moved a
+few metres. Or the kilometre of the table is wrong.
 
 How to correct it. Correct D_LINK or the kilometre. Give jumps of the kilometres by `--jumps` or in the track plan.
 State a greater `--tolerance` if the kilometres follow another axis.

@@ -7,7 +7,8 @@ the infill gives an authority in its direction, because the signal might be beyo
 for the direction in which the train passes the signal. Not compared are Q_DIR, Q_SCALE, the Q_GDIR of a G_A 0 or 255,
 and the Q_FRONT and V_DIFF of a V_STATIC 127. Distances are compared in metres, and if Q_SCALE differs, they may differ
 by the greater unit. Sections without timers count by their sum. Packets that only one of the two groups has are passed
-over. The layouts of packets 80 and 136 are balisekit's own (SUBSET-026, 3.6.2 and 7.4.2).
+over. The proved program does not decode packets 80 and 136: balisekit decodes them by layouts of its own. The rule
+rests on SUBSET-026, 3.6.2 and 7.4.2.
 
 Why it matters. At worst the train gets wrong information: it releases its brake for an aspect that the signal does not
 show.

@@ -5,8 +5,8 @@ single balise. A balise that is not named is reported only if it has Q_LINK 1 an
 rule also reports a direction that differs from the column `nominal`. Packets 44, 145 and 254 do not count. A packet 5
 leads past the balise if it holds for that way, and reaches beyond the kilometre of the balise. The rule passes over a
 balise with packet 16 within 500 m of a link to NID_BG 16,383, or on another track than this link. It also passes over a
-balise with a refused telegram at most 10 km in rear of it. Rule L5 reports single balises with Q_LINK 0 (SUBSET-026,
-3.4.2 and 3.4.4).
+balise with a refused telegram at most 10 km in rear of it. Rule L5 reports single balises with Q_LINK 0. The rule rests
+on SUBSET-026, 3.4.2 and 3.4.4.
 
 Why it matters. At worst the train gets wrong information. It learns the direction of a single balise by linking, or by
 radio in level 2. If it does not know the direction, it ignores packets that hold in only one direction. If it has the

@@ -8,7 +8,7 @@ One such group is enough, and it may be up to 50 m beyond the end of the authori
 last group of its track and way, the rule is silent. The rule is silent if the last link is NID_BG 16,383, because the
 group with repositioning information there names the next ones. It is also silent if this group has a refused telegram,
 or one before it at most 10 km in rear of the end. Packets 5 after a packet 136 do not count. A table with such an
-authority but without any packet 5 gets one remark, if nothing in it was refused (SUBSET-026, 3.4.4).
+authority but without any packet 5 gets one remark, if nothing in it was refused. The rule rests on SUBSET-026, 3.4.4.
 
 Why it matters. At worst the train has a wrong position. Nothing shows that it missed such a group, and it does not
 correct its position there.

@@ -9,8 +9,8 @@ announcements of its place counts as right, or else the first one that a train p
 frequent place counts. A later order with the same levels is not reported, because it repeats the first one. An order is
 only required between the first and the last group of the track. The rule is silent if the order might be in a group
 whose direction or place is unknown, or which has a refused telegram. It is also silent if the packets 5 of the
-announcement lead to another track, where the order might be. A packet for both directions with a distance is E5
-(SUBSET-026, 5.10 and 7.4.2).
+announcement lead to another track, where the order might be. Rule E5 reports a packet 41 for both directions with a
+distance. The rule rests on SUBSET-026, 5.10 and 7.4.2.
 
 Why it matters. At worst the train gets wrong information. A driver acknowledges at one place, and the train changes its
 level at another. Or it goes on in a level that the track there does not support.
@@ -20,10 +20,10 @@ km 16.750, and the group Border orders it at km 16.700. After: D_LEVELTR is 2,20
 
 When it is a false alarm. The rule assumes that all packets 41 within 500 m are for one border. There might be two
 borders, one of them on another route, or orders for trains that start there. It assumes that they have one place. A
-packet with D_LEVELTR 32,767 might be some metres from the border. It assumes one list of levels, but announcement and
-border might differ on purpose. It assumes that a group of the table orders the change, but the last announcement might
-be the only order. Trains might also leave the track: they can run through a loop, or take a route to another track that
-no packet 5 shows. {kilometres} {missing}
+packet with D_LEVELTR 0 or 32,767 might be some metres from the border. It assumes one list of levels, but announcement
+and border might differ on purpose. It assumes that a group of the table orders the change, but the last announcement
+might be the only order. Trains might also leave the track: they can run through a loop, or take a route to another
+track that no packet 5 shows. {kilometres} {missing}
 
 Usual cause. D_LEVELTR was typed wrongly, or did not follow a moved border. Or the border has no packet 41.
 

@@ -6,7 +6,7 @@ should add up to 0. In the first case each gradient of one direction and each of
 stretch is longer than `--tolerance` (else 1 m) and rounding. In the second case all of them go down by at least 3 ‰,
 for at least 1 km. Of each group without refused telegrams the longest profile counts. If several groups give gradients
 for one direction, the profile counts that contradicts the other direction least. If groups of one direction disagree
-with each other, that is E13 only (SUBSET-026, 3.11.12).
+with each other, only rule E13 reports it. The rule rests on SUBSET-026, 3.11.12.
 
 Why it matters. At worst the train gets wrong information: it brakes too late, because it believes that it goes uphill.
 The braking curve is wrong by twice the gradient. If both directions go down, the urgency is lowest.

@@ -3,8 +3,8 @@
 What it says. A raw packet to trains does not fit balisekit's layout of it, or has a spare value. Only layouts that are
 at least 97 % certain count. A packet does not fit if it has fewer or more bits than its layout. Spare are an M_LEVELTR
 from 5 to 7, a Q_SCALE 3, an M_MAMODE 3, and a speed above 120 that has no special meaning. The line names the first
-place that does not fit. The layouts are balisekit's own, and nobody has compared them with a printed standard
-(SUBSET-026, 7.4 and 7.5.1).
+place that does not fit. The layouts are balisekit's own, and nobody has compared them with a printed standard. The rule
+rests on SUBSET-026, 7.4 and 7.5.1.
 
 Why it matters. At worst the train gets wrong information: it takes the bits of one variable for another. Or it rejects
 the message.

@@ -2,7 +2,7 @@
 
 What it says. A packet 5 names its own group, or one group twice. With `--rules E20` the rule also compares all links to
 one group. It then reports a different Q_LOCACC, and a different Q_LINKREACTION for trains of one way. The most frequent
-value counts as right (SUBSET-026, 3.4.4 and 7.4.2).
+value counts as right. The rule rests on SUBSET-026, 3.4.4 and 7.4.2.
 
 Why it matters. At worst the train brakes without need. It waits for a group twice, or opens another expectation window
 for it than from other groups.

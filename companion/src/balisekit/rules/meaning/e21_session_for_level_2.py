@@ -2,8 +2,9 @@
 
 What it says. A packet 41 or 46 names level 2 or 3, and no packet 42 with Q_RBC 1 comes with it or before it. Packets 42
 of its group and of the groups before it on that track count, unless they are known to be for the other way. A group
-there with a refused telegram might have one, so the rule is then silent. The rule is off unless you ask for it. The
-layouts of packets 42 and 46 are balisekit's own (SUBSET-026, 3.5.3, 5.10 and 7.4.2).
+there with a refused telegram might have one, so the rule is then silent. The rule is off unless you ask for it with
+`--rules E21`. The proved program does not decode packets 42 and 46: balisekit decodes them by layouts of its own. The
+rule rests on SUBSET-026, 3.5.3, 5.10 and 7.4.2.
 
 Why it matters. At worst the train brakes without need. It reaches the border without a movement authority by radio, and
 stops there.

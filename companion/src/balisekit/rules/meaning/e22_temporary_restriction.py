@@ -1,10 +1,11 @@
 """E22: temporary speed restriction.
 
-What it says. Packets 65 with one NID_TSR below 255, at most 2 km apart on one track and way, contradict each other
-about its place, length or speed. The distance counts from each packet to the next one. Place and L_TSR may differ by
-`--tolerance` (else 1 m) and rounding. The most frequent restriction counts as right. A packet with D_TSR 0 agrees if
-its group is within the restriction, V_TSR is equal and the end is the same. The layout of packet 65 is balisekit's own
-(SUBSET-026, 3.11.5 and 7.4.2).
+What it says. Packets 65 have the same NID_TSR (below 255), but give different places, lengths or speeds. The rule
+compares restrictions on one track, for trains that run the same way. It compares those that begin at most 2 km from the
+next one, wherever the groups are that send them. Place and L_TSR may differ by `--tolerance` (else 1 m) and rounding.
+The most frequent restriction counts as right. A group within the restriction might send only the rest of it. Such a
+packet has D_TSR 0, and it agrees if V_TSR and the end of the restriction are the same. The proved program does not
+decode packet 65: balisekit decodes it by a layout of its own. The rule rests on SUBSET-026, 3.11.5 and 7.4.2.
 
 Why it matters. At worst the train gets wrong information: the restriction begins too late, ends too early, or has
 another speed.
@@ -12,9 +13,10 @@ another speed.
 Example. Before (`examples/meaning/mistakes/E22.csv`): Signal 4 has restriction 7 at km 14.600, and Signal 2 has it at
 km 14.000, both for 500 m with 40 km/h. After: Signal 4 has no packet 65, because the restriction ends there.
 
-When it is a false alarm. The rule assumes that a number is that of one restriction. Two restrictions might have it, one
-of them on another route. It assumes that all packets state the complete restriction exactly. D_TSR or L_TSR might be on
-the safe side, or might depend on the aspect or the route. {kilometres} {missing} {one way}
+When it is a false alarm. The rule assumes that each NID_TSR belongs to one restriction only. Two restrictions might
+have the same number, if one of them is on another route. It assumes that all packets state the complete restriction
+exactly. D_TSR or L_TSR might be on the safe side, or might depend on the aspect or the route. {kilometres} {missing}
+{one way}
 
 Usual cause. D_TSR was not made anew for the second group. Or a restriction was changed in one group only.
 

@@ -1,16 +1,18 @@
-"""E23: one line, one header.
+"""E23: version or country differs from the rest of the line.
 
 What it says. A telegram has another M_VERSION than most of the table, or a group has another NID_C than its neighbours
-on the track. Each M_VERSION is compared with the most frequent one of the table. NID_C is compared between the first
-and the last group that have the most frequent NID_C of the track. If two values are equally frequent, the first one
-counts. Groups are in the order of their kilometres, or in that of the table if one is missing. Refused telegrams do not
-count. The rule is off unless you ask for it (SUBSET-026, 7.5.1 and 8.4.2).
+on the track. The rule compares each M_VERSION with the most frequent one of the table. For NID_C, the rule takes the
+most frequent value of the track. It checks only the groups between the first and the last group with this NID_C. If two
+values are equally frequent, the one that comes first counts. The order of the groups is that of their kilometres, or
+that of the table if a kilometre is missing. Refused telegrams do not count. The rule is off unless you ask for it with
+`--rules E23`. The rule rests on SUBSET-026, 7.5.1 and 8.4.2.
 
 Why it matters. To be looked at: a train with the older version ignores what the later one has added. A group with a
 wrong NID_C is another group for the train. L1 finds links that name the group by another NID_C.
 
 Example. Before (`examples/meaning/mistakes/E23.csv` with `--rules E23`): a telegram of Signal 4 (km 14.500) has
-M_VERSION 2.0, and 23 other telegrams of the table have 2.1. After: it has 2.1 too.
+M_VERSION 2.0, and 23 other telegrams of the table have 2.1. After: it has 2.1 too. Then the program's three findings F3
+at this group are gone as well.
 
 When it is a false alarm. The rule assumes that a table has one version. That is not so at a border between versions, or
 if balises differ on purpose. It also assumes that a track has one NID_C between its ends. That is not so if the groups

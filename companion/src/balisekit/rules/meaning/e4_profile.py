@@ -5,7 +5,7 @@ needlessly repeats the one before it. Two elements are at one place if the secon
 end mark that is the first element is reported too. A repeated element has the same gradient as the one before it, or
 the same speed, Q_FRONT and categories. It is needless if a single distance of at most 32,767 units could cover both.
 The rule also reports a train category that an element has twice. It reports a V_DIFF by cant deficiency that is below
-V_STATIC, or that falls while NC_CDDIFF rises (SUBSET-026, 3.11 and 7.4.2).
+V_STATIC, or that falls while NC_CDDIFF rises. The rule rests on SUBSET-026, 3.11 and 7.4.2.
 
 Why it matters. At worst the train gets wrong information. Of two elements at one place only one can hold. What follows
 an end mark is not used. A repeated element often hides a change of speed or gradient that was meant.

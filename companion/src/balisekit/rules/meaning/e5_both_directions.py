@@ -5,8 +5,8 @@ its group. The 21 are 5, 12, 15, 16, 21, 27, 39, 40, 41, 51, 52, 65, 67 to 71, 8
 D_LEVELTR 0 or 32,767 (now) is not reported. Nor is a packet 39, 40, 51, 52, 68 to 70 or 131 whose only distance gives
 the place of its group. Such a distance is a D_TRACTION, D_CURRENT, D_TRACKINIT, D_SUITABILITY or D_RBCTR 0, or a
 D_RBCTR 32,767 (now). An authority without any length and without a V_MAIN above 0 stops the trains of both directions.
-It is reported if no other such packet is there. All such packets of a balise or message are named together (SUBSET-026,
-3.6.1 and 7.4).
+It is reported if no other such packet is there. All such packets of a balise or message are named together. The rule
+rests on SUBSET-026, 3.6.1 and 7.4.
 
 Why it matters. At worst the trains of one direction get wrong information. Trains count distances in their own
 direction. So the end of authority, the level border or the restriction is on both sides of the group.

@@ -4,8 +4,8 @@ What it says. A balise has one of five packets that only radio sends, packet 0 a
 packets 5 that count from one group. The five are 15, 57, 58, 63 and 140. The train gets both packets 5 in one message
 and for one direction. Packets after a packet 136 are counted separately. With `--rules E6` the rule also reports two
 different packets of one kind in one direction. The kinds are 2, 3, 12, 15, 16, 21, 27, 41, 45, 46, 80, 131, 132, 136,
-137, 141 and 254. It then also reports a packet 0, 6, 12, 16, 46, 90, 132 to 137, 145 or 254 in a message 3 (SUBSET-026,
-7.4 and 8.4.4).
+137, 141 and 254. It then also reports a packet 0, 6, 12, 16, 46, 90, 132 to 137, 145 or 254 in a message 3. The rule
+rests on SUBSET-026, 7.4 and 8.4.4.
 
 Why it matters. At worst the train gets wrong information. It might use either of two packets, or reject the message. It
 does not use a packet that only radio sends.
@@ -20,7 +20,7 @@ on purpose.
 Usual cause. Telegrams were put together from parts that both have the packet. Or a packet was copied from a message of
 the other kind.
 
-How to correct it. Remove the packet that is too many, or put packet 0 at the beginning.
+How to correct it. Remove the packet that is not needed, or put packet 0 at the beginning.
 
 How to accept it. Quote the rule of the project by which both packets are sent.
 

@@ -8,7 +8,7 @@ the other direction only. A stop aspect has a packet 12 with V_MAIN 0 that does 
 if it has no packet 137, although at least four of five stop aspects of the table have one with "stop". The table must
 have at least five stop aspects for this. A stop aspect is also reported if it is the only one of three or more aspects
 in its group without a packet 132. This applies only if a stop aspect of the same name has one elsewhere. Aspects with a
-refused telegram do not count, and their group is compared only for packet 137 (SUBSET-026, 3.8).
+refused telegram do not count, and their group is compared only for packet 137. The rule rests on SUBSET-026, 3.8.
 
 Why it matters. At worst the train gets wrong information, or lacks what it needs. Without profiles it might refuse the
 authority. Without linking nothing shows that it missed a group. Without packet 137 a train in staff responsible mode

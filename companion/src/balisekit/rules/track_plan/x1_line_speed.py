@@ -1,16 +1,14 @@
 """X1: speed other than in the plan.
 
 What it says. A speed profile has a V_STATIC that is not the line speed of the plan, on a stretch longer than
-`--tolerance` (else 1 m) and rounding. Speeds for train categories are not compared, nor is what follows a packet 136.
-Beyond a `point` of the plan a train might have left the track. The rule compares there only if a packet 5 of the same
-message shows that the train stays. To show this, the packet must name a group of the track at or beyond the point,
-before any group of another track (SUBSET-026, 7.4.2 and 7.5.1).
+`--tolerance` (else 1 m) and rounding. Stretches that touch count as one. Speeds for train categories are not compared,
+nor is what follows a packet 136. {beyond a point} The rule rests on SUBSET-026, 7.4.2 and 7.5.1.
 
 Why it matters. At worst the train gets wrong information, and might run faster than the track allows. A speed that is
 lower than in the plan only slows trains.
 
-Example. Before (`examples/meaning/level-border.csv` with `examples/meaning/plan.csv`): V_STATIC of Signal 6 is 100 km/h
-from km 17.990 to km 20.700, and the plan has 80 km/h there. After: both have the speed of the track.
+Example. Before (`examples/meaning/level-border.csv` with `--plan` `examples/meaning/plan.csv`): V_STATIC of Signal 6 is
+100 km/h from km 17.990 to km 20.700, and the plan has 80 km/h there. After: both have the speed of the track.
 
 When it is a false alarm. The rule assumes that the plan has the speed that V_STATIC must have, and not that of a train
 category. {track speed} {exact} A profile without a short higher speed is also on the safe side. {leaving} {points}

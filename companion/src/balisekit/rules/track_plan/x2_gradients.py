@@ -1,16 +1,15 @@
 """X2: gradient other than in the plan.
 
 What it says. A gradient profile has another gradient than the plan, on a stretch longer than `--tolerance` (else 1 m)
-and rounding. Uphill is positive: by Q_GDIR as the train meets it, and in the plan by the way of the row. What follows a
-packet 136 is not compared. Beyond a `point` of the plan a train might have left the track. The rule compares there only
-if a packet 5 of the same message shows that the train stays. To show this, the packet must name a group of the track at
-or beyond the point, before any group of another track (SUBSET-026, 7.4.2 and 7.5.1).
+and rounding. Stretches that touch count as one. Uphill is positive. In the packet, Q_GDIR states this as the train sees
+it. In the plan, it is seen in the way of the row. What follows a packet 136 is not compared. {beyond a point} The rule
+rests on SUBSET-026, 7.4.2 and 7.5.1.
 
 Why it matters. At worst the train gets wrong information: it brakes too late if the gradient is less downhill than the
 track. A gradient that is more downhill makes it brake early.
 
-Example. Before (`examples/meaning/level-border.csv` with `examples/meaning/plan.csv`): the gradient of Signal 4 is +1 ‰
-from km 16.620 to km 17.700, and the plan has -1 ‰ there. After: both have the sign of the track.
+Example. Before (`examples/meaning/level-border.csv` with `--plan` `examples/meaning/plan.csv`): the gradient of Signal
+4 is +1 ‰ from km 16.620 to km 17.700, and the plan has -1 ‰ there. After: both have -1 ‰, as the track has.
 
 When it is a false alarm. The rule assumes that plan and profile have the gradient of each place. One of them might have
 a mean of several gradients, or a safe one. A safe gradient is the most downhill one, one that was rounded down, or one

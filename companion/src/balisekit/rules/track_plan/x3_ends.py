@@ -4,18 +4,16 @@ What it says. A movement authority that lets trains run ends where the plan has 
 signal at all for a track and way, authorities there are not compared. The line names the plan's nearest signal and its
 distance. Authorities are packets 12 with V_MAIN above 0 and packets 15, if they have a length. Each ends at the end of
 its end section. The end may differ by `--tolerance` (0 without it) and by one unit of the last decimal of the
-kilometres, at most 1 m. It may also differ by one unit of Q_SCALE, and half a unit for each further section. As soon as
-the plan has one signal of a track and way, it must have all signals at which authorities of that way end. What follows
-a packet 136 is not compared. Beyond a `point` of the plan a train might have left the track. The rule compares there
-only if a packet 5 of the same message shows that the train stays. To show this, the packet must name a group of the
-track at or beyond the point, before any group of another track (SUBSET-026, 7.4.2 and 7.5.1).
+kilometres, at most 1 m. It may also differ by one unit of Q_SCALE, and half a unit for each further section. If the
+plan has one signal for a track and way, it must contain all signals at which authorities of that way end. What follows
+a packet 136 is not compared. {beyond a point} The rule rests on SUBSET-026, 7.4.2 and 7.5.1.
 
 Why it matters. At worst the train gets wrong information, and stops beyond the signal. Or it stops too far in rear of
 the signal.
 
-Example. Before (`examples/meaning/level-border.csv` with `examples/meaning/plan.csv`): the authority of Signal 4 at
-"green" ends at km 17.500, 50 m beyond Signal 6, which the plan has at km 17.450. After: the authority ends at the place
-that the plan has for the signal.
+Example. Before (`examples/meaning/level-border.csv` with `--plan` `examples/meaning/plan.csv`): the authority of Signal
+4 at "green" ends at km 17.500, 50 m beyond Signal 6, which the plan has at km 17.450. After: the authority ends at the
+place that the plan has for the signal.
 
 When it is a false alarm. The rule assumes that the plan has all ends of authority. A marker board, buffer stop, level
 border or limit of authority (V_LOA above 0), or the end of a calling-on route might be missing. Write such places into

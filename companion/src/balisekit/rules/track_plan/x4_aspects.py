@@ -3,13 +3,14 @@
 What it says. The packet 12 of an aspect differs from its row of the plan in V_MAIN, end, overlap or release speed. The
 end is its distance from the group. The release speed is that of the overlap, or of the danger point if there is no
 overlap. Lengths may differ by the rounding of Q_SCALE and by `--tolerance`. A row of the plan for an aspect without a
-packet 12 for that way is reported too. What follows a packet 136 is not compared (SUBSET-026, 7.4.2 and 7.5.1).
+packet 12 for that way is reported too. What follows a packet 136 is not compared. The rule rests on SUBSET-026, 7.4.2
+and 7.5.1.
 
 Why it matters. At worst the train gets wrong information: it runs farther or faster than the route that is set for it
 allows.
 
-Example. Before (`examples/meaning/level-border.csv` with `examples/meaning/plan.csv`): at "yellow" Signal 9 (km 22.003)
-has V_MAIN 140 km/h, and the plan has 100 km/h. After: both have the speed of the route.
+Example. Before (`examples/meaning/level-border.csv` with `--plan` `examples/meaning/plan.csv`): at "yellow" Signal 9
+(km 22.003) has V_MAIN 140 km/h, and the plan has 100 km/h. After: both have the speed of the route.
 
 When it is a false alarm. The rule assumes that the plan has the values of the packet. It might have those of the route,
 and the packet might reduce one, state one that does not restrict, or be for limited supervision. The rule assumes that

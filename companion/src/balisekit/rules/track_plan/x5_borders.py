@@ -1,29 +1,31 @@
 """X5: level or RBC border other than in the plan.
 
-What it says. Packets 41, 42, 46 or 131 contradict a border of the plan in place, levels or RBC, or none of them names
-one of its borders. A packet 41 or 131 is compared with the nearest border of its kind for trains of that way. A packet
-46 is compared with the levels beyond the last border in rear. A packet 42 that establishes a session is compared with
-the RBCs beyond the next border ahead and beyond the last one in rear. NID_RBC 16,383 (the last known RBC) is not
-compared. Places may differ by `--tolerance` (0 without it), by one unit of Q_SCALE and by one unit of the last decimal
-of the kilometres, at most 1 m. As soon as the plan has one border of a kind for a track and way, it must have all of
-them. If the track begins in the area of an RBC, the plan also needs a row `rbc` in rear of the first group. A border of
-the plan within the table that no packet names is reported at the nearest group. It is not reported if the track has a
-refused telegram, or a packet of its kind without a direction, beyond a `point` or after a packet 136. What follows a
-packet 136 is not compared (SUBSET-026, 7.4.2 and 7.5.1).
+What it says. A packet 41, 42, 46 or 131 gives another place, level or RBC than a border of the plan. Or the plan has a
+border that no packet names. A packet 41 or 131 is compared with the nearest border of its kind for trains of that way.
+A packet 46 must have the levels beyond the last border in rear of its group. A packet 42 that establishes a session
+must name one of two RBCs: the RBC beyond the next border ahead, or the RBC beyond the last border in rear. NID_RBC
+16,383 (the last known RBC) is not compared. Places may differ by `--tolerance` (0 without it), by one unit of Q_SCALE
+and by one unit of the last decimal of the kilometres, at most 1 m. If the plan has one border of a kind for a track and
+way, it must contain all borders of this kind for them. If the track begins in the area of an RBC, the plan also needs a
+row `rbc` in rear of the first group. A border of the plan within the table that no packet names is reported at the
+nearest group. It is not reported if a telegram of its track was refused. It is not reported either if the track has a
+packet of this kind that cannot be compared. Such a packet has no known place or direction, is beyond a `point`, or
+follows a packet 136. The rule rests on SUBSET-026, 7.4.2 and 7.5.1.
 
 Why it matters. At worst the train gets wrong information. It is in a level that the track does not support there, or
 asks the wrong RBC for its authority.
 
-Example. Before (`examples/meaning/level-border.csv` with `examples/meaning/plan.csv`): Signal 4 (km 14.500) announces
-level 0 at km 16.700, and the plan has the border at km 16.750, 50 m away. After: both have the place of the border.
+Example. Before (`examples/meaning/level-border.csv` with `--plan` `examples/meaning/plan.csv`): Signal 4 (km 14.500)
+announces level 0 at km 16.700, and the plan has the border at km 16.750, 50 m away. After: both have the place of the
+border.
 
 When it is a false alarm. The rule assumes that the plan has the borders of all trains and routes. It might lack those
 of trains that have no radio or start near a border, or an RBC of another route. The rule assumes that orders are
-exactly at the border. A packet with D_LEVELTR 32,767 or D_RBCTR 0 might be some metres from it, and an order might be
-repeated beyond it. Write such places into the plan. It assumes that packets have the levels of the plan, but
-announcement and border might differ on purpose. It assumes that groups of the own track name each border. Only radio,
-another track or a group beyond the table might do so, or the table might have one way only. {leaving} {points}
-{kilometres} {missing} {one way}
+exactly at the border. A packet that orders the change at its own group might be some metres from the border. Its
+distance is 0, or 32,767 for now. An order might also be repeated beyond the border. Write such places into the plan. It
+assumes that packets have the levels of the plan, but announcement and border might differ on purpose. It assumes that
+groups of the own track name each border. Only radio, another track or a group beyond the table might do so, or the
+table might have one way only. {leaving} {points} {kilometres} {missing} {one way}
 
 Usual cause. The distance was counted from another group, or not all announcements followed a border that was moved.
 
