@@ -66,7 +66,8 @@ class Result:
     def __init__(self, outcome: Outcome) -> None:
         self._outcome = outcome
         self.findings: Tuple[Finding, ...] = tuple(_finding(outcome, entry) for entry in outcome.entries)
-        """All of them, in the order of the answer. Those of correct data come last."""
+        """All of them, in the order of the answer. Those of correct data come last. Refused telegrams and groups that were
+        left out are not among them: they are in `lines` and in `to_json()`."""
 
     @property
     def status(self) -> int:
@@ -93,7 +94,8 @@ class Result:
         return tuple(each for each in self.findings if each.rule in rules or each.family in rules)
 
     def to_records(self) -> List[Dict[str, Any]]:
-        """A dictionary of plain values for each finding: `pandas.DataFrame(result.to_records())` is a table of them."""
+        """A dictionary of plain values for each finding: `pandas.DataFrame(result.to_records())` is a table of them. In a
+        record `km` is a float, and `rows`, `values` and `program` are texts."""
         return [_record(finding) for finding in self.findings]
 
     def to_json(self) -> Dict[str, Any]:
@@ -151,7 +153,8 @@ def check(
 
     The options are those of `balisekit check`, with the same names and meanings; `everything` is `--all`. Options that
     are not given are taken from balisekit.toml, as for the command, or from the file of settings with which the table
-    was read. `rules_from` also takes an `AddedRule` of a script.
+    was read. `rules_from` takes files, names of packages, and an `AddedRule` of a script. `accepted` is a file that
+    `balisekit check --propose FILE` begins, and docs/guide.md describes.
     """
     found = table if isinstance(table, Table) else read_table(table, None, by_position, columns)
     own_settings = found.columns if columns is None else stated.name(os.fspath(columns))
@@ -170,7 +173,8 @@ def check(
 
 
 def diff(old: Result, new: Result) -> Difference:
-    """What differs between two releases of a table that were checked."""
+    """What differs between two releases of a table that were checked: groups, telegrams, messages and findings F of the
+    program. It does not compare what other rules find. `balisekit diff --json FILE` writes what differs."""
     return compare(old._outcome.checked, new._outcome.checked)
 
 

@@ -105,11 +105,8 @@ class Program:
 
     @classmethod
     def find(cls, named: Optional[str] = None, timeout: Optional[float] = None) -> Program:
-        """The program of this path, else of BALISECHECK, else that of the clone, else the installed one.
-
-        `KitError` is raised if there is none, if it is not `named` and its checksum is not known, or if it fails a
-        trial run.
-        """
+        """The program of this path, else of BALISECHECK, else that of the clone, else the installed one. `KitError` is
+        raised if there is none, if its checksum is not known and no path was given, or if it fails a trial run."""
         path = find_program.find(named)
         sha256 = find_program.checksum(path)
         known = find_program.known(named, path, sha256)

@@ -6,7 +6,9 @@ A rule is added so:
    then the paragraphs `What it says`, `Why it matters` (what could happen to a train), `Example` (the stored example
    before and after the correction), `When it is a false alarm`, `Usual cause`, `How to correct it`, `How to accept it`
    and `How sure`. `When it is a false alarm` begins with `Never` if no correct data gets a remark. Otherwise it states
-   what the rule assumes, and which data breaks each assumption. page_sentences.py has what several pages share.
+   what the rule assumes, and which data breaks each assumption. `rules/page_sentences.py` has sentences that several
+   pages share: a page names one in braces, such as `{kilometres}`. First look in docs/remarks.md for a rule that
+   reports the same.
 2. Write `find(line, options) -> Result`. `line.decoded` has all packets and passages, `line.groups` the groups, and
    `line.chains` the linking packets with their groups. `options` has what the user states of the line, and
    `options.asks_for("E2")` says whether the part that is off by default is wanted.
@@ -16,8 +18,10 @@ A rule is added so:
    `is_default=False` if it is less than 85 % sure, or `optional_part` if a part of it is. Then run
    `python3 companion/tests/rules_page.py`, which writes its row of docs/remarks.md from the first sentences of its
    page.
-5. Give it a mistake in companion/tests/meaning_mistakes.py, which writes its example in examples/meaning/mistakes.
-6. Test a hit, no hit, and the correct data that the page names, by one change of `meaning_line.py`.
+5. Give it a mistake in companion/tests/meaning_mistakes.py, and run that file: it writes the example and its answer in
+   examples/meaning/mistakes. So three files are written by hand, and a line of CHANGELOG.
+6. Test in test_meaning_packets.py if it is about one packet, in test_meaning_aspects.py if about aspects, and else in
+   test_meaning_along.py: a hit, no hit, and the correct data that the page names, by one change of `meaning_line.py`.
 
 `Result.not_looked_at` counts what a rule passes over, by the reason. A rule that has looked at nothing but has such a
 count makes the answer incomplete. `Result.of_places` has counts beside it of what the user could not supply.
