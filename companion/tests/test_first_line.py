@@ -36,7 +36,8 @@ def test_conditions() -> None:
 def test_form() -> None:
     """The form has the columns and the numbers of the filled list, and nothing else."""
     assert rows_of("conditions-form.csv") == [
-        {name: value if name == "id" else "" for name, value in row.items()} for row in rows_of("conditions.csv")]
+        {name: value if name == "id" else "" for name, value in row.items()} for row in rows_of("conditions.csv")
+    ]
 
 
 @pytest.mark.parametrize("row", ["conditions.csv", "conditions-form.csv", "accepted.csv", "exported.csv"])
