@@ -30,8 +30,8 @@ DOCUMENTS: Dict[Path, Sequence[Rule]] = {
 SURE = "How sure"
 OWN = "This rule is balisekit's own, and not proved."
 PROVED = (
-    "The program balisecheck reports this finding. A proof shows that every such finding is a fact about the telegrams. "
-    "To see it in the example, run `./balisecheck check < FILE`."
+    "The program balisecheck reports this finding. A proof shows that every such finding is a fact about the "
+    "telegrams. To see it in the example, run `./balisecheck check < FILE`."
 )
 TITLES = {
     "F": ("Findings", "findings.md", PROVED),
