@@ -66,8 +66,8 @@ class Result:
     def __init__(self, outcome: Outcome) -> None:
         self._outcome = outcome
         self.findings: Tuple[Finding, ...] = tuple(_finding(outcome, entry) for entry in outcome.entries)
-        """All of them, in the order of the answer. Those of correct data come last. Refused telegrams and groups that were
-        left out are not among them: they are in `lines` and in `to_json()`."""
+        """All of them, in the order of the answer. Those of correct data come last. Refused telegrams and groups that
+        were left out are not among them: they are in `lines` and in `to_json()`."""
 
     @property
     def status(self) -> int:
@@ -94,8 +94,8 @@ class Result:
         return tuple(each for each in self.findings if each.rule in rules or each.family in rules)
 
     def to_records(self) -> List[Dict[str, Any]]:
-        """A dictionary of plain values for each finding: `pandas.DataFrame(result.to_records())` is a table of them. In a
-        record `km` is a float, and `rows`, `values` and `program` are texts."""
+        """A dictionary of plain values for each finding: `pandas.DataFrame(result.to_records())` is a table of them. In
+        a record `km` is a float, and `rows`, `values` and `program` are texts."""
         return [_record(finding) for finding in self.findings]
 
     def to_json(self) -> Dict[str, Any]:
