@@ -33,8 +33,8 @@ SENTENCES: Mapping[str, str] = {
     ),
     "track speed": (
         "The rule assumes that V_STATIC is the speed of the track. That is not so if V_STATIC includes the speed of "
-        "the route, of the aspect or of a temporary restriction, or if it is for limited supervision. The same holds if "
-        "no train uses V_STATIC, for example if it is 0 because each train category has its own V_DIFF."
+        "the route, of the aspect or of a temporary restriction, or if it is for limited supervision. The same holds "
+        "if no train uses V_STATIC, for example if it is 0 because each train category has its own V_DIFF."
     ),
 }
 
