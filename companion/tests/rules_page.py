@@ -31,7 +31,7 @@ SURE = "How sure"
 OWN = "This rule is balisekit's own, and not proved."
 PROVED = (
     "The program balisecheck reports this finding. A proof shows that every such finding is a fact about the "
-    "telegrams. To see it in the example, run `./balisecheck check < FILE`."
+    "telegrams. To see it in the example of a clone, run `./balisecheck check < FILE`."
 )
 TITLES = {
     "F": ("Findings", "findings.md", PROVED),
