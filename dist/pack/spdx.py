@@ -95,7 +95,7 @@ def document(tree):
     about = dict(line.split(" ", 1) for line in (tree / "dist/x86_64-linux/ABOUT").read_text().splitlines())
     rows = listed((tree / "THIRD-PARTY.md").read_text("utf-8"))
     kit = re.search('__version__ = "(.*)"', (tree / "companion/src/balisekit/__init__.py").read_text("utf-8"))[1]
-    files = {"balisecheck": "program", "libbalisecheck.a": "archive", "libbalisecheck.so": "library"}
+    files = {"balisecheck": "program", "libbalisecheck.a": "archive", "libbalisecheck.so.0": "library"}
     files = {name: word for name, word in files.items() if word in about}
     packages = [*(product(name, about["version"], about, word) for name, word in files.items()),
                 product("balisekit", kit, about), *(linked(row, about) for row in rows),

@@ -3,20 +3,24 @@
  * Each function reads the bytes at `input` and puts a text into `buffer`, without a NUL. `*length` is the length of
  * the text. The status that is returned is the one of the program, and 4 if the buffer is too small:
  *
- *   BALISECHECK_DONE      everything was done; for `check`, the answer is yes
- *   BALISECHECK_FINDINGS  `check` has findings
+ *   BALISECHECK_DONE      everything was done; for `check` and `findings`, the answer is yes
+ *   BALISECHECK_FINDINGS  `check` or `findings` has findings
  *   BALISECHECK_REFUSED   the input was refused
  *   BALISECHECK_MEMORY    memory ran out: *length is 0
  *   BALISECHECK_CAPACITY  the text has more than `capacity` bytes: *length is how many it has
  *
  * After a status of 3 or 4 the buffer is unchanged. Otherwise only the bytes of the text were written.
  *
+ * Each function has another one whose name ends in `_length`. It has no buffer, and returns the status and the length
+ * that its function returns with a buffer that is large enough. It returns 3 only if memory ran out, and never 4.
+ *
  * What the caller must ensure, because nothing checks it:
  *   - No pointer is null, even if a length is 0. `input` points to `input_length` bytes, `buffer` to `capacity` bytes.
  *   - What the pointers point to does not overlap. During a call no other thread writes the input, and none reads or
  *     writes the buffer, the length or the fault.
  *   - malloc, realloc and free are of one allocator, which aligns as C requires.
- *   - The thread has 512 kB of stack left. `check` used 384 kB at most, and the other functions 96 kB.
+ *   - The thread has 512 kB of stack left. `check` used 384 kB at most, `findings` does the same work, and the other functions
+ *     used 96 kB.
  *   - No call is made in a signal handler, or in the forked child of a process with threads.
  *
  * Calls keep nothing, so threads may call at the same time with buffers of their own. A call starts no thread, opens
@@ -39,6 +43,10 @@ enum balisecheck_status {
     BALISECHECK_CAPACITY = 4
 };
 
+/* The version of the library, such as "0.6.0", as a string that stays in place. Whoever finds the library by itself can
+ * compare it with the version of the program. */
+const char *balisecheck_version(void);
+
 /* The commands. Text and status are those of the program for the same input. If it is refused, the last line of the
  * text begins with "refused:". */
 uint32_t balisecheck_check(const uint8_t *input, size_t input_length, uint8_t *buffer, size_t capacity,
@@ -51,6 +59,19 @@ uint32_t balisecheck_encode(const uint8_t *input, size_t input_length, uint8_t *
                             size_t *length);
 uint32_t balisecheck_encode_radio(const uint8_t *input, size_t input_length, uint8_t *buffer, size_t capacity,
                                   size_t *length);
+
+/* The answer of `check` to the document of a railway line, as one JSON object with its \n: the verdict with the counts and
+ * the findings of the report in its order, or the reason and the place of the refusal. The status is that of `check`. */
+uint32_t balisecheck_findings(const uint8_t *input, size_t input_length, uint8_t *buffer, size_t capacity,
+                              size_t *length);
+
+/* The lengths of their texts. */
+uint32_t balisecheck_check_length(const uint8_t *input, size_t input_length, size_t *length);
+uint32_t balisecheck_decode_length(const uint8_t *input, size_t input_length, size_t *length);
+uint32_t balisecheck_decode_radio_length(const uint8_t *input, size_t input_length, size_t *length);
+uint32_t balisecheck_encode_length(const uint8_t *input, size_t input_length, size_t *length);
+uint32_t balisecheck_encode_radio_length(const uint8_t *input, size_t input_length, size_t *length);
+uint32_t balisecheck_findings_length(const uint8_t *input, size_t input_length, size_t *length);
 
 /* Why a record was refused. The program prints the words in the comments. */
 enum balisecheck_reason {
@@ -86,6 +107,10 @@ uint32_t balisecheck_telegram(const uint8_t *input, size_t input_length, uint8_t
                               size_t *length, struct balisecheck_fault *fault);
 uint32_t balisecheck_message(const uint8_t *input, size_t input_length, uint8_t *buffer, size_t capacity,
                              size_t *length, struct balisecheck_fault *fault);
+
+/* The lengths of their lines: 0 for a record that is refused. */
+uint32_t balisecheck_telegram_length(const uint8_t *input, size_t input_length, size_t *length);
+uint32_t balisecheck_message_length(const uint8_t *input, size_t input_length, size_t *length);
 
 #ifdef __cplusplus
 }
@@ -139,6 +164,9 @@ inline answer encode(const void *input, size_t input_length) {
 }
 inline answer encode_radio(const void *input, size_t input_length) {
     return detail::call(detail::command<balisecheck_encode_radio>, input, input_length);
+}
+inline answer findings(const void *input, size_t input_length) {
+    return detail::call(detail::command<balisecheck_findings>, input, input_length);
 }
 inline answer telegram(const void *input, size_t input_length) {
     return detail::call(balisecheck_telegram, input, input_length);

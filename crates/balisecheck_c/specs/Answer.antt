@@ -1,6 +1,6 @@
 -- What a call returns for an output, which is a text and a status: the text at the front of the buffer, the
 -- length of the text, and the exit status of the program. A text that does not fit is left out. If memory
--- runs out there is no text.
+-- runs out there is no text. A call for the length has no buffer, so its answer cannot depend on one.
 use Rattle.std.specs.Prelude.{◌≡◌, ◌<◌, ◌≤◌, ◌++◌, ◌⊎◌, ℕ, List, length, drop}
 use Rattle.etcs_run.specs.Output.{Output}
 use Rattle.etcs_run.specs.declared.status.Status.{Status}
@@ -36,3 +36,12 @@ pub record IsPut (output : Output) (old new : List ℕ) (count result : ℕ) : T
 -- the output was put into the buffer, unless memory ran out
 abbrev pub IsAnswer : Output → List ℕ → List ℕ → ℕ → ℕ → Type 0
 IsAnswer output old new count result = IsOutOfMemory old new count result ⊎ IsPut output old new count result
+
+-- the length of the text was returned, with the exit status of the program
+pub record IsCounted (output : Output) (count result : ℕ) : Type 0 where
+  pub counted : count ≡ length output.0
+  pub status : result ≡ exit_status output.1
+
+-- the length of the output's text was returned, unless memory ran out
+abbrev pub IsLength : Output → ℕ → ℕ → Type 0
+IsLength output count result = ((result ≡ memory_status) × (count ≡ 0)) ⊎ IsCounted output count result

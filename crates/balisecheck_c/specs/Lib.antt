@@ -1,3 +1,4 @@
 pub mod Answer
 pub mod Fault
 pub mod Records
+pub mod Findings

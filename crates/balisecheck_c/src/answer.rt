@@ -1,7 +1,7 @@
-//! `put`: a text in the caller's buffer. `out_of_memory`: no text.
+//! `put`: a text in the caller's buffer. `count`: only its length. `out_of_memory`: no text.
 
 ghost use Rattle.std.specs.Prelude.{◌≡◌};
-ghost use Rattle.balisecheck_c.specs.Answer.{IsPut, memory_status};
+ghost use Rattle.balisecheck_c.specs.Answer.{IsCounted, IsPut, memory_status};
 
 use etcs_run::Status;
 
@@ -17,6 +17,15 @@ pub fn put(text: &[u8], status: Status, buffer: &mut [u8], length: &mut usize) -
         return 4;
     }
     buffer[..count].copy_from_slice(text);
+    u32::from(status.code())
+}
+
+/// Returns the exit status of the program for this status. `length` becomes the length of the text.
+pub fn count(text: &[u8], status: Status, length: &mut usize) -> u32
+    ensures counted { IsCounted (text.now, status) length.new result }
+    ensures other { result ≡ memory_status → ⊥ }
+{
+    *length = text.len();
     u32::from(status.code())
 }
 

@@ -7,12 +7,12 @@ ghost use Rattle.etcs_telegram.specs.Text.{HasPackets as HasTelegramPackets};
 ghost use Rattle.etcs_telegram.specs.declared.error.TextError.{TextError};
 ghost use Rattle.etcs_json.specs.JsonLine.{json_line_text};
 ghost use Rattle.etcs_run.specs.TelegramLines.{IsEarly};
-ghost use Rattle.balisecheck_c.specs.Answer.{memory_status};
+ghost use Rattle.balisecheck_c.specs.Answer.{IsLength, memory_status};
 ghost use Rattle.balisecheck_c.specs.Fault.{message_fault, telegram_fault};
-ghost use Rattle.balisecheck_c.specs.Records.{Gives, IsEarlyMessage, IsRecordAnswer, message_meaning, message_reason, telegram_meaning, telegram_reason};
+ghost use Rattle.balisecheck_c.specs.Records.{Gives, IsEarlyMessage, IsRecordAnswer, message_meaning, message_reason, record_output, telegram_meaning, telegram_reason};
 ghost use Rattle.balisecheck_c.specs.declared.fault.Fault.{Fault};
 
-use crate::answer::{out_of_memory, put};
+use crate::answer::{count, out_of_memory, put};
 use crate::fault::Fault;
 use etcs_json::{WriteJson, json_line};
 use etcs_radio::RadioTextError;
@@ -115,6 +115,20 @@ fn answer(
     }
 }
 
+// The length of the line of a record. A refused record has no line.
+fn length_of(line: Result<Vec<u8>, Unread>, length: &mut usize) -> u32
+    ensures means { (meaning : Result (List ℕ) Fault) → Gives (λ line. line.items) line meaning
+        → IsLength (record_output meaning) length.new result }
+    ensures refused { (f : Fault) → line ≡ Err (Unread.Refused f) → result ≡ 2 }
+    ensures memory { result ≡ memory_status → line ≡ Err Unread.Memory }
+{
+    match line {
+        Ok(text) => count(text.as_slice(), Status::Done, length),
+        Err(Unread::Refused(_)) => count(&[], Status::Refused, length),
+        Err(Unread::Memory) => out_of_memory(length),
+    }
+}
+
 /// A telegram, from its hexadecimal digits to its JSON line, or to its first fault.
 ///
 /// A fault that is found before any packet is read is always reported: it needs no memory.
@@ -159,4 +173,34 @@ pub extern "C" fn balisecheck_message(
         → result ≡ memory_status → HasMessagePackets input.now }
 {
     answer(message_line(alloc, input), buffer, length, fault)
+}
+
+/// The length of the JSON line of a telegram, and the status with which [`balisecheck_telegram`] returns it.
+#[unsafe(no_mangle)]
+pub extern "C" fn balisecheck_telegram_length(
+    alloc: Global,
+    input: &[u8],
+    length: &mut usize,
+) -> u32
+    ensures means { IsLength (record_output (telegram_meaning input.now)) length.new result }
+    ensures early { (why : TextError) → IsEarly why input.now → result ≡ 2 }
+
+    // A text that is refused needs memory only if a packet has to be read.
+    ensures memory { (f : Fault) → telegram_meaning input.now ≡ Err f
+        → result ≡ memory_status → HasTelegramPackets input.now }
+{
+    length_of(telegram_line(alloc, input), length)
+}
+
+/// The length of the JSON line of a radio message, and the status with which [`balisecheck_message`] returns it.
+#[unsafe(no_mangle)]
+pub extern "C" fn balisecheck_message_length(alloc: Global, input: &[u8], length: &mut usize) -> u32
+    ensures means { IsLength (record_output (message_meaning input.now)) length.new result }
+    ensures early { (why : RadioTextError) → IsEarlyMessage why input.now → result ≡ 2 }
+
+    // A text that is refused needs memory only if reading a packet may need it.
+    ensures memory { (f : Fault) → message_meaning input.now ≡ Err f
+        → result ≡ memory_status → HasMessagePackets input.now }
+{
+    length_of(message_line(alloc, input), length)
 }

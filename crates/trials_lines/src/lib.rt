@@ -10,6 +10,8 @@ mod ample_memory;
 #[cfg(test)]
 mod documents;
 #[cfg(test)]
+mod findings;
+#[cfg(test)]
 mod forms;
 #[cfg(test)]
 mod records;

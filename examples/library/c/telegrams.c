@@ -1,6 +1,6 @@
 /* Decodes telegrams, one per line of standard input, and reads on after a refused one, which `balisecheck decode` does not.
  *
- *     cc -I ../../../crates/balisecheck_c/include -o telegrams telegrams.c ../../../dist/x86_64-linux/libbalisecheck.a
+ *     cc -o telegrams telegrams.c $(pkg-config --cflags --libs balisecheck)
  */
 #include "balisecheck.h"
 

@@ -1,6 +1,6 @@
 // Checks the document on standard input, and writes what `balisecheck check` would write.
 //
-//     c++ -I ../../../crates/balisecheck_c/include -o check check.cpp ../../../dist/x86_64-linux/libbalisecheck.a
+//     c++ -o check check.cpp $(pkg-config --cflags --libs balisecheck)
 #include "balisecheck.h"
 
 #include <iostream>

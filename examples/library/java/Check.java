@@ -5,7 +5,9 @@ import com.sun.jna.ptr.LongByReference;
 /**
  * Checks the document on standard input, and writes what `balisecheck check` would write.
  *
- *     java -cp /usr/share/java/jna.jar Check.java ../../../dist/x86_64-linux/libbalisecheck.so < FILE
+ *     java -cp /usr/share/java/jna.jar Check.java [LIBRARY] < FILE
+ *
+ * LIBRARY is the path of the library if it is not installed.
  */
 public class Check {
     static final int MEMORY = 3, CAPACITY = 4;
@@ -16,7 +18,7 @@ public class Check {
     }
 
     public static void main(String[] words) throws java.io.IOException {
-        Balisecheck library = Native.load(words[0], Balisecheck.class);
+        Balisecheck library = Native.load(words.length > 0 ? words[0] : "libbalisecheck.so.0", Balisecheck.class);
         byte[] input = System.in.readAllBytes(), buffer = new byte[4096];
         byte[] data = input.length > 0 ? input : new byte[1]; // (a pointer is never null)
         LongByReference length = new LongByReference();

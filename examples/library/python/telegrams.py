@@ -1,7 +1,9 @@
 #!/usr/bin/env python3
 """Decodes telegrams, one per line of standard input, and reads on after a refused one.
 
-    telegrams.py ../../../dist/x86_64-linux/libbalisecheck.so < FILE
+    telegrams.py [LIBRARY] < FILE
+
+LIBRARY is the path of the library if it is not installed.
 """
 import ctypes
 import sys
@@ -18,7 +20,7 @@ class Fault(ctypes.Structure):
 
 def main():
     """Decodes each line."""
-    telegram = ctypes.CDLL(sys.argv[1]).balisecheck_telegram
+    telegram = ctypes.CDLL((*sys.argv[1:], "libbalisecheck.so.0")[0]).balisecheck_telegram
     size = ctypes.c_size_t
     telegram.argtypes = ctypes.c_char_p, size, ctypes.c_char_p, size, ctypes.POINTER(size), ctypes.POINTER(Fault)
     telegram.restype = ctypes.c_uint32

@@ -1,0 +1,12 @@
+use Rattle.std.proofs.Common.{◌∙◌}
+use Rattle.std.specs.Prelude.{codes}
+use Rattle.etcs_findings.proofs.WritingLemmas.{adds_then, text_is, then_adds}
+use Rattle.etcs_findings.specs.Refusals.{with_fault}
+use Rattle.etcs_findings.proofs.refusal.put_telegram.Goals as goal
+
+-- the reason, the place in the line, and then the bits
+pub returns : goal.returns
+unfolding with_fault
+returns c =
+    let reason = text_is (codes "reason") (c.as_str.ensures.value ∙ c.in_ok-reason.ensures) c.in_ok-put_text.ensures in
+    then_adds _ _ _ (adds_then (adds_then (adds_then reason c.in_ok-put_number.ensures) c.in_ok-put_option.ensures) c.in_ok-put_number-2.ensures) c.put_telegram_bits.ensures
