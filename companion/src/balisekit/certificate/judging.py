@@ -1,0 +1,166 @@
+"""Whether a check finds a change of a line: the entries of the changed line against those of the line."""
+from __future__ import annotations
+
+import re
+from collections import Counter
+from dataclasses import dataclass
+from datetime import date
+from enum import Enum
+from typing import Any, FrozenSet, Iterator, Mapping, NamedTuple, Optional, Sequence, Tuple
+
+from balisekit.certificate.changed_table import changed_messages, changed_table
+from balisekit.engine.program import Program
+from balisekit.errors import TableError, TableErrors
+from balisekit.mistakes.mistake import Change
+from balisekit.rules import checking
+from balisekit.rules.accepted import Entries
+from balisekit.rules.entries import Entry
+from balisekit.rules.families import Outcome, apply
+from balisekit.rules.remarks import remarks
+from balisekit.rules.rule import REFUSED, Options
+from balisekit.tables.model import Messages, Table
+
+NUMBER = re.compile("[0-9]+")
+QUOTED = re.compile('"[^"]*"')
+SPAN = re.compile(r"\brows? ([0-9]+)(?: to ([0-9]+))?((?:, [0-9]+)*(?: and [0-9]+\b(?! more))?)")
+"""Rows in a sentence: `row 7`, `rows 7 to 9`, `rows 7, 8 and 11`."""
+
+
+class Answer(Enum):
+    """What a check says of a change."""
+
+    FOUND = "found"
+    """A new open entry or a refusal names a row to correct."""
+    ELSEWHERE = "elsewhere"
+    """There is a new open entry or a refusal, and all of them name other rows."""
+    HINTED = "hinted"
+    """Only a note or a line `look:` is new."""
+    NOT_FOUND = "not found"
+    """The answer is the same."""
+    LEGAL = "legal"
+    """The changed line is as right as the line was, so that nothing has to be found."""
+    UNFIT = "does not fit"
+    """The program cannot write the changed telegram, so that nobody can make this mistake."""
+
+
+class Judgement(NamedTuple):
+    """What a check says of one change."""
+
+    answer: Answer
+    rules: Tuple[str, ...] = ()
+    """The rules of the new entries, or `refused`. Those that name a row to correct, if there are any."""
+    sentence: str = ""
+    """The first of these entries."""
+
+
+class Named(NamedTuple):
+    """An open entry or a refusal, by what an engineer reads of it."""
+
+    rule: str
+    sentence: str
+    rows: FrozenSet[int]
+    """A negative number is the line of a message."""
+    place: Tuple[Any, ...] = ()
+    """Its group, aspects, direction and message."""
+
+
+@dataclass(frozen=True)
+class Judge:
+    """How a line is judged: always in the way in which the line itself was."""
+
+    letters: Sequence[str]
+    options: Options
+    signed: Optional[Tuple[Entries, date]] = None
+    """The accepted entries, and the day of the run."""
+    by_position: bool = False
+    everything: bool = False
+
+    def outcome(self, program: Program, table: Table, messages: Optional[Messages]) -> Outcome:
+        """What all rules find of a changed line."""
+        made = checking.check(program, table, messages, self.by_position, self.everything)
+        return apply(made, self.letters, self.options, self.signed)
+
+
+class Baseline:
+    """The line as it was judged before a change."""
+
+    def __init__(self, outcome: Outcome, judge: Judge) -> None:
+        self.outcome, self.judge = outcome, judge
+        self._named = Counter(_named(outcome))
+        self._hints = Counter(_hints(outcome))
+
+    def judgement(self, change: Change, texts: Mapping[int, str]) -> Judgement:
+        """What the check says of a change. `texts` has the new digits of telegrams, by row."""
+        if change.legal:
+            return Judgement(Answer.LEGAL, sentence=change.legal)
+        try:
+            checked = self.outcome.checked
+            table = changed_table(checked.table, change, texts, self.judge.by_position)
+            messages = changed_messages(checked.messages, change, texts)
+            outcome = self.judge.outcome(checked.program, table, messages)
+        except (TableError, TableErrors) as error:
+            refused = [Named(REFUSED, str(fault), rows_of_refusal(fault)) for fault in error.faults]
+            return _said(change, refused, ())
+        new = list((Counter(_named(outcome)) - self._named).elements())
+        return _said(change, new, self._new_hints(Counter(_hints(outcome))))
+
+    def _new_hints(self, hints: Counter[str]) -> Sequence[str]:
+        """The hints that the line did not have. One that differs from a hint of the line only in numbers is not new."""
+        counts = Counter(NUMBER.sub("0", each) for each in (self._hints - hints).elements())
+        new = [(NUMBER.sub("0", each), each) for each in (hints - self._hints).elements()]
+        counts.subtract(words for words, _ in new)
+        return [each for words, each in new if counts[words] < 0]
+
+
+def _said(change: Change, new: Sequence[Named], hints: Sequence[str]) -> Judgement:
+    """The judgement by the new entries and the new hints."""
+    here = [each for each in new if not each.rows.isdisjoint(change.rows | change.lost)]
+    if here or new:
+        answer = Answer.FOUND if here else Answer.ELSEWHERE
+        rules = tuple(sorted({each.rule for each in here or new}))
+        return Judgement(answer, rules, (here or new)[0].sentence)
+    return Judgement(Answer.HINTED, (), hints[0]) if hints else Judgement(Answer.NOT_FOUND)
+
+
+def _named(outcome: Outcome) -> Iterator[Named]:
+    """The open entries of an answer, and what was refused. What is expected on correct data is not among them."""
+    for entry in outcome.entries:
+        if not entry.expected and not outcome.acceptances(entry):
+            yield Named(entry.rule, entry.sentence, _rows(entry), _place(entry))
+    for each in outcome.checked.refused:
+        yield Named(REFUSED, each.refusal.text, frozenset({each.row.number}))
+    for message in outcome.checked.refused_messages:
+        yield Named(REFUSED, message.refusal.text, frozenset({-message.message.number}))
+
+
+def rows_of_refusal(fault: TableError) -> FrozenSet[int]:
+    """The rows that the refusal of a table names: its own, and others in its sentence, but not in quoted cells."""
+    spans = SPAN.findall(QUOTED.sub("", fault.why))
+    others = (row for first, last, more in spans for row in (*range(int(first), int(last or first) + 1), *_all(more)))
+    return frozenset({fault.row or 0, *others})
+
+
+def _all(numbers: str) -> Iterator[int]:
+    """The numbers of a list: `, 7 and 9`."""
+    return map(int, NUMBER.findall(numbers))
+
+
+def _rows(entry: Entry) -> FrozenSet[int]:
+    """The rows that an entry names, and its message as a negative number."""
+    return frozenset({*entry.rows, *entry.other_rows, *([-entry.message.number] if entry.message else [])})
+
+
+def _place(entry: Entry) -> Tuple[Any, ...]:
+    """What tells an entry from others with the same sentence."""
+    group = entry.group.name if entry.group else None
+    return group, entry.aspects, entry.direction, entry.message.number if entry.message else None
+
+
+def _hints(outcome: Outcome) -> Iterator[str]:
+    """The notes of an answer, and its lines `look:`."""
+    yield from outcome.checked.table.notes
+    for part in outcome.parts:
+        yield from part.applied.notes if part.applied else ()
+        yield from (f"{rule.name} has compared nothing" for rule in part.empty)
+    yield from remarks(outcome.checked.table)
+    yield from (why for _, why in outcome.judged.faults) if outcome.judged else ()

@@ -1,0 +1,124 @@
+"""The changes that a certificate tries in a line, and what the check says of each of them."""
+from __future__ import annotations
+
+import os
+import signal
+import time
+from concurrent.futures import FIRST_COMPLETED, ProcessPoolExecutor, wait
+from itertools import chain, islice, zip_longest
+from multiprocessing import get_context
+from random import Random
+from typing import Callable, Dict, Iterator, List, Mapping, NamedTuple, Optional, Sequence, Tuple
+
+from balisekit.certificate.judging import Answer, Baseline, Judgement
+from balisekit.certificate.same_meaning import same_meaning
+from balisekit.engine.program import Program, Text
+from balisekit.io.workers import end_with_parent
+from balisekit.mistakes import catalogue
+from balisekit.mistakes.mistake import Change, Mistake
+from balisekit.mistakes.original import Original
+
+PART = 8
+"""The changes that a process judges before it reports."""
+MOST_PROCESSES = 4
+
+
+class Trial(NamedTuple):
+    """A mistake as it is made in a line."""
+
+    mistake: Mistake
+    change: Change
+    texts: Mapping[int, str]
+    """The digits of the changed telegrams and messages: by row, or by line as a negative number."""
+    fits: bool = True
+    """Whether the program can write all of them."""
+
+
+class Judged(NamedTuple):
+    """A mistake that was made in a line, and what the check says of it."""
+
+    mistake: Mistake
+    change: Change
+    judgement: Judgement
+
+
+def trials(original: Original, per_kind: int, seed: int) -> List[Trial]:
+    """The changes of all kinds, in turn: at most `per_kind` of a kind, or of a kind in each field.
+
+    The same line and the same seed give the same changes.
+    """
+    made = [
+        [
+            (mistake, change._replace(legal=change.legal or same_meaning(original, change)))
+            for change in mistake.make(original, Random(f"{seed} {mistake.name}"), per_kind)
+        ]
+        for mistake in catalogue()
+    ]
+    in_turn = [each for each in chain.from_iterable(zip_longest(*made)) if each is not None]
+    return list(_encoded(original.checked.program, in_turn))
+
+
+def _encoded(program: Program, made: Sequence[Tuple[Mistake, Change]]) -> Iterator[Trial]:
+    """The same with the telegrams and messages as the program writes them."""
+    texts, radio = (
+        program.encode(
+            [form for _, change in made for place, form in change.forms.items() if (place < 0) == is_radio], is_radio
+        )
+        for is_radio in (False, True)
+    )
+    for mistake, change in made:
+        answers = {place: next(radio if place < 0 else texts) for place in change.forms}
+        fits = all(isinstance(answer, Text) for answer in answers.values())
+        written = {place: answer.line for place, answer in answers.items() if isinstance(answer, Text)}
+        yield Trial(mistake, change, {**written, **change.texts}, fits)
+
+
+def judgements(
+    baseline: Baseline, tried: Sequence[Trial], seconds: Optional[float], tell: Callable[[int], None]
+) -> Dict[int, Judgement]:
+    """What the check says of each trial, by its place in the list. Those that the time is too short for are absent.
+
+    `tell` is called with the number of trials that are done.
+    """
+    end = None if seconds is None else time.monotonic() + seconds
+    parts = iter([range(first, min(first + PART, len(tried))) for first in range(0, len(tried), PART)])
+    done: Dict[int, Judgement] = {}
+    with _pool(baseline, tried) as pool:
+        running = {pool.submit(_judge, part) for part in islice(parts, 2 * MOST_PROCESSES)}
+        while running:
+            complete, running = wait(running, return_when=FIRST_COMPLETED)
+            for part in complete:
+                done.update(part.result())
+            tell(len(done))
+            if end is None or time.monotonic() < end:
+                running |= {pool.submit(_judge, part) for part in islice(parts, len(complete))}
+    return done
+
+
+_WORK: List[Tuple[Baseline, Sequence[Trial]]] = []
+"""What a process of the pool judges: it is a copy of this process, so nothing is handed over."""
+
+
+def _pool(baseline: Baseline, tried: Sequence[Trial]) -> ProcessPoolExecutor:
+    """Processes that judge trials. Each is a copy of this one, and ends with it."""
+    _WORK[:] = [(baseline, tried)]
+    count = min(MOST_PROCESSES, len(os.sched_getaffinity(0)))
+    return ProcessPoolExecutor(count, mp_context=get_context("fork"), initializer=_begin)
+
+
+def _begin() -> None:
+    """Signals end the process that started this one, and that ends this one."""
+    end_with_parent()
+    for number in (signal.SIGINT, signal.SIGTERM, signal.SIGHUP):
+        signal.signal(number, signal.SIG_IGN)
+
+
+def _judge(part: Sequence[int]) -> Dict[int, Judgement]:
+    """The judgements of some trials, by their places."""
+    baseline, tried = _WORK[0]
+    return {place: judged(baseline, tried[place]) for place in part}
+
+
+def judged(baseline: Baseline, trial: Trial) -> Judgement:
+    """What the check says of one trial."""
+    return baseline.judgement(trial.change, trial.texts) if trial.fits else Judgement(Answer.UNFIT)

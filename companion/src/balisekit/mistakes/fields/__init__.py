@@ -1,0 +1,1 @@
+"""Mistakes in the number of one variable of a telegram or message."""

@@ -1,0 +1,1 @@
+"""Mistakes with radio messages."""

@@ -1,0 +1,1 @@
+"""Mistakes in the table: its rows, names and kilometres."""

@@ -1,0 +1,1 @@
+"""Mistakes with telegrams, aspects and groups."""

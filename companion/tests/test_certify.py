@@ -1,0 +1,359 @@
+"""The certificate: each change is judged as `check` judges the changed table, and each kind of mistake has its page."""
+from __future__ import annotations
+
+import csv
+import json
+import re
+from collections import Counter
+from pathlib import Path
+from types import SimpleNamespace
+from typing import Any, Dict, List, Set, Tuple
+
+import certificate_scores
+import mistakes_page
+import pytest
+from conftest import Run
+
+from balisekit.certificate.judging import Answer, Baseline, Judge, rows_of_refusal
+from balisekit.certificate.same_meaning import same_meaning
+from balisekit.certificate.trials import Trial, judged, trials
+from balisekit.engine.program import Program
+from balisekit.errors import TableError
+from balisekit.mistakes import catalogue
+from balisekit.mistakes.mistake import Change, Mistake
+from balisekit.mistakes.of_fields import changed
+from balisekit.mistakes.of_rows import with_header
+from balisekit.mistakes.original import Original
+from balisekit.rules import checking
+from balisekit.rules.families import FAMILIES, apply
+from balisekit.rules.rule import Options
+from balisekit.tables import reader
+from balisekit.tables.model import Row
+
+TOP = Path(__file__).resolve().parents[2]
+LINE = TOP / "examples" / "meaning" / "line.csv"
+PARTS = ("In real life", "Here", "For a train")
+COLUMNS = ("group", "name", "km", "track", "nominal", "aspect", "balise", "telegram")
+
+
+def baseline_of(program: Program, path: Path) -> Baseline:
+    """A line as `check` judges it."""
+    outcome = apply(checking.check(program, reader.read(str(path))), tuple(FAMILIES), Options())
+    return Baseline(outcome, Judge(tuple(FAMILIES), Options()))
+
+
+def tried(program: Program, path: Path, per_kind: int) -> Tuple[Baseline, List[Trial]]:
+    """The changes of a line."""
+    baseline = baseline_of(program, path)
+    return baseline, trials(Original(baseline.outcome.checked), per_kind, 1)
+
+
+def written(path: Path, rows: Dict[int, Row]) -> Path:
+    """A table with these rows at their places. Rows that are lost are empty."""
+    with path.open("w", encoding="utf-8", newline="") as file:
+        sheet = csv.writer(file)
+        sheet.writerow(COLUMNS)
+        for number in range(2, max(rows) + 1):
+            row = rows.get(number)
+            sheet.writerow([getattr(row, name) if getattr(row, name, None) is not None else "" for name in COLUMNS])
+    return path
+
+
+def after(original: Original, trial: Trial) -> Dict[int, Row]:
+    """The rows after a change."""
+    rows = {number: row for number, row in original.rows.items() if number not in trial.change.lost}
+    for number, row in rows.items():
+        text = trial.texts.get(number, row.telegram)
+        rows[number] = row._replace(telegram=text, **trial.change.cells.get(number, {}))
+    return rows
+
+
+def rows_in(line: str) -> Tuple[int, ...]:
+    """The rows that a line of standard error names."""
+    words = re.sub('"[^"]*"', "", line).replace(",", " , ").replace(":", " ").split()
+    found: List[int] = []
+    for before, word in zip(words, words[1:]):
+        if word.isdigit() and before in ("row", "rows", ",", "and", "to"):
+            found += range(found[-1] + 1, int(word) + 1) if before == "to" else [int(word)]
+    return tuple(found)
+
+
+def said(run: Run, folder: Path, rows: Dict[int, Row]) -> Tuple["Counter[Any]", "Counter[str]"]:
+    """The open entries and refusals of `check` by what they say, and its hints."""
+    path, answer = written(folder / "changed.csv", rows), folder / "answer.json"
+    status, _, errors = run("check", path, "--json", answer, "--force")
+    if status == 2 and errors:
+        return Counter(("refused", "", rows_in(line), ()) for line in errors), Counter()
+    made = json.loads(answer.read_text("utf-8"))
+    entries = [each for each in made["entries"] if not each["expected"] and each["state"] == "open"]
+    named: List[Any] = [
+        (
+            each["rule"],
+            each["sentence"],
+            tuple(sorted({*each["rows"], *each["other_rows"]})),
+            (each["group"], tuple(each["aspects"]), each["direction"]),
+        )
+        for each in entries
+    ]
+    named += [("refused", each["text"], (each["row"],), ()) for each in made["refused"]]
+    hints = [*made["table"]["notes"], *made["notes"], *made["counts"]["look"]]
+    return Counter(named), Counter(hints)
+
+
+def slow_answer(run: Run, folder: Path, before: Tuple[Any, Any], original: Original, trial: Trial) -> Answer:
+    """What `check` of the changed file says of a change."""
+    entries, hints = said(run, folder, after(original, trial))
+    new = [each for each in (entries - before[0]).elements()]
+    places: Set[int] = {*trial.change.rows, *trial.change.lost}
+    if any(places.intersection(each[2]) for each in new):
+        return Answer.FOUND
+    gone = {re.sub("[0-9]", "", each) for each in before[1] - hints}
+    hinted = [each for each in hints - before[1] if re.sub("[0-9]", "", each) not in gone]
+    return Answer.ELSEWHERE if new else Answer.HINTED if hinted else Answer.NOT_FOUND
+
+
+def compare(run: Run, program: Program, folder: Path, path: Path, per_kind: int, part: slice) -> int:
+    """Compares both ways for a part of the changes, and returns how many were compared."""
+    baseline, made = tried(program, path, per_kind)
+    original = Original(baseline.outcome.checked)
+    before = said(run, folder, dict(original.rows))
+    compared = 0
+    for trial in made[part]:
+        if trial.fits and not trial.change.legal:
+            quick = judged(baseline, trial).answer
+            assert quick is slow_answer(run, folder, before, original, trial), (trial.mistake.name, trial.change.words)
+            compared += 1
+    return compared
+
+
+@pytest.mark.uncovered
+def test_quick_way(run: Run, program: Program, tmp_path: Path) -> None:
+    """A change is judged in memory as `check` judges the file."""
+    assert compare(run, program, tmp_path, LINE, 1, slice(None, None, 4)) > 50
+
+
+@pytest.mark.slow
+@pytest.mark.parametrize("first", range(4))
+@pytest.mark.parametrize("name", ["line.csv", "level-border.csv"])
+def test_quick_way_of_others(run: Run, program: Program, tmp_path: Path, name: str, first: int) -> None:
+    """The same for two thousand changes."""
+    assert compare(run, program, tmp_path, LINE.with_name(name), 2, slice(first, None, 4)) > 240
+
+
+def test_the_same_seed(program: Program) -> None:
+    """The same line and seed give the same changes, and another seed gives others."""
+    original = Original(baseline_of(program, LINE).outcome.checked)
+    words = [[trial.change.words for trial in trials(original, 1, seed)] for seed in (1, 1, 2)]
+    assert words[0] == words[1] != words[2]
+
+
+@pytest.mark.parametrize("mistake", catalogue(), ids=[mistake.name for mistake in catalogue()])
+def test_page(mistake: Mistake) -> None:
+    """Each kind says what goes wrong in real life, how it is made here, and what it could do to a train."""
+    assert tuple(mistake.parts) == PARTS
+    assert mistake.page.split("\n")[0].endswith(".")
+
+
+def test_page_of_all() -> None:
+    """docs/mistakes.md is what the catalogue has."""
+    assert mistakes_page.PAGE.read_text("utf-8") == mistakes_page.page()
+
+
+@pytest.mark.slow
+@pytest.mark.parametrize("name", certificate_scores.NAMES)
+def test_scores(program: Program, tmp_path: Path, name: str) -> None:
+    """No line's check finds less of a kind than it did when the scores were stored."""
+    stored, now = certificate_scores.stored(), certificate_scores.scores(program, tmp_path, name)
+    known = {key: counts for key, counts in stored.items() if key[0] == name}
+    assert known.keys() == now.keys() and {key[0] for key in stored} == set(certificate_scores.NAMES)
+    assert {key: counts[0] for key, counts in known.items()} == {key: counts[0] for key, counts in now.items()}
+    assert not [(key, known[key], counts) for key, counts in now.items() if counts[1] < known[key][1]]
+
+
+def test_json(run: Run, tmp_path: Path) -> None:
+    """The JSON fits its schema, and has the last line of the text."""
+    path = tmp_path / "a.json"
+    status, lines, _ = run("certify", LINE, "--per-kind", 1, "--minutes", "0.02", "--json", path)
+    answer = json.loads(path.read_text("utf-8"))
+    jsonschema = pytest.importorskip("jsonschema")
+    jsonschema.validate(answer, json.loads((TOP / "schemas" / "kit-certificate.json").read_text("utf-8")))
+    assert (status, answer["last_line"]) == (0, lines[-1])
+    assert answer["not_tried"] and f"{answer['not_tried']:,} more were not tried" in lines[-1]
+    assert answer["whole"]["tried"] + answer["whole"]["legal"] + answer["whole"]["does_not_fit"] == len(
+        answer["changes"]
+    )
+
+
+def test_table_with_a_refused_telegram(run: Run, tmp_path: Path) -> None:
+    """The other groups are certified, and the status says that the line was not judged completely."""
+    rows = LINE.read_text("utf-8").splitlines()
+    path = tmp_path / "t.csv"
+    path.write_text("\n".join([*rows[:9], rows[9][:-2]]) + "\n", "utf-8")
+    status, lines, _ = run("certify", path, "--per-kind", 1, "--minutes", "0.02")
+    assert status == 2 and "changes of" in lines[-1]
+
+
+def test_cover_of_a_report(run: Run, tmp_path: Path) -> None:
+    """The cover has the last line of a certificate of the same check, and no other one."""
+    pytest.importorskip("jinja2")
+    path, page, others = tmp_path / "a.json", tmp_path / "r.html", TOP / "examples" / "meaning" / "falling.csv"
+    _, lines, _ = run("certify", LINE, "--per-kind", 1, "--minutes", "0.02", "--json", path)
+    assert run("report", LINE, "--html", page, "--certificate", path)[0] == 0
+    assert lines[-1] in page.read_text("utf-8")
+    changed: List[List[object]] = [[LINE, "--tolerance", 3], [others], [LINE, "--line-speed", 200]]
+    for words in changed:
+        status, _, errors = run("report", *words, "--html", page, "--force", "--certificate", path)
+        assert status == 2 and "was made with other" in errors[0]
+    path.write_text("[]", "utf-8")
+    status, _, errors = run("report", LINE, "--html", page, "--force", "--certificate", path)
+    assert status == 2 and "no certificate" in errors[0]
+
+
+def test_certificate_of_other_files(run: Run, tmp_path: Path) -> None:
+    """A certificate is not taken if a file that settings name has another content, or with other accepted entries."""
+    pytest.importorskip("jinja2")
+    path, page, jumps, entries = (tmp_path / name for name in ("a.json", "r.html", "j.csv", "e.csv"))
+    jumps.write_text("km,km_after\n20.000,25.000\n", "utf-8")
+    words = [LINE, "--jumps", jumps]
+    assert run("certify", *words, "--per-kind", 1, "--minutes", "0.01", "--json", path)[0] == 0
+    report = ["report", *words, "--html", page, "--force", "--certificate", path]
+    status, _, errors = run(*report)
+    assert status in (0, 1) and not errors
+    run("check", *words, "--propose", entries)
+    status, _, errors = run(*report, "--accepted", entries)
+    assert status == 2 and "other accepted" in errors[0]
+    jumps.write_text("km,km_after\n20.000,26.000\n", "utf-8")
+    status, _, errors = run(*report)
+    assert status == 2 and "other settings" in errors[0]
+
+
+def test_page_of_a_certificate(run: Run, tmp_path: Path) -> None:
+    """The page has the last line, a row for each kind, and what is not found."""
+    pytest.importorskip("jinja2")
+    page = tmp_path / "c.html"
+    _, lines, _ = run("certify", LINE, "--per-kind", 1, "--minutes", "0.05", "--html", page)
+    text = page.read_text("utf-8")
+    assert lines[-1] in text and "By kind of mistake" in text and "Not found, one example of each kind" in text
+
+
+@pytest.mark.parametrize("words", [["--per-kind", "0"], ["--per-kind", "x"], ["--seed", "0"], ["--minutes", "0"]])
+def test_wrong_values(run: Run, words: List[str]) -> None:
+    """Numbers that make no sense are refused."""
+    assert run("certify", LINE, *words)[0] == 2
+
+
+def test_names() -> None:
+    """No two kinds have one name or one title."""
+    for names in ([mistake.name for mistake in catalogue()], [mistake.title for mistake in catalogue()]):
+        assert len(set(names)) == len(names)
+
+
+def test_changes_change(program: Program) -> None:
+    """Each change changes something, and names rows of the line."""
+    original = Original(baseline_of(program, LINE).outcome.checked)
+    for mistake, change in ((each.mistake, each.change) for each in trials(original, 2, 3)):
+        assert change.rows and change.rows <= original.rows.keys(), mistake.name
+        assert change.forms or change.cells or change.lost or change.texts, mistake.name
+        assert any(original.forms[row] != form for row, form in change.forms.items()) or not change.forms, mistake.name
+
+
+GRADIENTS, SPEEDS = ("packets", 1, "elements"), ("packets", 2, "elements")
+"""Where a telegram of a signal has its profiles."""
+
+
+@pytest.mark.parametrize(
+    "row, path, number, legal",
+    [
+        (3, ("m_mcount",), 7, True),
+        (3, ("m_mcount",), 2, False),
+        (3, ("m_mcount",), 254, False),
+        (3, ("m_mcount",), 255, False),
+        (2, ("m_mcount",), 7, False),
+        (5, (*GRADIENTS, 3, "q_gdir"), 1, True),
+        (5, (*GRADIENTS, 2, "q_gdir"), 1, False),
+        (5, (*SPEEDS, 2, "q_front"), 1, True),
+        (5, (*SPEEDS, 1, "q_front"), 1, False),
+    ],
+)
+def test_same_meaning(program: Program, row: int, path: Tuple[object, ...], number: int, legal: bool) -> None:
+    """Only what no train can tell from the line is counted apart."""
+    original = Original(baseline_of(program, LINE).outcome.checked)
+    value = next(each for some in original.values.values() for each in some if (each.row, each.path) == (row, path))
+    change = changed(original, value, number)
+    assert bool(same_meaning(original, change)) is legal
+    assert not same_meaning(original, change._replace(cells={row: {"name": "x"}}))
+
+
+def test_counter_of_one_of_two_balises(program: Program) -> None:
+    """Two telegrams of one message need one counter."""
+    original = Original(baseline_of(program, LINE).outcome.checked)
+    fixed, red = original.forms[2], original.forms[3]
+    controlled: Any = {**fixed, "m_mcount": 1}
+    original.forms = {**original.forms, 2: controlled}
+    for rows, legal in (([3], False), ([2, 3], True)):
+        forms: Any = {row: with_header(original.forms[row], m_mcount=7) for row in rows}
+        assert bool(same_meaning(original, Change("", frozenset(rows), forms=forms))) is legal
+    forms = {3: {**red, "packets": []}}
+    assert not same_meaning(original, Change("", frozenset({3}), forms=forms))
+
+
+def test_time_and_flat_track() -> None:
+    """T_TRAIN is set when a message is sent, unless it is unknown. Level track has no direction."""
+    flat = {"nid_packet": 21, "elements": [{"d_gradient": 0, "q_gdir": 0, "g_a": 0}]}
+    down = {"nid_packet": 21, "elements": [{"d_gradient": 0, "q_gdir": 1, "g_a": 0}]}
+    form: Any = {"nid_message": 3, "t_train": 5, "packets": [flat]}
+    others: List[Tuple[Any, bool]] = [
+        ({"t_train": 6}, True),
+        ({"packets": [down]}, True),
+        ({"t_train": 2**32 - 1}, False),
+    ]
+    for other, legal in others:
+        line: Any = SimpleNamespace(forms={-1: form}, group_of={})
+        changed_form: Any = {**form, **other}
+        assert bool(same_meaning(line, Change("", frozenset({-1}), forms={-1: changed_form}))) is legal
+
+
+def test_packets_of_a_fixed_balise(program: Program) -> None:
+    """If a fixed balise gets the packets of one aspect, the message is not the same in the others."""
+    _, made = tried(program, LINE, 3)
+    assert not [each for each in made if each.mistake.name == "packets in the other balise" and each.change.legal]
+
+
+@pytest.mark.parametrize("name", ["row of another group", "two groups merged"])
+def test_rows_in_the_sentence_of_a_refusal(program: Program, name: str) -> None:
+    """A refusal at another row that names the row to correct has found it."""
+    baseline, made = tried(program, LINE, 2)
+    answers = [judged(baseline, each) for each in made if each.mistake.name == name]
+    assert [(each.answer, each.rules) for each in answers] == [(Answer.FOUND, ("refused",))] * 2
+
+
+@pytest.mark.parametrize(
+    "why, rows",
+    [
+        ("row 4 has balise 1 too", {4, 9}),
+        ('"row 7" is between rows 3 and 5 of group "row 8"', {3, 5, 9}),
+        (
+            'aspect "a" has 3 balises (rows 12 to 14), and aspect "b" has 2 (rows 15, 17 and 20)',
+            {9, 12, 13, 14, 15, 17, 20},
+        ),
+        ("no telegram for rows 2, 3 and 8 more", {2, 3, 9}),
+        ("empty", {9}),
+    ],
+)
+def test_rows_of_a_refusal(why: str, rows: Set[int]) -> None:
+    """The rows that a refusal names are its own and those in its sentence."""
+    assert rows_of_refusal(TableError(why, 9)) == rows
+
+
+def test_note_with_another_number(program: Program) -> None:
+    """A note that counts more or fewer than before is no hint. One of another group is."""
+    baseline = baseline_of(program, LINE)
+    baseline._hints = Counter(["6 groups are not linked", "Signal 3 has no kilometre"])
+    for hints, new in (
+        (["5 groups are not linked", "Signal 3 has no kilometre"], []),
+        (
+            ["6 groups are not linked", "Signal 3 has no kilometre", "Signal 4 has no kilometre"],
+            ["Signal 4 has no kilometre"],
+        ),
+    ):
+        assert baseline._new_hints(Counter(hints)) == new
